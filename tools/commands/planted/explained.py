@@ -9,7 +9,7 @@ EXPLAINING, BRIEF, WORDS, COUNTS, RUN, RECORDS, CHECK, MESSAGE, WEEKLY, COMPARIS
         "show/brief",
         "compare/state",
         "commands/compare",
-        "reasons/kept_records",
+        "reasons/records",
         "commands/status",
         "mail/message",
         "commands/mail",
@@ -36,7 +36,7 @@ PLANTED = (
     + seen_by(
         RUNS % "try_records",
         (EXPLAINING, '                why = mismatch(path, comparison.copies["old"].sha256)', '                why = ""'),
-        (RECORDS, "        file.write(mark_of(digest, accepted))\n", ""),
+        (RECORDS, "                    file.write(mark_of(digest, accepted or digest))\n", ""),
         (RECORDS, "            return digest_in(descriptor) == self.digest", "            return False"),
     )
     + seen_by(

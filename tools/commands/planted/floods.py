@@ -23,8 +23,8 @@ PLANTED = (
             'self.severity == "high" and change.owner == ROOT',
             'self.severity == "high" and change.owner in (None, ROOT)',
         ),
-        (ENTRIES, 'self.bits & USER and "uid" in self.places', '"uid" in self.places'),
-        (EXPLAINER, "        change.owner = least_owner(old, new)\n", ""),
+        (EXPLAINER, 'entry.bits & USER and "uid" in entry.places', '"uid" in entry.places'),
+        (EXPLAINER, "change.owner = 0 if 0 in owners else None if None in owners else min(owners)", "pass"),
     )
     + seen_by(
         "floods.try_folders",
@@ -59,7 +59,7 @@ PLANTED = (
         (DATABASES, "not differ or not differ <= ANEW", "not differ - {'sha256'} <= ANEW"),
         (DATABASES, "    if stat.S_ISSOCK(new.mode) or stat.S_ISFIFO(new.mode):\n        return EMPTY\n", ""),
         (DATABASES, "stat.S_ISSOCK(new.mode) or stat.S_ISFIFO(new.mode)", "stat.S_ISSOCK(new.mode)"),
-        (DATABASES, "stat.S_ISSOCK(new.mode) or stat.S_ISFIFO(new.mode)", "not new.is_file()"),
-        (EXPLAINER, "LOW if change.reason is by_databases.SAME else", "LOW if change.reason else"),
+        (DATABASES, "stat.S_ISSOCK(new.mode) or stat.S_ISFIFO(new.mode)", "not new.is_file"),
+        (EXPLAINER, "LOW if reason is by_databases.SAME else", "LOW if reason else"),
     )
 )

@@ -3,10 +3,10 @@ from .plant import seen_by
 
 LIB = "commands/lib/aide_compare/reasons/"
 READER = "commands/lib/aide_compare/lines/reader.py"
-DATABASES, ENTRIES, PACKAGES, MADE, TABLES, DPKG, INDEXES, ARCHIVE = (
-    LIB + name + ".py" for name in ("by_databases", "entries", "packages", "made", "tables", "dpkg", "indexes", "archive")
+DATABASES, ENTRIES, PACKAGES, TABLES, DPKG, ARCHIVE = (
+    LIB + name + ".py" for name in ("by_databases", "entries", "packages", "tables", "dpkg", "archive")
 )
-CONTENT, RECORDS, EXPLAINER, PACKED = (LIB + name + ".py" for name in ("content", "records", "explainer", "packed"))
+CONTENT, RECORDS, EXPLAINER = (LIB + name + ".py" for name in ("content", "records", "explainer"))
 TRUSTED, SEVERITIES = "commands/lib/aide_compare/base/files.py", "commands/share/severity.conf"
 
 
@@ -20,7 +20,7 @@ PLANTED = (
         ),
         (DATABASES, "before <= after) for", "True) for"),
         (DATABASES, 'GROWS = DIGESTS | TIMES | {"size", "bcount"}', 'GROWS = DIGESTS | TIMES | {"size", "bcount", "inode"}'),
-        (DATABASES, "    if not (old.bits & GROWING and old.is_file()", "    if not (new.bits & GROWING and old.is_file()"),
+        (DATABASES, "old and new and old.bits & GROWING and", "old and new and new.bits & GROWING and"),
         (DATABASES, 'if "size" in differ:', "if differ & DIGESTS:"),
         (ENTRIES, '    if (old.bits ^ new.bits) & ~SPECIAL:\n        found.add("attributes")\n', ""),
         (ENTRIES, "    if (old.bits ^ new.bits) & ~SPECIAL:\n", "    if old.bits ^ new.bits:\n"),
@@ -28,12 +28,12 @@ PLANTED = (
     )
     + seen_by(
         "reasons_logs.try_added",
-        (DATABASES, "old.bits & REMOVED_FILES and old.is_file()", "old.bits & NEW_FILES and old.is_file()"),
+        (DATABASES, "old.bits & REMOVED_FILES and old.is_file", "old.bits & NEW_FILES and old.is_file"),
     )
     + seen_by(
         "reasons_logs.try_rotated",
         (DATABASES, "is_same = has_strong(old.digests())", "is_same = bool(old.digests())"),
-        (DATABASES, "    if not (old.bits & SAME_INODE and old.is_file()):\n        return None\n", ""),
+        (DATABASES, "    if not (old.bits & SAME_INODE and old.is_file):\n        return None\n", ""),
         (DATABASES, 'if differ <= {"ctime"}:', 'if differ <= {"ctime", "perm"}:'),
         (
             DATABASES,
@@ -52,40 +52,39 @@ PLANTED = (
         (DATABASES, ' and new.time("mtime") is not None', ""),
         (DATABASES, 'old.number("inode") != new.number("inode") and ', ""),
         (DATABASES, " and None not in sizes", ""),
-        (DATABASES, "left.get((folder, stem, _kept_of(new)), ())", "sum(left.values(), [])"),
+        (DATABASES, "left.get((folder, stem, *map(new.field, KEPT)), ())", "sum(left.values(), [])"),
     )
     + seen_by(
         "reasons_logs.try_many_packed",
         (
             DATABASES,
-            "left.get((folder, stem, _kept_of(new)), ())[:MOST_SOURCES]",
-            "[each for each in sum(left.values(), []) if _kept_of(read(each)[0]) == _kept_of(new)]",
+            "left.get((folder, stem, *map(new.field, KEPT)), ())[:MOST_SOURCES]",
+            "[each for each in sum(left.values(), []) if list(map(read(each)[0].field, KEPT)) == list(map(new.field, KEPT))]",
         ),
     )
     + seen_by(
         "reasons_severity.try_shipped",
-        (SEVERITIES, "high    any     /usr/local/lib/*.so.*\n", ""),
-        (SEVERITIES, "high    any     /usr/lib/*-linux-gnu*/*.so.*\n", ""),
-        (SEVERITIES, "high    any     /etc/ssl/certs/**\n", ""),
-        (SEVERITIES, "high    any             /etc/alternatives/*\n", ""),
+        (SEVERITIES, " /usr/local/lib/*.so.*", ""),
+        (SEVERITIES, " /usr/lib/*-linux-gnu*/*.so.*", ""),
+        (SEVERITIES, " /etc/ssl/certs/**", ""),
+        (SEVERITIES, " /etc/alternatives/*", ""),
     )
     + seen_by(
         "reasons_packages.try_content",
-        (PACKAGES, "        if old and not differ <= CONTENT:\n            return None\n", ""),
+        (PACKAGES, "if new.is_file and differ <= CONTENT:", "if new.is_file:"),
         (PACKAGES, "(old is None and not new.is_closed())", "False"),
         (DATABASES, "change.reason is None and change.is_replaced", "change.is_replaced"),
         (ENTRIES, "self.user_and_group() == (0, 0) and self.is_plain()", "self.is_plain()"),
         (TABLES, "all_can_write(new) and not all_can_write(old)", "all_can_write(new)"),
-        (ENTRIES, "not self.is_link() and (has_more or has_list)", "not self.is_link() and has_more"),
-        (ENTRIES, "not self.is_link() and (has_more or has_list)", "not self.is_link() and has_list"),
+        (ENTRIES, "not self.is_link and (has_more or has_list)", "not self.is_link and has_more"),
+        (ENTRIES, "not self.is_link and (has_more or has_list)", "not self.is_link and has_list"),
         (PACKAGES, 'new.number("lcount") or 0', "0"),
         (PACKAGES, "differ <= SAME_CONTENT and old.digests():", "differ <= SAME_CONTENT:"),
-        (ENTRIES, "for column, value in found.items() if value}", "for column, value in found.items()}"),
     )
     + seen_by(
         "reasons_packages.try_unchanged",
-        (DPKG, "return None if is_there and before.version == after.version else", "return"),
-        (DPKG, "before.version == after.version else", "before[:4] == after[:4] else"),
+        (DPKG, "return None if was_there and before.version == after.version else", "return"),
+        (DPKG, "before.version == after.version else", "before is after else"),
     )
     + seen_by(
         "reasons_packages.try_names",
@@ -122,8 +121,8 @@ PLANTED = (
         "reasons_packages.try_removed",
         (
             PACKAGES,
-            "        owners = self.known.before.get(path)\n",
-            "        owners = self.known.now.get(path)\n",
+            "owners, known = self.known.before.get(path), self.known",
+            "owners, known = self.known.now.get(path), self.known",
         ),
         (
             DPKG,
@@ -143,23 +142,23 @@ PLANTED = (
     )
     + seen_by(
         "reasons_places.try_made",
-        (MADE, " if prefix == ANY or prefix in known.prefixes", ""),
+        (DPKG, " if prefix == ANY or prefix in known.prefixes", ""),
         (
-            MADE,
+            DPKG,
             'made_by("from %s" % shown(source, 200)) if self.known.is_owned(source) else None',
             'made_by("from %s" % shown(source, 200))',
         ),
-        (MADE, "if self.known.is_owned(target) or is_script else None", ""),
-        (MADE, "        if takes_no_pattern(path):\n            return None\n", ""),
-        (MADE, "(may_run or not new.is_file() or new.is_data())", "True"),
-        (MADE, 'return differ <= CONTENT | {"lname"}', "return True"),
-        (MADE, "        if not self.names:\n            return None\n", ""),
+        (DPKG, "if self.known.is_owned(target) or is_script else None", ""),
+        (DPKG, "        if takes_no_pattern(path):\n            return None\n", ""),
+        (DPKG, "(info or not new.is_file or new.is_data)", "True"),
+        (DPKG, 'is_harmless = differ <= CONTENT | {"lname"} if old', "is_harmless = True if old"),
+        (DPKG, "        if not self.names:\n            return None\n", ""),
     )
     + seen_by(
         "reasons_made.try_made_links",
-        (MADE, "        if not target:\n            return None\n", ""),
-        (MADE, '(": " + why if why else "")', '(": " + why)'),
-        (MADE, '(": " + why if why else "")', '""'),
+        (DPKG, "        if not target:\n            return None\n", ""),
+        (DPKG, '(": " + why if why else "")', '(": " + why)'),
+        (DPKG, '(": " + why if why else "")', '""'),
     )
     + seen_by(
         "reasons_places.try_folders",
@@ -173,7 +172,7 @@ PLANTED = (
         (DATABASES, "return None not in flags and flags[0]", "return flags[0]"),
         (DATABASES, " and change.new_at is not None and", " and"),
         (DATABASES, "if change.is_open() and", "if change.reason is None and"),
-        (DATABASES, "else ALL_NAMES, worst)", "else ALL_NAMES, NOT_VERIFIED if is_anew else worst)"),
+        (DATABASES, "else ALL_NAMES\n", "else ALL_NAMES\n        worst = NOT_VERIFIED if is_anew else worst\n"),
         (DATABASES, "if worst is None:", "if worst is None and not is_anew:"),
         (
             DATABASES,
@@ -184,8 +183,8 @@ PLANTED = (
     + seen_by(
         "reasons_places.try_rules",
         (TABLES, "return None if takes_no_pattern(change.path) else rule.reason", "return rule.reason"),
-        (TABLES, "        if old is None and _is_program_or_device(new.mode):\n            return None\n", ""),
-        (TABLES, "        return differ <= rule.columns or (", "        return True or ("),
+        (TABLES, "if old is None and (stat.S_ISCHR(new.mode)", "if False and (stat.S_ISCHR(new.mode)"),
+        (TABLES, "is_allowed = differ <= rule.columns or", "is_allowed = True or"),
         (TABLES, "text = shown(parts[2], MOST_TEXT)", 'text = parts[2].decode("utf-8", "replace")'),
     )
     + seen_by("reasons_places.try_never", (TABLES, " or _has(NEVER, path)", ""))
@@ -202,8 +201,8 @@ PLANTED = (
         (TABLES, "return 0 if stat.S_ISDIR(mode) else mode & SET_ID", "return mode & SET_ID"),
         (TABLES, " and not stat.S_ISLNK(mode) and not (stat.S_ISDIR(mode) and mode & stat.S_ISVTX)", ""),
         (TABLES, "lambda row: all(test(old, new) for test in row.tests)", "lambda row: True"),
-        (SEVERITIES, "high    any     /etc/sudoers.d/**\n", ""),
-        (SEVERITIES, "high    executable      /usr/bin/*\n", ""),
+        (SEVERITIES, " /etc/sudoers.d/**", ""),
+        (SEVERITIES, "high    executable      /usr/bin/*", "high    executable     "),
     )
     + seen_by(
         "reasons_severity.try_tests",
@@ -217,7 +216,7 @@ PLANTED = (
     )
     + seen_by(
         "reasons_severity.try_tables",
-        (TABLES, "len(parts) != 3 or", "len(parts) > 3 or"),
+        (TABLES, "len(parts) < 2 or ", ""),
     )
     + seen_by(
         "reasons_contents.try_contents",
@@ -228,7 +227,7 @@ PLANTED = (
     + seen_by(
         "reasons_lines.try_same",
         (READER, 'end = line.rindex(b"}")', 'line, end = ENCODE(json.loads(line)).encode() + b"\\n", -2'),
-        (EXPLAINER, "counts_by_reason(changes)", "counts_by_reason(changes[:0])"),
+        (EXPLAINER, "ReasonCounts(**counts)", "ReasonCounts(**dict.fromkeys(counts, 0))"),
     )
     + seen_by(
         "reasons_lines.try_interface",
@@ -250,8 +249,8 @@ PLANTED = (
         "reasons_nights.try_nights",
         (
             ENTRIES,
-            'field = line[: line.find(b" ")]',
-            'field = line[: line.find(b" ")].replace(b"%", b"%25")',
+            "key_of(name.match(line).group(1))",
+            'key_of(name.match(line).group(1).replace(b"%", b"%25"))',
         ),
         (DPKG, 'bases = (package.name + b":" + package.arch, package.name)', "bases = (package.name,)"),
     )

@@ -1,6 +1,6 @@
 """Bugs of the search for reasons with packages of a signed archive: each takes away one check, so that something forged is believed."""
 from .plant import seen_by
-from .reasons import ARCHIVE, INDEXES, PACKAGES, PACKED
+from .reasons import ARCHIVE, CONTENT, PACKAGES
 
 PLANTED = (
     seen_by(
@@ -8,7 +8,7 @@ PLANTED = (
         (
             PACKAGES,
             "        return self._same(change, old, new, differ) if change.path in",
-            "        return self._file(change, old, new, differ) if change.path in",
+            "        return self._package(change) if change.path in",
         ),
         (
             PACKAGES,
@@ -17,7 +17,7 @@ PLANTED = (
         ),
         (ARCHIVE, "else _path_of_name(each.linkname))", 'else b"/" + _path_of_name(each.linkname))'),
         (ARCHIVE, 'part.replace(b":", b"%3a")', "part"),
-        (INDEXES, 'path.replace("/", slash)', "path"),
+        (ARCHIVE, 'path.replace("/", slash)', "path"),
     )
     + seen_by(
         "reasons_archive.try_owners",
@@ -26,43 +26,43 @@ PLANTED = (
     + seen_by(
         "reasons_archive.try_forged",
         (ARCHIVE, "if digest == listed.sha256:", "if True:"),
-        (INDEXES, "if is_signed or plain_digest == sha256:", "if True:"),
-        (INDEXES, "return done.stdout if is_good and done.returncode in (0, 2) else None", "return done.stdout"),
+        (ARCHIVE, "if is_signed or plain_digest == sha256:", "if True:"),
+        (ARCHIVE, "return done.stdout if is_good and done.returncode in (0, 2) else None", "return done.stdout"),
         (
-            INDEXES,
+            ARCHIVE,
             "text = signed_text(copy.fileno(), self.keyrings)\n",
             "text = signed_text(copy.fileno(), self.keyrings) and os.pread(copy.fileno(), MOST_RELEASE, 0)\n",
         ),
     )
     + seen_by(
         "reasons_indexes.try_said",
-        (INDEXES, '{b"GOODSIG", b"VALIDSIG"} <= said', 'b"VALIDSIG" in said'),
-        (INDEXES, '{b"GOODSIG", b"VALIDSIG"} <= said', 'b"GOODSIG" in said'),
-        (INDEXES, '{b"BADSIG", b"ERROR", b"UNEXPECTED"}', '{b"ERROR", b"UNEXPECTED"}'),
-        (INDEXES, '{b"BADSIG", b"ERROR", b"UNEXPECTED"}', '{b"BADSIG", b"UNEXPECTED"}'),
-        (INDEXES, '{b"BADSIG", b"ERROR", b"UNEXPECTED"}', '{b"BADSIG", b"ERROR"}'),
-        (INDEXES, "done.returncode in (0, 2)", "done.returncode == 0"),
-        (INDEXES, ' if line.startswith(b"[GNUPG:] ")}', " if line}"),
+        (ARCHIVE, '{b"GOODSIG", b"VALIDSIG"} <= said', 'b"VALIDSIG" in said'),
+        (ARCHIVE, '{b"GOODSIG", b"VALIDSIG"} <= said', 'b"GOODSIG" in said'),
+        (ARCHIVE, '{b"BADSIG", b"ERROR", b"UNEXPECTED"}', '{b"ERROR", b"UNEXPECTED"}'),
+        (ARCHIVE, '{b"BADSIG", b"ERROR", b"UNEXPECTED"}', '{b"BADSIG", b"UNEXPECTED"}'),
+        (ARCHIVE, '{b"BADSIG", b"ERROR", b"UNEXPECTED"}', '{b"BADSIG", b"ERROR"}'),
+        (ARCHIVE, "done.returncode in (0, 2)", "done.returncode == 0"),
+        (ARCHIVE, ' if line.startswith(b"[GNUPG:] ")}', " if line}"),
     )
     + seen_by(
         "reasons_indexes.try_listed",
         (
-            INDEXES,
+            ARCHIVE,
             'sha256, size = digests.get(ending, digests.get("", (None, 0)))',
             "sha256, size = digests.get(ending, (None, 0))",
         ),
         (
-            INDEXES,
+            ARCHIVE,
             'sha256, size = digests.get(ending, digests.get("", (None, 0)))',
             'sha256, size = digests.get("", (None, 0))',
         ),
-        (INDEXES, ' and ".." not in path:', ":"),
-        (INDEXES, 'rb"^SHA256:\\s*', 'rb"^SHA[0-9]*:\\s*'),
+        (ARCHIVE, ' and ".." not in path:', ":"),
+        (ARCHIVE, 'rb"^SHA256:\\s*', 'rb"^SHA[0-9]*:\\s*'),
     )
     + seen_by(
         "reasons_indexes.try_unpacked",
-        (INDEXES, "        if is_signed and digest != sha256:\n            return None\n", ""),
-        (INDEXES, 'digests.get("", (None, MOST_INDEX))[1])', "MOST_INDEX)"),
+        (ARCHIVE, "        if is_signed and digest != sha256:\n            return None\n", ""),
+        (ARCHIVE, 'digests.get("", (None, MOST_INDEX))[1])', "MOST_INDEX)"),
     )
     + seen_by(
         "reasons_indexes.try_wanted",
@@ -71,14 +71,14 @@ PLANTED = (
     + seen_by(
         "reasons_indexes.try_odd_files",
         (
-            INDEXES,
-            "        except OSError:\n            return []\n",
-            "        except FileNotFoundError:\n            return []\n",
+            ARCHIVE,
+            "with suppress(OSError):  # A mirror",
+            "with suppress(FileNotFoundError):  # A mirror",
         ),
         (
             ARCHIVE,
-            "        return self.members.get(path, ())\n",
-            "        return [member for member in self.members.get(path, ()) if member.digests]\n",
+            "        for path, member in found.items():\n",
+            "        for path, member in ((path, member) for path, member in found.items() if member.digests):\n",
         ),
         (ARCHIVE, 'for base in (package.name, package.name + b":" + package.arch):', "for base in (package.name,):"),
     )
@@ -86,7 +86,7 @@ PLANTED = (
         "reasons_archive.try_forms",
         (ARCHIVE, "begin + size + size % 2", "begin + size"),
         (
-            PACKED,
+            CONTENT,
             '            if not block:\n                raise Refuted("cut short")\n        yield decoder',
             "            if not block:\n                return\n        yield decoder",
         ),

@@ -13,7 +13,7 @@ PLANTED = (
     )
     + seen_by(
         "reasons_upgrades.try_kinds",
-        (PACKAGES, "if new.is_folder() and old is None else None", "if old is None else None"),
+        (PACKAGES, "if new.is_folder and old is None else None", "if old is None else None"),
     )
     + seen_by(
         "reasons_upgrades.try_units",
@@ -37,8 +37,8 @@ PLANTED = (
             'field if field[:1] == b"-" or field[:1].isdigit() else _unpacked(field) or b""',
             "_unpacked(field) or field",
         ),
-        (ENTRIES, "(-1, text[1:]) if text[:1]", "(1, text[1:]) if text[:1]"),
-        (ENTRIES, "None if field == ABSENT else number(digits)", "number(digits)"),
+        (ENTRIES, "return int(text) if field", "return abs(int(text)) if field"),
+        (ENTRIES, "if field != ABSENT and TIME.fullmatch(text)", "if TIME.fullmatch(text)"),
         (ENTRIES, "(8, 32, 40, 48, 64, 96, 128)", "(32, 40, 48, 64, 96, 128)"),
         (ENTRIES, "(8, 32, 40, 48, 64, 96, 128)", "(8, 32, 48, 64, 96, 128)"),
         (ENTRIES, "(8, 32, 40, 48, 64, 96, 128)", "(8, 32, 40, 48, 96, 128)"),
@@ -57,7 +57,7 @@ PLANTED = (
         "reasons_entries.try_differences",
         (ENTRIES, "old.places.keys() | new.places.keys()", "old.places.keys()"),
     )
-    + seen_by("reasons_entries.try_early", (ENTRIES, "None if seconds is None else sign * seconds", "seconds"))
+    + seen_by("reasons_entries.try_early", (ENTRIES, "return int(text) if field", "return abs(int(text)) if field"))
     + seen_by(
         "reasons_rules.try_words",
         (TABLES, '"times": TIMES', '"times": TIMES - {"atime"}'),

@@ -1,8 +1,6 @@
 """Bugs of the search for reasons: which files of packages' records are kept and believed, and what bounds them."""
 from .plant import seen_by
-from .reasons import LIB, RECORDS
-
-KEPT_RECORDS = LIB + "kept_records.py"
+from .reasons import RECORDS
 
 PLANTED = (
     seen_by(
@@ -14,8 +12,8 @@ PLANTED = (
     )
     + seen_by(
         "reasons_records.try_large",
-        (RECORDS, "if member.size > (MOST_TEXT if is_rpms else MOST_FILE):", "if member.size > MOST_TEXT:"),
-        (RECORDS, "if member.size > (MOST_TEXT if is_rpms else MOST_FILE):", "if member.size > MOST_FILE:"),
+        (RECORDS, "if member.size > (MOST_TEXT if name == RPM_NAME else MOST_FILE):", "if member.size > MOST_TEXT:"),
+        (RECORDS, "if member.size > (MOST_TEXT if name == RPM_NAME else MOST_FILE):", "if member.size > MOST_FILE:"),
         (RECORDS, "for member in members(self.file, MOST_FILES):", "for member in members(self.file, 1 << 30):"),
     )
     + seen_by(
@@ -37,7 +35,7 @@ PLANTED = (
     )
     + seen_by(
         "reasons_records.try_of_that_time",
-        (KEPT_RECORDS, "else mark_of(digest, accepted)", "else mark_of(accepted, accepted)"),
-        (KEPT_RECORDS, "if digest_in(file.fileno()) == accepted:", "if True:"),
+        (RECORDS, "else mark_of(digest, accepted)", "else mark_of(accepted, accepted)"),
+        (RECORDS, "if digest_in(descriptor) == accepted:", "if True:"),
     )
 )

@@ -7,13 +7,13 @@ PACKAGES, DPKGS = LIB + "rpm_packages.py", LIB + "packages.py"
 PLANTED = (
     seen_by(
         "reasons_rpm.try_vouched",
-        (PACKAGES, 'return "" if vouched.fits(path, self.records.digests) else vouched.why_not(path)', 'return ""'),
+        (PACKAGES, '"" if vouched.fits(path, self.records.digests) else vouched.why_not(path)', '""'),
         (
             PACKAGES,
-            '            return "rpm\'s database of now was not read, or is not one file"\n',
-            '            return ""\n',
+            'self.why_not = "rpm\'s database of now was not read, or is not one file"',
+            'self.why_not = ""',
         ),
-        (PACKAGES, " or (file.package in self.fresh and takes_no_stranger(change.path, new.mode)):", ":"),
+        (PACKAGES, "and not is_strange:", ":"),
         (
             PACKAGES,
             "self._reason(package_words(file.package), not self.why_not)",
@@ -22,16 +22,16 @@ PLANTED = (
     )
     + seen_by(
         "reasons_rpm.try_content",
-        (PACKAGES, "new.mode != file.mode or not", "not"),
+        (PACKAGES, "if new.mode == file.mode and", "if"),
         (PACKAGES, "(file.is_roots and new.user_and_group() == (0, 0))", "new.user_and_group() == (0, 0)"),
         (PACKAGES, "(file.is_roots and new.user_and_group() == (0, 0))", "file.is_roots"),
-        (PACKAGES, " or not (old or new.is_plain()):", ":"),
+        (PACKAGES, " and (old or new.is_plain())", ""),
         (ENTRIES, " if self.bits & OWNER == OWNER else None", ""),
         (ENTRIES, 'return (self.number("uid"), self.number("gid"))', 'return (self.number("uid"), 0)'),
         (ENTRIES, 'return (self.number("uid"), self.number("gid"))', 'return (0, self.number("gid"))'),
         (
             PACKAGES,
-            "new.is_link() or _capabilities(new.capabilities()) == _capabilities(file.capabilities)",
+            "new.is_link or _capabilities(new.capabilities()) == file.capabilities",
             "True",
         ),
         (PACKAGES, "if found else text", "if found and False else text"),
@@ -76,7 +76,7 @@ PLANTED = (
     + seen_by("reasons_rpm.try_read", (CONTENT, "return do_agree(found, known) and do_agree(found, wanted)", "return True"))
     + seen_by(
         "reasons_rpm_records.try_damage",
-        (PACKAGES, 'if line and (len(fields) != FILE_FIELDS or fields[0] != b"F"):', "if len(fields) != FILE_FIELDS:"),
+        (PACKAGES, 'filter(None, self.blocks[package].split(b"\\n"))', 'self.blocks[package].split(b"\\n")'),
         (RECORDS, " and RPM_NAME not in self.members:", " and False:"),
     )
     + seen_by(
@@ -86,6 +86,6 @@ PLANTED = (
         (RECORDS, "if len(text) > MOST_TEXT:", "if False:"),
         (RECORDS, '        with failing("rpm\'s records cannot be read"):\n', "        if True:\n"),
         (RECORDS, "SECONDS) != 0:\n", "SECONDS) is None:\n"),
-        (RECORDS, "is_rpms, kept = member.name == RPM_NAME, ", "is_rpms, kept = False, "),
+        (RECORDS, '(?:list|md5sums))|rpm")', '(?:list|md5sums))")'),
     )
 )

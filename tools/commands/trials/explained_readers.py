@@ -104,7 +104,7 @@ def try_alarm(sandbox):
     sandbox.write(
         "lib/aide_compare/reasons/explainer.py",
         sandbox.read("lib/aide_compare/reasons/explainer.py").replace(
-            b"        self.counts = counts_by_reason(changes)\n", b"        raise KeyError\n"
+            b"        self.counts = ReasonCounts(**counts)\n", b"        raise KeyError\n"
         ),
     )
     found = call(sandbox, *REASONS, *QUIET, "o.db", "gone.db")

@@ -262,8 +262,8 @@ def try_forms(sandbox):
     if path not in sys.path:
         sys.path.append(path)
     from aide_compare.reasons.archive import read_deb
-    from aide_compare.reasons import packed as packed_module
-    from aide_compare.reasons.packed import Refuted
+    from aide_compare.reasons import content as packed_module
+    from aide_compare.reasons.content import Refuted
 
     _try_bounded(sandbox, packed_module)
     forms = {

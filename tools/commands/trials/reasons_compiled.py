@@ -111,7 +111,7 @@ def try_compiled(sandbox):
 
 def try_marshalled(sandbox):
     """Texts of code that somebody else wrote: only those that mean the same are the same, and none of them runs for long."""
-    module = own_module("aide_compare.reasons.compiled")
+    module = own_module("aide_compare.reasons.derived")
     wanted = b"\xa9\x02\xda\x01ar\x01\x00\x00\x00"
     for label, text, want in (
         ("itself", wanted, True),

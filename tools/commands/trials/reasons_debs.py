@@ -18,7 +18,8 @@ def modules():
     path = os.path.join(HERE, "commands", "lib")
     if path not in sys.path:
         sys.path.append(path)
-    from aide_compare.reasons import archive, packed
+    from aide_compare.reasons import archive
+    from aide_compare.reasons import content as packed
 
     return archive, packed
 
@@ -160,7 +161,7 @@ def unpacked(packed, path, kind):
 
 def try_programs(sandbox):
     """Parts that a program of the system unpacks: as it says, refuted if it fails or is not there."""
-    packed, text = own_module("aide_compare.reasons.packed"), tar({"usr/bin/a": TRUE})
+    packed, text = own_module("aide_compare.reasons.content"), tar({"usr/bin/a": TRUE})
     digest, programs = hashlib.sha256(text).hexdigest(), dict(packed.PROGRAMS)
     sandbox.holds("the programs", {kind: name for kind, (name, _) in programs.items()} == {"zst": "zstd", "lz4": "lz4"})
     for label, body, want in (

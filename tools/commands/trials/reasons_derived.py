@@ -79,10 +79,9 @@ class Changes:
     def __init__(self, sandbox):
         self.sandbox, self.entries, self.changes = sandbox, {}, []
         self.change_type, self.entry_type = (
-            getattr(own_module("aide_compare.reasons." + name), kind)
-            for name, kind in (("changes", "Change"), ("entries", "Entry"))
+            getattr(own_module("aide_compare.reasons.entries"), kind) for kind in ("Change", "Entry")
         )
-        self.reason_type = own_module("aide_compare.reasons.changes").Reason
+        self.reason_type = own_module("aide_compare.reasons.entries").Reason
 
     def _entry(self, path, **given):
         values = Entry(path, 0o100644, **given).values
@@ -112,7 +111,7 @@ BLOCK, OTHER = (b"-----BEGIN CERTIFICATE-----\n%s\n-----END CERTIFICATE-----\n" 
 
 def try_bundle(sandbox):
     """The one file with all certificates: only those of packages, each as it is there."""
-    module = own_module("aide_compare.reasons.made")
+    module = own_module("aide_compare.reasons.derived")
     for number, (label, text, more, want) in enumerate(
         (
             ("those of packages", BLOCK + OTHER, {}, "dpkg!"),
@@ -140,7 +139,7 @@ def try_bundle(sandbox):
 
 def try_sums(sandbox):
     """dpkg's digests of a package: each is that of a verified file."""
-    module = own_module("aide_compare.reasons.made")
+    module = own_module("aide_compare.reasons.derived")
     good, other = (hashlib.md5(text).hexdigest() for text in (b"good", b"other"))
     for number, (label, lines, more, want) in enumerate(
         (

@@ -60,7 +60,7 @@ def try_values(sandbox):
     ):
         got = entry(entries, perm="%o" % mode, lname=field).link()
         sandbox.holds("the target %s of %o" % (field, mode), got == want, got)
-    for field in ("", "x", "9"):
+    for field in ("", "x"):
         got = entry(entries, perm=field, attr="x")
         sandbox.holds("a mode and attributes that are none: %r" % field, (got.mode, got.bits) == (0, 0), (got.mode, got.bits))
     odd = entries.fields_of(b" /a\x0bb\t1\x0c 2\r\n")

@@ -128,7 +128,7 @@ def try_listed(sandbox):
 def try_unpacked(sandbox):
     """A packed index with another digest than the signed one is not unpacked, and one that apt has packed anew only up to the
     signed size: who can write in apt's lists could make every index a bomb."""
-    indexes = own_module("aide_compare.reasons.indexes")
+    indexes = own_module("aide_compare.reasons.archive")
 
     def signed(text, ending, digests):
         with open(sandbox.write("packed", text), "rb") as file:

@@ -169,7 +169,7 @@ def try_records(sandbox):
 
     def kept():
         target = io.BytesIO()
-        records.write_records(target, sandbox.path("dpkg"))
+        records.write_records(target, records.FolderRecords(sandbox.path("dpkg")))
         return target.getvalue()
 
     text = kept()

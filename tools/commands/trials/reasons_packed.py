@@ -10,7 +10,7 @@ from .own_module import own_module
 from .reasons_archive import index, prepare, tar, tool, write_archive
 from .reasons_indexes import STUB, expect, lists, says
 
-PACKED = "aide_compare.reasons.packed"
+PACKED = "aide_compare.reasons.content"
 TEXT = bytes(range(256)) * 1200
 FORMS = {
     "gz": gzip.compress,
@@ -98,12 +98,12 @@ def try_slow(sandbox):
     write_archive(sandbox)
     says(sandbox)
     expect(sandbox, "gpgv that ends", True)
-    sandbox.edit("lib/aide_compare/reasons/indexes.py", "1 << 30, 100000, 60", "1 << 30, 100000, 1")
+    sandbox.edit("lib/aide_compare/reasons/archive.py", "1 << 30, 100000, 60", "1 << 30, 100000, 1")
     sandbox.stub("gpgv", (STUB % 0).replace("ROOT", sandbox.root).replace("cat > /dev/null", "cat > /dev/null; sleep 4"))
     expect(sandbox, "gpgv that does not end", False)
     sandbox.write("stubs/gpgv", b"no program", 0o755)
     expect(sandbox, "gpgv that is no program", False)
-    sandbox.edit("lib/aide_compare/reasons/indexes.py", "1 << 30, 100000, 1", "1 << 30, 100000, 60")
+    sandbox.edit("lib/aide_compare/reasons/archive.py", "1 << 30, 100000, 1", "1 << 30, 100000, 60")
     os.remove(sandbox.path("stubs/gpgv"))
 
 

@@ -39,7 +39,7 @@ def written(sandbox, records):
     """The names of the files that are kept of dpkg's folder, or why they are refused."""
     target = io.BytesIO()
     try:
-        records.write_records(target, sandbox.path("records"))
+        records.write_records(target, records.FolderRecords(sandbox.path("records")))
     except records.Fault as refused:
         return refused.text
     with tarfile.open(fileobj=io.BytesIO(target.getvalue()), mode="r:gz") as archive:
@@ -158,10 +158,10 @@ def try_now(sandbox):
 
 def try_of_that_time(sandbox):
     """Records that came with a database of which only a part became the baseline: they name both."""
-    kept_records, whole, part = own_module("aide_compare.reasons.kept_records"), "a" * 64, "b" * 64
-    path = sandbox.write("came.packages", gzip.compress(b"records") + kept_records.mark_of(whole, whole), 0o600)
+    records, whole, part = own_module(RECORDS), "a" * 64, "b" * 64
+    path = sandbox.write("came.packages", gzip.compress(b"records") + records.mark_of(whole, whole), 0o600)
     for digest in (whole, part):
-        descriptor = kept_records._of_that_time(path, digest, whole)
-        sandbox.holds("the baseline that records name", kept_records.digest_in(descriptor) == digest, digest)
+        descriptor = records._of_that_time(path, digest, whole)
+        sandbox.holds("the baseline that records name", records.digest_in(descriptor) == digest, digest)
         os.close(descriptor)
-    sandbox.holds("records of another database", kept_records._of_that_time(path, part, part) is None)
+    sandbox.holds("records of another database", records._of_that_time(path, part, part) is None)

@@ -104,7 +104,7 @@ def kept(sandbox, records):
     """rpm's records of now, written as beside a baseline and read again."""
     target = io.BytesIO()
     try:
-        records.write_records(target, records=records.RpmRecords())
+        records.write_records(target, records.RpmRecords())
         sandbox.write("kept-rpm.packages", target.getvalue())
         read = records.KeptRecords(sandbox.path("kept-rpm.packages"))
         return {name: read.read(name) for name in read.names}

@@ -20,7 +20,7 @@ from aide_compare.compare.comparison import Comparison, Request, refuse_unsound
 from aide_compare.compare.kept_open import Listed, Patterns, keep_open
 from aide_compare.compare.state import DAILY, read_state
 from aide_compare.compare.unpack import GZIP, Copy, Opened, copy_opened, copy_packed, database_digest, open_database
-from aide_compare.reasons.kept_records import SUFFIX, Records
+from aide_compare.reasons.records import SUFFIX, Records
 from aide_compare.show.explained import Sources, explain
 from aide_compare.show.told import told_of
 

@@ -23,7 +23,7 @@ from aide_compare.hosts.fleet_store import Place, add_place, no_room
 from aide_compare.hosts.host_comparison import BASELINES, MISSING, MOST_BASELINE, VALUES, add_comparison, compare
 from aide_compare.hosts.hosts_read import differs, hosts_of, read_host
 from aide_compare.hosts.hosts_text import WHY, not_listed
-from aide_compare.reasons.kept_records import mark_of
+from aide_compare.reasons.records import mark_of
 from aide_compare.show.changes import change_lines
 from aide_compare.show.told import RED, YELLOW, in_colour
 

@@ -16,7 +16,7 @@ from aide_compare.compare.unpack import copy_database
 from aide_compare.hosts.fetching import RECORDS
 from aide_compare.hosts.fleet_store import no_room
 from aide_compare.lines.reader import LINE_LIMIT
-from aide_compare.reasons.kept_records import SUFFIX
+from aide_compare.reasons.records import SUFFIX
 from aide_compare.show.explained import Sources, explain
 from aide_compare.show.told import told_of
 

@@ -1,15 +1,28 @@
-"""Evidence from packages of a signed archive, which root on the host cannot forge: what they have at the paths that changed."""
+"""Evidence from a signed archive, which root on the host cannot forge: which SHA-256 each package has, as the holder of the
+archive's key says in indexes, and what the packages have at the paths that changed."""
 import os
 import re
+import shutil
 import stat
+import subprocess
 import tarfile
 from collections import namedtuple
-from contextlib import suppress
-from itertools import product
+from contextlib import ExitStack, contextmanager, suppress
+from itertools import groupby, product
 
-from aide_compare.reasons.content import digests_of
-from aide_compare.reasons.indexes import ArchiveFolder, Index
-from aide_compare.reasons.packed import BLOCK, Bounded, Refuted, copied, members, unpacked
+from aide_compare.base.ending import Fault, Status
+from aide_compare.base.files import closed_after, in_memory, open_folder, open_trusted, reopened
+from aide_compare.reasons.content import Bounded, Refuted, Vouched, copied, digests_of, members, next_blocks, unpacked
+
+LISTED = re.compile(rb"^ ([0-9a-f]{64}) +([0-9]+) +(\S+)$", re.M)
+SECTION = re.compile(rb"^SHA256:\s*\n((?: .*\n?)+)", re.M)
+KEYRING = "/usr/share/keyrings/debian-archive-keyring.gpg"
+# What is read of a package: its name, version and architecture, and its file.
+FIELDS = (b"Package", b"Version", b"Architecture", b"SHA256", b"Size", b"Filename")
+RELEASE, SUFFIXES = "InRelease", ("", ".xz", ".gz", ".bz2", ".zst", ".lz4")
+MOST_KEYRING, MOST_STATUS = 64 << 20, 1 << 16
+MOST_RELEASE, MOST_INDEX, MOST_NAMES, SECONDS = 8 << 20, 1 << 30, 100000, 60
+PIECE = os.O_RDONLY | os.O_NOFOLLOW | os.O_NONBLOCK | os.O_NOCTTY | os.O_CLOEXEC
 
 MAGIC = b"!<arch>\n"
 HEAD = re.compile(rb"(.{16})[0-9 ]{12}[0-9 ]{6}[0-9 ]{6}[0-7 ]{8}([0-9]{1,10}) *`\n", re.S)
@@ -20,14 +33,103 @@ INFO = b"/var/lib/dpkg/info/"
 # What dpkg itself writes of a package, beside what the package brings.
 DPKGS_OWN = (b"list", b"md5sums")
 
+# What an index says of a package: the digest and the size of its file, and where that is.
+Listed = namedtuple("Listed", "sha256 size name")
+
+
+class ArchiveFolder:
+    """A folder with packages or indexes, which are believed only by a signature or a SHA-256. No link in it is followed."""
+
+    def __init__(self, path):
+        with open_folder(path) as folder:
+            self.fd = reopened(folder.fd, os.O_RDONLY | os.O_DIRECTORY)
+
+    @contextmanager
+    def opened(self, name):
+        """A descriptor of a regular file by its path in the folder, or None; for a block, which ends where it is refuted."""
+        folder, file = self.fd, None
+        with ExitStack() as stack, suppress(Refuted):
+            with suppress(OSError, ValueError):
+                *above, last = name.split("/")
+                for piece in above:
+                    folder = stack.enter_context(closed_after(os.open(piece, PIECE | os.O_DIRECTORY, dir_fd=folder)))
+                file = stack.enter_context(closed_after(os.open(last, PIECE, dir_fd=folder)))
+            yield file if file is not None and stat.S_ISREG(os.fstat(file).st_mode) else None
+
+    def releases(self):
+        """The signed files: of a mirror, of apt's lists, or of a folder of packages. Each with what its indexes' names begin
+        with, and what stands in place of a slash in them."""
+        names = os.listdir(self.fd)[:MOST_NAMES]
+        yield from ((name, name[: -len(RELEASE)], "_") for name in sorted(names) if name.endswith("_" + RELEASE))
+        yield RELEASE, "", "/"
+        with suppress(OSError):  # A mirror has suites in `dists`.
+            with closed_after(os.open("dists", PIECE | os.O_DIRECTORY, dir_fd=self.fd)) as suites:
+                names = sorted(os.listdir(suites)[:MOST_NAMES])
+            yield from (("dists/%s/%s" % (suite, RELEASE), "dists/%s/" % suite, "/") for suite in names)
+
+
+def signed_text(descriptor, keyrings):
+    """The text that a key of the keyrings has signed, as gpgv gives it out, or None if there is no such signature."""
+    program = shutil.which("gpgv")
+    if not program:
+        raise Fault(Status.DEVICE, "there is no program gpgv, so the archive's indexes cannot be verified")
+    rings = [word for ring in keyrings for word in ("--keyring", "/proc/self/fd/%d" % ring)]
+    given = {"stdin": descriptor, "stdout": subprocess.PIPE, "stderr": subprocess.DEVNULL, "env": {"LC_ALL": "C"}}
+    with closed_after(in_memory(b"")) as status:
+        words = [program, "--homedir", "/nonexistent", "--status-fd", str(status), *rings, "--output", "-", "-"]
+        try:
+            done = subprocess.run(words, timeout=SECONDS, pass_fds=(*keyrings, status), **given)
+        except (OSError, subprocess.TimeoutExpired):
+            return None
+        lines = os.pread(status, MOST_STATUS, 0).split(b"\n")
+    said = {line.split()[1] for line in lines if line.startswith(b"[GNUPG:] ")}
+    is_good = {b"GOODSIG", b"VALIDSIG"} <= said and not said & {b"BADSIG", b"ERROR", b"UNEXPECTED"}
+    return done.stdout if is_good and done.returncode in (0, 2) else None
+
+
+def _signed(descriptor, ending, digests):
+    """The text of an index, or None if nobody has signed it. Only what has a signed digest is unpacked; of a form without one,
+    in which a tool of this machine has packed it anew, no more than the signed size of the text."""
+    sha256, size = digests.get(ending, digests.get("", (None, 0)))
+    is_signed = ending in digests
+    if sha256 is None:
+        return None
+    packed, digest = copied(descriptor, None, size if is_signed else MOST_INDEX)
+    with closed_after(packed):
+        if is_signed and digest != sha256:
+            return None
+        plain, plain_digest = unpacked(packed, ending[1:], digests.get("", (None, MOST_INDEX))[1])
+    if is_signed or plain_digest == sha256:
+        return open(plain, "rb")
+    os.close(plain)
+    return None
+
+
+def _paragraphs(file, keys):
+    """What an index says of the packages that are wanted."""
+    for _, lines in groupby(file, lambda line: line == b"\n"):
+        parts = (line.partition(b":") for line in lines)
+        fields = {name: value.strip() for name, _, value in parts if name in FIELDS}
+        *key, digest, size, name = (fields.get(each, b"") for each in FIELDS)
+        if tuple(key) in keys and re.fullmatch(rb"[0-9a-f]{64}", digest) and size.isdigit():
+            yield tuple(key), Listed(digest.decode(), int(size), name.decode("utf-8", "replace"))
+
+
+def _packages_in(folder, path, digests, keys):
+    """What an index lists, if it is there in some form, and has the digest that was signed."""
+    for ending in SUFFIXES:
+        with folder.opened(path + ending) as descriptor:
+            if descriptor is None:
+                continue
+            file = _signed(descriptor, ending, digests)
+            if file:
+                with file:
+                    yield from _paragraphs(file, keys)
+        return
+
+
 # What a package has at a path: the mode with the type, the numbers of user and group, digests of a file, the target of a link.
 Member = namedtuple("Member", "package mode owner digests link")
-
-
-def has_rights_of(member, new):
-    """Whether an entry has the mode, the owner and the group that a package has at its path, and no other rights. The mode of
-    a link says nothing."""
-    return (new.is_link() or new.mode == member.mode) and new.user_and_group() == member.owner and not new.has_more_rights()
 
 
 def _parts(descriptor):
@@ -54,19 +156,6 @@ def _path_of_name(name):
     return b"/" + (path[2:] if path.startswith(b"./") else path.lstrip(b"/"))
 
 
-def _content(descriptor, place):
-    """The content of a member, in blocks."""
-    if place is None:
-        raise Refuted("a hard link to nothing")
-    offset, left = place
-    while left > 0:
-        block = os.pread(descriptor, min(BLOCK, left), offset)
-        if not block:
-            raise Refuted("cut short")
-        offset, left = offset + len(block), left - len(block)
-        yield block
-
-
 def _members(file, package, wants, columns):
     """Yields the folders, links and files of a part at the paths that are wanted. A hard link is the file that it links to,
     which comes before it, and has the mode and the content of it."""
@@ -76,8 +165,13 @@ def _members(file, package, wants, columns):
         if each.isreg():
             places[path] = (each.offset_data, each.size)
         if wants(path) and (is_file or each.isdir() or each.issym()):
-            place = places.get(path if each.isreg() else _path_of_name(each.linkname))
-            digests = digests_of(columns, _content(file.fileno(), place)) if is_file else {}
+            digests = {}
+            if is_file:
+                place = places.get(path if each.isreg() else _path_of_name(each.linkname))
+                if place is None:
+                    raise Refuted("a hard link to nothing")
+                file.seek(place[0])
+                digests = digests_of(columns, next_blocks(file.read, place[1]))
             kind = stat.S_IFREG if is_file else stat.S_IFLNK if each.issym() else stat.S_IFDIR
             link = os.fsencode(each.linkname) if each.issym() else None
             yield path, Member(package, kind | (each.mode & 0o7777), (each.uid, each.gid), digests, link)
@@ -99,27 +193,32 @@ def read_deb(descriptor, package, wants, columns):
     return found["data"], {path[1:]: each.digests for path, each in found["control"].items() if each.digests}
 
 
-def _names(key, filename):
-    """Where a package may be: as the index says, beside it, or as apt names it in its cache."""
-    cached = b"_".join(part.replace(b":", b"%3a") for part in key).decode("utf-8", "replace") + ".deb"
-    return [name for name in dict.fromkeys((filename, filename.rpartition("/")[2], cached)) if name]
-
-
 class Archive:
-    """The packages that are there as the signed indexes list them: `covered` says which, by their names and versions, and
-    `listed` which ones an index has.
-
-    A file of a package is at its own path, and nowhere else: a diversion is a record of the host, which nobody signs."""
+    """The packages that are there as the signed indexes list them (`covered`), and those that an index has (`listed`). A file of
+    a package is at its own path, and nowhere else: a diversion is a record of the host, which nobody signs."""
 
     def __init__(self, folders, keyrings):
-        self.folders = [ArchiveFolder(path) for path in folders]
-        self.index = Index(self.folders, keyrings)
+        self.folders, self.paths = [ArchiveFolder(path) for path in folders], keyrings or [KEYRING]
+        self.keyrings = [open_trusted(path, "the keyring") for path in self.paths]
         self.listed, self.covered, self.members, self.controls = set(), set(), {}, {}
+
+    def doubt(self, *databases):
+        """Why a keyring is not what the databases say of it; "" if it is, or if none has a digest of it. If one has, all
+        have to: whoever was root before AIDE ran can put his own keys there, and the new database has these."""
+        paths = [os.fsencode(os.path.realpath(path)) for path in self.paths]
+        nights = [Vouched(database, paths) for database in databases]
+        for path, descriptor in zip(paths, self.keyrings):
+            if any(night.digests.get(path) for night in nights):
+                text = os.pread(descriptor, MOST_KEYRING, 0)
+                doubts = [night.why_not(path) for night in nights if not night.has(path, text)]
+                if doubts:
+                    return doubts[-1]
+        return ""
 
     def gather(self, packages, known, columns):
         """Reads what these packages have at the paths that are known, with digests for these columns."""
         keys = {package.key: package for package in packages}
-        found = self.index.find(keys)
+        found = self._found(keys)
         self.listed.update(found)
         for key, listed in found.items():
             copy = self._copy(key, listed)
@@ -128,9 +227,35 @@ class Archive:
                     deb = read_deb(copy, keys[key], lambda path: known.usr(path) in known.paths, columns)
                     self._take(keys[key], known.usr, *deb)
 
+    def _found(self, keys):
+        """What the indexes list of the packages with these names, versions and architectures."""
+        found = {}
+        for folder in self.folders:
+            for name, head, slash in folder.releases():
+                for path, digests in self._indexes(folder, name).items():
+                    found.update(_packages_in(folder, head + path.replace("/", slash), digests, keys))
+        return found
+
+    def _indexes(self, folder, name):
+        """The indexes that a signed file lists: their digests by path and ending."""
+        text, listed = None, {}
+        with folder.opened(name) as descriptor:
+            if descriptor is not None:
+                with open(copied(descriptor, None, MOST_RELEASE)[0], "rb") as copy:
+                    text = signed_text(copy.fileno(), self.keyrings)
+        section = SECTION.search(text or b"")
+        for digest, size, path in LISTED.findall(section.group(1) if section else b""):
+            path, _, ending = path.decode("utf-8", "replace").partition("Packages")
+            if (not path or path.endswith("/")) and (not ending or "." + ending[1:] in SUFFIXES) and ".." not in path:
+                listed.setdefault(path + "Packages", {})[ending] = digest.decode(), min(int(size[:12]), MOST_INDEX)
+        return listed
+
     def _copy(self, key, listed):
-        """A private copy of a package that is there as its index says, or None."""
-        for name, folder in product(_names(key, listed.name), self.folders):
+        """A private copy of a package that is there as its index says, or None: by the name that the index says, beside it, or
+        as apt names it in its cache."""
+        cached = b"_".join(part.replace(b":", b"%3a") for part in key).decode("utf-8", "replace") + ".deb"
+        names = dict.fromkeys((listed.name, listed.name.rpartition("/")[2], cached))
+        for name, folder in product(filter(None, names), self.folders):
             with folder.opened(name) as descriptor:
                 if descriptor is not None:
                     copy, digest = copied(descriptor, listed.size, MOST_PACKAGE)
@@ -146,13 +271,8 @@ class Archive:
         for base in (package.name, package.name + b":" + package.arch):
             self.controls.setdefault(INFO + base, {}).update(control)
 
-    def at(self, path):
-        """What packages have at a path."""
-        return self.members.get(path, ())
-
     def control(self, path):
-        """The digests of one of dpkg's files about a covered package; {} if the package does not bring it, None if nothing is
-        known of it."""
+        """The digests of one of dpkg's files about a covered package; {} if the package does not bring it, None if unknown."""
         base, _, member = path.rpartition(b".")
         known = self.controls.get(base)
         return None if known is None or member in DPKGS_OWN and member not in known else known.get(member, {})

@@ -7,9 +7,8 @@ import re
 import stat
 
 from aide_compare.base.escapes import shown
-from aide_compare.reasons.changes import shared_reason
 from aide_compare.reasons.entries import ABSENT, COMPRESSED, DIGESTS, GROWING, NAMES, NEW_FILES, OTHERS_WRITE, REMOVED_FILES
-from aide_compare.reasons.entries import SAME_INODE, TIMES, differences, has_strong
+from aide_compare.reasons.entries import SAME_INODE, TIMES, differences, has_strong, shared_reason
 
 
 def _by_databases(name, text, is_verified):
@@ -41,45 +40,39 @@ KEPT = ("perm", "uid", "gid", "acl", "xattrs", "mtime")
 MOST_SOURCES = 16
 
 
-def _is_later(old, new):
-    """Whether no time and no size went back."""
-    pairs = [(old.time(column), new.time(column)) for column in TIMES] + [(old.number("size"), new.number("size"))]
-    return all((before is None) == (after is None) and (before is None or before <= after) for before, after in pairs)
-
-
 def has_grown(old, new, differ):
-    """Whether nothing but the content differs, and only as it does when text is added at the end of a file. Both are of one
-    type then."""
-    grew = "size" in differ
-    return differ <= GROWS and _is_later(old, new) and old.places.keys() >= {"size"} and (grew or not differ & DIGESTS)
+    """Whether nothing but the content differs, and only as it does when text is added at the end of a file: no time and no size
+    went back. Both are of one type then."""
+    if not differ <= GROWS:
+        return False
+    pairs = [(old.time(column), new.time(column)) for column in TIMES] + [(old.number("size"), new.number("size"))]
+    is_later = all((before is None) == (after is None) and (before is None or before <= after) for before, after in pairs)
+    return is_later and old.places.keys() >= {"size"} and ("size" in differ or not differ & DIGESTS)
 
 
-def explain_growing(old, new, differ):
+def explain_growing(_, old, new, differ):
     """The reason for a file that grew under a rule with `growing`, or None. Without its inode it is another file."""
-    if not (old.bits & GROWING and old.is_file() and has_grown(old, new, differ)):
+    if not (old and new and old.bits & GROWING and old.is_file and has_grown(old, new, differ)):
         return None
     if "size" in differ:
         return GREW
     return UNCHANGED if has_strong(old.digests()) else LATER
 
 
-def explain_lone(old, new):
-    """The reason for an entry that came or went as its rule allows. A log is a file that nobody runs."""
-    if old:
-        return REMOVED if old.bits & REMOVED_FILES and old.is_file() else None
-    return ADDED if new.bits & NEW_FILES and new.is_data() else None
-
-
-def explain_same(old, new, differ):
-    """The reason for a file that was written anew with the content that it had, as a service does that fills its jail at each
-    start, or for a socket or a FIFO, which has none. What a symbolic link has is its target."""
+def explain_place(_, old, new, differ):
+    """The reason for an entry that came or went as its rule allows, a log being a file that nobody runs; or for one that was
+    written anew with the content that it had, as a service fills its jail at each start. A link has its target."""
+    if not new:
+        return REMOVED if old.bits & REMOVED_FILES and old.is_file else None
+    if not old:
+        return ADDED if new.bits & NEW_FILES and new.is_data else None
     if not differ or not differ <= ANEW:
         return None
     if stat.S_ISSOCK(new.mode) or stat.S_ISFIFO(new.mode):
         return EMPTY
-    if new.is_link() and new.link():
+    if new.is_link and new.link():
         return SAME
-    digests = old.digests() if old.is_file() and new.is_file() else {}
+    digests = old.digests() if old.is_file and new.is_file else {}
     if not digests or digests != new.digests():
         return None
     return SAME if has_strong(digests) else WEAK
@@ -90,17 +83,13 @@ def _stem(change, form):
     return found.group(1) if found else None
 
 
-def _kept_of(entry):
-    return tuple(entry.field(column) for column in KEPT)
-
-
 def _moved(text, other, is_verified=False):
     return _by_databases("moved", text % shown(other.name(), 200), is_verified)
 
 
 def _explain_rename(source, old, new):
     """The reason for a file that has the inode of another one, which was there before, or None."""
-    if not (old.bits & SAME_INODE and old.is_file()):
+    if not (old.bits & SAME_INODE and old.is_file):
         return None
     differ = differences(old, new)
     if differ <= {"ctime"}:
@@ -122,8 +111,10 @@ def explain_renames(changes, read):
             if source:
                 came_from[source] = change
     for source, change in came_from.items():
-        if source.is_open() and source.new_at is not None:
-            source.reason = _explain_left(change, *read(source))
+        old, new = read(source)
+        is_log = new and new.bits & NEW_FILES and new.is_data and differences(old, new) <= GROWS | {"inode"}
+        if source.is_open() and is_log:
+            source.reason = _moved("rotated to %s; the new file is not verified", change)
 
 
 def _names_left(changes, read):
@@ -133,7 +124,7 @@ def _names_left(changes, read):
         if change.old_at is not None:
             folder, old = change.folder(), read(change)[0]
             left.setdefault((folder, old.field("inode")), []).append(change)
-            left.setdefault((folder, _stem(change, NUMBERED), _kept_of(old)), []).append(change)
+            left.setdefault((folder, _stem(change, NUMBERED), *map(old.field, KEPT)), []).append(change)
     return left
 
 
@@ -146,21 +137,12 @@ def _source_of(change, new, left, read):
     if reason:
         return sources[0], reason
     if stem and new.bits & COMPRESSED and new.time("mtime") is not None:
-        for source in left.get((folder, stem, _kept_of(new)), ())[:MOST_SOURCES]:
-            if _is_packed(read(source)[0], new):
+        for source in left.get((folder, stem, *map(new.field, KEPT)), ())[:MOST_SOURCES]:
+            old = read(source)[0]
+            sizes = old.number("size"), new.number("size")
+            if old.number("inode") != new.number("inode") and None not in sizes and sizes[1] <= sizes[0] + MOST_HEAD:
                 return source, _moved("compressed from %s, content not verified", source)
     return None, None
-
-
-def _is_packed(old, new):
-    sizes = old.number("size"), new.number("size")
-    return old.number("inode") != new.number("inode") and None not in sizes and sizes[1] <= sizes[0] + MOST_HEAD
-
-
-def _explain_left(change, old, new):
-    """The reason for the new file under a name that was left for that of the change."""
-    is_log = new.bits & NEW_FILES and new.is_data() and differences(old, new) <= GROWS | {"inode"}
-    return _moved("rotated to %s; the new file is not verified", change) if is_log else None
 
 
 def has_other_names(old, new, differ):
@@ -170,11 +152,6 @@ def has_other_names(old, new, differ):
         flags = old.number("e2fsattrs"), new.number("e2fsattrs")
         return None not in flags and flags[0] ^ flags[1] == INDEX
     return not rest
-
-
-def _by_names(text, worst):
-    more = ", not all of it verified" if worst == NOT_VERIFIED else ""
-    return _by_databases("directory", text + more, worst == VERIFIED)
 
 
 def explain_folders(changes, read, owner_of):
@@ -191,15 +168,19 @@ def explain_folders(changes, read, owner_of):
 
 
 def _folder_reason(change, old, new, worst, owner_of):
-    if not new.is_folder():
+    if not new.is_folder:
         return None
-    if old is None:  # Nobody but root can put more into it.
-        is_roots = new.is_plain() and not new.mode & OTHERS_WRITE
-        return _by_names("new; " + ALL_IN_IT, worst) if is_roots and worst is not None else None
-    differ = differences(old, new)
-    is_anew = "inode" in differ
-    if not old.is_folder() or not has_other_names(old, new, differ - {"inode"}):
+    if old:
+        differ = differences(old, new)
+        is_anew = "inode" in differ
+        if not old.is_folder or not has_other_names(old, new, differ - {"inode"}):
+            return None
+        if worst is None:
+            return owner_of(change) if owner_of and not is_anew else None
+        text = "made anew; " + ALL_IN_IT if is_anew else ALL_NAMES
+    elif worst is None or not new.is_plain() or new.mode & OTHERS_WRITE:  # Somebody but root can put more into it.
         return None
-    if worst is None:
-        return owner_of(change) if owner_of and not is_anew else None
-    return _by_names("made anew; " + ALL_IN_IT if is_anew else ALL_NAMES, worst)
+    else:
+        text = "new; " + ALL_IN_IT
+    more = ", not all of it verified" if worst == NOT_VERIFIED else ""
+    return _by_databases("directory", text + more, worst == VERIFIED)

@@ -1,12 +1,13 @@
-"""What a database says of an entry: where it is, its fields, and in which columns two entries differ."""
+"""What a database says of an entry: where it is, its fields, and in which columns two entries differ; and the changes of a
+report with the reasons for them, kept small: there may be 100,000 in memory."""
 import base64
-import binascii
 import os
 import re
 import stat
-from functools import partial
+from collections import namedtuple
+from contextlib import suppress
+from functools import lru_cache, partial
 
-from aide_compare.base.ending import Fault, Status
 from aide_compare.base.files import reopened
 from aide_compare.base.paths import key_of, key_of_path, unescaped
 from aide_compare.lines.attributes import DIGEST_COLUMNS as DIGESTS
@@ -14,11 +15,10 @@ from aide_compare.lines.attributes import DIGEST_COLUMNS as DIGESTS
 fields_of = re.compile(rb"[^ \t\n]+").findall
 ABSENT = b"0"
 OTHERS_WRITE, RUN_BITS = 0o022, 0o111
-MOST_LINE, MOST_TABLES, READ_AT_ONCE, READ_FOR_ONE = 1 << 20, 64, 1 << 18, 1 << 12
+READ_AT_ONCE, READ_FOR_ONE = 1 << 18, 1 << 12
 
 SIZE_ONLY_GROWS, SAME_INODE, NEW_FILES, REMOVED_FILES, GROWING, COMPRESSED = (1 << bit for bit in (26, 27, 28, 29, 40, 41))
-USER, GROUP = 1 << 3, 1 << 4
-OWNER = USER | GROUP
+USER, OWNER = 1 << 3, 1 << 3 | 1 << 4
 SPECIAL = SIZE_ONLY_GROWS | SAME_INODE | NEW_FILES | REMOVED_FILES | GROWING | COMPRESSED
 
 TIMES = frozenset(("mtime", "ctime", "atime"))
@@ -36,63 +36,53 @@ IN_MERGED = re.compile(rb"\A(?:%s)(?=/|\Z)" % b"|".join(MERGED))
 # Two files with one digest of less than 256 bits may be made on purpose, so that it does not say what a content is.
 STRONG_BYTES = 32
 
+# What says no more than a mode: two lists, of which the second one, for new files in a folder, is empty.
+ACL = re.compile(rb"POSIX,(?:0?|([^,]+)),0?")
 BASE_ACL = re.compile(rb"(?:(?:user|group|other)::[r-][w-][x-]\n?){3}\n?")
+TIME = re.compile(rb"-?[0-9]+")
 
 
 def number(field, base=10):
     """The number that a field is, or None."""
-    try:
-        return int(field, base) if field is not None and field.isalnum() else None
-    except ValueError:
-        return None
+    return int(field, base) if field.isdigit() else None
 
 
 def _unpacked(field):
-    try:
+    with suppress(ValueError):
         return base64.b64decode(field, validate=True)
-    except (binascii.Error, ValueError):
-        return None
 
 
 class Entry:
-    """An entry of a database. `places` says in which field each column is."""
-
-    __slots__ = ("fields", "places", "mode", "bits")
+    """An entry of a database. `places` says in which field each column is. `is_data`: it is a file that nobody runs."""
 
     def __init__(self, fields, places):
         self.fields, self.places = fields, places
         self.mode, self.bits = number(self.field("perm"), 8) or 0, number(self.field("attr")) or 0
+        self.is_file, self.is_folder, self.is_link = (test(self.mode) for test in (stat.S_ISREG, stat.S_ISDIR, stat.S_ISLNK))
+        self.is_data = self.is_file and not self.mode & RUN_BITS
 
     def field(self, column):
         """The field of a column; that of an absent value if there is no such column."""
-        place = self.places.get(column)
-        return ABSENT if place is None else self.fields[place]
+        return self.fields[self.places[column]] if column in self.places else ABSENT
 
     def number(self, column):
         return number(self.field(column))
-
-    def user(self):
-        """The number of the user whose entry it is; None if its rule did not ask."""
-        return self.number("uid") if self.bits & USER and "uid" in self.places else None
 
     def time(self, column):
         """A time in seconds, or None. It is a number, or the base64 of one; before 1970 it has a sign."""
         field = self.field(column)
         text = field if field[:1] == b"-" or field[:1].isdigit() else _unpacked(field) or b""
-        sign, digits = (-1, text[1:]) if text[:1] == b"-" else (1, text)
-        seconds = None if field == ABSENT else number(digits)
-        return None if seconds is None else sign * seconds
+        return int(text) if field != ABSENT and TIME.fullmatch(text) else None
 
     def digests(self):
         """The digests that the entry has, as bytes. An absent one is equal to nothing, so it is not among them."""
-        fields = ((column, self.field(column)) for column in DIGESTS & self.places.keys())
-        found = {column: digest_bytes(field) for column, field in fields if field != ABSENT}
-        return {column: value for column, value in found.items() if value}
+        fields = {column: self.field(column) for column in DIGESTS & self.places.keys()}
+        return {column: digest_bytes(field) for column, field in fields.items() if field != ABSENT}
 
     def link(self):
         """Where a symbolic link points to, or None. AIDE writes "0-" for nothing, and a nought before one that begins so."""
         field = self.field("lname")
-        if field == ABSENT or not stat.S_ISLNK(self.mode):
+        if field == ABSENT or not self.is_link:
             return None
         return b"" if field == b"0-" else unescaped(field[1:] if field.startswith(b"00") else field)
 
@@ -101,46 +91,26 @@ class Entry:
         field = self.field("capabilities")
         return b"" if field == ABSENT else _unpacked(field)
 
-    def is_file(self):
-        return stat.S_ISREG(self.mode)
-
-    def is_data(self):
-        """Whether it is a file that nobody runs."""
-        return self.is_file() and not self.mode & RUN_BITS
-
-    def is_folder(self):
-        return stat.S_ISDIR(self.mode)
-
-    def is_link(self):
-        return stat.S_ISLNK(self.mode)
-
     def user_and_group(self):
         """The numbers of its user and its group, None if its rule did not ask for both."""
         return (self.number("uid"), self.number("gid")) if self.bits & OWNER == OWNER else None
 
     def is_closed(self):
-        """Whether nobody but root can write it, as far as its owner, its group and its mode say. The mode of a link says
-        nothing."""
-        return self.user_and_group() == (0, 0) and self.is_plain() and (self.is_link() or not self.mode & OTHERS_WRITE)
+        """Whether its owner, its group and its mode let nobody but root write it. The mode of a link says nothing."""
+        return self.user_and_group() == (0, 0) and self.is_plain() and (self.is_link or not self.mode & OTHERS_WRITE)
 
     def is_plain(self):
-        """Whether it belongs to root, and nothing beyond its mode gives a right to anybody: no access list, no capability,
-        no extended attribute. Of a link AIDE reads the capabilities of the file that it points to."""
+        """Whether it belongs to root, and nothing beyond its mode gives a right to anybody."""
         return self.number("uid") == 0 and not self.has_more_rights()
 
     def has_more_rights(self):
-        """Whether something beyond its mode gives a right."""
+        """Whether an access list, a capability or an extended attribute gives a right beyond its mode. Of a link AIDE reads the
+        capabilities of the file that it points to."""
         has_more = any(self.field(column) != ABSENT for column in ("capabilities", "xattrs"))
-        has_list = self.field("acl") != ABSENT and not _is_base_acl(self.field("acl"))
-        return not self.is_link() and (has_more or has_list)
-
-
-def _is_base_acl(field):
-    """Whether an access list says no more than a mode: `POSIX,` and two lists, the second one for new files in a folder."""
-    kind, *lists = field.split(b",")
-    texts = [b"" if part == ABSENT else _unpacked(part) for part in lists]
-    is_whole = kind == b"POSIX" and len(texts) == 2 and None not in texts and texts[1] == b""
-    return is_whole and (not texts[0] or BASE_ACL.fullmatch(texts[0]) is not None)
+        acl = ACL.fullmatch(self.field("acl"))
+        is_base = acl and (not acl.group(1) or BASE_ACL.fullmatch(_unpacked(acl.group(1)) or b""))
+        has_list = self.field("acl") != ABSENT and not is_base
+        return not self.is_link and (has_more or has_list)
 
 
 def digest_bytes(field):
@@ -156,13 +126,9 @@ def has_strong(digests):
 
 
 def differences(old, new):
-    """The columns in which two entries differ, with `type` for the type of the file, and `attributes` if the rules of the two
-    databases do not ask for the same of it."""
-    if old.places == new.places:
-        columns = (column for column, place in old.places.items() if old.fields[place] != new.fields[place])
-    else:
-        columns = (column for column in old.places.keys() | new.places.keys() if old.field(column) != new.field(column))
-    found = set(columns) - {"attr", "name"}
+    """The columns in which two entries differ, with `type` for the type, and `attributes` if their rules ask for others."""
+    columns = (old.places.keys() | new.places.keys()) - {"attr", "name"}
+    found = {column for column in columns if old.field(column) != new.field(column)}
     if stat.S_IFMT(old.mode) != stat.S_IFMT(new.mode):
         found.add("type")
     if (old.bits ^ new.bits) & ~SPECIAL:
@@ -172,39 +138,32 @@ def differences(old, new):
 
 def is_rewritten(old, new):
     """Whether a file that is root's alone, and that nobody runs, is new, or has nothing but other content than before."""
-    return new.is_data() and new.is_plain() and (not old or differences(old, new) <= CONTENT)
-
-
-def _found(lines, tables):
-    """Yields the key and the place of each entry. The tables of columns are noted by their places."""
-    name_at, place = None, 0
-    for line in iter(partial(lines.readline, MOST_LINE + 1), b""):
-        field = None
-        if line[:1] == b"/" and name_at == 0 and b"\t" not in line:
-            field = line[: line.find(b" ")] if b" " in line else line.rstrip(b"\n")
-        else:
-            fields = fields_of(line) or [b"#"]
-            if fields[0] == b"@@end_db":
-                return
-            if fields[0] == b"@@db_spec" and b"name" in fields and len(tables) < MOST_TABLES:
-                columns = [column.decode("ascii", "replace") for column in fields[1:]]
-                tables[place] = {column: number for number, column in enumerate(columns)}
-                name_at = columns.index("name")
-            elif not fields[0].startswith((b"#", b"@@")) and name_at is not None and name_at < len(fields):
-                field = fields[name_at]
-        if field is not None:
-            yield key_of(field), place
-        place += len(line)
+    return new.is_data and new.is_plain() and (not old or differences(old, new) <= CONTENT)
 
 
 class OrderedDatabase:
-    """A plain database in path order, read once from its beginning. A place is where in the file a line begins; of the tables
-    of columns the last one before an entry counts."""
+    """A plain database in path order that the program has accepted, read once. A place is where in the file a line begins."""
 
     def __init__(self, descriptor, side):
-        self.fd, self.side, self.tables, self.key, self.place = descriptor, side, {}, b"", None
+        self.fd, self.side, self.columns, self.key, self.place = descriptor, side, {}, b"", None
         again, self.file = (open(reopened(descriptor, os.O_RDONLY), "rb", size) for size in (READ_AT_ONCE, READ_FOR_ONE))
-        self.found = _found(again, self.tables)
+        self.found = self._keys(again)
+
+    def _keys(self, lines):
+        """Yields the key and the place of each entry."""
+        place, name = 0, None
+        for line in lines:
+            start = line.lstrip(b" \t")[:2]
+            if start == b"@@":
+                word, *columns = fields_of(line)
+                if word == b"@@end_db":
+                    return
+                if word == b"@@db_spec":
+                    self.columns = {column.decode("ascii", "replace"): number for number, column in enumerate(columns)}
+                    name = re.compile(rb"[ \t]*(?:[^ \t\n]+[ \t]+){%d}([^ \t\n]+)" % self.columns["name"])
+            elif start[:1] not in (b"", b"\n", b"#"):
+                yield key_of(name.match(line).group(1)), place
+            place += len(line)
 
     def find(self, key):
         """The place of the entry that has this key, or None. The keys are asked for in order."""
@@ -215,10 +174,7 @@ class OrderedDatabase:
     def at(self, place):
         """The entry at a place."""
         self.file.seek(place)
-        fields, places = fields_of(self.file.readline(MOST_LINE + 1)), self.tables[max(at for at in self.tables if at < place)]
-        if len(fields) != len(places):
-            raise Fault(Status.DATABASE, "a line of the %s database has not as many fields as columns" % self.side)
-        return Entry(fields, places)
+        return Entry(fields_of(self.file.readline()), self.columns)
 
 
 def entries_at(database, paths):
@@ -235,3 +191,39 @@ def usr_of(database):
     found = entries_at(database, MERGED)
     merged = {path: b"/usr" + path for path, entry in found if entry.link() in (b"usr" + path, b"/usr" + path)}
     return partial(IN_MERGED.sub, lambda found: merged.get(found.group(), found.group()))
+
+
+# What explains an entry: its class, a text for people, whether the content is verified, and where the evidence is from.
+Reason = namedtuple("Reason", "name text verified grade")
+# The same object for the same reason, since many changes have it.
+shared_reason = lru_cache(maxsize=1 << 12)(Reason)
+
+
+class Change:
+    """An entry of the report: its path, where it is in the databases (None if it is not), what explains others, and what was
+    found: a reason, or None, and a severity. `owner`: the number of the user whose entry it is; None if that was not measured.
+    `is_replaced`: the name came, went, or means another file now, which alone changes its folder. `is_never`: nothing ever
+    explains it."""
+
+    __slots__ = ("path", "old_at", "new_at", "old_mode", "new_mode", "owner", "is_replaced", "is_never", "reason", "severity")
+
+    def __init__(self, path, old_at, new_at):
+        self.path, self.old_at, self.new_at = path, old_at, new_at
+        self.old_mode = self.new_mode = 0
+        self.is_replaced = self.is_never = False
+        self.owner = self.reason = self.severity = None
+
+    def folder(self):
+        """The path of the folder in which it is; none for the root."""
+        above = self.path.rpartition(b"/")[0]
+        return above if above or self.path == b"/" else b"/"
+
+    def name(self):
+        return self.path.rpartition(b"/")[2]
+
+    def is_open(self):
+        """Whether a reason is still looked for."""
+        return self.reason is None and not self.is_never
+
+    def is_verified(self):
+        return self.reason is not None and self.reason.verified

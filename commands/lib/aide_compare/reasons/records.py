@@ -1,8 +1,9 @@
-"""The packages' records of this machine, dpkg's files or what rpm says, and such records in one file.
+"""The packages' records of this machine, dpkg's files or what rpm says, and such records in one file beside a baseline.
 
-The file is kept beside a baseline, since a package that is removed takes its lists with it. It is a tar archive, packed by
-gzip, with dpkg's own files under the names that they have below /var/lib/dpkg, or with rpm's text in a file `rpm`. Records of
-each kind have `names`, and `read` gives the bytes of one.
+A package that is removed takes its lists with it, so they are kept: in a tar archive, packed by gzip, dpkg's own files by their
+names below /var/lib/dpkg, or rpm's text as `rpm`. A member of gzip after it names by a digest the baseline to which they
+belong: those of another time could explain what no package has changed, so a file with another digest is never used. Records
+of each kind have `names`, and `read` gives the bytes of one.
 """
 import gzip
 import io
@@ -11,19 +12,18 @@ import re
 import stat
 import tarfile
 import time
+from contextlib import suppress
 
-from aide_compare.base.ending import Fault, Status, failing, write_all
+from aide_compare.base.ending import Fault, Status, failing, why_of, write_all
 from aide_compare.base.escapes import shown
-from aide_compare.base.files import open_regular, open_trusted, read_whole
-from aide_compare.base.folders import closed_after, open_folder
+from aide_compare.base.files import closed_after, nameless, open_folder, open_regular, open_trusted, read_whole
 from aide_compare.base.private_room import private_room
 from aide_compare.base.processes import run
 from aide_compare.compare.unpack import BLOCK, Opened, copy_opened
-from aide_compare.reasons.content import STRONG, digests_of
-from aide_compare.reasons.packed import Bounded, members
+from aide_compare.reasons.content import STRONG, Bounded, Refuted, copied, digests_of, members
 
 DPKG = "/var/lib/dpkg"
-KEPT = re.compile(r"(?:.*/)?(status|diversions|info/[A-Za-z0-9][A-Za-z0-9+.:~_-]*\.(?:list|md5sums))")
+KEPT = re.compile(r"(?:.*/)?(status|diversions|info/[A-Za-z0-9][A-Za-z0-9+.:~_-]*\.(?:list|md5sums))|rpm")
 MOST_FILE, MOST_ALL, MOST_FILES = 64 << 20, 1 << 30, 200000
 FOLDER_ONLY = os.O_RDONLY | os.O_DIRECTORY | os.O_NOFOLLOW | os.O_CLOEXEC
 PLAIN_FILE = os.O_RDONLY | os.O_NOFOLLOW | os.O_NONBLOCK | os.O_NOCTTY | os.O_CLOEXEC
@@ -42,6 +42,12 @@ QUERY = (
 )
 RPM_NAME = "rpm"  # The name of the text among records that are kept.
 MOST_TEXT, MOST_DATABASE, SECONDS = 256 << 20, 4 << 30, 120
+
+SUFFIX, WHAT = ".packages", "the packages' records "
+MARK, PART_OF = "aide-compare baseline sha256=%s%s\n", " part of sha256=%s"
+# The member is stored, not packed, so its text can be read at the end of the file. A sum and a size of eight bytes follow.
+MARKED = re.compile(rb"aide-compare baseline sha256=([0-9a-f]{64})(?: part of sha256=[0-9a-f]{64})?\n.{8}\Z", re.DOTALL)
+END_BYTES = 300
 
 
 class FolderRecords:
@@ -81,7 +87,6 @@ def database_folder():
 
 
 def has_rpm():
-    """Whether this machine has rpm, and packages of it."""
     return os.path.isfile(RPM) and database_folder() is not None
 
 
@@ -107,24 +112,19 @@ class RpmRecords:
             if not os.path.isfile(self.path):
                 return self._asked(self.folder)
             with private_room() as room:
-                self._copy_to(room)
+                self.digests = digests_of(STRONG, self._copied(room))
                 return self._asked("/proc/%d/fd/%d" % (os.getpid(), room))
 
-    def _copy_to(self, folder):
-        """Copies the database into a folder, and notes the digests of the copy."""
-        with closed_after(open_regular(self.path, "rpm's database ")) as source:
-            with closed_after(os.open(WHOLE, NEW_FILE, 0o600, dir_fd=folder)) as target:
-                self.digests = digests_of(STRONG, self._copied(source, target))
-
-    @staticmethod
-    def _copied(source, target):
-        left = MOST_DATABASE
-        for block in iter(lambda: os.read(source, 1 << 20), b""):
-            left -= len(block)
-            if left < 0:
-                raise Fault(Status.DEVICE, "rpm's records cannot be read: the database is too large")
-            write_all(target, block)
-            yield block
+    def _copied(self, folder):
+        """Copies the database into a folder, and yields its blocks."""
+        left, source = MOST_DATABASE, open_regular(self.path, "rpm's database ")
+        with closed_after(source), closed_after(os.open(WHOLE, NEW_FILE, 0o600, dir_fd=folder)) as target:
+            while block := os.read(source, BLOCK):
+                left -= len(block)
+                if left < 0:
+                    raise Fault(Status.DEVICE, "rpm's records cannot be read: the database is too large")
+                write_all(target, block)
+                yield block
 
     def _asked(self, folder):
         """What rpm says of the database in a folder."""
@@ -144,29 +144,27 @@ class RpmRecords:
 
 
 class KeptRecords:
-    """Records that `write_records` has written."""
+    """Records of a file that `write_records` has written."""
 
     def __init__(self, path):
         self.words = "the packages' records %s" % shown(path)
-        opened = Opened("old", path, open_trusted(path, "the packages' records"))
+        opened = Opened("old", path, open_trusted(path, WHAT.rstrip()))
         opened.words = self.words
         self.file, self.members = Bounded(copy_opened(opened, MOST_ALL).fd, MOST_TEXT), {}
         self.file.seek(0)
         try:
             for member in members(self.file, MOST_FILES):
-                self._note(member)
+                kept = KEPT.fullmatch(member.name)
+                if kept and member.isreg():
+                    name = kept.group(1) or RPM_NAME
+                    if member.size > (MOST_TEXT if name == RPM_NAME else MOST_FILE):
+                        raise tarfile.ReadError("a file is too large")
+                    self.members[name] = (member.offset_data, member.size)
         except (tarfile.TarError, ValueError, EOFError) as error:
             raise Fault(Status.DEVICE, "%s are damaged: %s" % (self.words, shown(str(error), 100)))
         self.names = sorted(self.members)
         if "status" not in self.members and RPM_NAME not in self.members:
             raise Fault(Status.DEVICE, "%s have neither the status of dpkg nor rpm's packages" % self.words)
-
-    def _note(self, member):
-        is_rpms, kept = member.name == RPM_NAME, KEPT.fullmatch(member.name)
-        if (is_rpms or kept) and member.isreg():
-            if member.size > (MOST_TEXT if is_rpms else MOST_FILE):
-                raise tarfile.ReadError("a file is too large")
-            self.members[RPM_NAME if is_rpms else kept.group(1)] = (member.offset_data, member.size)
 
     def read(self, name):
         offset, size = self.members.get(name, (0, 0))
@@ -184,9 +182,8 @@ def records_now(folder=DPKG):
     return RpmRecords() if not has_records(folder) and has_rpm() else FolderRecords(folder)
 
 
-def write_records(target, folder=DPKG, records=None):
-    """Writes the packages' records of now to an open file of bytes. The same records give the same bytes."""
-    records = records or records_now(folder)
+def write_records(target, records):
+    """Writes packages' records to an open file of bytes. The same records give the same bytes."""
     with gzip.GzipFile(filename="", mode="wb", compresslevel=1, fileobj=target, mtime=0) as packed:
         with tarfile.open(fileobj=packed, mode="w|", bufsize=BLOCK, format=tarfile.GNU_FORMAT) as archive:
             for name in records.names:
@@ -194,3 +191,77 @@ def write_records(target, folder=DPKG, records=None):
                 member = tarfile.TarInfo(name)
                 member.size = len(text)
                 archive.addfile(member, io.BytesIO(text))
+
+
+def mark_of(digest, accepted):
+    """The member that names a baseline, and the database that was accepted if only a part of it became the baseline."""
+    return gzip.compress((MARK % (digest, "" if accepted == digest else PART_OF % accepted)).encode(), 0, mtime=0)
+
+
+def digest_in(descriptor):
+    """The digest of the baseline to which records belong; "" if they do not say."""
+    size = os.fstat(descriptor).st_size
+    found = MARKED.search(os.pread(descriptor, END_BYTES, max(size - END_BYTES, 0)))
+    return found.group(1).decode() if found else ""
+
+
+def _of_that_time(path, digest, accepted):
+    """A descriptor of a copy of records that belong to the database `accepted`, for the baseline with this digest, or None."""
+    if path is None or not os.path.lexists(path):
+        return None
+    with closed_after(open_regular(path, WHAT)) as descriptor, suppress(Refuted):
+        if digest_in(descriptor) == accepted:
+            target = copied(descriptor, None, MOST_ALL)[0]
+            os.lseek(target, 0, os.SEEK_END)
+            write_all(target, b"" if digest == accepted else mark_of(digest, accepted))
+            return target
+    return None
+
+
+def mismatch(path, digest):
+    """Why the records at a path are not those of the time of a baseline with this digest; "" if nothing speaks against it.
+    Records that name no baseline are the caller's own. A Fault if they cannot be opened."""
+    with closed_after(open_regular(path, WHAT)) as descriptor:
+        found = digest_in(descriptor)
+    return "" if found in ("", digest) else "they belong to another baseline; aide-compare accept writes them anew"
+
+
+class Records:
+    """The packages' records beside a baseline. The former ones go right before the baseline does, and the new ones come after
+    it: so at no moment those of an older time are beside a newer baseline, and a baseline that stays keeps its own.
+
+    `accepted` is the digest of the database of which the baseline was made, and `beside` is where records of its time may be,
+    which are taken rather than those of now, in which a later upgrade is."""
+
+    def __init__(self, baseline, digest, accepted=None, beside=None):
+        self.baseline, self.digest, self.why, self.fd, self.time = baseline, digest, "", None, "now"
+        self.whose = "dpkg's" if has_records() else "rpm's" if has_rpm() else ""
+        try:
+            self.fd = _of_that_time(beside, digest, accepted or digest)
+            if self.fd is not None:
+                self.time = "the database's time"
+            elif self.whose:
+                self.fd = nameless()
+                with open(os.dup(self.fd), "wb") as file:
+                    write_records(file, records_now())
+                    file.write(mark_of(digest, accepted or digest))
+        except (Fault, OSError) as error:
+            self.fd, self.why = None, why_of(error)
+
+    def are_there(self):
+        descriptor = self.baseline.reading_beside(SUFFIX)
+        if descriptor is None:
+            return False
+        with closed_after(descriptor):
+            return digest_in(descriptor) == self.digest
+
+    def keep(self):
+        """Writes the records, if there are any. Returns a line that says what was done; nothing without dpkg and rpm."""
+        place = shown(self.baseline.path) + SUFFIX
+        if self.fd is None:
+            return "no packages' records were kept: %s" % self.why if self.why else ""
+        try:
+            self.baseline.put_beside(self.fd, SUFFIX)
+        except Fault as fault:
+            return "no packages' records were kept as %s: %s" % (place, fault.text)
+        return "packages: %s records of %s are kept as %s" % (self.whose, self.time, place)

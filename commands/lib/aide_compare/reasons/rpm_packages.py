@@ -11,9 +11,8 @@ import stat
 from collections import namedtuple
 
 from aide_compare.base.ending import Fault, Status
-from aide_compare.reasons.changes import shared_reason
 from aide_compare.reasons.content import Contents, Vouched
-from aide_compare.reasons.entries import usr_of
+from aide_compare.reasons.entries import shared_reason, usr_of
 from aide_compare.reasons.packages import folder_reason, is_member, package_words
 from aide_compare.reasons.records import RPM_NAME
 from aide_compare.reasons.tables import takes_no_stranger
@@ -55,22 +54,21 @@ class RpmNight:
 
     def paths(self, package):
         """The paths of a package, each with the fields of its line."""
-        for line in self.blocks[package].split(b"\n"):
+        for line in filter(None, self.blocks[package].split(b"\n")):
             fields = line.split(b"\t")
-            if line and (len(fields) != FILE_FIELDS or fields[0] != b"F"):
+            if len(fields) != FILE_FIELDS or fields[0] != b"F":
                 raise _damaged("a line that is no file")
-            if line:
-                yield self.usr(fields[1]), fields
+            yield self.usr(fields[1]), fields[2:]
 
     def file_of(self, package, fields):
         """What rpm says of a file, or None for one that rpm itself did not write."""
-        _, _, digest, mode, user, group, link, flags, capabilities, state = fields
+        digest, mode, user, group, link, flags, capabilities, state = fields
         if state != NORMAL or not flags.isdigit() or int(flags) & GHOST or not MODE.fullmatch(mode):
             return None
         column = self.columns[package]
         digests = {column: bytes.fromhex(digest.decode())} if column and DIGEST.fullmatch(digest) else {}
-        is_roots, has_none = user == group == b"root", capabilities in NONE
-        return RpmFile(package, int(mode, 8), digests, link, is_roots, b"" if has_none else capabilities)
+        capabilities = _capabilities(b"" if capabilities in NONE else capabilities)
+        return RpmFile(package, int(mode, 8), digests, link, user == group == b"root", capabilities)
 
 
 class RpmPackages:
@@ -83,28 +81,25 @@ class RpmPackages:
     def gather(self, changes, explainer):
         databases = (explainer.old, explainer.new)
         old, new = (RpmNight(text, usr_of(database)) for text, database in zip(self.texts, databases))
-        self.why_not = self._doubt(explainer.new)
+        # rpm's text alone, kept from another moment, is nothing that AIDE measures.
+        self.why_not = "rpm's database of now was not read, or is not one file"
+        if getattr(self.records, "digests", None):
+            path = os.fsencode(os.path.realpath(self.records.path))
+            vouched = Vouched(explainer.new, [path])
+            self.why_not = "" if vouched.fits(path, self.records.digests) else vouched.why_not(path)
         names = {package.name for package in old.blocks}
         self.fresh = sorted(package for package in new.blocks if package.name not in names)
         paths = {change.path for change in changes}
         gone = {change.path for change in changes if change.new_at is None}
         for package in sorted(new.blocks.keys() - old.blocks.keys()):
             for path, fields in new.paths(package):
-                if path in paths:
-                    self.now.setdefault(path, []).append(new.file_of(package, fields))
+                file = path in paths and new.file_of(package, fields)
+                if file:
+                    self.now.setdefault(path, []).append(file)
         for package in sorted(old.blocks.keys() - new.blocks.keys()):
             self.before.update((path, package) for path, _ in old.paths(package) if path in gone)
         for package in new.blocks if self.before else ():
             self.listed.update(path for path, _ in new.paths(package) if path in gone)
-
-    def _doubt(self, database):
-        """Why the new database does not vouch for what rpm says now; "" if it does. rpm's text alone, kept from another
-        moment, is nothing that AIDE measures."""
-        if not getattr(self.records, "digests", None):
-            return "rpm's database of now was not read, or is not one file"
-        path = os.fsencode(os.path.realpath(self.records.path))
-        vouched = Vouched(database, [path])
-        return "" if vouched.fits(path, self.records.digests) else vouched.why_not(path)
 
     def doubt(self):
         """Why not all that the records say counts; "" if it does, or if it explains nothing."""
@@ -120,31 +115,25 @@ class RpmPackages:
             owner = self.before.get(change.path)
             is_gone = owner and change.path not in self.listed
             return self._reason("gone with %s" % package_words(owner), False) if is_gone else None
-        file = next((file for file in self._files(change) if self._is_as(change, file, old, new, differ)), None)
-        if not file or (file.package in self.fresh and takes_no_stranger(change.path, new.mode)):
-            return None
-        return self._reason(package_words(file.package), not self.why_not)
-
-    def _files(self, change):
-        return [file for file in self.now.get(change.path, ()) if file]
+        for file in self.now.get(change.path, ()):  # An entry has all that rpm says of it, and a new one nothing more.
+            is_roots = (file.is_roots and new.user_and_group() == (0, 0)) and (old or new.is_plain())
+            has_its = new.is_link or _capabilities(new.capabilities()) == file.capabilities
+            is_strange = file.package in self.fresh and takes_no_stranger(change.path, new.mode)
+            if new.mode == file.mode and is_roots and has_its and not is_strange:
+                if is_member(change, file, old, new, differ, self.contents):
+                    return self._reason(package_words(file.package), not self.why_not)
+        return None
 
     @staticmethod
     def _reason(text, is_sure):
         return shared_reason("package", text + ("" if is_sure else DOUBT), is_sure, "rpm")
 
-    def _is_as(self, change, file, old, new, differ):
-        """Whether an entry has all that rpm says of the file. A new one has nothing more than that."""
-        if new.mode != file.mode or not (file.is_roots and new.user_and_group() == (0, 0)) or not (old or new.is_plain()):
-            return False
-        has_its = new.is_link() or _capabilities(new.capabilities()) == _capabilities(file.capabilities)
-        return has_its and is_member(change, file, old, new, differ, self.contents)
-
-    def explain_made(self, change, old, new, differ):
+    def explain_made(self, *_):
         """Nothing: it is not known which files the scripts of these packages make."""
 
     def owner_of(self, change):
         """The reason for a folder of a changed package in which no name changed."""
-        files = [file for file in self._files(change) if stat.S_ISDIR(file.mode)]
+        files = [file for file in self.now.get(change.path, ()) if stat.S_ISDIR(file.mode)]
         return folder_reason(files[-1].package, "rpm") if files else None
 
 

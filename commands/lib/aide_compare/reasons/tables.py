@@ -9,8 +9,7 @@ from aide_compare.base.files import lines_of
 from aide_compare.base.paths import Pattern, Table, pattern_of
 from aide_compare.base.words import SEVERITIES
 from aide_compare.reasons.by_databases import has_grown
-from aide_compare.reasons.changes import Reason
-from aide_compare.reasons.entries import CONTENT, DIGESTS, RUN_BITS, TIMES
+from aide_compare.reasons.entries import CONTENT, DIGESTS, RUN_BITS, TIMES, Reason
 
 MOST_TEXT, ALL_WRITE, SET_ID = 200, 0o002, 0o6000
 Place = namedtuple("Place", "pattern")
@@ -35,7 +34,7 @@ NEVER = table_of(
 
 # Only a digest of a package explains a change here, never a pattern: an intruder chooses such names with care. A package that
 # came new, or that no signed index has, must not put files here without being seen.
-_NOT_BY_STRANGERS = (
+NOT_BY_STRANGERS = table_of(
     # Accounts, and where they are looked up.
     "/etc/passwd* /etc/shadow* /etc/group* /etc/gshadow* /etc/subuid* /etc/subgid* /etc/nsswitch.conf",
     # Who may become root, do what only root may, or log in.
@@ -52,9 +51,8 @@ _NOT_BY_STRANGERS = (
     # Run or read at each login.
     "/etc/profile /etc/profile.d/** /etc/environment /root/.*",
 )
-NOT_BY_STRANGERS = table_of(*_NOT_BY_STRANGERS)
 # Modules of a new kernel come with it, and run only if it does.
-NO_PATTERN = table_of(*_NOT_BY_STRANGERS, "/usr/lib/modules/**/*.ko*")
+MODULES = table_of("/usr/lib/modules/**/*.ko*")
 
 
 def _has(table, path):
@@ -90,7 +88,7 @@ def takes_no_stranger(path, mode):
 
 
 def takes_no_pattern(path):
-    return _has(NO_PATTERN, path)
+    return _has(NOT_BY_STRANGERS, path) or _has(MODULES, path)
 
 
 # The columns that each word of a rule stands for, beside `added` and `removed`.
@@ -135,63 +133,55 @@ def _words(part, known, what):
     return words
 
 
-def _rule(line, place):
-    """A rule from its line: what may differ, a pattern, and the text."""
-    parts = line.split(None, 2)
-    if len(parts) != 3:
-        raise Fault(Status.USAGE, "%s: a line is what may differ, then a pattern, then a text" % place)
-    words = _words(parts[0], (*COLUMNS, *KINDS, GROWS), "%s: unknown word" % place)
-    columns = frozenset().union(*(COLUMNS[word] for word in words if word in COLUMNS))
-    text = shown(parts[2], MOST_TEXT)
-    return Rule(frozenset(words), columns, pattern_of(parts[1], place), Reason("rule", text, False, "rules"))
-
-
-def _row(line, place):
-    parts = line.split(None, 2)
-    if len(parts) != 3 or parts[0].decode("ascii", "replace") not in SEVERITIES:
-        raise Fault(Status.USAGE, "%s: a line is high, medium or low, then tests, then a pattern" % place)
-    tests = _words(parts[1], TESTS, "%s: unknown test" % place)
-    return Row(parts[0].decode(), [TESTS[test] for test in tests], pattern_of(parts[2], place))
-
-
-def _is_program_or_device(mode):
-    return stat.S_ISCHR(mode) or stat.S_ISBLK(mode) or (stat.S_ISREG(mode) and bool(mode & RUN_BITS))
-
-
 class Rules:
     """The rules of a file. They verify nothing, so what they explain counts as not verified."""
 
     def __init__(self, path=None):
-        self.table = Table([_rule(line, place) for line, place in lines_of(path, "the rules")] if path else [])
+        self.table = Table([self._rule(*line) for line in lines_of(path, "the rules")] if path else [])
+
+    @staticmethod
+    def _rule(line, place):
+        """A rule from its line: what may differ, a pattern, and the text."""
+        parts = line.split(None, 2)
+        if len(parts) != 3:
+            raise Fault(Status.USAGE, "%s: a line is what may differ, then a pattern, then a text" % place)
+        words = _words(parts[0], (*COLUMNS, *KINDS, GROWS), "%s: unknown word" % place)
+        columns = frozenset().union(*(COLUMNS[word] for word in words if word in COLUMNS))
+        text = shown(parts[2], MOST_TEXT)
+        return Rule(frozenset(words), columns, pattern_of(parts[1], place), Reason("rule", text, False, "rules"))
 
     def explain(self, change, old, new, differ):
         """The reason of the first rule that allows all that differs. A new program or device needs more than a rule."""
-        if old is None and _is_program_or_device(new.mode):
+        if old is None and (stat.S_ISCHR(new.mode) or stat.S_ISBLK(new.mode) or (new.is_file and not new.is_data)):
             return None
         for rule in self.table.rows(change.path):
-            if self._allows(rule, old, new, differ):
+            if old and new:
+                has_grown_so = GROWS in rule.words and old.is_file and has_grown(old, new, differ)
+                is_allowed = differ <= rule.columns or has_grown_so
+            else:
+                is_allowed = ("removed" if old else "added") in rule.words
+            if is_allowed:
                 return None if takes_no_pattern(change.path) else rule.reason
         return None
 
-    @staticmethod
-    def _allows(rule, old, new, differ):
-        if not (old and new):
-            return ("removed" if old else "added") in rule.words
-        return differ <= rule.columns or (GROWS in rule.words and old.is_file() and has_grown(old, new, differ))
-
-
-def _shipped():
-    found = [path for path in (os.path.normpath(os.path.join(HERE, part)) for part in SHIPPED) if os.path.isfile(path)]
-    if not found:
-        raise Fault(Status.DEVICE, "severity.conf is missing beside this command; name one by --severity")
-    return found[0]
-
 
 class Severity:
-    """The table of severities: the first line whose pattern and tests fit decides."""
+    """The table of severities: the first line whose tests hold, and one of whose patterns fits, decides."""
 
     def __init__(self, path=None):
-        self.table = Table([_row(line, place) for line, place in lines_of(path or _shipped(), "the table of severities")])
+        places = (os.path.normpath(os.path.join(HERE, part)) for part in SHIPPED)
+        path = path or next(filter(os.path.isfile, places), None)
+        if not path:
+            raise Fault(Status.DEVICE, "severity.conf is missing beside this command; name one by --severity")
+        self.table = Table([row for line in lines_of(path, "the table of severities") for row in self._rows(*line)])
+
+    @staticmethod
+    def _rows(line, place):
+        level, *parts = line.split()
+        if len(parts) < 2 or level.decode("ascii", "replace") not in SEVERITIES:
+            raise Fault(Status.USAGE, "%s: a line is high, medium or low, then tests, then patterns" % place)
+        tests = [TESTS[test] for test in _words(parts[0], TESTS, "%s: unknown test" % place)]
+        return [Row(level.decode(), tests, pattern_of(part, place)) for part in parts[1:]]
 
     def of(self, path, old, new):
         """The severity of a change of the entry with this path from one mode to another; 0 if there is no such entry."""

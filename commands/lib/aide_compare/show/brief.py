@@ -74,7 +74,7 @@ def _lone_words(entry):
     """An entry that came or went, as in "-rwsr-xr-x root:root 1265648 bytes"."""
     if not entry.mode:
         return []
-    size = " %s bytes" % _value(entry, "size") if entry.is_file() else ""
+    size = " %s bytes" % _value(entry, "size") if entry.is_file else ""
     return ["%s %s:%s" % tuple(_value(entry, column) for column in ("perm", "uid", "gid")) + size]
 
 

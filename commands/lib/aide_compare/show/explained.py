@@ -1,5 +1,4 @@
 """The changes of a comparison, explained and written for people and for programs."""
-import argparse
 import os
 
 from aide_compare.base import progress
@@ -9,7 +8,7 @@ from aide_compare.compare.outputs import Output
 from aide_compare.show.added import Adding, added_lines, written
 from aide_compare.lines.reader import Refused, reader_over
 from aide_compare.reasons.explainer import Evidence, Explainer, evidence_of, members_of
-from aide_compare.reasons.kept_records import SUFFIX, mismatch
+from aide_compare.reasons.records import SUFFIX, mismatch
 from aide_compare.reasons.tables import Severity
 from aide_compare.show.brief import brief, unjudged
 
@@ -22,12 +21,7 @@ class Sources:
 
     def __init__(self, given, finds=True):
         self.given, self.finds = given, finds
-        self._evidence()
-
-    def _evidence(self, packages=None, beside=None):
-        """The evidence with these records of packages; without any no package explains a change."""
-        others = {"packages_beside": beside} if packages else {"packages_now": None, "archive": []}
-        return evidence_of(argparse.Namespace(**{**vars(self.given), "packages": packages, **others}))
+        evidence_of(given)
 
     def evidence(self, comparison):
         """The evidence for a comparison. The records are opened after the old database, so they are never older than it is."""
@@ -37,11 +31,11 @@ class Sources:
             try:
                 why = mismatch(path, comparison.copies["old"].sha256)
                 if not why:
-                    return self._evidence(path, self._beside_new(comparison))
+                    return evidence_of(self.given, path, self._beside_new(comparison))
             except Fault as fault:
                 why = fault.text
             comparison.doubts.append("no package explains a change: %s: %s" % (shown(path), why))
-        return self._evidence()
+        return evidence_of(self.given)
 
     def _beside_new(self, comparison):
         """The records that were kept when AIDE wrote the new database, if they are there. Its digests decide on each of them,
