@@ -31,7 +31,7 @@ from .plant import seen_by
         "base/processes",
         "base/processes",
         "compare/unpack",
-        "base/private_room",
+        "reasons/records",
         "hosts/fetching",
     )
 )

@@ -12,7 +12,7 @@ ROOM = """
 import os, sys
 sys.path.insert(0, sys.argv[1])
 from aide_compare.base.ending import Fault
-from aide_compare.base.private_room import private_room
+from aide_compare.reasons.records import private_room
 number, mode = int(sys.argv[2]), int(sys.argv[3], 8)
 real = os.mkdir
 os.mkdir = lambda name, _, dir_fd: (real(name, dir_fd=dir_fd), os.chmod(name, mode, dir_fd=dir_fd))
