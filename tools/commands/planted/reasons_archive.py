@@ -27,7 +27,7 @@ PLANTED = (
         "reasons_archive.try_forged",
         (ARCHIVE, "if digest == listed.sha256:", "if True:"),
         (ARCHIVE, "if is_signed or plain_digest == sha256:", "if True:"),
-        (ARCHIVE, "return done.stdout if is_good and done.returncode in (0, 2) else None", "return done.stdout"),
+        (ARCHIVE, "return bytes(text) if is_good and code in (0, 2) else None", "return bytes(text)"),
         (
             ARCHIVE,
             "text = signed_text(copy.fileno(), self.keyrings)\n",
@@ -41,7 +41,7 @@ PLANTED = (
         (ARCHIVE, '{b"BADSIG", b"ERROR", b"UNEXPECTED"}', '{b"ERROR", b"UNEXPECTED"}'),
         (ARCHIVE, '{b"BADSIG", b"ERROR", b"UNEXPECTED"}', '{b"BADSIG", b"UNEXPECTED"}'),
         (ARCHIVE, '{b"BADSIG", b"ERROR", b"UNEXPECTED"}', '{b"BADSIG", b"ERROR"}'),
-        (ARCHIVE, "done.returncode in (0, 2)", "done.returncode == 0"),
+        (ARCHIVE, "code in (0, 2)", "code == 0"),
         (ARCHIVE, ' if line.startswith(b"[GNUPG:] ")}', " if line}"),
     )
     + seen_by(

@@ -77,8 +77,7 @@ PLANTED = (
     + seen_by("reasons_packed.try_members", (CONTENT, "            if count >= most:\n", "            if count > most:\n"))
     + seen_by(
         "reasons_packed.try_slow",
-        (ARCHIVE, "except (OSError, subprocess.TimeoutExpired):", "except OSError:"),
-        (ARCHIVE, "except (OSError, subprocess.TimeoutExpired):", "except subprocess.TimeoutExpired:"),
+        (ARCHIVE, "time.monotonic() + SECONDS", "time.monotonic() + 60 * SECONDS"),
     )
     + seen_by(
         "reasons_packed.try_paragraphs",

@@ -49,7 +49,7 @@ def try_views(tally):
 
 
 def with_reasons(objects, pick):
-    """The objects with severities and reasons, as aide-compare reasons adds them, some of them with hostile names."""
+    """The objects with severities and reasons, as aide-compare --reasons adds them, some of them with hostile names."""
     texts = [escaped(name, 100) for name in pick.sample(NAMES, 5)] + ["openssl 3.0.15-1~deb12u1", "grew, content not verified"]
     counts = dict.fromkeys(("explained", "not_verified", "unexplained", "high", "medium", "low"), 0)
     for fields in changes_of(objects):

@@ -67,7 +67,7 @@ def demo_changes():
 
 
 def reason_of(path):
-    """A reason such as aide-compare reasons gives."""
+    """A reason such as aide-compare --reasons gives."""
     folder = path[1:].rpartition("/")[0]
     if folder == "var/lib/dpkg/info":
         return {"class": "package_made", "text": "made by packages, content not verified", "verified": False, "grade": "dpkg"}

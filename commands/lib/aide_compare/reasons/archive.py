@@ -4,14 +4,15 @@ import os
 import re
 import shutil
 import stat
-import subprocess
 import tarfile
+import time
 from collections import namedtuple
 from contextlib import ExitStack, contextmanager, suppress
 from itertools import groupby, product
 
 from aide_compare.base.ending import Fault, Status
-from aide_compare.base.files import closed_after, in_memory, open_folder, open_trusted, reopened
+from aide_compare.base.files import closed_after, open_folder, open_trusted, reopened
+from aide_compare.base.processes import run
 from aide_compare.reasons.content import Bounded, Refuted, Vouched, copied, digests_of, members, next_blocks, unpacked
 
 LISTED = re.compile(rb"^ ([0-9a-f]{64}) +([0-9]+) +(\S+)$", re.M)
@@ -20,7 +21,7 @@ KEYRING = "/usr/share/keyrings/debian-archive-keyring.gpg"
 # What is read of a package: its name, version and architecture, and its file.
 FIELDS = (b"Package", b"Version", b"Architecture", b"SHA256", b"Size", b"Filename")
 RELEASE, SUFFIXES = "InRelease", ("", ".xz", ".gz", ".bz2", ".zst", ".lz4")
-MOST_KEYRING, MOST_STATUS = 64 << 20, 1 << 16
+MOST_KEYRING, STATUS = 64 << 20, 3
 MOST_RELEASE, MOST_INDEX, MOST_NAMES, SECONDS = 8 << 20, 1 << 30, 100000, 60
 PIECE = os.O_RDONLY | os.O_NOFOLLOW | os.O_NONBLOCK | os.O_NOCTTY | os.O_CLOEXEC
 
@@ -73,18 +74,14 @@ def signed_text(descriptor, keyrings):
     program = shutil.which("gpgv")
     if not program:
         raise Fault(Status.DEVICE, "there is no program gpgv, so the archive's indexes cannot be verified")
-    rings = [word for ring in keyrings for word in ("--keyring", "/proc/self/fd/%d" % ring)]
-    given = {"stdin": descriptor, "stdout": subprocess.PIPE, "stderr": subprocess.DEVNULL, "env": {"LC_ALL": "C"}}
-    with closed_after(in_memory(b"")) as status:
-        words = [program, "--homedir", "/nonexistent", "--status-fd", str(status), *rings, "--output", "-", "-"]
-        try:
-            done = subprocess.run(words, timeout=SECONDS, pass_fds=(*keyrings, status), **given)
-        except (OSError, subprocess.TimeoutExpired):
-            return None
-        lines = os.pread(status, MOST_STATUS, 0).split(b"\n")
-    said = {line.split()[1] for line in lines if line.startswith(b"[GNUPG:] ")}
+    text, status, rings = bytearray(), bytearray(), dict(enumerate(keyrings, STATUS + 1))
+    words = [program, "--homedir", "/nonexistent", "--status-fd", str(STATUS), "--output", "-"]
+    words += [word for ring in rings for word in ("--keyring", "/proc/self/fd/%d" % ring)]
+    takers, given, deadline = {1: text.extend, STATUS: status.extend}, {0: descriptor, **rings}, time.monotonic() + SECONDS
+    code = run([*words, "-"], takers, given, {"LC_ALL": "C"}, deadline)
+    said = {line.split()[1] for line in bytes(status).split(b"\n") if line.startswith(b"[GNUPG:] ")}
     is_good = {b"GOODSIG", b"VALIDSIG"} <= said and not said & {b"BADSIG", b"ERROR", b"UNEXPECTED"}
-    return done.stdout if is_good and done.returncode in (0, 2) else None
+    return bytes(text) if is_good and code in (0, 2) else None
 
 
 def _signed(descriptor, ending, digests):
