@@ -58,8 +58,7 @@ class ArchiveFolder:
             yield file if file is not None and stat.S_ISREG(os.fstat(file).st_mode) else None
 
     def releases(self):
-        """The signed files: of a mirror, of apt's lists, or of a folder of packages. Each with what its indexes' names begin
-        with, and what stands in place of a slash in them."""
+        """The signed files, each with the beginning of its indexes' names, and what is in place of a slash in these."""
         names = os.listdir(self.fd)[:MOST_NAMES]
         yield from ((name, name[: -len(RELEASE)], "_") for name in sorted(names) if name.endswith("_" + RELEASE))
         yield RELEASE, "", "/"
@@ -154,8 +153,7 @@ def _path_of_name(name):
 
 
 def _members(file, package, wants, columns):
-    """Yields the folders, links and files of a part at the paths that are wanted. A hard link is the file that it links to,
-    which comes before it, and has the mode and the content of it."""
+    """Yields the folders, links and files of a part at the wanted paths. A hard link is a file that came before it."""
     places = {}
     for each in members(file, MOST_MEMBERS):
         path, is_file = _path_of_name(each.name), each.isreg() or each.islnk()
@@ -248,8 +246,7 @@ class Archive:
         return listed
 
     def _copy(self, key, listed):
-        """A private copy of a package that is there as its index says, or None: by the name that the index says, beside it, or
-        as apt names it in its cache."""
+        """A private copy of a package that is there as its index says, by its name there or in apt's cache; or None."""
         cached = b"_".join(part.replace(b":", b"%3a") for part in key).decode("utf-8", "replace") + ".deb"
         names = dict.fromkeys((listed.name, listed.name.rpartition("/")[2], cached))
         for name, folder in product(filter(None, names), self.folders):

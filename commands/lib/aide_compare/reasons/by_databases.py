@@ -41,8 +41,7 @@ MOST_SOURCES = 16
 
 
 def has_grown(old, new, differ):
-    """Whether nothing but the content differs, and only as it does when text is added at the end of a file: no time and no size
-    went back. Both are of one type then."""
+    """Whether nothing but the content differs, as it does when text is added at the end: no time and no size went back."""
     if not differ <= GROWS:
         return False
     pairs = [(old.time(column), new.time(column)) for column in TIMES] + [(old.number("size"), new.number("size"))]
@@ -155,8 +154,7 @@ def has_other_names(old, new, differ):
 
 
 def explain_folders(changes, read, owner_of):
-    """Explains folders, the inner ones first, each after all that is in it. `worst` says by folder what is known of its names;
-    a folder in which none changed is not there."""
+    """Explains folders, the inner ones first. `worst` says what is known of the names in each in which some changed."""
     worst = {}
     for change in reversed(changes):
         names = worst.pop(change.path, None)

@@ -149,10 +149,10 @@ def _changed(before, after):
 
 
 class Gathered:
-    """The packages that came or went between two nights, or have another version (`changed`, pairs of before and now). Of
-    these, by path, those that have it in the new night and in the old one (`now`, `before`), and its MD5 digests, each with
-    whether the database vouches for it (`digests`); the paths that any package has now (`listed`), and which beginnings of
-    paths the changed packages have (`prefixes`)."""
+    """The packages that came or went, or have another version (`changed`, pairs of before and now). Of these, by path, those
+    that have it now and had it before (`now`, `before`), and its MD5 digests, each with whether the database vouches for it
+    (`digests`); the paths that any package has now (`listed`), and which beginnings those of changed ones have (`prefixes`).
+    """
 
     def __init__(self, records, databases, changes, read):
         self.old, self.new = map(DpkgNight, records, databases)
@@ -176,8 +176,8 @@ class Gathered:
         self.listed = {path for package in packages for path in self.new.paths(package) if path in self.others}
 
     def _ask(self, changes, read):
-        """Notes which paths are asked for: those that changed (`paths`), and those that went, or that links and compiled
-        files come from (`others`, which are among `paths` too)."""
+        """Notes the paths that changed (`paths`), and with them those that went, or that links and compiled files come from
+        (`others`)."""
         for change in changes:
             self.paths.add(change.path)
             source = source_of(change.path)

@@ -200,10 +200,9 @@ shared_reason = lru_cache(maxsize=1 << 12)(Reason)
 
 
 class Change:
-    """An entry of the report: its path, where it is in the databases (None if it is not), what explains others, and what was
-    found: a reason, or None, and a severity. `owner`: the number of the user whose entry it is; None if that was not measured.
-    `is_replaced`: the name came, went, or means another file now, which alone changes its folder. `is_never`: nothing ever
-    explains it."""
+    """An entry of the report: its path, where it is in the databases (None if it is not), and the reason and the severity that
+    were found. `owner`: the number of its user; None if that was not measured. `is_replaced`: the name came, went, or means
+    another file now, which alone changes its folder. `is_never`: nothing ever explains it."""
 
     __slots__ = ("path", "old_at", "new_at", "old_mode", "new_mode", "owner", "is_replaced", "is_never", "reason", "severity")
 

@@ -1,5 +1,4 @@
-"""Explains the entries of a report by the two databases and by the evidence that the command line names: packages, archives,
-rules and the table of severities. Nothing is taken out, and nothing else changes."""
+"""Explains the entries of a report by the two databases and by the evidence that the command line names."""
 from collections import namedtuple
 
 from aide_compare.base.ending import Fault, Status

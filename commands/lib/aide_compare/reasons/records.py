@@ -140,8 +140,8 @@ def private_room():
 
 
 class RpmRecords:
-    """rpm's records as they are now. The folder of its database must be root's or the caller's. rpm reads a copy of the
-    database, whose `digests` are known, so that what it says is what stands in these bytes."""
+    """rpm's records as they are now, in a folder that must be root's or the caller's. rpm reads a copy of the database, whose
+    `digests` are known, so that it says what is in these bytes."""
 
     names = [RPM_NAME]
     digests = None
@@ -268,8 +268,8 @@ def _of_that_time(path, digest, accepted):
 
 
 def mismatch(path, digest):
-    """Why the records at a path are not those of the time of a baseline with this digest; "" if nothing speaks against it.
-    Records that name no baseline are the caller's own. A Fault if they cannot be opened."""
+    """Why the records at a path are not of the time of the baseline with this digest; "" if they are, or name none: such are
+    the caller's own. A Fault if they cannot be opened."""
     with closed_after(open_regular(path, WHAT)) as descriptor:
         found = digest_in(descriptor)
     return "" if found in ("", digest) else "they belong to another baseline; aide-compare accept writes them anew"
