@@ -1,6 +1,7 @@
 """Makes a machine ready for a comparison each day: what is missing is made, step by step, and what is there stays. Each step looks
 again at what it needs, so the command can be run a second time, or after it was interrupted."""
 import os
+import pwd
 import stat
 import subprocess
 from contextlib import suppress
@@ -49,11 +50,10 @@ def run(words, seconds=SECONDS, output=None):
     its output goes elsewhere."""
     if output is None:
         tell("    " + " ".join(words))
-    more = {"PATH": PATH, "LC_ALL": "C.UTF-8", "HOME": "/root"}
-    streams = {"stdin": subprocess.DEVNULL, "stdout": output, "stderr": output}
+    more = {"env": {"PATH": PATH, "LC_ALL": "C.UTF-8", "HOME": "/root"}, "cwd": "/", "timeout": seconds}
     try:
         with failing("cannot run " + words[0]):
-            done = subprocess.run(words, timeout=seconds, env=more, cwd="/", **streams)
+            done = subprocess.run(words, stdin=subprocess.DEVNULL, stdout=output, stderr=output, **more)
     except subprocess.TimeoutExpired:
         raise Fault(Status.DEVICE, "%s took more than %d seconds" % (words[0], seconds))
     if done.returncode:
@@ -64,8 +64,6 @@ class Machine:
     """What the steps know: the options, and the user that owns AIDE's databases."""
 
     def __init__(self, given):
-        import pwd
-
         self.given = given
         try:
             self.user = pwd.getpwnam(AIDES_USER)
