@@ -14,7 +14,11 @@ PLANTED = (
             '    yield from iter(lambda: database.file.read(BLOCK), b"")\n',
             '    yield b"@@end_db\\n"\n',
         ),
-        (LIB + "commands/sort.py", "where = bisect_left(self.ends, place)", "where = len(self.ends)"),
+        (
+            LIB + "commands/sort.py",
+            "self.breaks + (key < self.last), key",
+            "self.breaks + (key < self.last), max(key, self.last)",
+        ),
     )
     + seen_by(
         "sorting.try_bounds",

@@ -5,7 +5,6 @@ import random
 import signal
 import subprocess
 import sys
-from bisect import bisect_left
 from unittest import mock
 
 import tools.commands.base  # noqa: F401 (it makes the modules of the commands known)
@@ -68,16 +67,14 @@ def pieces_of(entry):
 
 
 def sorted_text(lines):
-    """The database of some lines in path order, as the definition has it; and how few entries have to move."""
+    """The database of some lines in path order, as the definition has it; and how many entries have to come before the one above
+    them."""
     entries = [line for line in lines if line.strip(b" \t") and not line.lstrip(b" \t").startswith((b"#", b"@@"))]
     rest = [line for line in lines if line not in entries]
     ordered = sorted(range(len(entries)), key=lambda place: (pieces_of(entries[place]), place))
-    ends = []
-    for place in ordered:
-        where = bisect_left(ends, place)
-        ends[where : where + 1] = [place]
+    breaks = sum(pieces_of(one) > pieces_of(next) for one, next in zip(entries, entries[1:]))
     text = BEGIN + b"".join(line + b"\n" for line in rest + [entries[place] for place in ordered]) + END
-    return text, len(entries) - len(ends)
+    return text, breaks
 
 
 def text_of(lines):
@@ -117,24 +114,24 @@ def try_order(sandbox):
     pick = random.Random(5)
     for number in range(12):
         lines = random_lines(pick, 400)
-        wanted, moved = sorted_text(lines)
+        wanted, breaks = sorted_text(lines)
         text = text_of(lines)
         done = call(COMMAND, gzip.compress(text[:9]) + gzip.compress(text[9:]) if number % 2 else text, sandbox.room)
-        expect(sandbox, "order %d" % number, done, 0, wanted, [b"moved %d of " % moved])
+        expect(sandbox, "order %d" % number, done, 0, wanted, [b"out of order: %d of " % breaks])
     lines = [b"36 /%05d 1" % number for number in range(13257)]
     lines = lines[:100] + lines[101:9000] + [lines[100]] + lines[9000:]
     expect(
         sandbox,
-        "one line moved",
+        "one line out of order",
         call(COMMAND, text_of(lines), sandbox.room),
         0,
         sorted_text(lines)[0],
-        [b": moved 1 of 13,257 lines\n", b"straight from AIDE, it is damaged", b"make it anew"],
+        [b": out of order: 1 of 13,257 lines\n", b"straight from AIDE, it is damaged", b"make it anew"],
     )
     whole = sorted_text(lines)[0]
     done = call(COMMAND, whole, sandbox.room)
-    expect(sandbox, "nothing moved", done, 0, whole, [b"moved 0 of 13,257 lines\n"])
-    sandbox.holds("sort: no advice where nothing moved", b"damaged" not in done[2], done[2])
+    expect(sandbox, "nothing out of order", done, 0, whole, [b"out of order: 0 of 13,257 lines\n"])
+    sandbox.holds("sort: no advice where nothing was out of order", b"damaged" not in done[2], done[2])
 
 
 def try_refused(sandbox):

@@ -20,7 +20,7 @@ def faults_in(errors):
     return [
         line
         for line in errors.splitlines()
-        if not re.match("aide-compare(: (old|new) database: | sort: (moved |AIDE itself writes))", line)
+        if not re.match("aide-compare(: (old|new) database: | sort: (out of order: |AIDE itself writes))", line)
     ]
 
 

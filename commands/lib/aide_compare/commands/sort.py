@@ -1,7 +1,5 @@
 """aide-compare sort: a database in path order, whatever its size, in little memory."""
 import re
-from array import array
-from bisect import bisect_left
 
 from aide_compare.base import progress
 from aide_compare.base.ending import Fault, Status, say, write_blocks
@@ -17,7 +15,6 @@ BLOCK = 1 << 16
 MOST_LINE = 1 << 20
 MOST_BYTES = 1 << 36
 MOST_NAMED = 100
-MOST_KEPT = 1 << 21
 
 DESCRIPTION = """Writes a database in path order, as aide-compare wants it, to standard output.
 
@@ -29,41 +26,15 @@ ADVICE = (
 )
 
 
-class MovedLines:
-    """Counts how few entries have to move: all but those that keep their order among each other.
-
-    Entries come in path order, each with its place in the file. Those that keep their order are a longest rising row of
-    places. `ends[n]` is the least place at which such a row of n + 1 places can end.
-    """
-
-    def __init__(self):
-        self.count, self.kept, self.greatest, self.least, self.ends = 0, 0, -1, 0, array("Q")
-
-    def add(self, place):
-        if place >= self.least:
-            where = bisect_left(self.ends, place)
-            if where == len(self.ends):
-                self.ends.append(place)
-            else:
-                self.ends[where] = place
-        self.count, self.greatest = self.count + 1, max(self.greatest, place)
-        # What is found is kept for good if all that come later have greater places; and if it is very long. Then there
-        # may be a longer row, but the number that is told is enough.
-        if self.ends and (self.greatest + 1 == self.count or len(self.ends) == MOST_KEPT):
-            self.kept, self.least, self.ends = self.kept + len(self.ends), self.ends[-1] + 1, array("Q")
-
-    def moved(self):
-        return self.count - self.kept - len(self.ends)
-
-
 class Unsorted:
     """A database that is read once: its entries are given to a sorter, and the lines before them are kept in `head`. `end` is
-    where the end line begins in `file`."""
+    where the end line begins in `file`, `count` how many entries there are, and `breaks` how many of them have to come before
+    the one above them."""
 
     def __init__(self, copy, give):
         self.file, self.give = open(copy.fd, "rb", buffering=BLOCK), give
         self.file.seek(0)
-        self.head, self.count, self.end, self.name_field = Spool(), 0, 0, None
+        self.head, self.end, self.name_field, self.count, self.breaks, self.last = Spool(), 0, None, 0, 0, b""
         for number, line in enumerate(iter(lambda: self.file.readline(MOST_LINE + 2), b""), 1):
             if len(line.rstrip(b"\n")) > MOST_LINE:
                 raise Fault(Status.DATABASE, "line %d: more than %d bytes" % (number, MOST_LINE))
@@ -88,8 +59,9 @@ class Unsorted:
             raise Fault(Status.DATABASE, "line %d: no path" % number)
         if line[-1:] != b"\n":
             raise Fault(Status.DATABASE, "no @@end_db")
-        self.give(b"%s\t%d\t%s" % (key_of(found.group(1)), self.count, line))
-        self.count += 1
+        key = key_of(found.group(1))
+        self.give(b"%s\t%s" % (key, line))
+        self.count, self.breaks, self.last = self.count + 1, self.breaks + (key < self.last), key
 
 
 class Twice:
@@ -113,14 +85,13 @@ class Twice:
             say("more paths that stand twice: %s" % format(self.count - len(self.names), ","))
 
 
-def sorted_blocks(database, sorter, moves, twice):
+def sorted_blocks(database, sorter, twice):
     """Yields the whole database in path order."""
     database.head.seek(0)
     yield from iter(lambda: database.head.read(BLOCK), b"")
     for record in sorter.lines():
-        key, place, line = record.split(b"\t", 2)
+        key, _, line = record.partition(b"\t")
         twice.add(key)
-        moves.add(int(place))
         yield line
     database.file.seek(database.end)
     yield from iter(lambda: database.file.read(BLOCK), b"")
@@ -128,18 +99,19 @@ def sorted_blocks(database, sorter, moves, twice):
 
 def main(arguments):
     epilog = "Status: 0 sorted; 24 a path stands twice, or this is no database; 15, 18, 22: see aide-compare-sort(1)."
-    parser = Parser("aide-compare sort", DESCRIPTION, "do not say how many lines moved", epilog=epilog)
+    parser = Parser("aide-compare sort", DESCRIPTION, "do not say how many lines were out of order", epilog=epilog)
     files = "the database, plain or compressed with gzip; standard input if it is left out, and for -"
     parser.add_argument("file", nargs="?", default="-", type=some_text, help=files)
     parser.take("max-size", default=MOST_BYTES, help="refuse a database that has more bytes unpacked (64G)")
     given = parser.parse(arguments)
     name = "/dev/stdin" if given.file == "-" else given.file
-    copy, moves, twice, sorter = copy_database("given", name, given.max_size), MovedLines(), Twice(), LineSorter()
-    write_blocks(1, sorted_blocks(Unsorted(copy, sorter.put), sorter, moves, twice))
+    twice, sorter = Twice(), LineSorter()
+    database = Unsorted(copy_database("given", name, given.max_size), sorter.put)
+    write_blocks(1, sorted_blocks(database, sorter, twice))
     progress.done("the lines are in order")
     if not given.quiet:
-        say("moved %s of %s lines" % (format(moves.moved(), ","), format(moves.count, ",")))
-        if moves.moved():
+        say("out of order: %s of %s lines" % (format(database.breaks, ","), format(database.count, ",")))
+        if database.breaks:
             say(ADVICE)
     twice.tell()
     return Status.DATABASE if twice.count else Status.OK
