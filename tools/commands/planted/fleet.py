@@ -40,8 +40,12 @@ PLANTED = (
     )
     + seen_by(
         "fleet.try_same_for",
-        (LIB + "hosts/host_comparison.py", "    if stale:\n", "    if stale and not state.status:\n"),
-        (LIB + "hosts/host_comparison.py", "-MOST_AHEAD <= age <= seconds", "age <= seconds"),
+        (
+            LIB + "hosts/host_comparison.py",
+            "    if given.same_for and not -MOST_AHEAD",
+            "    if given.same_for and not state.status and not -MOST_AHEAD",
+        ),
+        (LIB + "hosts/host_comparison.py", "-MOST_AHEAD <= age <= given.same_for", "age <= given.same_for"),
     )
     + seen_by("fleet.try_wrong", (LIB + "hosts/fleet_store.py", "NAME.fullmatch(host)", "NAME.match(host)"))
     + seen_by(

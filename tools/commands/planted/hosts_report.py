@@ -60,7 +60,7 @@ PLANTED = (
     )
     + seen_by(
         "hosts_report.try_orders",
-        (LIB + "commands/hosts_report.py", 'if order == "rare" else GREATEST - fields["hosts"]', ""),
+        (LIB + "commands/hosts_report.py", 'if given.order == "rare" else GREATEST - fields["hosts"]', ""),
         (LIB + "commands/hosts_report.py", "or any(each.matches", "or all(not each.matches"),
         (LIB + "commands/mail.py", '"HOST[:PORT]", server', '"HOST[:PORT]", some_text'),
     )

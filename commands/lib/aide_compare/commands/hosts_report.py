@@ -52,25 +52,19 @@ def read_hosts(names, given):
     return hosts, changes
 
 
-def ordered(changes, order):
-    """The objects of the changes as lines in the order that is asked for. Within it they are in that of their paths."""
-    sorter = LineSorter()
-    for fields in changes:
-        place = fields["hosts"] if order == "rare" else GREATEST - fields["hosts"]
-        key = b"" if order == "path" else b"%d%d%012d" % (*standing_of(fields), place)
-        sorter.put(b"%s\t%s\n" % (key, ENCODE(fields).encode()))
-    return (line.partition(b"\t")[2] for line in sorter.lines())
-
-
 class HostsReport:
     """The report: the summary, the objects of the hosts, and those of the changes in a private file, a line each."""
 
     def __init__(self, names, given):
         self.hosts, found = read_hosts(names, given)
-        self.body, self.command, count = Spool(), shlex.join(whole_command(given)), 0
-        for line in ordered(found.objects(names, given.max_hosts), given.order):
-            self.body.write(line)
+        self.body, self.command, sorter, count = Spool(), shlex.join(whole_command(given)), LineSorter(), 0
+        for fields in found.objects(names, given.max_hosts):  # Within the order that is asked for they stay in that of paths.
+            place = fields["hosts"] if given.order == "rare" else GREATEST - fields["hosts"]
+            key = b"" if given.order == "path" else b"%d%d%012d" % (*standing_of(fields), place)
+            sorter.put(b"%s\t%s\n" % (key, ENCODE(fields).encode()))
             count += 1
+        for line in sorter.lines():
+            self.body.write(line.partition(b"\t")[2])
         self.body.flush()
         self.worst = max(host["status"] for host in self.hosts)
         differ = [host for host in self.hosts if differs(host)]

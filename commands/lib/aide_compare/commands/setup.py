@@ -73,10 +73,6 @@ class Machine:
         self.is_debian = os.path.lexists(ROOT + CONFIGURATIONS[0])
         self.baseline, self.new = DEBIANS if self.is_debian else OTHERS
 
-    def make_defaults(self):
-        to = "--to %s\n" % self.given.to if self.given.to else ""
-        replace(DEFAULTS, (TEXT + to + ONLY_UNEXPLAINED * (self.given.alarm == "unexplained")).encode())
-
     def owns(self, path, missing=True):
         """Whether what is by a path is the user's; `missing` if there is nothing."""
         try:
@@ -129,12 +125,6 @@ class Machine:
         except Fault:
             return False
 
-    def make_job(self):
-        if self.has_systemd:
-            run(["systemctl", "enable", "--now", "aide-compare.timer"])
-        else:
-            replace(CRON, shipped("cron/aide-compare.cron.daily"), 0o755)
-
     def send_test(self):
         if self.given.no_mail or self.given.dry_run or self.given.check:
             return
@@ -149,14 +139,19 @@ class Machine:
         """Yields the steps: what each makes, whether it is done, and how it is made. The job and the first mail leave files of
         their own. So they come before the baseline, which then has these."""
         base, folder = os.path.join(DATABASES, self.baseline), os.path.join(OWN, DAILY)
-        exists = os.path.lexists
+        exists, to = os.path.lexists, "--to %s\n" % self.given.to if self.given.to else ""
+        defaults = TEXT + to + ONLY_UNEXPLAINED * (self.given.alarm == "unexplained")
         if self.is_debian:
             what = "paths that change every day: " + WITHOUT
             yield what, exists(WITHOUT), lambda: replace(WITHOUT, shipped("aide/debian.without"))
-        yield "options of each day: " + DEFAULTS, exists(DEFAULTS), self.make_defaults
+        yield "options of each day: " + DEFAULTS, exists(DEFAULTS), lambda: replace(DEFAULTS, defaults.encode())
         what = "a directory of %s's: %s" % (self.user.pw_name, folder)
         yield what, self.owns(folder, missing=False), self.make_folder
-        yield "the timer aide-compare.timer" if self.has_systemd else CRON, self.has_job(), self.make_job
+        if self.has_systemd:
+            job, make = "the timer aide-compare.timer", partial(run, ["systemctl", "enable", "--now", "aide-compare.timer"])
+        else:
+            job, make = CRON, lambda: replace(CRON, shipped("cron/aide-compare.cron.daily"), 0o755)
+        yield job, self.has_job(), make
         self.send_test()
         yield "the baseline %s, which takes several minutes" % base, exists(base), self.make_baseline
         for name in (self.baseline, self.new):

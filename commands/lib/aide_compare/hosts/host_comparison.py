@@ -122,16 +122,6 @@ def bounded(lines, most):
         yield line
 
 
-def stale_text(place, seconds):
-    """Why the fetched database is too old: the same bytes came for too long. Nothing if it is not."""
-    age = time.time() - os.stat("aide.db.new", dir_fd=place.fd).st_mtime
-    if not seconds or -MOST_AHEAD <= age <= seconds:
-        return ""
-    if age < 0:
-        return "its database was fetched in the future; is the clock of this host right?"
-    return "has sent the same database for more than %d hours; does AIDE run there?" % (seconds // 3600)
-
-
 def kept_state(place, given):
     """Compares, keeps lines and errors, and returns the State."""
     for name, text in MISSING.items():
@@ -144,8 +134,10 @@ def kept_state(place, given):
             cut(part.fd, comparison.size, min(given.max_report, place.room(given.jobs)))
             part.put("lines")
     state, told = comparison.state(), told_of(comparison)
-    stale = stale_text(place, given.same_for)
-    if stale:
+    age = time.time() - os.stat("aide.db.new", dir_fd=place.fd).st_mtime
+    if given.same_for and not -MOST_AHEAD <= age <= given.same_for:
+        stale = "has sent the same database for more than %d hours; does AIDE run there?" % (given.same_for // 3600)
+        stale = "its database was fetched in the future; is the clock of this host right?" if age < 0 else stale
         found = "; it differs: added %d, removed %d, changed %d" % state.counts if state.status and state.counts else ""
         known = {name: getattr(state, name) for name in ("old", "new", "old_sha256", "new_sha256")}
         state = State(int(Status.DEVICE), state.time, error="%s: %s%s" % (place.host, stale, found), **known)
