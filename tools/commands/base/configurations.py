@@ -53,7 +53,7 @@ def asked(program):
 
     def databases(text):
         try:
-            with mock.patch.object(comparison, "find_lines", lambda: program):
+            with mock.patch.object(comparison, "find_installed", lambda name: program):
                 return databases_of(Texts(b"", text, b""), "conf", one.settings)
         except Fault as fault:
             return "twice" if "twice" in fault.text else None

@@ -323,9 +323,15 @@ def try_programs(tally, folder):
 
     for library in ("lib/aide-compare/python", "lib"):
         with mock.patch.object(program, "__file__", os.path.join(folder, "stub", library, "aide_compare/base/program.py")):
-            expect_fault(tally, "no program for " + library, outcome(program.find_program), 18, "cannot find " + folder)
+            expect_fault(
+                tally,
+                "no program for " + library,
+                outcome(program.find_installed, program.PROGRAM),
+                18,
+                "cannot find " + folder,
+            )
             place = stub("exit 0", "libexec/aide-compare/aide")
-            expect(tally, "the program for " + library, outcome(program.find_program), place)
+            expect(tally, "the program for " + library, outcome(program.find_installed, program.PROGRAM), place)
         os.remove(place)
     old, new = files.nameless(folder), files.nameless(folder)
     os.write(old, b"old\n"), os.write(new, b"new\n")

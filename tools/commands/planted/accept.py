@@ -88,7 +88,7 @@ PLANTED = (
     + seen_by(
         "accept_partly.try_explained_only",
         (ACCEPT, "not (change.reason and change.reason.verified)", "not change.reason"),
-        (ACCEPT, "        become(baseline.owner)\n", ""),
+        (ACCEPT, "        become(entry_of(baseline.owner))\n", ""),
     )
     + seen_by(
         "accept.try_owner",
@@ -105,7 +105,7 @@ PLANTED = (
     + seen_by(
         "accept_attacks.try_baseline_at_calls",
         (ACCEPT, REPLACE, THROUGH_A_LINK),
-        (RIGHTS, "        _become(_entry_of(uid), [])\n", ""),
+        (RIGHTS, "        _become(entry_of(uid), [])\n", ""),
     )
     + seen_by("accept_attacks.try_baseline_in_a_loop", (ACCEPT, REPLACE, THROUGH_A_LINK))
     + seen_by("accept_attacks.try_folder_at_calls", (ACCEPT, REPLACE, FOLDER_BY_NAME))

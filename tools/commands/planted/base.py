@@ -4,7 +4,6 @@ from .plant import seen_by
 (
     ESCAPES,
     TIMES,
-    OPTIONS,
     STATE,
     READER,
     ENDING,
@@ -21,7 +20,6 @@ from .plant import seen_by
     for name in (
         "base/escapes",
         "base/words",
-        "base/options",
         "compare/state",
         "lines/reader",
         "base/ending",
@@ -45,7 +43,7 @@ PLANTED = (
     + seen_by("base.try_times", (TIMES, "if seconds < unit * most:", "if seconds <= unit * most:"))
     + seen_by(
         "base.try_options",
-        (OPTIONS, '{"k": 1 << 10,', '{"k": 1000,'),
+        (TIMES, '"k": 1 << 10,', '"k": 1000,'),
     )
     + seen_by(
         "base.try_state",
@@ -74,7 +72,7 @@ PLANTED = (
             "                pass\n            return descriptor\n",
         ),
         (RIGHTS, "    os.setgroups(groups)\n", ""),
-        (CHILD, "        _close_all_but(set(keep) | {writing})\n", ""),
+        (CHILD, "elif number not in (*keep, writing):", "elif False:"),
         (CHILD, "        left = deadline - time.monotonic()\n", "        left = 60\n"),
         (CHILD, "guarded(text) + beside", "guarded(text)"),
         (UNPACK, "BLOCK, FEW = 1 << 18, 1 << 12", "BLOCK, FEW = 1 << 18, 1 << 18"),

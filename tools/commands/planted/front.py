@@ -3,7 +3,7 @@ from .plant import seen_by
 
 LIB = "commands/lib/aide_compare/"
 FRONT, VERSION, STATUS = (LIB + "commands/%s.py" % name for name in ("front", "version", "status"))
-PROGRAM = 'find_installed("libexec/aide-compare/aide")'
+PATH = "path = os.path.join(prefix, name)"
 
 PLANTED = (
     seen_by(
@@ -30,7 +30,7 @@ PLANTED = (
         "front.try_version",
         (VERSION, 'record.get("sha256") != digest', "not digest"),
         (VERSION, "shown(proved, 200)", "proved"),
-        (VERSION, "find_lines())]", "find_program())]"),
+        (VERSION, '"program of lines", LINES)', '"program of lines", PROGRAM)'),
     )
     + seen_by(
         "front.try_forms",
@@ -40,6 +40,6 @@ PLANTED = (
     )
     + seen_by(
         "faults.try_programs",
-        (LIB + "base/program.py", "return " + PROGRAM, 'return __import__("shutil").which("aide") or ' + PROGRAM),
+        (LIB + "base/program.py", PATH, PATH.replace("= ", '= __import__("shutil").which(os.path.basename(name)) or ')),
     )
 )

@@ -44,12 +44,12 @@ PLANTED = (
         (MAIL, 'if keeps or name != "--weekly"', "if True"),
         (MAIL, "without_state(given.words)", "given.words"),
         (MAIL, '"--format", "report", ', ""),
-        (DEFAULTS, " if name in options]", "]"),
+        (DEFAULTS, "        if name in options:\n", "        if True:\n"),
         (DEFAULTS, '{OFF, "--help"', '{"--help"'),
     )
     + seen_by(
         "hands.try_faulty_defaults",
-        (DEFAULTS, 'lines_of(path, "the defaults")] if path', "[]] if path"),
+        (DEFAULTS, 'lines_of(path, "the defaults") if path', "() if path"),
         (DEFAULTS, "        os.lstat(path)\n", "        os.stat(path)\n"),
     )
     + seen_by(
@@ -61,7 +61,7 @@ PLANTED = (
     )
     + seen_by(
         "hands.try_owner",
-        (HANDING, "        become(owner)\n", ""),
+        (HANDING, "        become(entry_of(owner))\n", ""),
         (HANDING, "owner = owner_of(baseline) if self.is_wanted else None", "owner = None"),
         (HANDING, "            output.is_childs = True\n", "            pass\n"),
         (RUN, "os.geteuid() == 0 and not given.user", "os.geteuid() == 0"),

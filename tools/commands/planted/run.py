@@ -127,7 +127,7 @@ PLANTED = (
     )
     + seen_by(
         "age.try_values",
-        (TIMES, "UNITS[text[-1]]) if text[-1:] in UNITS else", "UNITS.get(text[-1], 1)) if text[-1:].isalpha() else"),
+        (TIMES, 're.fullmatch("([0-9]{1,9})', 're.match("([0-9]{1,9})'),
     )
     + seen_by(
         "attacks.try_names_that_clash",

@@ -71,7 +71,7 @@ PLANTED = (
     )
     + seen_by(
         "viewers.try_blank_ends",
-        (LIB + "base/escapes.py", '_octal(" " * before) + inner + _octal(" " * after)', "inner"),
+        (LIB + "base/escapes.py", "BLANK * before + inner + BLANK * (len(text) - before - len(inner))", "inner"),
     )
     + seen_by(
         "viewers.try_script",

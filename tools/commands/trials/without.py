@@ -131,7 +131,7 @@ def try_patterns(sandbox):
         try:
             paths.Pattern(text)
             sandbox.holds("%r is no pattern" % text, not text, "taken")
-        except paths.BadPattern:
+        except ValueError:
             sandbox.holds("%r is no pattern" % text, True)
 
 

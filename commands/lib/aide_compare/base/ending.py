@@ -90,14 +90,6 @@ def take_standard_descriptors():
         os.set_inheritable(descriptor, True)
 
 
-def _heed_interrupts():
-    """^C ends the command by its signal, without a traceback. All other signals have their default already."""
-    import signal
-
-    if signal.getsignal(signal.SIGINT) is signal.default_int_handler:
-        signal.signal(signal.SIGINT, signal.SIG_DFL)
-
-
 def reason(error):
     """The cause of an OSError in words, without a path."""
     return error.strerror or guarded(str(error)) or type(error).__name__
@@ -135,7 +127,10 @@ def why_of(error):
 def _status_of(main):
     try:
         take_standard_descriptors()
-        _heed_interrupts()
+        import signal
+
+        if signal.getsignal(signal.SIGINT) is signal.default_int_handler:
+            signal.signal(signal.SIGINT, signal.SIG_DFL)  # ^C ends the command by its signal, without a traceback.
         status = main(sys.argv[1:])
         for stream in (sys.stdout, sys.stderr):
             if stream is not None:

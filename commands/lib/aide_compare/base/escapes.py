@@ -16,7 +16,7 @@ _FORMAT_CONTROLS = (
 PLAIN = re.compile(r"[!-\[\]-~](?:[ -\[\]-~]*[!-\[\]-~])?")
 PLAIN_PATH = re.compile(rb"[!-\[\]-~]*")
 # Letters by their class, and yet blank.
-BLANK_LETTERS = "\u115f\u1160\u2800\u3164\uffa0"
+BLANK, BLANK_LETTERS = "\\040", "\u115f\u1160\u2800\u3164\uffa0"
 
 
 def _escaped(data):
@@ -66,16 +66,13 @@ def shown_lines(data):
     return _bytes_of(data).decode("utf-8", "surrogateescape").translate(_BUT_LINES)
 
 
-def _octal(text):
-    return _escaped(text.encode("utf-8", "surrogateescape"))
-
-
 def _seen(text):
     """A text in which every character is seen."""
     if text.isprintable() and not any(letter in text for letter in BLANK_LETTERS):
         return text
     return "".join(
-        character if character.isprintable() and character not in BLANK_LETTERS else _octal(character) for character in text
+        character if character.isprintable() and character not in BLANK_LETTERS else _escaped(_bytes_of(character))
+        for character in text
     )
 
 
@@ -89,10 +86,8 @@ def shown_value(value):
         return text
     text = _seen(text)
     inner = text.strip(" ")
-    if not inner:
-        return _octal(text)
-    before, after = len(text) - len(text.lstrip(" ")), len(text) - len(text.rstrip(" "))
-    return _octal(" " * before) + inner + _octal(" " * after)
+    before = len(text) - len(text.lstrip(" "))
+    return BLANK * before + inner + BLANK * (len(text) - before - len(inner))
 
 
 def shown_path(path):

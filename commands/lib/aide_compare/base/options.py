@@ -14,10 +14,9 @@ from aide_compare.base import progress
 from aide_compare.base.ending import Done, Fault, Status, failing, write_all
 from aide_compare.base.escapes import shown
 from aide_compare.base.files import lines_of
-from aide_compare.base.paths import BadPattern, Pattern
-from aide_compare.base.words import seconds_of
+from aide_compare.base.paths import Pattern
+from aide_compare.base.words import seconds_of, size_of
 
-SIZES = {"k": 1 << 10, "M": 1 << 20, "G": 1 << 30}
 OPERAND = "\0"  # Before a word that follows --. No argument has this byte.
 # Which changes raise an alarm: all, or only those that nothing explains for certain.
 ALARMS = ("differences", "unexplained")
@@ -41,28 +40,19 @@ def matching(pattern, what, taken=str):
     return check
 
 
-def size(text):
-    """A number of bytes: plain, or with k, M or G (1024 bytes, and so on)."""
-    digits, unit = (text[:-1], SIZES[text[-1]]) if text[-1:] in SIZES else (text, 1)
-    if not (digits.isascii() and digits.isdigit() and len(digits) <= 15):
-        raise argparse.ArgumentTypeError("needs a number of bytes, as in 4000000, 500k, 20M or 1G: %s" % shown(text, 100))
-    return min(int(digits) * unit, (1 << 62))
+def argument(read):
+    """The kind of a value that is read by a function which says in a Fault or a ValueError what is wrong."""
+
+    def kind(text):
+        try:
+            return read(text)
+        except (Fault, ValueError) as fault:
+            raise argparse.ArgumentTypeError(str(fault))
+
+    return kind
 
 
-def duration(text):
-    """A time, as `seconds_of` reads it."""
-    try:
-        return seconds_of(text)
-    except Fault as fault:
-        raise argparse.ArgumentTypeError(fault.text)
-
-
-def pattern(text):
-    """A Pattern of paths."""
-    try:
-        return Pattern(os.fsencode(text))
-    except BadPattern as fault:
-        raise argparse.ArgumentTypeError(str(fault))
+size, duration, pattern = argument(size_of), argument(seconds_of), argument(lambda text: Pattern(os.fsencode(text)))
 
 
 def end_of_options(words):
@@ -90,11 +80,7 @@ def _texts(metavar, text):
 # The words that several commands have: each means the same in all of them. What is left out here is of the command.
 COMMON = {
     "config": _text("CONF", "the configuration"),
-    "after": {
-        "metavar": "TEXT",
-        "action": Once,
-        "help": "lines that follow the configuration, as report_level=summary",
-    },
+    "after": {"metavar": "TEXT", "action": Once, "help": "lines that follow the configuration, as report_level=summary"},
     "before": {"metavar": "TEXT", "action": Once, "help": "lines that precede it"},
     "state": _text("FILE", "the state file, which has the result of a comparison"),
     "max-size": {"metavar": "SIZE", "type": size, "help": "refuse a database that has more bytes unpacked"},
@@ -104,22 +90,16 @@ COMMON = {
     "exclude-from": _texts("FILE", "leave out the entries whose paths FILE names, as debian.without; it says how many"),
     "exclude": _texts("PATTERN", "the same for one line"),
     "keep-open": {
-        **_texts("PATTERN", "all but the changes of these paths, as in '/etc/**', whose former entries stay"),
+        **_texts("PATTERN", "all but the changes of these paths, whose former entries stay: '/etc/**'"),
         "type": pattern,
     },
-    "reasons": {
-        "action": "store_true",
-        "help": "say which changes packages, logs and rules explain, and which nothing does",
-    },
+    "reasons": {"action": "store_true", "help": "say which changes packages, logs and rules explain, and which nothing does"},
     "alarm": {"choices": ALARMS, "default": ALARMS[0], "help": "which changes raise an alarm, with the counts of --reasons"},
     "json": _text("FILE", "write the changes to FILE as lines of JSON; - is standard output"),
     "page": _text("FILE", "write them to FILE as a page for a browser"),
     "packages": _text("FILE", "the packages' records of the time of the old database, as aide-compare accept keeps them"),
     "packages-now": _text("FILE", "those of the time of the new database, if they are not those of this machine"),
-    "archive": _texts(
-        "DIRECTORY",
-        "packages and signed indexes, such as /var/lib/apt/lists and /var/cache/apt/archives, or a mirror",
-    ),
+    "archive": _texts("DIRECTORY", "packages and signed indexes, as /var/lib/apt/lists, /var/cache/apt/archives, or a mirror"),
     "keyring": _texts("FILE", "the keys of the archive, for gpgv (those of Debian)"),
     "rules": _text("FILE", "reasons of your own: what may differ, patterns and texts"),
     "severity": _text("FILE", "a table of severities instead of the built-in one"),
@@ -222,20 +202,17 @@ def place_of(name):
         return path
 
 
-def _word(line, place):
-    """The option of a line, and the word that it is on a command line."""
-    found = LINE.fullmatch(os.fsdecode(line))
-    name, value = found.groups() if found else (None, None)
-    if name not in ALL:
-        raise Fault(Status.USAGE, "%s: this option cannot be a default: %s" % (place, shown(line, 100)))
-    if ALL[name] != PERHAPS and (ALL[name] == ONE) != bool(value):
-        raise Fault(Status.USAGE, "%s: %s needs %s value" % (place, name, "a" if ALL[name] == ONE else "no"))
-    return name, name + "=" + value if value else name
-
-
 def defaults_for(options, words):
     """The words of the lines whose options are among these; none if the words of the command line turn the defaults off."""
-    words = words[: end_of_options(words)]
+    words, found = words[: end_of_options(words)], []
     path = None if {OFF, "--help", "-h", "--version"} & set(words) else place_of("defaults")
-    lines = [_word(*line) for line in lines_of(path, "the defaults")] if path else []
-    return [word for name, word in lines if name in options]
+    for line, place in lines_of(path, "the defaults") if path else ():
+        parts = LINE.fullmatch(os.fsdecode(line))
+        name, value = parts.groups() if parts else (None, None)
+        if name not in ALL:
+            raise Fault(Status.USAGE, "%s: this option cannot be a default: %s" % (place, shown(line, 100)))
+        if ALL[name] != PERHAPS and (ALL[name] == ONE) != bool(value):
+            raise Fault(Status.USAGE, "%s: %s needs %s value" % (place, name, "a" if ALL[name] == ONE else "no"))
+        if name in options:
+            found.append(name + "=" + value if value else name)
+    return found

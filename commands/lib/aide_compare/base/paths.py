@@ -43,21 +43,17 @@ def path_of(key):
     return _FORM.sub(lambda found: bytes([found.group(1)[0] - 32]), key.replace(b"\x01", b"/"))
 
 
-class BadPattern(ValueError):
-    """Why a text is no pattern."""
-
-
 def _token(found):
     """A byte or a class as fnmatch has it: there is no backslash for it, and ! negates a class."""
     literal, sign, inner = found.groups()
     if literal == b"":
-        raise BadPattern("a backslash is the last byte of a piece")
+        raise ValueError("a backslash is the last byte of a piece")
     if literal:
         return b"[%s]" % literal if literal in b"*?[" else literal
     if inner is None:
-        raise BadPattern("a class has no end")
+        raise ValueError("a class has no end")
     if any(first > last for first, last in RANGE.findall(inner)):
-        raise BadPattern("a class is not understood")
+        raise ValueError("a class is not understood")
     return b"[%s%s]" % (b"!" if sign else b"", inner)
 
 
@@ -71,14 +67,14 @@ def _test(piece):
 
 
 class Pattern:
-    """A pattern over whole paths. `fixed` are its first pieces that have no wildcard, for a quick choice among many."""
+    """A pattern over whole paths; a ValueError says why a text is none. `fixed` are its first pieces that have no wildcard, for a quick choice among many."""
 
     def __init__(self, text):
         if not text.startswith(b"/"):
-            raise BadPattern("a path begins with /")
+            raise ValueError("a path begins with /")
         pieces = text[1:].split(b"/")
         if any(b"**" in piece and piece != b"**" for piece in pieces):
-            raise BadPattern("** is a piece of its own, as in /var/log/**")
+            raise ValueError("** is a piece of its own, as in /var/log/**")
         wild = next((at for at, piece in enumerate(pieces) if WILD.search(piece)), len(pieces))
         self.text, self.fixed = text, tuple(pieces[:wild])
         self.tests = [None if piece == b"**" else _test(piece) for piece in pieces]
@@ -113,7 +109,7 @@ def pattern_of(text, place):
     """The pattern that stands in a line of a file, or in an option."""
     try:
         return Pattern(text)
-    except BadPattern as fault:
+    except ValueError as fault:
         raise Fault(Status.USAGE, "%s: %s: %s" % (place, fault, shown(text, 200)))
 
 

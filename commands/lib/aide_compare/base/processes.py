@@ -80,26 +80,22 @@ def run(words, takers, given=(), environment=os.environ, deadline=math.inf, watc
     return status
 
 
-def _close_all_but(kept):
-    """Closes what the child does not need. Standard input, output and errors become /dev/null."""
-    null = os.open("/dev/null", os.O_RDWR)
-    for descriptor in (0, 1, 2):
-        os.dup2(null, descriptor)
-    for number in map(int, os.listdir("/proc/self/fd")):
-        if number > 2 and number not in kept:
-            with suppress(OSError):
-                os.close(number)
-
-
 def _live(work, seconds, writing, keep):
-    """The life of the child: its answer is "=" and the result, or "!", the status of a Fault and its text. The alarm ends it
-    if its parent was killed, and no process waits for it any more."""
+    """The life of the child: its answer is "=" and the result, or "!", the status of a Fault and its text. It holds nothing but
+    what it needs; its standard descriptors are /dev/null. The alarm ends it if its parent was killed, and no process waits for
+    it any more."""
     try:
         signal.signal(signal.SIGPIPE, signal.SIG_IGN)
         end_with(os.getppid())  # Which the kernel forgets if the work takes other rights.
         signal.signal(signal.SIGALRM, signal.SIG_DFL)
         signal.setitimer(signal.ITIMER_REAL, seconds + 5)
-        _close_all_but(set(keep) | {writing})
+        null = os.open("/dev/null", os.O_RDWR)
+        for number in sorted(map(int, os.listdir("/proc/self/fd"))):
+            if number <= 2:
+                os.dup2(null, number)
+            elif number not in (*keep, writing):
+                with suppress(OSError):
+                    os.close(number)
         answer = b"=" + bytes(work() or b"")
     except BaseException as error:
         fault = fault_of(error)
@@ -124,19 +120,6 @@ def pump(takers, deadline=math.inf, tell=None):
         if tell:
             tell()
     return True
-
-
-def _answer_of(reading, deadline):
-    """What the child writes until it ends, or None if the time is over, or if that has no end."""
-    answer = bytearray()
-
-    def take(block):
-        answer.extend(block)
-        if len(answer) > MOST_RESULT:
-            raise OverflowError
-
-    with suppress(OverflowError):
-        return bytes(answer) if pump({reading: take}, deadline) else None
 
 
 def kill_group(child):
@@ -175,22 +158,29 @@ def in_child(what, work, seconds, keep=(), beside=""):
         finally:
             os._exit(0)
     os.close(writing)
+    answer, is_whole = bytearray(), False
+
+    def take(block):
+        answer.extend(block)
+        if len(answer) > MOST_RESULT:
+            raise OverflowError
+
     try:
-        with closed_after(reading):
-            answer = _answer_of(reading, time.monotonic() + seconds)
+        with closed_after(reading), suppress(OverflowError):
+            is_whole = pump({reading: take}, time.monotonic() + seconds)
     finally:
         stop(child)
-    if answer is None:
+    if not is_whole:
         raise Fault(Status.DEVICE, "%s took more than %d seconds" % (what, seconds))
     if answer[:1] == b"=":
-        return answer[1:]
+        return bytes(answer[1:])
     status, _, text = answer[1:].decode("utf-8", "replace").partition(" ")
     if answer[:1] != b"!" or not status.isdigit() or not 8 <= int(status) <= 127:
         raise Fault(Status.DEVICE, "%s ended without an answer" % what)
     raise Fault(int(status), guarded(text) + beside)
 
 
-def _entry_of(uid):
+def entry_of(uid):
     """What the machine knows of a user; an entry with the number alone for one that it does not know."""
     try:
         return pwd.getpwuid(uid)
@@ -200,7 +190,7 @@ def _entry_of(uid):
 
 def user_of(uid):
     """The name of a user, or the number."""
-    return _entry_of(uid).pw_name
+    return entry_of(uid).pw_name
 
 
 def name_of(uid):
@@ -226,15 +216,15 @@ def _become(entry, groups):
             raise Fault(Status.DEVICE, "the privileges of root cannot be given up")
 
 
-def _become_whole(entry):
-    """The same for good, with the groups and the environment of the user."""
+def become(entry):
+    """This process becomes a user for good, with the groups and the environment of the user."""
     with failing("cannot become %s" % name_of(entry.pw_uid)):
         _become(entry, os.getgrouplist(entry.pw_name, entry.pw_gid))
     os.environ.update(HOME=entry.pw_dir or "/", USER=entry.pw_name, LOGNAME=entry.pw_name)
 
 
 def give_up(user):
-    """This process becomes a user, by name, for good: what --user asks for."""
+    """This process becomes a user, by name: what --user asks for."""
     try:
         entry = pwd.getpwnam(user)
     except KeyError:
@@ -243,12 +233,7 @@ def give_up(user):
         return
     if os.geteuid() != 0:
         raise Fault(Status.USAGE, "only root can become %s" % shown(user, 100))
-    _become_whole(entry)
-
-
-def become(uid):
-    """This process becomes a user, by number, for good."""
-    _become_whole(_entry_of(uid))
+    become(entry)
 
 
 def with_rights_of(uid, work, seconds=60, keep=()):
@@ -256,7 +241,7 @@ def with_rights_of(uid, work, seconds=60, keep=()):
     are the descriptors that it needs. A Fault of the work is raised here; so is the end of its time."""
 
     def become_and_work():
-        _become(_entry_of(uid), [])
+        _become(entry_of(uid), [])
         return work()
 
     whose = "with the privileges of %s" % name_of(uid)

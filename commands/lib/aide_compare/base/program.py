@@ -9,6 +9,8 @@ from aide_compare.base.processes import run
 OLD, NEW, CONFIGURATION = 3, 4, 5  # Its descriptors, beside the standard ones.
 DATABASES = "database_in=file:/proc/self/fd/%d\ndatabase_new=file:/proc/self/fd/%d" % (OLD, NEW)
 MOST_ERRORS = 1 << 20
+# The proved programs that write reports, and lines of JSON or what a configuration says; and the command with all subcommands.
+PROGRAM, LINES, FRONT = "libexec/aide-compare/aide", "libexec/aide-compare/aide_lines", "bin/aide-compare"
 KNOWN = tuple(range(8)) + (Status.USAGE, Status.CONFIGURATION, Status.DEVICE, Status.MEMORY, Status.DATABASE)
 
 
@@ -32,21 +34,6 @@ def find_installed(name):
     if not (os.path.isfile(path) and os.access(path, os.X_OK)):
         raise Fault(Status.DEVICE, "cannot find %s, which came with this command" % shown(path))
     return path
-
-
-def find_front():
-    """The path of the command that runs all subcommands."""
-    return find_installed("bin/aide-compare")
-
-
-def find_program():
-    """The path of the proved program that writes reports."""
-    return find_installed("libexec/aide-compare/aide")
-
-
-def find_lines():
-    """The path of the proved program that writes lines of JSON, and what a configuration says."""
-    return find_installed("libexec/aide-compare/aide_lines")
 
 
 def run_program(program, words, given, take):

@@ -13,7 +13,7 @@ from aide_compare.base.escapes import shown
 from aide_compare.base.files import closed_after, copy_file, nameless, reopened
 from aide_compare.base.options import EVIDENCE, Parser, named_evidence, some_text
 from aide_compare.base.paths import key_of_path
-from aide_compare.base.processes import become, in_child, user_of
+from aide_compare.base.processes import become, entry_of, in_child, user_of
 from aide_compare.base.words import KINDS, SIDES, date_of
 from aide_compare.compare.baseline import Baseline
 from aide_compare.compare.comparison import Comparison, Request, refuse_unsound
@@ -106,7 +106,7 @@ def _unexplained_keys(given, baseline, copies):
     target = nameless()
 
     def find():
-        become(baseline.owner)
+        become(entry_of(baseline.owner))
         own = [Copy(nameless(), copy.name, copy.written) for copy in copies]
         for copy, other in zip(copies, own):  # The program could not open a file of another user.
             copy_file(copy.fd, other.fd)

@@ -51,9 +51,9 @@ HELP = ("--help", "-h")
 def become_program(arguments):
     """The proved program takes the place of this process."""
     import signal
-    from aide_compare.base.program import find_program
+    from aide_compare.base.program import PROGRAM, find_installed
 
-    program = find_program()
+    program = find_installed(PROGRAM)
     for number in (signal.SIGPIPE, signal.SIGXFSZ):  # Which the interpreter ignores.
         signal.signal(number, signal.SIG_DFL)
     with failing("cannot run %s" % shown(program)):

@@ -8,7 +8,7 @@ from aide_compare.base.ending import Fault, Status, write_blocks
 from aide_compare.base.files import Spool
 from aide_compare.base.line_sorter import LineSorter
 from aide_compare.base.options import ALARMS, Parser, duration, matching, pattern, some_text
-from aide_compare.base.program import find_front
+from aide_compare.base.program import FRONT, find_installed
 from aide_compare.commands.mail import add_sending
 from aide_compare.compare.outputs import Output
 from aide_compare.compare.state import AGE
@@ -27,7 +27,7 @@ LEAST_MAIL, BRIEF = 16 << 10, 4 << 10
 
 def whole_command(given):
     """The command that prints all that this one leaves out, with the options that say what it is about."""
-    words = [find_front(), "hosts", "report"]
+    words = [find_installed(FRONT), "hosts", "report"]
     for store in given.store:
         words += ["--store", os.path.abspath(store)]
     for each in given.only_path:

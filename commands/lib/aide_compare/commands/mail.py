@@ -10,7 +10,7 @@ from aide_compare.base.ending import Fault, Status, say, why_of, write_all
 from aide_compare.base.escapes import shown
 from aide_compare.base.files import Replacement, read_file
 from aide_compare.base.options import MAIL, RUN, Parser, defaults_for, duration, end_of_options, matching, some_text
-from aide_compare.base.program import find_front
+from aide_compare.base.program import FRONT, find_installed
 from aide_compare.base.words import counted
 from aide_compare.commands import compare
 from aide_compare.compare.comparison import Comparison, Request
@@ -94,7 +94,7 @@ def message_of(given, comparison, explained):
         write_all(2, told.encode("utf-8", "backslashreplace"))
     if is_quiet(given, state):
         return b""
-    command, notes = shlex.join([find_front(), "--format", "report", *without_state(given.words)]), [given.fault]
+    command, notes = shlex.join([find_installed(FRONT), "--format", "report", *without_state(given.words)]), [given.fault]
     if given.html and comparison.differs:
         page, why = page_of(explained, given.max_mail)
         notes.insert(0, "there is no page: %s" % why if why else "")

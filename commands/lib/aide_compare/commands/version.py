@@ -6,7 +6,7 @@ from aide_compare.base.ending import Fault, Status, tell
 from aide_compare.base.escapes import shown
 from aide_compare.base.files import read_file
 from aide_compare.base.options import Parser
-from aide_compare.base.program import find_lines, find_program
+from aide_compare.base.program import LINES, PROGRAM, find_installed
 
 MOST_PROGRAM, MOST_RECORD = 1 << 28, 1 << 16
 RECORD = ".build"  # What packaging/install writes beside a program: its SHA-256, the kit that built it, and how.
@@ -22,8 +22,9 @@ def record_of(path):
     return dict(line.split("=", 1) for line in text.splitlines() if "=" in line)
 
 
-def lines_of(title, program):
+def lines_of(title, name):
     """What there is to say of a program."""
+    program = find_installed(name)
     digest, record = hashlib.sha256(read_file(program, MOST_PROGRAM, "the program ")).hexdigest(), record_of(program + RECORD)
     kit, proved = record.get("kit") or "not known", record.get("proved") or UNKNOWN
     if record and record.get("sha256") != digest:
@@ -44,6 +45,6 @@ def main(arguments):
     ).parse(arguments)
     told = ["aide-compare %s" % VERSION]
     if not given.quiet:
-        told += [*lines_of("program", find_program()), *lines_of("program of lines", find_lines())]
+        told += [*lines_of("program", PROGRAM), *lines_of("program of lines", LINES)]
     tell(*told)
     return Status.OK

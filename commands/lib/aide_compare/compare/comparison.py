@@ -10,7 +10,7 @@ from contextlib import suppress
 from aide_compare.base.ending import Fault, Status, fault_of, write_all
 from aide_compare.base.escapes import shown, shown_lines
 from aide_compare.base.files import in_memory, nameless
-from aide_compare.base.program import CONFIGURATION, DATABASES, NEW, OLD, Drain, find_lines, find_program, run_program
+from aide_compare.base.program import CONFIGURATION, DATABASES, LINES, NEW, OLD, PROGRAM, Drain, find_installed, run_program
 from aide_compare.base.words import KINDS, SIDES, age_in_words
 from aide_compare.compare.configuration import URLS, Texts, databases_of, default_configuration, options_in, without_includes
 from aide_compare.compare.exclusions import cut_copy
@@ -118,7 +118,7 @@ class Comparison:
     def settings(self, texts):
         """What the program says of a configuration, None if it refuses it."""
         found = []
-        status, errors = self._run(find_lines(), "-D", texts, Drain(MOST_SETTINGS, found.append).take)
+        status, errors = self._run(find_installed(LINES), "-D", texts, Drain(MOST_SETTINGS, found.append).take)
         self._end_with(status, errors, texts)
         if status > 7:
             return None
@@ -126,7 +126,7 @@ class Comparison:
             said = json.loads(b"".join(found))
             if said["format"] == FORMAT:
                 return said
-        raise self._odd_answer(find_lines())
+        raise self._odd_answer(find_installed(LINES))
 
     def _has_databases(self):
         """Finds the databases and copies them. What the program refuses in a configuration that names them is told first."""
@@ -171,7 +171,7 @@ class Comparison:
     def _run_for_lines(self):
         """Takes the lines of aide_lines, of which those beyond a limit are only counted."""
         self.lines = nameless() if self.request.target is None else self.request.target
-        program, drain = find_lines(), Drain(self._most_lines, lambda data: write_all(self.lines, data))
+        program, drain = find_installed(LINES), Drain(self._most_lines, lambda data: write_all(self.lines, data))
         status, errors = self._run(program, "-E", self.texts, drain.take)
         self.size = drain.size
         self._end_with(status, errors, self.texts)
@@ -198,13 +198,13 @@ class Comparison:
                     raise Fault(Status.DEVICE, "the report has more than %d bytes; --max-report allows more" % most)
                 write_all(self._report, block)
 
-            status, errors = self._run(find_program(), "-E", self.texts, take)
+            status, errors = self._run(find_installed(PROGRAM), "-E", self.texts, take)
             is_other = self.request.lines and (status, errors) != (self.status, self.errors)
             self._end_with(status, errors, self.texts)
             head = os.pread(self._report, len(HEADS[0]), 0)
             is_odd = is_other or not (head.startswith(HEADS[status > 0]) or not head and not status)
             if status <= 7 and is_odd:
-                raise self._odd_answer(find_program())
+                raise self._odd_answer(find_installed(PROGRAM))
         return self._report
 
     @property
@@ -247,7 +247,7 @@ class Comparison:
     def _is_group(self, name):
         """Whether the texts define a group of this name: only then an option can have it as its value."""
         texts = self.given._replace(after=self.given.after + b"\nreport_force_attrs=" + name)
-        return self._run(find_lines(), "-D", texts, lambda block: None)[0] == 0
+        return self._run(find_installed(LINES), "-D", texts, lambda block: None)[0] == 0
 
 
 def _moved_back(errors, count):

@@ -12,7 +12,7 @@ from aide_compare.base.ending import Fault, Status, failing, write_all
 from aide_compare.base.escapes import shown
 from aide_compare.base.files import Replacement, copy_file, nameless
 from aide_compare.base.folders import ANYBODY, open_folder
-from aide_compare.base.processes import become, end_with, name_of
+from aide_compare.base.processes import become, end_with, entry_of, name_of
 from aide_compare.base.program import KNOWN
 from aide_compare.compare.state import MOST_BYTES, parse_state
 from aide_compare.compare.unpack import given_descriptor
@@ -141,7 +141,7 @@ class Handing:
         self.owner = owner
         for output in self.outputs:
             output.is_childs = True
-        become(owner)
+        become(entry_of(owner))
         if not end_with(parent):
             raise Fault(Status.DEVICE, "the command was ended")
 
