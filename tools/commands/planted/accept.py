@@ -59,13 +59,13 @@ PLANTED = (
     + seen_by(
         "accept.try_modes",
         (BASELINE, "self.former.st_mode & FILE_MODES if", "self.former.st_mode & 0o7777 if"),
-        (BASELINE, "            self._give(new,", "            (lambda *_: None)(new,"),
+        (BASELINE, "                    os.fchown(new,", "                    (lambda *_: None)(new,"),
     )
     + seen_by(
         "accept.try_at_once",
         ("commands/lib/aide_compare/base/files.py", "            fcntl.flock(descriptor, how | fcntl.LOCK_NB)\n", ""),
     )
-    + seen_by("accept.try_places", (BASELINE, "        if not stat.S_ISREG(mode):", "        if False:"))
+    + seen_by("accept.try_places", (BASELINE, "                refuse_other_kinds(self.former.st_mode)\n", ""))
     + seen_by(
         "accept_kills.try_kills",
         (BASELINE, EXCHANGE, NO_NAME),

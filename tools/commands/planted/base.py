@@ -76,8 +76,8 @@ PLANTED = (
         (CHILD, "        left = deadline - time.monotonic()\n", "        left = 60\n"),
         (CHILD, "guarded(text) + beside", "guarded(text)"),
         (UNPACK, "BLOCK, FEW = 1 << 18, 1 << 12", "BLOCK, FEW = 1 << 18, 1 << 18"),
-        (UNPACK, "packed.read(len(GZIP))", "packed.read1(len(GZIP))"),
-        (UNPACK, "chain([member.unused_data], blocks)", "[member.unused_data]"),
+        (UNPACK, "while len(head) < len(GZIP) and", "while not head and"),
+        (UNPACK, "chain([member.unused_data], pieces)", "[member.unused_data]"),
     )
     + seen_by(
         "bounded.try_no_end",

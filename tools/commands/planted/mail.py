@@ -84,7 +84,7 @@ PLANTED = (
     + seen_by(
         "mail.try_weight",
         (COMPARISON, "            self._copy()\n", "            self._is_right(self.texts, b'')\n            self._copy()\n"),
-        (FILES, "        if self.part.name:\n", "        if True:\n"),
+        (FILES, "        if self.part and self.part.name:\n", "        if self.part:\n"),
         (FILES, "        if self.file.tell() > HELD:\n", "        if True:\n"),
     )
     + seen_by(

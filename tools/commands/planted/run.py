@@ -19,15 +19,14 @@ CONFIGURATION, HINTS, PROGRAM, COMPARISON, RUN, FILES, FOLDERS, UNPACK, TIMES, O
     )
 )
 # The state is emptied to find out whether it can be written; or it is written in its place and not in one step.
-EMPTIED = """        self._refuse_other_kinds()
-        flags = os.O_WRONLY | os.O_CREAT | os.O_TRUNC | os.O_NOFOLLOW
+EMPTIED = """        flags = os.O_WRONLY | os.O_CREAT | os.O_TRUNC | os.O_NOFOLLOW
         os.close(os.open(self.name, flags, dir_fd=self.folder.fd))
-        self.part = NewFile(self.folder.fd)
+        self.part = self.part or NewFile(self.folder.fd)
 """
-IN_ITS_PLACE = """    def _put(self, fill):
+IN_ITS_PLACE = """    def _put(self, source):
         flags = os.O_WRONLY | os.O_CREAT | os.O_TRUNC | os.O_NOFOLLOW
         with closed_after(os.open(self.name, flags, self.mode, dir_fd=self.folder.fd)) as part:
-            return fill(part)
+            return copy_file(source, part)
 """
 # Databases that have the same name in two folders are taken for one.
 COPIED_ONCE = """            copies = {}
@@ -41,7 +40,7 @@ PLANTED = (
         "attacks.try_places",
         (CONFIGURATION, "(@@(?:x_)?include", "(@@x_include"),
         (CONFIGURATION, "os.fsencode(os.uname().nodename)", 'b""'),
-        (COMPARISON, "int(found.group(1)) - count", "int(found.group(1))"),
+        (COMPARISON, "int(found.group(1)) - moved", "int(found.group(1))"),
     )
     + seen_by(
         "run.try_configurations",
@@ -109,8 +108,8 @@ PLANTED = (
         "attacks.try_devices",
         (
             FILES,
-            "        self._refuse_other_kinds()\n        self.part = NewFile(",
-            "        self.part = NewFile(",
+            "            refuse_other_kinds(os.stat(self.name",
+            "            (os.stat(self.name",
         ),
     )
     + seen_by(
@@ -163,7 +162,7 @@ PLANTED = (
         "attacks.try_each_moment",
         (
             FILES,
-            "        self._refuse_other_kinds()\n        self.part = NewFile(self.folder.fd)\n",
+            "        self.part = self.part or NewFile(self.folder.fd)\n",
             EMPTIED,
         ),
     )
@@ -190,7 +189,7 @@ PLANTED = (
         ),
         (
             FILES,
-            "    def _put(self, fill):\n",
+            "    def _put(self, source):\n",
             IN_ITS_PLACE,
         ),
     )
@@ -224,7 +223,7 @@ PLANTED = (
         (CONFIGURATION, "len(asked) < MOST_ASKED", "len(asked) < 2"),
         (CONFIGURATION, "found[:MOST_MISSPELT]]", "found]"),
         (CONFIGURATION, 'rb"[ \\t]*((?:report_', 'rb"((?:report_'),
-        (COMPARISON, "*self.given.misspelt(self.request.configuration, self._is_group), ", ""),
+        (COMPARISON, "*self.given.misspelt(request.configuration, self._is_group), ", ""),
     )
     + seen_by(
         "run.try_arguments",

@@ -31,6 +31,13 @@ def file_kind(mode):
     return next((name for test, name in KINDS if test(mode)), "a file")
 
 
+def refuse_other_kinds(mode):
+    """A failure if a file is no regular one, such as a device, a link or a FIFO."""
+    if not stat.S_ISREG(mode):
+        hint = ", which is not followed: name the file itself" if stat.S_ISLNK(mode) else ""
+        raise failure(errno.EINVAL, "it is %s, not a regular file%s" % (file_kind(mode), hint))
+
+
 def reopened(descriptor, flags):
     """The same file, opened once more by its descriptor, whatever its name is now."""
     try:
@@ -48,9 +55,7 @@ def open_regular(path, what=""):
         if file is None:
             raise failure(errno.EISDIR, "it is a directory")
         with closed_after(file):
-            mode = os.fstat(file).st_mode
-            if not stat.S_ISREG(mode):
-                raise failure(errno.EINVAL, "it is %s, not a regular file" % file_kind(mode))
+            refuse_other_kinds(os.fstat(file).st_mode)
             return reopened(file, os.O_RDONLY | os.O_NONBLOCK | os.O_NOCTTY)
 
 
@@ -101,7 +106,9 @@ def lines_of(path, what):
 
 
 def copy_file(source, target):
-    """Writes all bytes of a file to a descriptor, from its beginning."""
+    """Writes all bytes of a file, by its descriptor, from its beginning; or bytes that are given in its place."""
+    if isinstance(source, bytes):
+        return write_all(target, source)
     place = 0
     while block := os.pread(source, BLOCK, place):
         write_all(target, block)
@@ -220,15 +227,13 @@ class Replacement:
         """Tries that a file can be made there. It is kept for what comes, unless it has a name, or is the work of another user
         in a child."""
         self._do(self._try)
+        if self.part and self.part.name:
+            self.part = self.part.close()
         return self
 
-    def commit(self, data):
-        """Puts these bytes in the place of the file, on the disk before this returns."""
-        self._do(lambda: self._put(lambda part: write_all(part, data)))
-
-    def commit_copy(self, source):
-        """The same with the bytes of another file, by its descriptor."""
-        self._do(lambda: self._put(lambda part: copy_file(source, part)), source)
+    def commit(self, source):
+        """Puts bytes, or those of another file, by its descriptor, in the place of the file, on the disk before this returns."""
+        self._do(lambda: self._put(source), *[source] * isinstance(source, int))
 
     def close(self):
         for each in (self.part, self.folder):
@@ -254,25 +259,18 @@ class Replacement:
         except (Fault, OSError) as error:
             raise Fault(Status.DEVICE, "cannot write %s %s: %s" % (self.what, shown(self.path), why_of(error)))
 
-    def _refuse_other_kinds(self):
-        """A regular file is replaced, or no file at all: never a device, a link or a FIFO, such as /dev/null."""
-        with suppress(FileNotFoundError):
-            mode = os.stat(self.name, dir_fd=self.folder.fd, follow_symlinks=False).st_mode
-            if not stat.S_ISREG(mode):
-                raise failure(errno.EINVAL, "it is %s, not a regular file" % file_kind(mode))
-
     def _try(self):
-        self._refuse_other_kinds()
-        self.part = NewFile(self.folder.fd)
-        if self.part.name:
-            self.part = self.part.close()
+        """Makes the new file. A regular one is replaced, or none at all: never a device, a link or a FIFO."""
+        with suppress(FileNotFoundError):
+            refuse_other_kinds(os.stat(self.name, dir_fd=self.folder.fd, follow_symlinks=False).st_mode)
+        self.part = self.part or NewFile(self.folder.fd)
 
-    def _put(self, fill):
-        part, self.part = self.part or NewFile(self.folder.fd), None
+    def _put(self, source):
+        self._try()
+        part, self.part = self.part, None
         with closing(part):
-            fill(part.fd)
+            copy_file(source, part.fd)
             os.fchmod(part.fd, self.mode)
-            self._refuse_other_kinds()
             part.put(self.name)
 
 

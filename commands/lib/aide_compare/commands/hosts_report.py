@@ -173,7 +173,7 @@ def main(arguments):
         "page": report.page,
     }
     for name, output in outputs.items():
-        output.commit_copy(written(forms[name]()))
+        output.commit(written(forms[name]()))
     if given.to:
         report.mail(given, is_alarm)
     elif not on_stdout and (is_alarm or not given.quiet):

@@ -9,9 +9,9 @@ import stat
 import time
 from contextlib import suppress
 
-from aide_compare.base.ending import Fault, Status, failing, reason, why_of
+from aide_compare.base.ending import Fault, Status, failing, why_of
 from aide_compare.base.escapes import shown
-from aide_compare.base.files import copy_file, exchange, file_kind, is_locked, new_file, reopened, unlink
+from aide_compare.base.files import copy_file, exchange, is_locked, new_file, refuse_other_kinds, reopened, unlink
 from aide_compare.base.folders import ANYBODY, closed_after, failure, open_folder
 
 FILE_MODES = 0o666
@@ -31,6 +31,17 @@ def identity(found):
     return found.st_dev, found.st_ino
 
 
+def _owner_of(folder):
+    """The user with whose rights a folder is changed; None for the caller's own."""
+    if not folder.others:
+        return None
+    if ANYBODY in folder.others or len(folder.others) > 1:
+        raise failure(errno.EPERM, "more than one user can write in its directory, or above it; only its owner should")
+    if os.geteuid() != 0:
+        raise failure(errno.EPERM, "its directory, or one above it, belongs to another user; run this as that user or as root")
+    return min(folder.others)
+
+
 class Baseline:
     """The file of a path, or the place where it will be. `former` is what fstat says of it, None without a file. A file beside
     it whose name ends with the suffix belongs to it, and goes when it is replaced."""
@@ -44,36 +55,17 @@ class Baseline:
         self.part, self.mark, self.spare = (form % self.name for form in (PART, MARK, SPARE))
         self.beside, self.away = (self.name + suffix, SPARE % (self.name + suffix)) if suffix else (None, None)
         self.place = os.path.dirname(path) or "."
-        with open_folder(self.place) as folder:
-            self.owner = self._owner_of(folder)
-            with failing(self.words + ": its directory cannot be read"):
-                self.folder = os.open(".", os.O_RDONLY | os.O_DIRECTORY | os.O_CLOEXEC, dir_fd=folder.fd)
-        with failing(self.words + ": its directory cannot be locked"):  # It waits for another run.
-            if not is_locked(self.folder, time.monotonic() + SECONDS_FOR_LOCK):
-                raise self._fault("its directory has been locked by another process for %d seconds" % SECONDS_FOR_LOCK)
         self.descriptor = self.former = None
-        with failing(self.words), suppress(FileNotFoundError):
-            self.descriptor = os.open(self.name, os.O_PATH | os.O_NOFOLLOW | os.O_CLOEXEC, dir_fd=self.folder)
-            self.former = os.fstat(self.descriptor)
-            self._refuse_other_kinds(self.former.st_mode)
-
-    def _fault(self, text):
-        return Fault(Status.DEVICE, "%s: %s" % (self.words, text))
-
-    def _owner_of(self, folder):
-        """The user with whose rights the folder is changed; None for the caller's own."""
-        if not folder.others:
-            return None
-        if ANYBODY in folder.others or len(folder.others) > 1:
-            raise self._fault("more than one user can write in its directory, or above it; only its owner should")
-        if os.geteuid() != 0:
-            raise self._fault("its directory, or one above it, belongs to another user; run this as that user or as root")
-        return min(folder.others)
-
-    def _refuse_other_kinds(self, mode):
-        if not stat.S_ISREG(mode):
-            hint = ", which is not followed: name the file itself" if stat.S_ISLNK(mode) else ""
-            raise self._fault("it is %s, not a regular file%s" % (file_kind(mode), hint))
+        with open_folder(self.place) as folder, failing(self.words):
+            self.owner = _owner_of(folder)
+            with failing(self.words + ": its directory"):
+                self.folder = os.open(".", os.O_RDONLY | os.O_DIRECTORY | os.O_CLOEXEC, dir_fd=folder.fd)
+                if not is_locked(self.folder, time.monotonic() + SECONDS_FOR_LOCK):  # It waits for another run.
+                    raise failure(errno.EBUSY, "another process has locked it for %d seconds" % SECONDS_FOR_LOCK)
+            with suppress(FileNotFoundError):
+                self.descriptor = os.open(self.name, os.O_PATH | os.O_NOFOLLOW | os.O_CLOEXEC, dir_fd=self.folder)
+                self.former = os.fstat(self.descriptor)
+                refuse_other_kinds(self.former.st_mode)
 
     def reading(self):
         """A descriptor to read the former baseline; None if there is none, or if the caller may not read it."""
@@ -95,10 +87,14 @@ class Baseline:
         """Makes a copy of an open file the file beside the baseline whose name ends so, with the owner and the mode of the
         baseline. The former one is replaced in one step."""
         name = self.name + suffix
-        try:
-            self._work(lambda: self._put(source, name, PART % name), source)
-        except OSError as error:
-            raise Fault(Status.DEVICE, reason(error))
+
+        def put():
+            unlink(PART % name, self.folder)
+            self._named_copy(source, PART % name)
+            self._rename(PART % name, name)
+            os.fsync(self.folder)
+
+        self._work(put, source)
 
     def reading_beside(self, suffix):
         """A descriptor to read the file beside the baseline whose name ends so; None if that is no readable plain file."""
@@ -109,12 +105,6 @@ class Baseline:
             os.close(descriptor)
         return None
 
-    def _put(self, source, name, part):
-        unlink(part, self.folder)
-        self._named_copy(source, part)
-        self._rename(part, name)
-        os.fsync(self.folder)
-
     def replace(self, source):
         """Makes a copy of an open file the baseline. Returns the numbers of the user and group that it belongs to."""
         try:
@@ -123,7 +113,7 @@ class Baseline:
                 if new != list(identity(os.stat(self.name, dir_fd=folder.fd, follow_symlinks=False))):
                     raise Fault(Status.DEVICE, CHANGED)
         except (Fault, OSError) as error:
-            raise self._fault(why_of(error))
+            raise Fault(Status.DEVICE, "%s: %s" % (self.words, why_of(error)))
         return user, group
 
     def settle(self):
@@ -170,19 +160,16 @@ class Baseline:
         with closed_after(new):
             copy_file(source, new)
             if self.former and self.owner is None:
-                self._give(new, self.former.st_uid if os.geteuid() == 0 else -1, self.former.st_gid)
+                try:
+                    os.fchown(new, self.former.st_uid if os.geteuid() == 0 else -1, self.former.st_gid)
+                except PermissionError:
+                    if os.geteuid() == 0:
+                        raise
             os.fchmod(new, self.former.st_mode & FILE_MODES if self.former else FIRST_MODE)
             os.fsync(new)
             if not given:
                 os.link("/proc/self/fd/%d" % new, name, dst_dir_fd=self.folder)
             return os.fstat(new)
-
-    def _give(self, new, user, group):
-        try:
-            os.fchown(new, user, group)
-        except PermissionError:
-            if os.geteuid() == 0:
-                raise
 
     def _put_in_place(self, new):
         """The new file gets the name. A former baseline keeps a name of its own, by which it is found and then kept."""
@@ -190,7 +177,9 @@ class Baseline:
             return self._link(self.mark, self.name)
         self._link(self.mark, self.part)
         self._check(self.name, self.former)
-        self._put_away()
+        if self.beside and self._identity(self.beside):
+            with failing("%s cannot be moved" % shown(self.beside)):  # At no moment it is beside the new baseline.
+                self._rename(self.beside, self.away)
         if exchange(self.folder, self.part, self.name):
             self._check(self.part, self.former)
         else:  # The baseline has its name, or a new one, at every moment.
@@ -198,12 +187,6 @@ class Baseline:
             self._rename(self.part, self.name)
             self._check(self.spare, self.former)
         self._check(self.name, new)
-
-    def _put_away(self):
-        """At no moment what belongs to the former baseline is beside the new one."""
-        if self.beside and self._identity(self.beside):
-            with failing("%s cannot be moved" % shown(self.beside)):
-                self._rename(self.beside, self.away)
 
     def _check(self, name, wanted):
         if self._identity(name) != identity(wanted):

@@ -12,7 +12,7 @@ from aide_compare.base.escapes import shown, shown_lines
 from aide_compare.base.files import in_memory, nameless
 from aide_compare.base.program import CONFIGURATION, DATABASES, LINES, NEW, OLD, PROGRAM, Drain, find_installed, run_program
 from aide_compare.base.words import KINDS, SIDES, age_in_words
-from aide_compare.compare.configuration import URLS, Texts, databases_of, default_configuration, options_in, without_includes
+from aide_compare.compare.configuration import DEFAULTS, URLS, Texts, databases_of, options_in, without_includes
 from aide_compare.compare.exclusions import cut_copy
 from aide_compare.compare.hints import hints_of, notes_of, skipped_in
 from aide_compare.compare.state import State
@@ -35,18 +35,19 @@ class Request:
     def __init__(self, **given):
         vars(self).update(given)
         if not self.configuration:
-            self.configuration = default_configuration() if self.old is None else "/dev/null"
+            known = next(filter(os.path.exists, DEFAULTS), DEFAULTS[0])
+            self.configuration = known if self.old is None else "/dev/null"
 
 
 class Comparison:
-    """What came out: the `status`, the `fault` that ended it (None if the program has), a descriptor of the `lines` and their
-    `size`, their `summary` and the `counts` (None if no lines were wanted), the `errors` of the program and the `hints` that
+    """What came out: the `status`, the `fault` that ended it (None if the program has), a descriptor of the `lines`, their `size`
+    and whether there are more than were kept, `is_cut`, their `summary` and the `counts` (None if no lines were wanted), the `errors` of the program and the `hints` that
     explain them, `notes` on what was passed over and `doubts` on what was not explained, and the ReasonCounts, `reasons`. By
     side: the names, the `copies`, the descriptors of what was `compared`, the LeftOut and the columns that were `skipped`, as
     far as there are any."""
 
     status = fault = lines = summary = counts = reasons = _report = None
-    size, errors = 0, b""
+    size, errors, is_cut = 0, b"", False
 
     def __init__(self, request):
         self.request, self.old, self.new, self.time = request, request.old, request.new, int(time.time())
@@ -55,10 +56,18 @@ class Comparison:
 
     def run(self):
         """Compares. What ends it is told by the status and the `fault`, never by an exception."""
+        request = self.request
         try:
-            self.texts = self._read_texts()
+            config, self.notes = without_includes(request.configuration)
+            self.given = self.texts = Texts(os.fsencode(request.before or ""), config, os.fsencode(request.after or ""))
             if self._is_sound() and self._has_databases():
-                self._compare()
+                if request.lines:
+                    self._run_for_lines()
+                else:
+                    self.report()
+            if self.status <= 7:
+                self.skipped = skipped_in(self.errors, self.compared)
+                self.notes += [*self.given.misspelt(request.configuration, self._is_group), *notes_of(self.skipped)]
         except (Fault, MemoryError, OSError) as error:
             self.end_by(error)
         self.time = int(time.time())
@@ -84,23 +93,9 @@ class Comparison:
         more = {"left_out_" + side: str(left_out.total) for side, left_out in self.left_out.items()}
         more.update(("skipped_" + side, " ".join(names)) for side, names in self.skipped.items())
         more.update((key, str(count)) for key, count in (self.reasons._asdict() if self.reasons else {}).items())
-        return State(self.status, self.time, error=self._error()[:5000], more=more, **values)
-
-    def _error(self):
-        """Why nothing was compared, in a line."""
-        if self.fault:
-            return "aide-compare: %s" % self.fault.text
-        lines = shown_lines(self.errors).split("\n") if self.status > 7 else [""]
-        return next((line for line in lines if line and not line.endswith(" skipped")), "")
-
-    def _read_texts(self):
-        """The texts of the configuration, as they were `given`."""
-        request = self.request
-        config, notes = without_includes(request.configuration)
-        self.notes += notes
-        before, after = (os.fsencode(text or "") for text in (request.before, request.after))
-        self.given = Texts(before, config, after)
-        return self.given
+        error = next((line for line in shown_lines(self.errors).split("\n") if line and not line.endswith(" skipped")), "")
+        error = "aide-compare: %s" % self.fault.text if self.fault else error if self.status > 7 else ""
+        return State(self.status, self.time, error=error[:5000], more=more, **values)
 
     def _is_sound(self):
         """Whether the configuration is right if -A gives options. A line for a report to standard output settles those of the
@@ -151,29 +146,17 @@ class Comparison:
         self.copies.update(self.request.copies)
         for side in SIDES:
             self.compared[side] = self.copies[side].fd
-            if self.request.exclusions:
-                self._leave_out(side)
-
-    def _leave_out(self, side):
-        """What is compared then is a copy of the copy; digests are of the whole database, so that it can be accepted."""
-        self.compared[side], self.left_out[side] = cut_copy(self.compared[side], self.request.exclusions)
-        self.notes += self.left_out[side].words(side)
-
-    def _compare(self):
-        if self.request.lines:
-            self._run_for_lines()
-        else:
-            self.report()
-        if self.status <= 7:
-            self.skipped = skipped_in(self.errors, self.compared)
-            self.notes += [*self.given.misspelt(self.request.configuration, self._is_group), *notes_of(self.skipped)]
+            if self.request.exclusions:  # Digests are of the whole database, so that it can be accepted.
+                self.compared[side], self.left_out[side] = cut_copy(self.compared[side], self.request.exclusions)
+                self.notes += self.left_out[side].words(side)
 
     def _run_for_lines(self):
         """Takes the lines of aide_lines, of which those beyond a limit are only counted."""
         self.lines = nameless() if self.request.target is None else self.request.target
-        program, drain = find_installed(LINES), Drain(self._most_lines, lambda data: write_all(self.lines, data))
+        program, most = find_installed(LINES), max(self.request.max_report, LEAST_LINES)
+        drain = Drain(most, lambda data: write_all(self.lines, data))
         status, errors = self._run(program, "-E", self.texts, drain.take)
-        self.size = drain.size
+        self.size, self.is_cut = drain.size, drain.size > most
         self._end_with(status, errors, self.texts)
         if status > 7:
             return
@@ -207,16 +190,6 @@ class Comparison:
                 raise self._odd_answer(find_installed(PROGRAM))
         return self._report
 
-    @property
-    def is_cut(self):
-        """Whether there are more lines than were kept."""
-        return self.size > self._most_lines
-
-    @property
-    def _most_lines(self):
-        """How many bytes of lines are kept: at least the summary."""
-        return max(self.request.max_report, LEAST_LINES)
-
     def _odd_answer(self, program):
         """The Fault for a status that is not borne out: a loader that refuses the program ends with 1, as added entries do."""
         said = shown(self.errors.split(b"\n")[0], 300)
@@ -237,7 +210,8 @@ class Comparison:
         finally:
             if CONFIGURATION in given:
                 os.close(given[CONFIGURATION])
-        return status, _moved_back(errors, moved)
+        before = rb"\Aaide: before:(\d+):"
+        return status, re.sub(before, lambda found: b"aide: before:%d:" % (int(found.group(1)) - moved), errors)
 
     def _end_with(self, status, errors, texts):
         """A program has ended so over these texts."""
@@ -248,11 +222,6 @@ class Comparison:
         """Whether the texts define a group of this name: only then an option can have it as its value."""
         texts = self.given._replace(after=self.given.after + b"\nreport_force_attrs=" + name)
         return self._run(find_installed(LINES), "-D", texts, lambda block: None)[0] == 0
-
-
-def _moved_back(errors, count):
-    """Error lines that count the lines of the text of -B as it was given."""
-    return re.sub(rb"\Aaide: before:(\d+):", lambda found: b"aide: before:%d:" % (int(found.group(1)) - count), errors)
 
 
 def check_age(opened, most):

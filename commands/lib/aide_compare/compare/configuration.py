@@ -34,11 +34,6 @@ NOTHING, WORDS = "ANF", {True: "yes", False: "no"}
 MOST_MISSPELT, MOST_ASKED = 5, 20
 
 
-def default_configuration():
-    """The configuration of AIDE on this machine: Debian's place, or the one of other systems."""
-    return next((path for path in DEFAULTS if os.path.exists(path)), DEFAULTS[0])
-
-
 def _read(path):
     """The bytes of a configuration, one more than are allowed at most. /dev/null is an empty one."""
     if path == "/dev/null":

@@ -28,10 +28,6 @@ STAYING = "a program, a set-ID bit, capabilities, a device, or no mode"
 class Exclusion(namedtuple("Exclusion", "pattern place why")):
     """A line that leaves entries out: its pattern, where it stands, and why it means programs too; "" if it does not."""
 
-    def words(self):
-        why = "; programs too: %s" % self.why if self.why else ""
-        return "%s (%s%s)" % (shown(self.pattern.text, 200), self.place, why)
-
 
 def _exclusion(text, place):
     programs = PROGRAMS.fullmatch(text)
@@ -105,17 +101,15 @@ class LeftOut:
         is_new = True
         for part in iter(lambda: source.readline(LINE), b""):
             is_whole = part.endswith(b"\n")
-            yield part if not (is_new and is_whole) or self._is_free(part) or self.keeps(part) else b"\n"
+            yield part if not (is_new and is_whole) or self.keeps(part) else b"\n"
             is_new = is_whole
-
-    def _is_free(self, line):
-        """Whether a line is below a folder of which no rule means anything, so that no other field has to be looked at."""
-        folder = FOLDER.match(line) if self.columns.get("name") == 0 else None
-        return bool(folder) and self.rules.is_free(folder.group(1))
 
     def keeps(self, line):
         """Whether a line stays. Lines that are no entries stay, also those that lack a field or have one too many, which
         aide-compare refuses, and so does all after the end line."""
+        folder = FOLDER.match(line) if self.columns.get("name") == 0 else None
+        if folder and self.rules.is_free(folder.group(1)):  # Then no other field has to be looked at.
+            return True
         fields = FIELDS.findall(line)
         if self.is_over or not fields or fields[0].startswith(b"#"):
             return True
@@ -147,7 +141,8 @@ class LeftOut:
         """The lines that say so."""
         yield "left out of the %s database: %s" % (side, "1 entry" if self.total == 1 else "%d entries" % self.total)
         for rule, count in sorted(self.counts.items(), key=lambda pair: -pair[1]):
-            yield "  %d by %s" % (count, rule.words())
+            why = "; programs too: %s" % rule.why if rule.why else ""
+            yield "  %d by %s (%s%s)" % (count, shown(rule.pattern.text, 200), rule.place, why)
         if self.staying:
             yield "  %d more that lines name stay, each for one of these: %s" % (self.staying, STAYING)
 

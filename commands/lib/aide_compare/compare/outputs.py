@@ -8,7 +8,7 @@ import fcntl
 import os
 from contextlib import suppress
 
-from aide_compare.base.ending import Fault, Status, failing, write_all
+from aide_compare.base.ending import Fault, Status, failing
 from aide_compare.base.escapes import shown
 from aide_compare.base.files import Replacement, copy_file, nameless
 from aide_compare.base.folders import ANYBODY, open_folder
@@ -34,29 +34,22 @@ class Output:
     def begin(self):
         if self.fd is None:
             self.file = Replacement(self.path, self.mode, self.what).begin()
-        elif not self._is_open():
+            return self
+        try:
+            flags = fcntl.fcntl(self.fd, fcntl.F_GETFL) & os.O_ACCMODE
+            is_open = flags != os.O_RDONLY and not fcntl.fcntl(self.fd, fcntl.F_GETFD) & fcntl.FD_CLOEXEC
+        except OSError:
+            is_open = False
+        if not is_open:
             raise Fault(Status.DEVICE, self.words + ": the caller has not opened it for writing")
         return self
 
-    def _is_open(self):
-        with suppress(OSError):
-            flags = fcntl.fcntl(self.fd, fcntl.F_GETFL) & os.O_ACCMODE
-            return flags != os.O_RDONLY and not fcntl.fcntl(self.fd, fcntl.F_GETFD) & fcntl.FD_CLOEXEC
-        return False
-
-    def commit(self, data):
-        """Writes these bytes."""
+    def commit(self, source):
+        """Writes bytes, or what the file of a descriptor has."""
         if self.file:
-            return self.file.commit(data)
+            return self.file.commit(source)
         with failing(self.words):
-            write_all(self.fd, data)
-
-    def commit_copy(self, descriptor):
-        """Writes what the file of a descriptor has."""
-        if self.file:
-            return self.file.commit_copy(descriptor)
-        with failing(self.words):
-            copy_file(descriptor, self.fd)
+            copy_file(source, self.fd)
 
 
 class Later:
@@ -66,26 +59,17 @@ class Later:
     def __init__(self, place=None):
         self.place, self.kept, self.is_childs, self.held = place, None, False, b""
 
-    def commit(self, data):
-        if self.is_childs:
-            write_all(self.kept, data)
-        elif self.place:
-            self.place.commit(data)
-        else:
-            self.held = data
-
-    def commit_copy(self, source):
+    def commit(self, source):
         if self.is_childs:
             copy_file(source, self.kept)
+        elif self.place:
+            self.place.commit(source)
         else:
-            self.place.commit_copy(source)
+            self.held = source
 
     def put(self):
         """Puts in place what a child has written."""
-        if self.place:
-            self.place.commit_copy(self.kept)
-        else:
-            self.held = os.pread(self.kept, os.fstat(self.kept).st_size, 0)
+        self.commit(self.kept if self.place else os.pread(self.kept, os.fstat(self.kept).st_size, 0))
 
     def state(self, status):
         """The whole State that a child has written, of a run that ended with this status; a Fault if there is none."""

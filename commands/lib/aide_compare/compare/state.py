@@ -73,19 +73,6 @@ class ReasonCounts(namedtuple("ReasonCounts", REASON_KEYS + GRADE_KEYS, defaults
         return " ".join("%s=%d" % (key, getattr(self, key)) for key in keys)
 
 
-def counts_of_keys(values):
-    """The ReasonCounts in a map of texts, such as the further keys of a state; None if it has none of the keys. A ValueError
-    if it has only some of them, or one that is no number."""
-    found = {key: values[key] for key in ReasonCounts._fields if key in values}
-    if not found:
-        return None
-    if tuple(found) not in (REASON_KEYS, REASON_KEYS + GRADE_KEYS) or not all(
-        re.fullmatch("[0-9]{1,18}", text) for text in found.values()
-    ):
-        raise ValueError("only some counts of reasons, or no numbers")
-    return ReasonCounts(*map(int, found.values()))
-
-
 class State(namedtuple("State", KEYS + ("more",), defaults=(None,) * 3 + ("",) * 4 + (None,) * 2 + ("", {}))):
     """What a run found: the status, when it ended, the counts (None if there are none), the SHA-256 of both databases, their
     names, when each file was written (None if unknown), the first error line, and `more`, further keys with their texts.
@@ -98,8 +85,15 @@ class State(namedtuple("State", KEYS + ("more",), defaults=(None,) * 3 + ("",) *
 
     @property
     def reasons(self):
-        """The ReasonCounts of a run with --reasons, or None."""
-        return counts_of_keys(self.more) if self.counts else None
+        """The ReasonCounts of a run with --reasons, or None. A ValueError if there are only some of them, or one that is no
+        number."""
+        found = {key: self.more[key] for key in ReasonCounts._fields if key in self.more}
+        if not found or not self.counts:
+            return None
+        known = tuple(found) in (REASON_KEYS, REASON_KEYS + GRADE_KEYS)
+        if not known or not all(re.fullmatch("[0-9]{1,18}", text) for text in found.values()):
+            raise ValueError("only some counts of reasons, or no numbers")
+        return ReasonCounts(*map(int, found.values()))
 
     @property
     def age(self):
@@ -144,28 +138,6 @@ def not_compared(names):
     return "the column %s is not compared" % listed if len(names) == 1 else "the columns %s are not compared" % listed
 
 
-def _number(text):
-    if not NUMBER.fullmatch(text):
-        raise ValueError("no number: %s" % shown(text, 50))
-    return int(text)
-
-
-def _fits(state):
-    """Whether the values fit one another, which they do not in a file that somebody changed."""
-    counts = (state.added, state.removed, state.changed)
-    if None in counts:
-        are_sound = counts == (None,) * 3 and state.status != 0
-    else:
-        are_sound = min(counts) >= 0 and status_of(counts) == state.status
-    return (
-        are_sound
-        and 0 <= state.status <= 255
-        and state.time >= 0
-        and (not state.reasons or state.reasons.fits(sum(counts)))
-        and all(DIGEST.fullmatch(text) for text in (state.old_sha256, state.new_sha256))
-    )
-
-
 def parse_state(data):
     """The State that the bytes of a file say; a ValueError or a KeyError if they are no state."""
     lines = data.decode("utf-8", "surrogateescape").split("\n")
@@ -176,10 +148,19 @@ def parse_state(data):
     del values["format"], values["date"]
     given = {key: values.pop(key) for key in KEYS}
     for key in NUMBERS:
-        given[key] = _number(given[key]) if given[key] or key in NEEDED else None
-    state = State(more=values, **given)
-    if not _fits(state):
-        raise ValueError("values that do not fit one another")
+        if not NUMBER.fullmatch(given[key]) and (given[key] or key in NEEDED):
+            raise ValueError("no number: %s" % shown(given[key], 50))
+        given[key] = int(given[key]) if given[key] else None
+    state, counts = State(more=values, **given), tuple(given[key] for key in KINDS)
+    if None in counts:
+        are_sound = counts == (None,) * 3 and state.status != 0
+    else:
+        are_sound = (
+            min(counts) >= 0 and status_of(counts) == state.status and (not state.reasons or state.reasons.fits(sum(counts)))
+        )
+    are_digests = all(DIGEST.fullmatch(text) for text in (state.old_sha256, state.new_sha256))
+    if not (are_sound and are_digests and 0 <= state.status <= 255 and state.time >= 0):
+        raise ValueError("values that do not fit one another, so somebody has changed them")
     return state
 
 

@@ -1,6 +1,5 @@
 """Private copies of databases: without a name, unpacked, never larger than allowed, with their SHA-256."""
 import fcntl
-import io
 import os
 import stat
 import zlib
@@ -72,52 +71,50 @@ def open_database(side, path):
         return Opened(side, path, fcntl.fcntl(given, fcntl.F_DUPFD_CLOEXEC, 0))
 
 
-class _Raw(io.RawIOBase):
-    """The bytes of the file as it is, never many more than are allowed unpacked."""
-
-    def __init__(self, opened, most):
-        self.opened, self.most, self.done = opened, most, 0
-
-    def readable(self):
-        return True
-
-    def readinto(self, room):
-        with failing("cannot read " + self.opened.words):
-            count = os.readv(self.opened.fd, [room])
-        self.done += count
-        if self.done > 2 * self.most + (1 << 20):
-            raise self.opened.too_large(self.most)
-        progress.tell("reading the %s database" % self.opened.side, self.done, self.opened.size)
-        return count
+def _raw(opened, most):
+    """The bytes of an open database as they are, in blocks, never many more than are allowed unpacked."""
+    done = 0
+    while True:
+        with failing("cannot read " + opened.words):
+            block = os.read(opened.fd, BLOCK)
+        if not block:
+            return
+        done += len(block)
+        if done > 2 * most + (1 << 20):
+            raise opened.too_large(most)
+        progress.tell("reading the %s database" % opened.side, done, opened.size)
+        yield block
 
 
-def _unzipped(packed, rest):
+def _unzipped(packed):
     """Unpacks one member of gzip after another. Zeros may follow a member, nothing else. zlib copies what is behind a member, so
     it is given few bytes at a time: otherwise a member of 20 bytes would cost a copy of a whole block."""
-    blocks, member = iter(lambda: packed.read(FEW), b""), zlib.decompressobj(31)
+    pieces = (block[at : at + FEW] for block in packed for at in range(0, len(block), FEW))
+    member, rest = zlib.decompressobj(31), next(pieces)
     while True:
         yield member.decompress(rest, BLOCK)
         rest = member.unconsumed_tail
         if member.eof:
-            behind = (block.lstrip(b"\0") for block in chain([member.unused_data], blocks))
+            behind = (piece.lstrip(b"\0") for piece in chain([member.unused_data], pieces))
             rest, member = next(filter(None, behind), b""), zlib.decompressobj(31)
             if not rest:
                 return
         elif not rest:
-            rest = next(blocks, b"")
+            rest = next(pieces, b"")
             if not rest:
                 raise zlib.error("it ends too early")
 
 
 def _unpacked(opened, most):
-    """The unpacked bytes of an open database, in blocks. A pipe may give them one at a time."""
-    packed, size = io.BufferedReader(_Raw(opened, most), BLOCK), 0
-    first = packed.read(len(GZIP))
-    if first == COMPRESS:
+    """The unpacked bytes of an open database, in blocks."""
+    raw, head, size = _raw(opened, most), b"", 0
+    while len(head) < len(GZIP) and (block := next(raw, b"")):  # A pipe may give one byte at a time.
+        head += block
+    if head.startswith(COMPRESS):
         raise Fault(Status.DEVICE, "%s is compressed by compress (.Z); unpack it first" % opened.words)
-    plain = chain([first], iter(lambda: packed.read1(BLOCK), b""))
+    blocks = chain([head], raw)
     try:
-        for block in _unzipped(packed, first) if first == GZIP else plain:
+        for block in _unzipped(blocks) if head.startswith(GZIP) else blocks:
             size += len(block)
             if size > most:
                 raise opened.too_large(most)
@@ -155,8 +152,7 @@ def copy_database(side, path, most):
 
 def copy_packed(opened, most):
     """The descriptor of a private copy of an open database as it is, packed or not. The database is closed."""
-    raw = _Raw(opened, most)
-    copy = _kept(opened, iter(lambda: raw.read(BLOCK), b""))
+    copy = _kept(opened, _raw(opened, most))
     os.lseek(copy, 0, os.SEEK_SET)
     return copy
 

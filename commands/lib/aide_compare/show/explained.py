@@ -67,13 +67,13 @@ class Wanted:
         if self.lines or self.page:
             lines = pages = written(explained.lines() if explained else ())
         if self.lines:
-            self.lines.commit_copy(lines)
+            self.lines.commit(lines)
         if self.page:
             if explained:
                 from aide_compare.show.page import page
 
                 pages = written(page(reader_over(lines), None, is_plain=False))
-            self.page.commit_copy(pages)
+            self.page.commit(pages)
 
 
 class Explained:
