@@ -64,7 +64,7 @@ PLANTED = (
     )
     + seen_by(
         "state.try_own_failures",
-        ("commands/nagios/check_aide_compare", "status if 0 <= status < UNKNOWN else UNKNOWN", "status"),
+        ("commands/bin/aide-compare", "3 if is_check and status > 2 else status", "status"),
     )
     + seen_by(
         "state.try_links",

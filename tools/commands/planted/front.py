@@ -14,8 +14,8 @@ PLANTED = (
     + seen_by("front.try_words", (FRONT, " or os.path.lexists(word)", ""))
     + seen_by(
         "front.try_misspelt",
-        (FRONT, "len(arguments) == 1 or bool(", "bool("),
-        (FRONT, "near = difflib.get_close_matches(word, names, 1)", "near = sorted(names)"),
+        (FRONT, "len(arguments) == 1 or nearest(", "nearest("),
+        (FRONT, "near = nearest(word, names)", "near = sorted(names)"),
     )
     + seen_by(
         "front.try_common",

@@ -147,7 +147,7 @@ PLANTED = (
     )
     + seen_by(
         "attacks.try_little_memory",
-        ("commands/bin/aide-compare", "status = 18\n", "status = 1\n"),
+        ("commands/bin/aide-compare", "is_check = 18,", "is_check = 1,"),
         ("commands/lib/aide_compare/base/ending.py", "MEMORY = 22", "MEMORY = 24"),
     )
     + seen_by(

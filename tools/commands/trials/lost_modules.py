@@ -6,7 +6,8 @@ import tempfile
 
 from tools.commands.trials.sandbox import HERE, TIME_LIMIT
 
-FOLDERS = ("bin", "nagios")
+# The command, and the name by which monitoring calls it.
+FRONT, NAMES = os.path.join(HERE, "commands", "bin", "aide-compare"), ("aide-compare", "check_aide_compare")
 
 
 def started(path):
@@ -15,9 +16,9 @@ def started(path):
     return done.returncode, done.stdout, done.stderr
 
 
-def try_one(sandbox, folder, name, path, why):
+def try_one(sandbox, name, path, why):
     status, output, errors = started(path)
-    if folder == "nagios":
+    if name == NAMES[1]:
         wanted = status == 3 and output.startswith(b"AIDE UNKNOWN: ")
     else:
         wanted = status == 18 and output == b"" and errors.startswith(name.encode() + b": cannot start: ")
@@ -31,13 +32,12 @@ def try_lost_modules(sandbox):
         os.makedirs(broken)
         with open(os.path.join(broken, "__init__.py"), "w") as file:
             file.write("this is no Python\n")
-        for folder in FOLDERS:
-            for name in sorted(os.listdir(os.path.join(HERE, "commands", folder))):
-                for place, why in (("alone", "no modules"), ("broken/" + folder, "broken modules")):
-                    os.makedirs(os.path.join(room, place), exist_ok=True)
-                    path = shutil.copy(os.path.join(HERE, "commands", folder, name), os.path.join(room, place, name))
-                    try_one(sandbox, folder, name, path, why)
-                    found += 1
+        for name in NAMES:
+            for place, why in (("alone", "no modules"), ("broken/bin", "broken modules")):
+                os.makedirs(os.path.join(room, place), exist_ok=True)
+                path = shutil.copy(FRONT, os.path.join(room, place, name))
+                try_one(sandbox, name, path, why)
+                found += 1
         sandbox.holds("a command is found", found == 4, found)
     finally:
         shutil.rmtree(room, ignore_errors=True)

@@ -3,8 +3,8 @@ import os
 import shutil
 import subprocess
 
-from .lost_modules import FOLDERS
-from .sandbox import HERE, PYTHON, TIME_LIMIT
+from .lost_modules import FRONT
+from .sandbox import PYTHON, TIME_LIMIT
 
 # In a name space of its own, so that nothing of the machine changes.
 SCRIPT = """set -e
@@ -18,14 +18,8 @@ for command do for word in compare json page reasons mail accept status sort set
 
 
 def try_others_modules(sandbox):
-    paths = [
-        os.path.join(HERE, "commands", folder, name)
-        for folder in FOLDERS
-        for name in sorted(os.listdir(os.path.join(HERE, "commands", folder)))
-    ]
-    for path in paths:
-        with open(path, "rb") as file:
-            sandbox.holds("the first line of " + path, file.readline() == b"#!/usr/bin/python3 -IS\n")
+    with open(FRONT, "rb") as file:
+        sandbox.holds("the first line of " + FRONT, file.readline() == b"#!/usr/bin/python3 -IS\n")
     words = [PYTHON, "-c", "import site; print(*site.getsitepackages(), sep='\\n')"]
     found = subprocess.run(words, stdout=subprocess.PIPE, stdin=subprocess.DEVNULL).stdout.decode().split("\n")
     folder = next((path for path in found if os.path.isdir(path)), None)
@@ -33,7 +27,7 @@ def try_others_modules(sandbox):
         return print("skipped: a .pth file of another package (it needs root, unshare and a folder of packages)")
     mark = sandbox.path("ran")
     done = subprocess.run(
-        ["unshare", "-m", "sh", "-c", SCRIPT, "sh", folder, mark] + paths,
+        ["unshare", "-m", "sh", "-c", SCRIPT, "sh", folder, mark, FRONT],
         stdin=subprocess.DEVNULL,
         stdout=subprocess.PIPE,
         stderr=subprocess.STDOUT,

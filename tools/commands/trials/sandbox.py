@@ -73,9 +73,8 @@ class Sandbox(Scratch):
         os.makedirs(self.path("libexec/aide-compare"))
         self.program = shutil.copy(os.fsdecode(program), self.path("libexec/aide-compare/aide"))
         self.lines_program = shutil.copy(lines_program_of(program), self.path("libexec/aide-compare/aide_lines"))
-        for folder in ("bin", "nagios"):
-            for name in os.listdir(os.path.join(HERE, "commands", folder)):
-                shutil.copy(os.path.join(HERE, "commands", folder, name), self.path("bin/" + name))
+        shutil.copy(os.path.join(HERE, "commands/bin/aide-compare"), self.path("bin"))
+        os.symlink("aide-compare", self.path("bin/check_aide_compare"))
         for folder in ("lib", "share"):
             shutil.copytree(os.path.join(HERE, "commands", folder), self.path(folder))
         self.edit("lib/aide_compare/reasons/records.py", 'DPKG = "/var/lib/dpkg"', "DPKG = %r" % self.path("dpkg"))

@@ -39,15 +39,16 @@ KNOWN = [
 FOLDERS = {
     "commands/bin": "bin",
     "commands/share": "share/aide-compare",
-    "commands/nagios": "lib/nagios/plugins",
     "docs": DOCUMENTS,
     "examples/small_tree": DOCUMENTS + "/examples/small_tree",
 }
 
 PROGRAMS = ("libexec/aide-compare/aide", "libexec/aide-compare/aide_lines")
 
+LINK = "lib/nagios/plugins/check_aide_compare"
 # What packaging/install makes.
 MADE = {
+    LINK: 0o777,
     "libexec/aide-compare/aide.build": 0o644,
     "libexec/aide-compare/aide_lines.build": 0o644,
     "share/bash-completion/completions/aide-compare": 0o644,

@@ -2,6 +2,7 @@
 import glob
 import os
 import re
+import sys
 
 from .pages import HERE, manual_pages, plain, read
 
@@ -23,12 +24,16 @@ PROSE = re.compile(r'''^\s*""".*?"""$|<<'TEXT'\n.*?^TEXT$|^\s*#.*?$''', re.M | r
 JOINT = re.compile(r"""(['"])\s*\n\s*[bf]?\1""")
 
 
+# What the command does under its other name.
+CHECK = "import sys; sys.path.insert(0, sys.argv[1]); from aide_compare.commands.status import check; check(sys.argv[2:])"
+
+
 def commands_of(page):
     """The words of each command that a page is about."""
-    front, check = (os.path.join(HERE, "commands", name) for name in ("bin/aide-compare", "nagios/check_aide_compare"))
+    front = os.path.join(HERE, "commands", "bin", "aide-compare")
     name = os.path.basename(page).rpartition(".")[0]
     if name == "check_aide_compare":
-        return [[check]]
+        return [[sys.executable, "-c", CHECK, os.path.join(HERE, "commands", "lib")]]
     if name == "aide-compare-hosts":
         return [[front, "hosts", word] for word in ("fetch", "compare", "accept", "report")]
     return [[front, *name.split("-", 3)[2:]]]

@@ -45,7 +45,7 @@ usage: aide-compare hosts fetch [OPTIONS] HOST          its new database, by ssh
 
 aide-compare hosts fetch --help and so on say more: man aide-compare-hosts
 """
-HELP = ("--help", "-h")
+HELP, WORDS = ("--help", "-h"), (*COMMANDS, "hosts", "help")
 
 
 def become_program(arguments):
@@ -60,22 +60,18 @@ def become_program(arguments):
         os.execv(program, [program] + arguments)
 
 
+def nearest(word, names):
+    """The name that a word is like, in a list; an empty one if there is none."""
+    import difflib
+
+    return difflib.get_close_matches(word, names, 1)
+
+
 def refuse(word, names, what):
     """A Fault that names the nearest one of what there is."""
-    import difflib
-
-    near = difflib.get_close_matches(word, names, 1)
+    near = nearest(word, names)
     hint = "did you mean: %s %s" % (what, near[0]) if near else "try: %s --help" % what
     raise Fault(Status.USAGE, "there is no %s %s" % (what, shown(word, 100)), hint)
-
-
-def is_misspelt(word, arguments):
-    """Whether the first word is a subcommand with a mistake, and not the path of a database."""
-    if not re.fullmatch("[A-Za-z][A-Za-z-]{0,19}", word) or os.path.lexists(word):
-        return False
-    import difflib
-
-    return len(arguments) == 1 or bool(difflib.get_close_matches(word, [*COMMANDS, "hosts", "help"], 1))
 
 
 def loaded(module, function="main"):
@@ -101,8 +97,8 @@ def help_of(words):
     if not words or words[0] in HELP:
         write_all(1, USAGE.encode())
         return Status.OK
-    if words[0] not in COMMANDS and words[0] not in ("hosts", "help"):
-        refuse(words[0], [*COMMANDS, "hosts"], "aide-compare help")
+    if words[0] not in WORDS:
+        refuse(words[0], WORDS, "aide-compare help")
     return main(words[: 2 if words[0] == "hosts" else 1] + ["--help"])
 
 
@@ -117,8 +113,9 @@ def main(arguments):
     if word == "--version":
         word, arguments = "version", ["version"] + arguments[1:]
     if word not in COMMANDS:
-        if is_misspelt(word, arguments):
-            refuse(word, [*COMMANDS, "hosts", "help"], "aide-compare")
+        is_path = not re.fullmatch("[A-Za-z][A-Za-z-]{0,19}", word) or os.path.lexists(word)
+        if not is_path and (len(arguments) == 1 or nearest(word, WORDS)):
+            refuse(word, WORDS, "aide-compare")
         word, arguments = "compare", ["compare"] + arguments
     called("aide-compare" + (" " + word) * (word != "compare"))
     return loaded(word)(arguments[1:])
