@@ -172,7 +172,7 @@ PLANTED = (
     )
     + seen_by(
         "attacks.try_links",
-        (FOLDERS, '        if target.startswith("/"):\n            self._begin(self.folder.path)\n', ""),
+        (FOLDERS, '                if target.startswith("/"):\n                    folder.enter_root()\n', ""),
     )
     + seen_by(
         "attacks.try_state_of_others",

@@ -31,27 +31,48 @@ def closed_after(descriptor):
 
 
 class Folder:
-    """An open folder. `others` are the users, neither root nor the caller, who can write in it or in one above it; ANYBODY
-    is one of them if a group or everybody can. Above, a sticky folder counts only for its owner. `sticky`: nobody but
-    ANYBODY is in `others`, and only by this folder, where each name belongs to the owner of its file."""
+    """An open folder, the root at first. `others` are the users, neither root nor the caller, who can write in it or in one above
+    it; ANYBODY is one of them if a group or everybody can. Above, a sticky folder counts only for its owner. `sticky`: nobody
+    but ANYBODY is in `others`, and only by this folder, where each name belongs to the owner of its file."""
 
-    def __init__(self, descriptor, path, above=frozenset()):
-        found = os.fstat(descriptor)
-        owners = above | ({found.st_uid} - {0, os.geteuid()})
+    fd = None
+
+    def __init__(self):
+        self.enter_root()
+
+    def enter_root(self):
+        self._passed_on = frozenset()
+        self.enter(os.open("/", PIECE_FLAGS | os.O_DIRECTORY))
+
+    def enter(self, descriptor):
+        """It becomes a folder in it, which was opened by it."""
+        if self.fd is not None:
+            self.close()
+        self.fd, found = descriptor, os.fstat(descriptor)
+        owners = self._passed_on | ({found.st_uid} - {0, os.geteuid()})
         is_sticky = bool(found.st_mode & stat.S_ISVTX)
-        self.fd, self.path = descriptor, path
         self.others = owners | {ANYBODY} if found.st_mode & 0o022 else owners
         self.sticky = is_sticky and not owners and ANYBODY in self.others
         self._passed_on = owners if is_sticky else self.others
 
-    def inner(self, descriptor):
-        """The folder below, which was opened by this one. This one is closed."""
-        self.close()
-        return Folder(descriptor, self.path, self._passed_on)
-
     def is_safe(self):
         """Whether nobody else can put a name here in place of one of root's or the caller's."""
         return not self.others or self.sticky
+
+    def opened(self, name, make):
+        """A descriptor (O_PATH) of what has a name in it. A folder may be made if there is nothing."""
+        try:
+            return os.open(name, PIECE_FLAGS, dir_fd=self.fd)
+        except FileNotFoundError:
+            if not make or not self.is_safe():
+                raise
+        mask = os.umask(0o022)
+        try:
+            with suppress(FileExistsError):
+                os.mkdir(name, 0o755, dir_fd=self.fd)
+        finally:
+            os.umask(mask)
+        return os.open(name, PIECE_FLAGS, dir_fd=self.fd)
 
     def close(self):
         os.close(self.fd)
@@ -63,80 +84,43 @@ class Folder:
         self.close()
 
 
-class _Walk:
-    """The walk down a path: the folder where it is, and the pieces that are left, the next one last."""
-
-    def __init__(self, path, make):
-        if "\0" in path or not path:
-            raise failure(errno.ENOENT)
-        whole = path if path.startswith("/") else os.getcwd() + "/" + path
-        self.links, self.make, self.pieces, self.wants_folder = 0, make, [], path.endswith("/")
-        self.folder = None
-        self._begin(whole)
-        self._add(whole)
-
-    def _begin(self, path):
-        if self.folder:
-            self.folder.close()
-        self.folder = Folder(os.open("/", PIECE_FLAGS | os.O_DIRECTORY), path)
-
-    def _add(self, path):
-        self.pieces += [piece for piece in reversed(path.split("/")) if piece not in ("", ".")]
-
-    def step(self):
-        """Goes one piece further. Returns a descriptor of the last piece if that is neither a folder nor a link."""
-        name = self.pieces.pop()
-        descriptor = self._open(name)
-        mode = os.fstat(descriptor).st_mode
-        if stat.S_ISDIR(mode):
-            self.folder = self.folder.inner(descriptor)
-        elif stat.S_ISLNK(mode):
-            self._follow(descriptor)
-        elif self.pieces or self.wants_folder:
-            os.close(descriptor)
-            raise failure(errno.ENOTDIR)
-        else:
-            return descriptor
-
-    def _open(self, name):
-        try:
-            return os.open(name, PIECE_FLAGS, dir_fd=self.folder.fd)
-        except FileNotFoundError:
-            if not self.make or not self.folder.is_safe():
-                raise
-        mask = os.umask(0o022)
-        try:
-            with suppress(FileExistsError):
-                os.mkdir(name, 0o755, dir_fd=self.folder.fd)
-        finally:
-            os.umask(mask)
-        return os.open(name, PIECE_FLAGS, dir_fd=self.folder.fd)
-
-    def _follow(self, descriptor):
-        with closed_after(descriptor):
-            owner = os.fstat(descriptor).st_uid
-            target = os.readlink("", dir_fd=descriptor)
-        self.links += 1
-        if self.links > MOST_LINKS:
-            raise failure(errno.ELOOP)
-        if owner not in (0, os.geteuid()) or not self.folder.is_safe():
-            raise failure(errno.ELOOP, "a link that another user could have put there is not followed")
-        if target.startswith("/"):
-            self._begin(self.folder.path)
-        self._add(target)
+def _pieces(path):
+    """The pieces of a path, the first one last."""
+    return [piece for piece in reversed(path.split("/")) if piece not in ("", ".")]
 
 
 def walked(path, make=False):
     """The folder in which a path ends, and a descriptor (O_PATH) of the file there; None if the path is that of a folder."""
-    walk, file = None, None
+    path = os.fsdecode(path)
+    if "\0" in path or not path:
+        raise failure(errno.ENOENT)
+    pieces = _pieces(path if path.startswith("/") else os.getcwd() + "/" + path)
+    folder, file, links = Folder(), None, 0
     try:
-        walk = _Walk(os.fsdecode(path), make)
-        while walk.pieces:
-            file = walk.step()
-        return walk.folder, file
+        while pieces:
+            descriptor = folder.opened(pieces.pop(), make)
+            found = os.fstat(descriptor)
+            if stat.S_ISDIR(found.st_mode):
+                folder.enter(descriptor)
+            elif stat.S_ISLNK(found.st_mode):
+                with closed_after(descriptor):
+                    target = os.readlink("", dir_fd=descriptor)
+                links += 1
+                if links > MOST_LINKS:
+                    raise failure(errno.ELOOP)
+                if found.st_uid not in (0, os.geteuid()) or not folder.is_safe():
+                    raise failure(errno.ELOOP, "a link that another user could have put there is not followed")
+                if target.startswith("/"):
+                    folder.enter_root()
+                pieces += _pieces(target)
+            elif pieces or path.endswith("/"):
+                os.close(descriptor)
+                raise failure(errno.ENOTDIR)
+            else:
+                file = descriptor
+        return folder, file
     except BaseException:
-        if walk:
-            walk.folder.close()
+        folder.close()
         raise
 
 
