@@ -10,25 +10,18 @@ from contextlib import closing, suppress
 
 from aide_compare.base.ending import Fault, Status, failing, why_of, write_all
 from aide_compare.base.escapes import shown
-from aide_compare.base.folders import ANYBODY, closed_after, failure, open_folder, walked
+from aide_compare.base.folders import ANYBODY, closed_after, failure, open_folder, private_folder, random_name, walked
 
 BLOCK = HELD = 1 << 18
 MOST_LINES, MOST_BYTES = 10000, 1 << 20  # Of a file of the administrator.
 NO_TMPFILE = (errno.EOPNOTSUPP, errno.EISDIR, errno.EINVAL)
 RENAME_EXCHANGE, NO_EXCHANGE = 2, (errno.EINVAL, errno.ENOSYS, errno.EOPNOTSUPP)
 NEW_FILE = os.O_CREAT | os.O_EXCL | os.O_RDWR | os.O_NOFOLLOW | os.O_CLOEXEC
-KINDS = (
-    (stat.S_ISDIR, "a directory"),
-    (stat.S_ISFIFO, "a FIFO"),
-    (stat.S_ISSOCK, "a socket"),
-    (stat.S_ISCHR, "a device"),
-    (stat.S_ISBLK, "a device"),
-    (stat.S_ISLNK, "a link"),
-)
+KINDS = {stat.S_IFREG: "file", stat.S_IFDIR: "directory", stat.S_IFIFO: "FIFO", stat.S_IFSOCK: "socket", stat.S_IFLNK: "link"}
 
 
 def file_kind(mode):
-    return next((name for test, name in KINDS if test(mode)), "a file")
+    return "a " + KINDS.get(stat.S_IFMT(mode), "device")
 
 
 def refuse_other_kinds(mode):
@@ -113,15 +106,6 @@ def copy_file(source, target):
     while block := os.pread(source, BLOCK, place):
         write_all(target, block)
         place += len(block)
-
-
-def random_name():
-    return ".aide-compare-" + os.urandom(12).hex()
-
-
-def private_folder():
-    """The path of the folder in which private files without a name are made."""
-    return os.environ.get("TMPDIR") or "/var/tmp"
 
 
 def new_file(folder, name, more=0):

@@ -188,14 +188,9 @@ def entry_of(uid):
         return pwd.struct_passwd((str(uid), "", uid, uid, "", "/", ""))
 
 
-def user_of(uid):
-    """The name of a user, or the number."""
-    return entry_of(uid).pw_name
-
-
 def name_of(uid):
-    """The same for people."""
-    user = user_of(uid)
+    """The name of a user for people."""
+    user = entry_of(uid).pw_name
     return "the user %d" % uid if user == str(uid) else shown(user, 100)
 
 

@@ -54,14 +54,10 @@ def end():
     _terminal = None
 
 
-def _is_due():
-    return _terminal is not None and time.monotonic() >= _due
-
-
 def tell(what, done, whole):
     """Writes how far the work is, if it is time for that."""
     global _due, _is_shown
-    if _is_due():
+    if _terminal is not None and time.monotonic() >= _due:
         _write(b"\r%s, %d%% of %d MB\033[K" % (what.encode(), 100 * done // max(whole, 1), whole >> 20))
         _due, _is_shown = time.monotonic() + EVERY, True
 

@@ -13,7 +13,7 @@ from aide_compare.base.escapes import shown
 from aide_compare.base.files import closed_after, copy_file, nameless, reopened
 from aide_compare.base.options import EVIDENCE, Parser, named_evidence, some_text
 from aide_compare.base.paths import key_of_path
-from aide_compare.base.processes import become, entry_of, in_child, user_of
+from aide_compare.base.processes import become, entry_of, in_child
 from aide_compare.base.words import KINDS, SIDES, date_of
 from aide_compare.compare.baseline import Baseline
 from aide_compare.compare.comparison import Comparison, Request, refuse_unsound
@@ -192,7 +192,7 @@ def _names(user, group):
 
     with suppress(KeyError):
         group = grp.getgrgid(group).gr_name
-    return shown("%s:%s" % (user_of(user), group), 200)
+    return shown("%s:%s" % (entry_of(user).pw_name, group), 200)
 
 
 def _told(done, path, new, counts):

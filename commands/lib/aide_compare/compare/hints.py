@@ -5,7 +5,7 @@ import re
 
 from aide_compare.base.escapes import shown
 from aide_compare.base.files import reopened
-from aide_compare.base.processes import user_of
+from aide_compare.base.processes import entry_of
 
 LINE = re.compile(rb"aide: (old database|new database|config|before|after):(\d+): (.*)")
 OPENING = re.compile(rb"aide: (?:cannot open the (old|new) database|the (old|new) database changed)")
@@ -118,7 +118,7 @@ def hint_for_owner(text):
     if not found or os.geteuid() == 0:
         return
     what = "baseline" if found.group(1) == "old" else "new database"
-    words = what, user_of(os.geteuid()), found.group(2)
+    words = what, entry_of(os.geteuid()).pw_name, found.group(2)
     yield "the %s is not readable for this user, as aideinit leaves it. As root: chown %s: %s" % words
 
 
