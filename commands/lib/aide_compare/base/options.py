@@ -8,6 +8,7 @@ import argparse
 import os
 import re
 from contextlib import suppress
+from functools import partial
 
 from aide_compare import VERSION
 from aide_compare.base import progress
@@ -73,8 +74,8 @@ def _text(metavar, text, **more):
     return {"metavar": metavar, "type": some_text, "help": text, **more}
 
 
-def _texts(metavar, text):
-    return _text(metavar, text, action="append", default=[])
+def _texts(metavar, text, **more):
+    return _text(metavar, text, action="append", default=[], **more)
 
 
 # The words that several commands have: each means the same in all of them. What is left out here is of the command.
@@ -89,10 +90,9 @@ COMMON = {
     "max-age": {"metavar": "TIME", "type": duration},
     "exclude-from": _texts("FILE", "leave out the entries whose paths FILE names, as debian.without; it says how many"),
     "exclude": _texts("PATTERN", "the same for one line"),
-    "keep-open": {
-        **_texts("PATTERN", "all but the changes of these paths, whose former entries stay: '/etc/**'"),
-        "type": pattern,
-    },
+    "keep-open": _texts(
+        "PATTERN", "all but the changes of these paths, as '/etc/**', whose former entries stay", type=pattern
+    ),
     "reasons": {"action": "store_true", "help": "say which changes packages, logs and rules explain, and which nothing does"},
     "alarm": {"choices": ALARMS, "default": ALARMS[0], "help": "which changes raise an alarm, with the counts of --reasons"},
     "json": _text("FILE", "write the changes to FILE as lines of JSON; - is standard output"),
@@ -129,9 +129,8 @@ def named_evidence(given):
     return next(("--" + name for name in EVIDENCE if getattr(given, name.replace("-", "_"), None)), None)
 
 
-def _formatter(prog):
-    """A width of its own keeps argparse from asking for that of the terminal, which takes 10 ms."""
-    return argparse.RawDescriptionHelpFormatter(prog, max_help_position=26, width=110)
+# A width of its own keeps argparse from asking for that of the terminal, which takes 10 ms.
+_FORMATTER = partial(argparse.RawDescriptionHelpFormatter, max_help_position=26, width=110)
 
 
 class Parser(argparse.ArgumentParser):
@@ -139,7 +138,7 @@ class Parser(argparse.ArgumentParser):
     `quiet` says what --quiet leaves out here."""
 
     def __init__(self, name, description, quiet="say nothing but why it failed", **more):
-        super().__init__(prog=name, description=description, allow_abbrev=False, formatter_class=_formatter, **more)
+        super().__init__(prog=name, description=description, allow_abbrev=False, formatter_class=_FORMATTER, **more)
         self.add_argument("--version", action="store_true", help="print the version and stop")
         self.add_argument("-q", "--quiet", action="store_true", help=quiet)
         self.add_argument("-v", "--verbose", action="store_true", help="say which step is done, and how long it took")
@@ -185,9 +184,7 @@ class Parser(argparse.ArgumentParser):
     def print_help(self, file=None):
         write_all(1, self.format_help().encode())
 
-    def exit(self, status=0, message=None):
-        if status:
-            raise Fault(Status.USAGE, message or "the command line is not understood")
+    def exit(self, *_):  # After --help; faults are in `error`.
         raise Done
 
     def error(self, message):

@@ -55,12 +55,6 @@ def request_of(given, databases, **more):
     return Request(old=old, new=new, configuration=given.config, **texts, **more)
 
 
-def _exclusions(given):
-    """What --exclude-from and --exclude leave out. Without --exclude-from it is what the administrator's file names."""
-    usual = None if given.exclude_from or given.no_defaults else place_of("without")
-    return read_exclusions([usual] if usual else given.exclude_from, given.exclude)
-
-
 class Task:
     """A comparison as the options ask for it, and what is written of it. `given` are the options. `lines`: whoever is told of
     the comparison reads its lines. `explains`: all of them, as a page has them. `weighs`: he wants what people read first."""
@@ -73,16 +67,11 @@ class Task:
             many = "more than two databases: %s" % shown(given.databases[-1], 200)
             raise Fault(Status.USAGE, few if len(given.databases) < 2 else many, TRY)
         self.handing, self.wanted = Handing(os.geteuid() == 0 and not given.user), None
+        usual = None if given.exclude_from or given.no_defaults else place_of("without")
+        exclusions = read_exclusions([usual] if usual else given.exclude_from, given.exclude)
         explains = bool(explains or weighs or given.reasons or given.json or given.page)
-        self.request = request_of(
-            given,
-            given.databases,
-            max_age=given.max_age,
-            max_report=given.max_report,
-            lines=lines or explains,
-            exclusions=_exclusions(given),
-            handing=self.handing,
-        )
+        more = {"max_age": given.max_age, "max_report": given.max_report, "lines": lines or explains}
+        self.request = request_of(given, given.databases, exclusions=exclusions, handing=self.handing, **more)
         if explains:
             # The modules for it are more than all others together.
             from aide_compare.show.explained import Wanted

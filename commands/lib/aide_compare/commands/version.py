@@ -1,5 +1,6 @@
 """aide-compare version: which programs the commands run, by their SHA-256, and whether they are known to be proved builds."""
 import hashlib
+from contextlib import suppress
 
 from aide_compare import VERSION
 from aide_compare.base.ending import Fault, Status, tell
@@ -13,19 +14,13 @@ RECORD = ".build"  # What packaging/install writes beside a program: its SHA-256
 UNKNOWN = "not known: there is no record of how it was built"
 
 
-def record_of(path):
-    """The lines of the record as a map; an empty one without it."""
-    try:
-        text = read_file(path, MOST_RECORD, "the record ").decode("utf-8", "replace")
-    except Fault:
-        return {}
-    return dict(line.split("=", 1) for line in text.splitlines() if "=" in line)
-
-
 def lines_of(title, name):
     """What there is to say of a program."""
-    program = find_installed(name)
-    digest, record = hashlib.sha256(read_file(program, MOST_PROGRAM, "the program ")).hexdigest(), record_of(program + RECORD)
+    program, record = find_installed(name), {}
+    digest = hashlib.sha256(read_file(program, MOST_PROGRAM, "the program ")).hexdigest()
+    with suppress(Fault):
+        text = read_file(program + RECORD, MOST_RECORD, "the record ").decode("utf-8", "replace")
+        record = dict(line.split("=", 1) for line in text.splitlines() if "=" in line)
     kit, proved = record.get("kit") or "not known", record.get("proved") or UNKNOWN
     if record and record.get("sha256") != digest:
         kit, proved = "not known", "not known: it is not the program that was installed"
