@@ -45,7 +45,7 @@ PLANTED = (
     + seen_by(
         "run.try_configurations",
         (CONFIGURATION, 'if said["database_new"] is None:', "if True:"),
-        (CONFIGURATION, "if len(found - {None}) > 1:", "if False:"),
+        (CONFIGURATION, "- {None}) > 1:", "- {None}) > 99:"),
         (CONFIGURATION, 'NAMED.sub(b"", texts.before)', "texts.before"),
     )
     + seen_by(
@@ -57,7 +57,7 @@ PLANTED = (
         (HINTS, "                columns = part\n", "                pass\n"),
         (
             HINTS,
-            '    if line and not _is_binary(line):\n        yield "line %d: %s" % (number, shown(line, 200))\n',
+            '    if line and not BINARY.search(line) and not any(line.startswith(marks) for marks, _ in KINDS):\n        yield "line %d: %s" % (number, shown(line, 200))\n',
             '    if line:\n        yield "line %d: %s" % (number, line.decode("latin-1"))\n',
         ),
     )
@@ -221,7 +221,7 @@ PLANTED = (
         "hints.try_misspelt",
         (CONFIGURATION, "asked[word] = is_group(word)", "asked[word] = True"),
         (CONFIGURATION, "len(asked) < MOST_ASKED", "len(asked) < 2"),
-        (CONFIGURATION, "found[:MOST_MISSPELT]]", "found]"),
+        (CONFIGURATION, "found[:MOST_MISSPELT]:", "found:"),
         (CONFIGURATION, 'rb"[ \\t]*((?:report_', 'rb"((?:report_'),
         (COMPARISON, "*self.given.misspelt(request.configuration, self._is_group), ", ""),
     )

@@ -34,19 +34,13 @@ NOTHING, WORDS = "ANF", {True: "yes", False: "no"}
 MOST_MISSPELT, MOST_ASKED = 5, 20
 
 
-def _read(path):
-    """The bytes of a configuration, one more than are allowed at most. /dev/null is an empty one."""
-    if path == "/dev/null":
-        return b""
-    what = "the configuration "
-    with open(open_regular(path, what), "rb") as file, failing("cannot read " + what + shown(path)):
-        return file.read(MOST_BYTES + 1)
-
-
 def without_includes(path):
-    """The text of a configuration with each line that includes other files empty, so that all lines keep their numbers; and the
-    notes that say so."""
-    text = _read(path)
+    """The text of a configuration, one byte more than is allowed at most, with each line that includes other files empty, so that
+    all lines keep their numbers; and the notes that say so. /dev/null is an empty one."""
+    text, what = b"", "the configuration "
+    if path != "/dev/null":
+        with open(open_regular(path, what), "rb") as file, failing("cannot read " + what + shown(path)):
+            text = file.read(MOST_BYTES + 1)
     found = INCLUDES.findall(text)
     count = "1 line that includes other files is" if len(found) == 1 else "%d lines that include other files are" % len(found)
     notes = ["%s: %s passed over, the first: %s" % (shown(path), count, shown(line.rstrip(b" \t"), 200)) for line in found[:1]]
@@ -71,6 +65,8 @@ class Texts(namedtuple("Texts", "before config after")):
     def misspelt(self, path, is_group):
         """A line for each of the first groups with a name like that of an option: AIDE refuses it, and here it has no effect.
         `is_group` tells whether a line defines one, and is not only there."""
+        from difflib import get_close_matches
+
         found, asked = [], {}
         for where, text in zip(("-B", shown(path), "-A"), self):
             for number, line in enumerate(text.split(b"\n"), 1):
@@ -79,60 +75,51 @@ class Texts(namedtuple("Texts", "before config after")):
                 if word not in OPTIONS and word not in asked and len(asked) < MOST_ASKED:
                     asked[word] = is_group(word)
                 if asked.get(word):
-                    found.append((where, number, shown(word, 100)))
-        lines = ["%s:%d: %s is no option, but a group%s" % (*each, _nearest(each[2])) for each in found[:MOST_MISSPELT]]
-        return lines + ["%d more such groups" % (len(found) - MOST_MISSPELT)] * (len(found) > MOST_MISSPELT)
-
-
-def _nearest(name):
-    """The option that a name may mean."""
-    import difflib
-
-    near = difflib.get_close_matches(name, [option.decode() for option in sorted(OPTIONS)], 1)
-    return "; did you mean %s?" % near[0] if near else ""
-
-
-def _fault(path, words):
-    return Fault(Status.CONFIGURATION, "%s names %s" % (shown(path), words))
+                    found.append((where, number, word))
+        for where, number, name in found[:MOST_MISSPELT]:
+            near = "".join("; did you mean %s?" % option.decode() for option in get_close_matches(name, OPTIONS, 1))
+            yield "%s:%d: %s is no option, but a group%s" % (where, number, shown(name, 100), near)
+        if len(found) > MOST_MISSPELT:
+            yield "%d more such groups" % (len(found) - MOST_MISSPELT)
 
 
 def databases_of(texts, path, check):
     """The paths of the old and of the new database that the texts name; a Fault if they name none. `check` gives what the
     program says of texts, None if it refuses them."""
-    said = _said(texts, path, check)
+
+    def fault(words):
+        return Fault(Status.CONFIGURATION, "%s names %s" % (shown(path), words))
+
+    def said_of(texts):
+        said = check(texts)
+        if said is None:
+            raise fault("a database that is no file; %s" % ADVICE)
+        return said
+
+    said = said_of(texts)
     if said["database_new"] is None:  # What AIDE writes is what is compared next.
         texts = texts.replaced(WRITTEN, rb"\1database_new\2")
-        said = _said(texts, path, check)
+        said = said_of(texts)
     for side, name, lines in (("old", "database_in", LINES_OF_OLD), ("new", "database_new", LINES_OF_NEW)):
+        count = len(lines.findall(texts.config))
         if said[name] is None:
-            raise _fault(path, "no %s database; %s" % (side, ADVICE))
-        _refuse_two(texts, path, check, (side, name, lines))
+            raise fault("no %s database; %s" % (side, ADVICE))
+        if count > MOST_NAMED:
+            raise fault("the %s database %d times; %s" % (side, count, ADVICE))
+        if count > 1 and len({said_of(each)[name] for each in _with_one(texts, lines, count)} - {None}) > 1:
+            raise fault("the %s database twice, and AIDE takes the first; %s" % (side, ADVICE))
     old, new = (os.fsdecode(said[name].encode()) for name in ("database_in", "database_new"))
     if old == new:
-        raise _fault(path, "one file as the old and as the new database: %s" % shown(old))
+        raise fault("one file as the old and as the new database: %s" % shown(old))
     return old, new
 
 
-def _said(texts, path, check):
-    said = check(texts)
-    if said is None:
-        raise _fault(path, "a database that is no file; %s" % ADVICE)
-    return said
-
-
-def _refuse_two(texts, path, check, named):
-    """A Fault if a file names two databases of a side: each of its lines is asked for alone. What -A names wins over all."""
-    side, name, lines = named
-    count = len(lines.findall(texts.config))
-    if count > MOST_NAMED:
-        raise _fault(path, "the %s database %d times; %s" % (side, count, ADVICE))
-    found, before = set(), NAMED.sub(b"", texts.before)
-    for wanted in range(count if count > 1 else 0):
+def _with_one(texts, lines, count):
+    """The texts with each of these lines of the file alone. What -A names wins over all."""
+    before = NAMED.sub(b"", texts.before)
+    for wanted in range(count):
         places = iter(range(count))
-        alone = lines.sub(lambda line: line.group() if next(places) == wanted else b"", texts.config)
-        found.add(_said(Texts(before, alone, texts.after), path, check)[name])
-    if len(found - {None}) > 1:
-        raise _fault(path, "the %s database twice, and AIDE takes the first; %s" % (side, ADVICE))
+        yield Texts(before, lines.sub(lambda line: line.group() * (next(places) == wanted), texts.config), texts.after)
 
 
 def options_in(said):

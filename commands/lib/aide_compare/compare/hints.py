@@ -33,7 +33,6 @@ CAUSES = {
         "if another tool wrote or merged it, aide-compare sort puts its entries in order; find out why if a path is there twice",
     ),
 }
-# No text has these bytes.
 BINARY = re.compile(rb"[\x00-\x08\x0b\x0c\x0e-\x1a\x1c-\x1f]")
 
 
@@ -51,11 +50,6 @@ def line_and_columns(descriptor, number):
     return b"", columns
 
 
-def _is_binary(line):
-    """Whether a line has bytes that no text has, or begins as a packed file does: quoted, it would hide the lines around it."""
-    return bool(BINARY.search(line)) or any(line.startswith(marks) for marks, _ in KINDS)
-
-
 def _database_hints(side, number, words, copy):
     if words == b"no @@begin_db" and copy.size:
         head = os.pread(copy.fd, 8, 0)
@@ -65,7 +59,8 @@ def _database_hints(side, number, words, copy):
     if not copy.size:
         yield "it is empty: does AIDE run now? It fills its new database at its end"
     line, columns = line_and_columns(copy.fd, number)
-    if line and not _is_binary(line):
+    # Bytes that no text has, or that begin a packed file, would hide the lines around them.
+    if line and not BINARY.search(line) and not any(line.startswith(marks) for marks, _ in KINDS):
         yield "line %d: %s" % (number, shown(line, 200))
     column = COLUMN.match(words)
     if column:
@@ -105,7 +100,7 @@ def hints_of(errors, texts, path, copies):
         copy = copies.get(where[:3])
         return list(_database_hints(where, number, words, copy)) if copy else []
     whose = {
-        "config": "the configuration is %s" % shown(path),
+        "config": "the configuration is " + shown(path),
         "before": "this is the text of -B",
         "after": "this is the text of -A",
     }
@@ -122,18 +117,14 @@ def hint_for_owner(text):
     yield "the %s is not readable for this user, as aideinit leaves it. As root: chown %s: %s" % words
 
 
-def _names_of(descriptor):
-    """The names in the @@db_spec line of a database, which is one of its first lines."""
-    lines = (line.strip(b" \t") for line in os.pread(descriptor, MOST_HEAD, 0).split(b"\n"))
-    spec = next((line for line in lines if line.startswith(b"@@db_spec")), b"")
-    return [shown(name, MOST_NAME) for name in re.split(b"[ \t]+", spec)[1:]]
-
-
 def skipped_in(errors, databases):
-    """By side the names of the columns that the program says it skipped; only their numbers where they have no name."""
+    """By side the names of the columns that the program says it skipped; only their numbers where they have no name. The
+    @@db_spec line is one of the first lines of a database."""
     numbers, found = SKIPPED.findall(errors), {}
     for side in sorted({side.decode() for side, _ in numbers}, reverse=True):
-        names = dict(enumerate(_names_of(databases[side]), 1))
+        lines = (line.strip(b" \t") for line in os.pread(databases[side], MOST_HEAD, 0).split(b"\n"))
+        spec = next((line for line in lines if line.startswith(b"@@db_spec")), b"")
+        names = dict(enumerate((shown(name, MOST_NAME) for name in re.split(b"[ \t]+", spec)[1:]), 1))
         found[side] = [names.get(int(text), "#%d" % int(text)) for which, text in numbers if which.decode() == side]
     return found
 
