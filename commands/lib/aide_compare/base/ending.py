@@ -40,8 +40,7 @@ _name = "aide-compare"
 
 
 def write_all(descriptor, data):
-    """Writes all bytes; Python's own buffers would keep some and fail once more at the end. A device that takes none in three
-    calls one after another has failed."""
+    """Writes all bytes, past Python's own buffers. A device that takes none in three calls one after another has failed."""
     rest, empty = memoryview(data), 0
     while rest:
         count = os.write(descriptor, rest)

@@ -1,9 +1,9 @@
-"""Bytes of others as people may see them. Every command that shows such bytes uses `shown` or `shown_lines`; a page has more to
-hide, and uses `shown_value`, `shown_path` and `shown_note`, so that nothing is invisible or changes what stands around it.
+"""Bytes of others as people may see them. Every command that shows such bytes uses `shown` or `shown_lines`, and a page the
+functions at the end, so that nothing is invisible or changes what stands around it.
 
 Escaped, as a backslash and three octal digits for each byte, as paths are in reports: control bytes and the backslash,
-bytes that are no UTF-8, and the characters that a terminal or a reader obeys in place of showing them: the controls U+0080
-to U+009F, the separators of lines and paragraphs, and all format controls, such as those that turn the direction of text.
+bytes that are no UTF-8, and what a terminal or a reader obeys in place of showing it: the controls U+0080 to U+009F, the
+separators of lines and paragraphs, and all format controls, such as those that turn the direction of text.
 """
 import re
 
@@ -77,10 +77,7 @@ def _seen(text):
 
 
 def shown_value(value):
-    """Bytes as text on a page: as the report prints them, and in the same way all that has no shape of its own.
-
-    To what all commands escape come unusual blanks, letters that no font has, and blanks at the beginning and the end.
-    """
+    """Bytes as text on a page: unusual blanks, letters that no font has, and blanks at the ends are escaped too."""
     text = shown(value, len(value))
     if PLAIN.fullmatch(text):
         return text

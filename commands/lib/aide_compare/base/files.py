@@ -1,5 +1,4 @@
-"""Files that are opened without trust: read, made without a name, or replaced in one step. How a path is followed is in
-folders.py."""
+"""Files that are opened without trust: read, made without a name, or replaced in one step."""
 import errno
 import fcntl
 import io
@@ -40,8 +39,7 @@ def reopened(descriptor, flags):
 
 
 def open_regular(path, what=""):
-    """A descriptor of a regular file, to be read. All else is a Fault at once, also a FIFO that has no writer. `what` comes
-    before the name in the text of the Fault, such as "the new database "."""
+    """A descriptor of a regular file, to be read; all else is a Fault at once. `what` is such as "the new database "."""
     with failing("cannot open %s%s" % (what, shown(path))):
         folder, file = walked(path)
         folder.close()
@@ -71,8 +69,7 @@ def read_file(path, most, what=""):
 
 
 def open_trusted(path, what):
-    """A descriptor of a file of the administrator, which no user but root and the caller may be able to change. `what` says what
-    it is, such as "the rules"."""
+    """The same of a file of the administrator, such as "the rules". Only root and the caller may be able to change it."""
     descriptor = open_regular(path, what + " ")
     try:
         with open_folder(os.path.dirname(path) or ".") as folder:
@@ -109,8 +106,7 @@ def copy_file(source, target):
 
 
 def new_file(folder, name, more=0):
-    """A new file in an open folder, of the caller only, and the name that it has: none where the file system knows files
-    without one. `more` are flags for that."""
+    """A new file in an open folder, of the caller only, and its name: none where the file system knows files without one."""
     try:
         return os.open(".", os.O_TMPFILE | os.O_RDWR | os.O_CLOEXEC | more, 0o600, dir_fd=folder), None
     except OSError as error:
@@ -166,17 +162,16 @@ class Spool:
 
 
 class NewFile:
-    """A new file in an open folder, `fd`, of the caller only. It has no name until it is put in place, so nothing is left of
-    one that is not: whoever makes it closes it. Where the file system knows no such files, it has a random name."""
+    """A new file in an open folder, `fd`, of the caller only. It has no name until it is put in place, or a random one where
+    the file system needs one, so nothing is left of one that is not: whoever makes it closes it."""
 
     def __init__(self, folder):
         self.folder = folder
         self.fd, self.name = new_file(folder, random_name())
 
     def put(self, name, over=True):
-        """Gives it this name, when its bytes are on the disk, and the name too before this returns. A former file of the name
-        is replaced in one step; or, without `over`, a FileExistsError. No name can be linked over, so a file without one has a
-        random one for a moment."""
+        """Gives it this name, when its bytes are on the disk, and the name too before this returns. A former file is replaced in
+        one step, by a random name for a moment; or, without `over`, that is a FileExistsError."""
         os.fsync(self.fd)
         if over:
             self.name = self.name or self._linked(random_name())
@@ -199,24 +194,22 @@ class NewFile:
 
 
 class Replacement:
-    """A file that is replaced in one step: others see the former one or the whole new one. `begin` finds out before the
-    work whether the file can be written. Where another user can write in the folder, or in one above it, both work with
-    the rights of that user, who gains nothing then from what he puts there."""
+    """A file that is replaced in one step: others see the former one or the whole new one. Where another user can write in the
+    folder, or in one above it, the work is done with the rights of that user, who gains nothing from what he puts there."""
 
     def __init__(self, path, mode=0o644, what="the file"):
         self.path, self.mode, self.what, self.folder, self.part = path, mode, what, None, None
         self.name = os.path.basename(path)
 
     def begin(self):
-        """Tries that a file can be made there. It is kept for what comes, unless it has a name, or is the work of another user
-        in a child."""
+        """Finds out before the work whether the file can be made. It is kept for what comes, if it has no name."""
         self._do(self._try)
         if self.part and self.part.name:
             self.part = self.part.close()
         return self
 
     def commit(self, source):
-        """Puts bytes, or those of another file, by its descriptor, in the place of the file, on the disk before this returns."""
+        """Puts bytes, or those of a file by its descriptor, in the place of the file, on the disk before this returns."""
         self._do(lambda: self._put(source), *[source] * isinstance(source, int))
 
     def close(self):
@@ -226,8 +219,7 @@ class Replacement:
         self.part = self.folder = None
 
     def _do(self, work, *needed):
-        """Does the work, which needs these descriptors, with the rights that the folder asks for; that is made if it is
-        missing."""
+        """Does the work, which needs these descriptors, with the rights that the folder asks for. A missing folder is made."""
         if not self.name or os.path.isdir(self.path):
             raise Fault(Status.USAGE, "%s is a directory: %s" % (self.what, shown(self.path)))
         try:
@@ -259,8 +251,7 @@ class Replacement:
 
 
 def exchange(folder, one, other):
-    """Two names of a folder change places in one step, by renameat2, so that neither file is without a name at any moment.
-    False, with nothing changed, if the file system or the machine cannot do it."""
+    """Two names of a folder change places in one step, by renameat2. False, with nothing changed, if that is not possible."""
     try:
         import ctypes
 

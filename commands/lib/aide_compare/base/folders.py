@@ -1,8 +1,7 @@
 """Folders that are opened without trust in whoever else can write near them.
 
 A path is walked from the root, folder by folder, each opened by the one before. A symbolic link on the way is followed only
-if it is root's or the caller's, and lies in a folder where no other user can put one. So nobody else decides which file a
-command of root reads or writes. And a private folder for a program that needs names of files.
+if it is root's or the caller's, and lies in a folder where no other user can put one: so nobody else decides which file it is.
 """
 import errno
 import os
@@ -32,7 +31,7 @@ def closed_after(descriptor):
 
 
 class Folder:
-    """An open folder, the root at first. `others` are the users, neither root nor the caller, who can write in it or in one above
+    """An open folder, the root at first. `others` are the users, neither root nor the caller, who can write in it or above
     it; ANYBODY is one of them if a group or everybody can. Above, a sticky folder counts only for its owner. `sticky`: nobody
     but ANYBODY is in `others`, and only by this folder, where each name belongs to the owner of its file."""
 

@@ -1,8 +1,7 @@
 """The command line of every command: the words that all of them have, those that several have, and the kinds of values.
 
-And what an administrator writes down once in /etc/aide-compare, for the timer, for cron, for the check and for a command that is
-run by hand: `defaults` has options, as on the command line and one a line, and `without` has paths that are left out. Each command
-takes the options that are its own. None of them names what a command writes, or whose rights it has.
+And what an administrator writes down once in /etc/aide-compare: `defaults` has options, as on the command line and one a line,
+and `without` has paths that are left out. None of these names what a command writes, or whose rights it has.
 """
 import argparse
 import os
@@ -134,8 +133,7 @@ _FORMATTER = partial(argparse.RawDescriptionHelpFormatter, max_help_position=26,
 
 
 class Parser(argparse.ArgumentParser):
-    """The options of a command, with those that all commands have. A fault of the command line is a Fault with the status 15.
-    `quiet` says what --quiet leaves out here."""
+    """The options of a command, with those that all have; `quiet` says what --quiet leaves out. Faults have the status 15."""
 
     def __init__(self, name, description, quiet="say nothing but why it failed", **more):
         super().__init__(prog=name, description=description, allow_abbrev=False, formatter_class=_FORMATTER, **more)

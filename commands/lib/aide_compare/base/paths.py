@@ -1,12 +1,10 @@
 """Paths: their keys, by which they are put in order, and patterns, by which rows of a table are found.
 
 A key is a text whose order by bytes is the order of the paths, piece by piece. A slash becomes the byte 1, below every other
-byte of a key, so that a folder comes before all that is in it, and that before its neighbours. The bytes 0 to 10 become the
-byte 2 and a printable one, which keeps their order. So a key has no NUL, tab or newline, and can be a field of a line.
+byte of a key. The bytes 0 to 10 become the byte 2 and a printable one, so a key can be a field of a line.
 
-A pattern has `*`, `?` and `[..]` within a piece of a path, and `**` for any number of whole pieces. It is cut at each `/`, as a
-path is, and compared piece by piece. The work for a path grows with its length times that of the pattern and no faster, since
-paths come from hosts that nobody may trust.
+A pattern has `*`, `?` and `[..]` within a piece of a path, and `**` for any number of whole pieces. The work for a path grows
+with its length times that of the pattern and no faster, since paths come from hosts that nobody may trust.
 """
 import fnmatch
 import re
@@ -58,8 +56,7 @@ def _token(found):
 
 
 def _test(piece):
-    """A test of one piece of a path. The regular expression of fnmatch looks for each text between stars once, from left to
-    right."""
+    """A test of one piece of a path. What fnmatch makes of it looks for each text between stars once, from left to right."""
     if not WILD.search(piece):
         return piece.__eq__
     text = TOKEN.sub(_token, piece)
@@ -67,7 +64,7 @@ def _test(piece):
 
 
 class Pattern:
-    """A pattern over whole paths; a ValueError says why a text is none. `fixed` are its first pieces that have no wildcard, for a quick choice among many."""
+    """A pattern over whole paths; a ValueError says why a text is none. `fixed` are its first pieces without a wildcard."""
 
     def __init__(self, text):
         if not text.startswith(b"/"):
@@ -83,8 +80,7 @@ class Pattern:
         self.named = {piece for piece in pieces[wild:] if not WILD.search(piece)}
 
     def matches(self, pieces):
-        """Whether the pieces of a path are those of the pattern. `**` is tried with as few pieces as will do, and takes one
-        more when what follows does not fit."""
+        """Whether the pattern means the pieces of a path. `**` takes as few as will do, and one more if the rest does not fit."""
         if len(pieces) < self.least or not self.named.issubset(pieces):
             return False
         at = given = 0

@@ -1,5 +1,5 @@
-"""Processes: a program that is run; work in a child, which holds nothing but what it needs, and is ended if it takes longer than
-it may; and the rights of another user, so that a user who can write in a folder gains nothing from what root does there."""
+"""Processes: a program that is run; work in a child, which holds only what it needs, and is ended if it takes too long; and the
+rights of another user, so that a user who can write in a folder gains nothing from what root does there."""
 import ctypes
 import fcntl
 import math
@@ -81,9 +81,8 @@ def run(words, takers, given=(), environment=os.environ, deadline=math.inf, watc
 
 
 def _live(work, seconds, writing, keep):
-    """The life of the child: its answer is "=" and the result, or "!", the status of a Fault and its text. It holds nothing but
-    what it needs; its standard descriptors are /dev/null. The alarm ends it if its parent was killed, and no process waits for
-    it any more."""
+    """The life of the child: its answer is "=" and the result, or "!", the status of a Fault and its text. It holds only what
+    it needs. The alarm ends it if its parent was killed, and no process waits for it any more."""
     try:
         signal.signal(signal.SIGPIPE, signal.SIG_IGN)
         end_with(os.getppid())  # Which the kernel forgets if the work takes other rights.
@@ -104,8 +103,7 @@ def _live(work, seconds, writing, keep):
 
 
 def pump(takers, deadline=math.inf, tell=None):
-    """Gives what comes from each descriptor to its taker until all have ended; False if the time is over before that.
-    Meanwhile it calls `tell` now and then."""
+    """Gives what comes from each descriptor to its taker until all have ended; False if the time is over before that."""
     waiting = dict(takers)
     while waiting:
         left = deadline - time.monotonic()
@@ -141,15 +139,14 @@ def ended(child, deadline):
 
 
 def stop(child):
-    """Kills a child with its group: its exit code. One in a call that does not return does not end by that, and is left to
-    itself after some seconds."""
+    """Kills a child with its group: its exit code. One in a call that does not return is left to itself after some seconds."""
     kill_group(child)
     return ended(child, time.monotonic() + STOP_SECONDS)
 
 
 def in_child(what, work, seconds, keep=(), beside=""):
-    """Runs `work()` in a child and returns the bytes of its result. `keep` are the descriptors that it needs. A Fault of the
-    work is raised here, with the text `beside` after it; so is the end of its time, which says what the work was."""
+    """The bytes that `work()` gives in a child with these descriptors. A Fault of the work, with the text `beside` after it,
+    or the end of its time is a Fault here."""
     reading, writing = os.pipe()
     child = os.fork()
     if child == 0:
@@ -232,8 +229,7 @@ def give_up(user):
 
 
 def with_rights_of(uid, work, seconds=60, keep=()):
-    """Runs `work()` in a child that has the rights of a user and nothing else, and returns the bytes of its result. `keep`
-    are the descriptors that it needs. A Fault of the work is raised here; so is the end of its time."""
+    """The same in a child that has the rights of a user and nothing else."""
 
     def become_and_work():
         _become(entry_of(uid), [])

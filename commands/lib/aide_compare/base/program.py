@@ -26,8 +26,8 @@ class Drain:
 
 
 def find_installed(name):
-    """A file below the prefix of the commands. Their modules are in PREFIX/lib/aide-compare/python where they are installed,
-    and in PREFIX/lib in the repository. PATH does not count: the `aide` that it names is AIDE."""
+    """A file below the prefix of the commands, whose modules are in PREFIX/lib/aide-compare/python, or PREFIX/lib in the
+    repository. PATH does not count: the `aide` that it names is AIDE."""
     library = os.path.dirname(os.path.dirname(os.path.dirname(os.path.realpath(__file__))))
     prefix = os.path.realpath(library + ("/../../.." if os.path.basename(library) == "python" else "/.."))
     path = os.path.join(prefix, name)
@@ -37,8 +37,8 @@ def find_installed(name):
 
 
 def run_program(program, words, given, take):
-    """Runs the program to its end: the status, a Fault unless it is one of its own, and the first bytes of its error lines.
-    `given` are the descriptors of the databases, 3 and 4, and of the configuration, 5. What it writes goes to `take`."""
+    """The status of the program, a Fault unless it is one of its own, and its error lines. `given` are the descriptors of the
+    databases, 3 and 4, and of the configuration, 5. What it writes goes to `take`."""
     lines, databases = [], [given[place] for place in (OLD, NEW) if place in given]
     takers = {1: take, 2: Drain(MOST_ERRORS, lines.append).take}
     try:

@@ -1,5 +1,4 @@
-"""How far long work is: a line on a terminal, written a few times a second and gone when the work is done. Without `begin` there
-is none, and nothing here costs anything."""
+"""How far long work is: a line on a terminal, gone when the work is done. Without `begin` there is none."""
 import os
 import time
 from contextlib import suppress
@@ -63,8 +62,8 @@ def tell(what, done, whole):
 
 
 def watching(databases):
-    """For a program that reads these files again and again: what gives, by its number, what to call now and then; None without
-    a terminal. It reads both in each pass, and hardly anything else."""
+    """What gives, by the number of a program that reads these files again and again, what to call now and then; None without a
+    terminal. It reads both in each pass, and hardly anything else."""
     if _terminal is None or not databases:
         return None
     whole = max(sum(os.fstat(descriptor).st_size for descriptor in databases), 1)

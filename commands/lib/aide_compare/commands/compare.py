@@ -56,8 +56,8 @@ def request_of(given, databases, **more):
 
 
 class Task:
-    """A comparison as the options ask for it, and what is written of it. `given` are the options. `lines`: whoever is told of
-    the comparison reads its lines. `explains`: all of them, as a page has them. `weighs`: he wants what people read first."""
+    """A comparison as the options ask for it, and what is written of it. `lines`: whoever is told of it reads its lines.
+    `explains`: all of them, as a page has them. `weighs`: he wants what people read first."""
 
     def __init__(self, given, lines=True, explains=False, weighs=False):
         if named_evidence(given) and not given.reasons:
@@ -85,9 +85,8 @@ class Task:
         return self.handing.owner is not None
 
     def carry_out(self, told, printed=lambda *_: None):
-        """Compares, explains, and writes what is wanted. Of the Comparison and of what explains it, None without that, first
-        comes what is `printed`: if it cannot be, nothing was compared; and when the state is written all is `told`. Returns
-        the status, and the State if one is written."""
+        """Compares, explains, and writes what is wanted. First the Comparison and what explains it, or None, are `printed`: if
+        they cannot be, nothing was compared. When the state is written all is `told`. Returns the status, and the State."""
         comparison, explained = Comparison(self.request), None
         try:
             comparison.run()

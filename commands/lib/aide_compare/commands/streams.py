@@ -56,8 +56,7 @@ def write_whole(parts, target):
 
 
 def write_changes(given, parts_of):
-    """Writes `parts_of(reader, comparison)` of two databases, or of lines, without a comparison then. The status is that of the
-    comparison, or 0."""
+    """Writes `parts_of(reader, comparison)` of two databases, or of lines, without a comparison. Returns its status, or 0."""
     if len(given.files) > 2 or len(given.files) < 2 and (given.config or given.before or given.after):
         raise Fault(Status.USAGE, "name two databases, OLD and NEW, or one file of lines")
     if len(given.files) < 2:

@@ -1,8 +1,5 @@
-"""The baseline in its folder, and how another file takes its place: the former one is never lost.
-
-The folder is opened once and locked against other runs. Where another user can write in it, or above it, every change
-is made with the rights of that user, who gains nothing then from what he puts there meanwhile.
-"""
+"""The baseline in its folder, which is locked against other runs, and how another file takes its place: no former one is
+lost. Where another user can write in the folder, or above it, every change is made with the rights of that user."""
 import errno
 import os
 import stat
@@ -84,8 +81,7 @@ class Baseline:
         return with_rights_of(self.owner, work, seconds, (self.folder, source))
 
     def put_beside(self, source, suffix):
-        """Makes a copy of an open file the file beside the baseline whose name ends so, with the owner and the mode of the
-        baseline. The former one is replaced in one step."""
+        """A copy of an open file replaces the file beside the baseline whose name ends so, in one step."""
         name = self.name + suffix
 
         def put():
@@ -135,7 +131,7 @@ class Baseline:
 
     def _settle(self):
         """If the new file is the baseline, the former one becomes the copy that is kept, wherever it is. Otherwise all is as
-        before. Then the names of a moment go. So the former baseline is found again whatever ends a run."""
+        before. So the former baseline is found again whatever ends a run."""
         is_done = self._identity(self.mark) is not None and self._identity(self.mark) == self._identity(self.name)
         for name in (self.part, self.spare):
             if is_done and self._identity(name) not in (None, self._identity(self.name)):
@@ -154,8 +150,7 @@ class Baseline:
         return None
 
     def _named_copy(self, source, name):
-        """Copies the bytes of an open file, then the owner where the caller can give it, then the mode; all of it is on the disk
-        before it gets the name. Returns what fstat says of the copy."""
+        """Copies an open file, with owner and mode if that is allowed, to the disk before it gets the name: what fstat says."""
         new, given = new_file(self.folder, name)
         with closed_after(new):
             copy_file(source, new)

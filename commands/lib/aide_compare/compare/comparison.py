@@ -1,5 +1,4 @@
-"""The one engine: two databases made ready, the proved programs run over them, and their answers checked. It gives a value,
-and no text for people."""
+"""The one engine: two databases made ready, the proved programs run over them, and their answers checked."""
 import io
 import json
 import os
@@ -40,11 +39,10 @@ class Request:
 
 
 class Comparison:
-    """What came out: the `status`, the `fault` that ended it (None if the program has), a descriptor of the `lines`, their `size`
-    and whether there are more than were kept, `is_cut`, their `summary` and the `counts` (None if no lines were wanted), the `errors` of the program and the `hints` that
-    explain them, `notes` on what was passed over and `doubts` on what was not explained, and the ReasonCounts, `reasons`. By
-    side: the names, the `copies`, the descriptors of what was `compared`, the LeftOut and the columns that were `skipped`, as
-    far as there are any."""
+    """What came out: the `status`, the `fault` that ended it (None if the program has), a descriptor of the `lines`, their
+    `size` and whether they are cut, their `summary` and `counts` (None without lines), the `errors` of the program and the
+    `hints` that explain them, `notes` on what was passed over and `doubts` on what was not explained, and the `reasons`. By side
+    if there are any: the `copies`, the descriptors of what was `compared`, the LeftOut and the columns that were `skipped`."""
 
     status = fault = lines = summary = counts = reasons = _report = None
     size, errors, is_cut = 0, b"", False
@@ -225,8 +223,7 @@ class Comparison:
 
 
 def check_age(opened, most):
-    """Refuses a new database that is older than `most` seconds, or newer than now. If AIDE no longer writes one, the same
-    two databases would be compared for ever, without a difference."""
+    """Refuses a new database that is older than `most` seconds or newer than now: AIDE may no longer write one."""
     if not most:
         return
     if opened.written is None:
@@ -240,8 +237,7 @@ def check_age(opened, most):
 
 
 def refuse_unsound(copy, other=None):
-    """A Fault of status 24 if the program does not read an unpacked database to its end, as it has to before that becomes a
-    baseline. `other` is the former one, if that has to be sound too."""
+    """A Fault of status 24 if the program does not read an unpacked database to its end, or the `other`, former one."""
     copies = {"old": other or copy, "new": copy}
     shortest = {"before": "report_level=minimal", "lines": False, "max_report": SHORT_REPORT}
     found = Comparison(Request(old="", copies=copies, **shortest)).run()

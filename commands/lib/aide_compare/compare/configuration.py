@@ -1,8 +1,5 @@
-"""What a configuration says of the databases, and the copy of it that the program reads.
-
-Only the program reads the language of aide-compare.conf(5). Here lines are told apart by how they begin, and the program is
-asked what they say: -D of aide_lines.
-"""
+"""What a configuration says of the databases, and the copy of it that the program reads. Lines are told apart by how they
+begin; the program itself is asked what they say, by -D of aide_lines."""
 import os
 import re
 from collections import namedtuple
@@ -35,8 +32,8 @@ MOST_MISSPELT, MOST_ASKED = 5, 20
 
 
 def without_includes(path):
-    """The text of a configuration, one byte more than is allowed at most, with each line that includes other files empty, so that
-    all lines keep their numbers; and the notes that say so. /dev/null is an empty one."""
+    """The text of a configuration, one byte more than is allowed at most, in which lines that include other files are empty; and
+    the notes that say so. /dev/null is an empty one."""
     text, what = b"", "the configuration "
     if path != "/dev/null":
         with open(open_regular(path, what), "rb") as file, failing("cannot read " + what + shown(path)):
@@ -55,16 +52,14 @@ class Texts(namedtuple("Texts", "before config after")):
         return self._replace(config=pattern.sub(line, self.config))
 
     def defining_host(self):
-        """The texts with HOSTNAME defined as AIDE defines it, by gethostname(2), where they use it; and by how many lines this
-        moves those of the text before."""
+        """The texts with HOSTNAME defined as AIDE does, if they use it; and by how many lines this moves those of the first."""
         if not any(b"HOSTNAME" in text for text in self):
             return self, 0
         line = b"@@define HOSTNAME " + os.fsencode(os.uname().nodename) + b"\n"
         return self._replace(before=line + self.before), 1
 
     def misspelt(self, path, is_group):
-        """A line for each of the first groups with a name like that of an option: AIDE refuses it, and here it has no effect.
-        `is_group` tells whether a line defines one, and is not only there."""
+        """A line for each of the first groups with a name like that of an option, which AIDE refuses. Here it has no effect."""
         from difflib import get_close_matches
 
         found, asked = [], {}

@@ -1,7 +1,5 @@
-"""Entries that are left out of a comparison, by lines of paths and patterns, and how many each line left out.
-
-Some entries stay whatever a line says, since they give rights to whoever put them there: see `always_stays`.
-"""
+"""Entries that are left out of a comparison, by lines of paths and patterns, and how many each line left out. Some stay whatever
+a line says, since they give rights to whoever put them there: see `always_stays`."""
 import os
 import re
 import stat
@@ -36,8 +34,7 @@ def _exclusion(text, place):
 
 
 def read_exclusions(files, patterns):
-    """The Exclusions of --exclude-from FILE and of --exclude PATTERN, in the order of the command line; None without any. Empty
-    lines of a file and those that begin with # are passed over; blanks at the ends of a line do not count."""
+    """The Exclusions of --exclude-from FILE and of --exclude PATTERN, in the order of the command line; None without any."""
     rules = [_exclusion(*line) for path in files for line in lines_of(path, "the file of --exclude-from")]
     rules += [_exclusion(os.fsencode(text), "--exclude") for text in patterns]
     if len(rules) > MOST_LINES:
@@ -69,12 +66,10 @@ def _number(text, base, digits):
 
 
 def _judged(field):
-    """What a line of a database says of the rights that an entry gives: whether no line leaves it out, and whether only a line
-    does that means programs too. `field(column)` is a field, b"0" for none.
+    """Whether no line leaves an entry out, and whether only a line does that means programs too. `field(column)` is a field.
 
     What no line leaves out: a set-ID bit (on a folder it only says whose group new files have), capabilities, a device that
-    somebody may open, and what has no mode, which cannot be shown to be harmless. Capabilities that were not measured matter to
-    a program only."""
+    somebody may open, and what has no mode. Capabilities that were not measured matter to a program only."""
     mode, bits = _number(field("perm"), 8, rb"[0-7]{1,7}"), _number(field("attr"), 10, rb"[0-9]{1,19}")
     is_program = stat.S_ISREG(mode) and bool(mode & RUN_BITS)
     is_device = stat.S_ISCHR(mode) or stat.S_ISBLK(mode)
@@ -105,8 +100,7 @@ class LeftOut:
             is_new = is_whole
 
     def keeps(self, line):
-        """Whether a line stays. Lines that are no entries stay, also those that lack a field or have one too many, which
-        aide-compare refuses, and so does all after the end line."""
+        """Whether a line stays. All lines do that are no entries, are refused by the program, or follow the end line."""
         folder = FOLDER.match(line) if self.columns.get("name") == 0 else None
         if folder and self.rules.is_free(folder.group(1)):  # Then no other field has to be looked at.
             return True

@@ -1,5 +1,4 @@
-"""What the program's error lines mean: which file and which line, and the cause if that can be seen; and which columns of
-databases it does not know, and so does not compare."""
+"""What the program's error lines mean: which file and line, and the cause if it can be seen; and which columns it skipped."""
 import os
 import re
 
@@ -88,8 +87,7 @@ def _configuration_hints(number, words, text):
 
 
 def hints_of(errors, texts, path, copies):
-    """The lines that explain the first error line. `texts` were read, `path` is that of the configuration, and `copies` are
-    those of the databases, as far as they were made."""
+    """The lines that explain the first error line over texts, the path of the configuration, and the copies that were made."""
     found = LINE.match(errors)
     if not found:
         opening = OPENING.match(errors)
@@ -118,8 +116,7 @@ def hint_for_owner(text):
 
 
 def skipped_in(errors, databases):
-    """By side the names of the columns that the program says it skipped; only their numbers where they have no name. The
-    @@db_spec line is one of the first lines of a database."""
+    """By side the names of the columns that the program says it skipped; their numbers where the first lines name none."""
     numbers, found = SKIPPED.findall(errors), {}
     for side in sorted({side.decode() for side, _ in numbers}, reverse=True):
         lines = (line.strip(b" \t") for line in os.pread(databases[side], MOST_HEAD, 0).split(b"\n"))

@@ -1,8 +1,5 @@
-"""A baseline of which a part is left open: the new database, but of some paths what the old one says.
-
-Such a path differs again in the next comparison, as before: one that was added is left out, one that was removed stays, and
-one that has changed keeps its old line. Both databases are sound and in path order, and are read side by side.
-"""
+"""A baseline of which a part is left open: the new database, but of some paths what the old one says, so that they differ again
+in the next comparison. Both databases are sound and in path order, and are read side by side."""
 import os
 import re
 import shutil
@@ -53,8 +50,7 @@ class Listed:
 
 
 class _Database:
-    """A sound database: its entries one by one, each with its key and its side. `put` gets all other lines before the end
-    line."""
+    """A sound database: its entries, each with its key and its side. `put` gets all other lines before the end line."""
 
     def __init__(self, copy, put=None):
         self.put, self.columns, self.end = put, None, b""

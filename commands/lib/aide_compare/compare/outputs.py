@@ -1,8 +1,7 @@
 """What a command writes beside its standard output, by itself or by a child that has not the rights of root.
 
-Root compares with the rights of the user in whose folder the baseline is, as aide-compare accept writes there. So root sees what
-a comparison of this user sees, and what others have written is read with no more than their rights. Root opens both databases.
-Then a child gives up root's rights for good and does the rest, and its parent puts in place what it has written.
+Root compares with the rights of the user in whose folder the baseline is, and so reads what others have written with no more
+than their rights. It opens both databases; a child gives root's rights up and does the rest; its parent puts that in place.
 """
 import fcntl
 import os
@@ -22,9 +21,8 @@ PRIVATE = 0o600
 
 
 class Output:
-    """The place that a path means. `begin` finds out before the work whether it can be written. A file is replaced in one
-    step, and only its owner may read it without another mode; -, /dev/stdout, /dev/stderr and /dev/fd/N are what the caller has
-    opened."""
+    """The place that a path means: a file, which is replaced in one step and private without another mode, or -, /dev/stdout,
+    /dev/stderr and /dev/fd/N as the caller has opened them. `begin` finds out before the work whether it can be written."""
 
     def __init__(self, path, what, mode=PRIVATE):
         self.path, self.what, self.mode, self.file = path, what, mode, None
@@ -101,8 +99,7 @@ def owner_of(baseline):
 
 
 class Handing:
-    """Hands the work of a run over, once the databases are open, if that `is_wanted`. `owner`: whose rights the child has; None
-    in the parent, and if nothing was handed over."""
+    """Hands the work of a run over, once the databases are open, if that `is_wanted`. `owner`: whose rights the child has."""
 
     def __init__(self, is_wanted):
         self.is_wanted, self.outputs, self.owner = is_wanted, [], None

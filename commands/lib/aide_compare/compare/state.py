@@ -26,9 +26,8 @@ TOLD = "told_columns"
 
 
 class ReasonCounts(namedtuple("ReasonCounts", REASON_KEYS + GRADE_KEYS, defaults=(0,) * len(GRADES))):
-    """The first three add up to all changes. The next three count, by severity, those that are not explained: the ones
-    that are unexplained, and the ones whose reason is not verified. The last ones count those that are explained by their
-    grades; a state of an earlier version has none of these."""
+    """The first three add up to all changes. The next three count by severity those that are not explained. The last ones count
+    those that are, by their grades; a state of an earlier version has none of these."""
 
     @property
     def total(self):
@@ -66,8 +65,7 @@ class ReasonCounts(namedtuple("ReasonCounts", REASON_KEYS + GRADE_KEYS, defaults
         return ["%d %s" % (count, name) for name, count in zip(SEVERITIES[:2], (self.high, self.medium)) if count]
 
     def line(self):
-        """As in "unexplained=3 not_verified=0 explained=509 high=1 medium=0 low=2", and after it the counts of the grades by
-        which something is explained."""
+        """As in "unexplained=3 not_verified=0 explained=509 high=1 medium=0 low=2", and the counts of the grades."""
         keys = ("unexplained", "not_verified", "explained") + SEVERITIES
         keys += tuple(key for key in GRADE_KEYS if getattr(self, key))
         return " ".join("%s=%d" % (key, getattr(self, key)) for key in keys)
@@ -85,8 +83,7 @@ class State(namedtuple("State", KEYS + ("more",), defaults=(None,) * 3 + ("",) *
 
     @property
     def reasons(self):
-        """The ReasonCounts of a run with --reasons, or None. A ValueError if there are only some of them, or one that is no
-        number."""
+        """The ReasonCounts of a run with --reasons, or None. A ValueError if there are only some, or one that is no number."""
         found = {key: self.more[key] for key in ReasonCounts._fields if key in self.more}
         if not found or not self.counts:
             return None

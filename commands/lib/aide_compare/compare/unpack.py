@@ -33,8 +33,7 @@ class Opened:
 
 
 class Copy:
-    """A private copy: the descriptor of its unpacked bytes, how many, the name of the database, and when its file was last
-    modified (None for a pipe)."""
+    """A private copy: the descriptor of its unpacked bytes, the name of the database, and when that was last modified."""
 
     def __init__(self, descriptor, name, written):
         self.fd, self.name, self.written = descriptor, name, written
@@ -58,8 +57,7 @@ def given_descriptor(path):
 
 
 def open_database(side, path):
-    """Opens a database. A name must be that of a regular file. A descriptor that the caller has opened, named as /dev/stdin
-    or /dev/fd/N, may also be a pipe."""
+    """Opens a regular file by its name, or what the caller has opened as /dev/stdin or /dev/fd/N, also a pipe."""
     given = given_descriptor(path)
     if given is None:
         return Opened(side, path, open_regular(path, "the %s database " % side))
