@@ -62,7 +62,7 @@ PLANTED = (
     + seen_by(
         "hands.try_owner",
         (HANDING, "        become(entry_of(owner))\n", ""),
-        (HANDING, "owner = owner_of(baseline) if self.is_wanted else None", "owner = None"),
+        (HANDING, "if not self.is_wanted or", "if True or"),
         (HANDING, "            output.is_childs = True\n", "            pass\n"),
         (RUN, "os.geteuid() == 0 and not given.user", "os.geteuid() == 0"),
     )

@@ -86,10 +86,8 @@ def lines_of(path, what):
     """The lines of a file that say something, each with the place where it stands. Blanks at the ends do not count."""
     with closed_after(open_trusted(path, what)) as descriptor:
         text = read_whole(descriptor, MOST_BYTES, "%s %s" % (what, shown(path)))
-    lines = [
-        (line.strip(b" \t\r"), "%s, line %d" % (shown(path, 200), number)) for number, line in enumerate(text.split(b"\n"), 1)
-    ]
-    lines = [(line, place) for line, place in lines if line and not line.startswith(b"#")]
+    numbered = enumerate((line.strip(b" \t\r") for line in text.split(b"\n")), 1)
+    lines = [(line, "%s, line %d" % (shown(path, 200), at)) for at, line in numbered if line and not line.startswith(b"#")]
     if len(lines) > MOST_LINES:
         raise Fault(Status.USAGE, "%s %s has more than %d lines" % (what, shown(path), MOST_LINES))
     return lines

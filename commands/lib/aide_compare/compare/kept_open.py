@@ -71,26 +71,19 @@ class _Database:
                 self.put(line)
 
 
-def _merged(old, new, is_open, put):
-    """Writes the entries, and counts the changes that are left open by what they are."""
-    counts = Counter()
-    for key, group in groupby(merge(old.entries(OLD), new.entries(NEW)), itemgetter(0)):
-        lines = {side: line for _, side, line in group}
-        side = OLD if lines.get(OLD) != lines.get(NEW) and is_open(key) else NEW
-        if side == OLD:
-            counts[KINDS[OLD in lines, NEW in lines]] += 1
-        if side in lines:
-            put(lines[side])
-    return counts
-
-
 def keep_open(old, new, is_open):
     """The Copy of the merged database, and how many of the added, removed and changed paths stay open. `is_open` is asked for
     the key of each path whose lines differ. Columns that differ are a Fault of status 24."""
-    target = nameless()
+    target, counts = nameless(), Counter()
     with failing("cannot make a database of which a part is open"), open(os.dup(target), "wb", BLOCK) as file:
         former, latter = _Database(old), _Database(new, file.write)
-        counts = _merged(former, latter, is_open, file.write)
+        for key, group in groupby(merge(former.entries(OLD), latter.entries(NEW)), itemgetter(0)):
+            lines = {side: line for _, side, line in group}
+            side = OLD if lines.get(OLD) != lines.get(NEW) and is_open(key) else NEW
+            if side == OLD:
+                counts[KINDS[OLD in lines, NEW in lines]] += 1
+            if side in lines:
+                file.write(lines[side])
         if former.columns != latter.columns:
             text = "refused: %s has other columns (@@db_spec) than the baseline, so lines of both cannot stand in one database"
             raise Fault(Status.DATABASE, text % shown(new.name), "nothing can be kept open; accept all of it")

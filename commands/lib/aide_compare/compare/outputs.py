@@ -90,14 +90,6 @@ class Handed(BaseException):
         return status
 
 
-def owner_of(baseline):
-    """The one user, neither root nor the caller, who can write in the folder of the baseline; None otherwise."""
-    if given_descriptor(baseline) is not None:
-        return None
-    with open_folder(os.path.dirname(baseline) or ".") as folder:
-        return min(folder.others) if len(folder.others) == 1 and ANYBODY not in folder.others else None
-
-
 class Handing:
     """Hands the work of a run over, once the databases are open, if that `is_wanted`. `owner`: whose rights the child has."""
 
@@ -110,10 +102,15 @@ class Handing:
         return self.outputs[-1]
 
     def take(self, baseline):
-        """The child returns from here; its parent leaves by Handed."""
-        owner = owner_of(baseline) if self.is_wanted else None
-        if owner is None:
+        """The child returns from here, if one user, neither root nor the caller, can write in the folder of the baseline; its
+        parent leaves by Handed."""
+        if not self.is_wanted or given_descriptor(baseline) is not None:
             return
+        with open_folder(os.path.dirname(baseline) or ".") as folder:
+            others = folder.others
+        if len(others) != 1 or ANYBODY in others:
+            return
+        owner = min(others)
         for output in self.outputs:
             output.kept = nameless()
         parent, child = os.getpid(), os.fork()
