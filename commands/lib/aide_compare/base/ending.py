@@ -78,15 +78,9 @@ def say(text):
 
 def take_standard_descriptors():
     """Takes 0, 1 and 2 if they are closed, so that no file becomes one of them. Their use fails, as it should."""
-    while True:
-        descriptor = os.open("/dev/null", os.O_RDONLY)
-        if descriptor > 2:
-            os.close(descriptor)
-            return
-        if descriptor == 0:
-            os.close(descriptor)
-            descriptor = os.open("/dev/null", os.O_WRONLY)
+    while (descriptor := os.open("/dev/null", os.O_PATH)) <= 2:
         os.set_inheritable(descriptor, True)
+    os.close(descriptor)
 
 
 def reason(error):
