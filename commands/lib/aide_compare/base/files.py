@@ -208,7 +208,7 @@ class Replacement:
 
     def commit(self, source):
         """Puts bytes, or those of a file by its descriptor, in the place of the file, on the disk before this returns."""
-        self._do(lambda: self._put(source), *[source] * isinstance(source, int))
+        self._do(lambda: self._put(source), () if isinstance(source, bytes) else (source,))
 
     def close(self):
         for each in (self.part, self.folder):
@@ -216,7 +216,7 @@ class Replacement:
                 each.close()
         self.part = self.folder = None
 
-    def _do(self, work, *needed):
+    def _do(self, work, needed=()):
         """Does the work, which needs these descriptors, with the rights that the folder asks for. A missing folder is made."""
         if not self.name or os.path.isdir(self.path):
             raise Fault(Status.USAGE, "%s is a directory: %s" % (self.what, shown(self.path)))

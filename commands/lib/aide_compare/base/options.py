@@ -22,13 +22,6 @@ OPERAND = "\0"  # Before a word that follows --. No argument has this byte.
 ALARMS = ("differences", "unexplained")
 
 
-def some_text(text):
-    """A value that is not empty."""
-    if not text:
-        raise argparse.ArgumentTypeError("needs a value that is not empty")
-    return text
-
-
 def matching(pattern, what, taken=str):
     """The kind of a value that a regular expression describes; `what` says so to people."""
 
@@ -52,6 +45,7 @@ def argument(read):
     return kind
 
 
+some_text = matching("(?s).+", "a value that is not empty")
 size, duration, pattern = argument(size_of), argument(seconds_of), argument(lambda text: Pattern(os.fsencode(text)))
 
 
