@@ -85,7 +85,7 @@ PLANTED = (
     )
     + seen_by(
         "without.try_left_out",
-        ("commands/lib/aide_compare/compare/exclusions.py", '"1 entry" if self.total == 1 else ', ""),
+        ("commands/lib/aide_compare/compare/exclusions.py", 'counted(self.total, "entry")', '"%d entries" % self.total'),
     )
     + seen_by(READERS % "try_state", (COUNTS, "self.high + self.medium + self.low == self.unanswered", "True"))
     + seen_by(

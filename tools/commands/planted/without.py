@@ -5,11 +5,11 @@ WITHOUT, PATTERNS, TRUSTED = (
     "commands/lib/aide_compare/%s.py" % name for name in ("compare/exclusions", "base/paths", "base/files")
 )
 PLANTED = (
-    seen_by("without.try_names", (WITHOUT, 'unescaped(fields[self.columns["name"]])', 'fields[self.columns["name"]]'))
+    seen_by("without.try_names", (WITHOUT, 'unescaped(fields[self.columns.index(b"name")])', 'fields[self.columns.index(b"name")]'))
     + seen_by(
         "without.try_damage",
         (WITHOUT, 'self.keeps(part) else b"\\n"', 'self.keeps(part) else b""'),
-        (WITHOUT, "len(fields) != self.width", 'len(fields) <= self.columns["name"]'),
+        (WITHOUT, "len(fields) != len(self.columns)", 'len(fields) <= self.columns.index(b"name")'),
         (WITHOUT, '            self.is_over = fields[0] == b"@@end_db"\n', ""),
     )
     + seen_by("without.try_refused", (TRUSTED, "found.st_mode & 0o022", "found.st_mode & 0o002"))
@@ -36,7 +36,7 @@ PLANTED = (
         (WITHOUT, " and not any(pieces[:size] in self.by_start for size in sizes)", ""),
         (WITHOUT, "[^%\\s]{0,4095}", "[^\\s]{0,4095}"),
         (WITHOUT, "(is_new and is_whole)", "is_whole"),
-        (WITHOUT, 'self.columns.get("name") == 0', '"name" in self.columns'),
+        (WITHOUT, 'self.columns[:1] == [b"name"]', 'b"name" in self.columns'),
     )
     + seen_by("without.try_patterns", (PATTERNS, "                retry += 1\n", "                retry += 2\n"))
     + seen_by(

@@ -10,6 +10,7 @@ from aide_compare.base.ending import Fault, Status, failing
 from aide_compare.base.escapes import shown
 from aide_compare.base.files import lines_of, nameless, reopened
 from aide_compare.base.paths import Table, pattern_of, unescaped
+from aide_compare.base.words import counted
 
 MOST_LINES = 10000
 LINE = (1 << 20) + 1  # The longest line of a database, with its newline. aide-compare refuses a longer one.
@@ -65,18 +66,20 @@ def _number(text, base, digits):
     return int(text, base) if re.fullmatch(digits, text) else 0
 
 
-def _judged(field):
-    """Whether no line leaves an entry out, and whether only a line does that means programs too. `field(column)` is a field.
+def _judged(entry):
+    """Whether no line leaves an entry out, and whether only a line does that means programs too, by the fields of its columns.
 
     What no line leaves out: a set-ID bit (on a folder it only says whose group new files have), capabilities, a device that
     somebody may open, and what has no mode. Capabilities that were not measured matter to a program only."""
-    mode, bits = _number(field("perm"), 8, rb"[0-7]{1,7}"), _number(field("attr"), 10, rb"[0-9]{1,19}")
+    mode, bits = _number(entry.get(b"perm", ABSENT), 8, rb"[0-7]{1,7}"), _number(
+        entry.get(b"attr", ABSENT), 10, rb"[0-9]{1,19}"
+    )
     is_program = stat.S_ISREG(mode) and bool(mode & RUN_BITS)
     is_device = stat.S_ISCHR(mode) or stat.S_ISBLK(mode)
     always_stays = (
         not stat.S_IFMT(mode)
         or bool(mode & SET_ID and not stat.S_ISDIR(mode))
-        or (field("capabilities") != ABSENT and not stat.S_ISLNK(mode))
+        or (entry.get(b"capabilities", ABSENT) != ABSENT and not stat.S_ISLNK(mode))
         or (is_program and not bits & MEASURES_CAPABILITIES)
         or bool(is_device and mode & ANY_BITS)
     )
@@ -87,7 +90,7 @@ class LeftOut:
     """What rules leave out of a database: how many entries by each rule, and how many stay although a rule names them."""
 
     def __init__(self, rules):
-        self.rules, self.columns, self.width, self.is_over = rules, {}, 0, False
+        self.rules, self.columns, self.is_over = rules, [], False
         self.counts, self.staying = Counter(), 0
 
     def lines(self, source):
@@ -101,7 +104,7 @@ class LeftOut:
 
     def keeps(self, line):
         """Whether a line stays. All lines do that are no entries, are refused by the program, or follow the end line."""
-        folder = FOLDER.match(line) if self.columns.get("name") == 0 else None
+        folder = FOLDER.match(line) if self.columns[:1] == [b"name"] else None
         if folder and self.rules.is_free(folder.group(1)):  # Then no other field has to be looked at.
             return True
         fields = FIELDS.findall(line)
@@ -110,16 +113,15 @@ class LeftOut:
         if fields[0].startswith(b"@@"):
             self.is_over = fields[0] == b"@@end_db"
             if fields[0] == b"@@db_spec" and b"name" in fields:
-                self.columns = {column.decode("ascii", "replace"): place for place, column in enumerate(fields[1:])}
-                self.width = len(fields) - 1
+                self.columns = fields[1:]
             return True
-        return not self.columns or len(fields) != self.width or self._keeps_entry(fields)
+        return not self.columns or len(fields) != len(self.columns) or self._keeps_entry(fields)
 
     def _keeps_entry(self, fields):
-        path = unescaped(fields[self.columns["name"]])
+        path = unescaped(fields[self.columns.index(b"name")])
         if self.rules.of(path) is None:
             return True
-        always_stays, is_program = _judged(lambda column: fields[self.columns[column]] if column in self.columns else ABSENT)
+        always_stays, is_program = _judged(dict(zip(self.columns, fields)))
         rule = None if always_stays else self.rules.of(path, lambda rule: bool(rule.why) or not is_program)
         if rule is None:
             self.staying += 1
@@ -133,7 +135,7 @@ class LeftOut:
 
     def words(self, side):
         """The lines that say so."""
-        yield "left out of the %s database: %s" % (side, "1 entry" if self.total == 1 else "%d entries" % self.total)
+        yield "left out of the %s database: %s" % (side, counted(self.total, "entry"))
         for rule, count in sorted(self.counts.items(), key=lambda pair: -pair[1]):
             why = "; programs too: %s" % rule.why if rule.why else ""
             yield "  %d by %s (%s%s)" % (count, shown(rule.pattern.text, 200), rule.place, why)
