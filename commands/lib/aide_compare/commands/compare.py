@@ -96,8 +96,12 @@ class Task:
             if self.wanted and comparison.status <= 7:
                 self.wanted.write(explained)
         except Handed as handed:
+            status = handed.args[0]
             try:
-                return self._put_in_place(handed)
+                state = self.state.state(status) if self.state else None
+                for output in self.handing.outputs:
+                    output.put()
+                return status, state
             except Fault as fault:
                 comparison.end_by(fault)
         except (Fault, MemoryError, OSError) as error:
@@ -111,14 +115,6 @@ class Task:
             self.wanted.write(None)
         told(comparison, explained)
         return comparison.status, state
-
-    def _put_in_place(self, handed):
-        """What is left to the parent of a child that has compared."""
-        status = handed.status()
-        state = self.state.state(status) if self.state else None
-        for output in self.handing.outputs:
-            output.put()
-        return status, state
 
 
 def format_of(given):

@@ -79,15 +79,7 @@ class Later:
 
 
 class Handed(BaseException):
-    """The way out of the parent: its child, which has the rights of an owner, goes on with the work."""
-
-    def status(self):
-        """The status with which the child ends; a Fault if it is none of a comparison."""
-        child, owner = self.args
-        status = os.waitstatus_to_exitcode(os.waitpid(child, 0)[1])
-        if status not in KNOWN:
-            raise Fault(Status.DEVICE, "the comparison with %s's privileges ended with %d" % (name_of(owner), status))
-        return status
+    """The way out of the parent, with the status of its child, which did the work with the rights of an owner."""
 
 
 class Handing:
@@ -115,7 +107,10 @@ class Handing:
             output.kept = nameless()
         parent, child = os.getpid(), os.fork()
         if child:
-            raise Handed(child, owner)
+            status = os.waitstatus_to_exitcode(os.waitpid(child, 0)[1])
+            if status in KNOWN:
+                raise Handed(status)
+            raise Fault(Status.DEVICE, "the comparison with %s's privileges ended with %d" % (name_of(owner), status))
         self.owner = owner
         for output in self.outputs:
             output.is_childs = True
