@@ -5,7 +5,9 @@ WITHOUT, PATTERNS, TRUSTED = (
     "commands/lib/aide_compare/%s.py" % name for name in ("compare/exclusions", "base/paths", "base/files")
 )
 PLANTED = (
-    seen_by("without.try_names", (WITHOUT, 'unescaped(fields[self.columns.index(b"name")])', 'fields[self.columns.index(b"name")]'))
+    seen_by(
+        "without.try_names", (WITHOUT, 'unescaped(fields[self.columns.index(b"name")])', 'fields[self.columns.index(b"name")]')
+    )
     + seen_by(
         "without.try_damage",
         (WITHOUT, 'self.keeps(part) else b"\\n"', 'self.keeps(part) else b""'),

@@ -9,7 +9,7 @@ from contextlib import closing, suppress
 
 from aide_compare.base.ending import Fault, Status, failing, why_of, write_all
 from aide_compare.base.escapes import shown
-from aide_compare.base.folders import ANYBODY, closed_after, failure, open_folder, private_folder, random_name, walked
+from aide_compare.base.folders import ANYBODY, closed_after, failure, open_folder, walked
 
 BLOCK = HELD = 1 << 18
 MOST_LINES, MOST_BYTES = 10000, 1 << 20  # Of a file of the administrator.
@@ -101,6 +101,15 @@ def copy_file(source, target):
     while block := os.pread(source, BLOCK, place):
         write_all(target, block)
         place += len(block)
+
+
+def random_name():
+    return ".aide-compare-" + os.urandom(12).hex()
+
+
+def private_folder():
+    """The path of the folder in which private files without a name are made."""
+    return os.environ.get("TMPDIR") or "/var/tmp"
 
 
 def new_file(folder, name, more=0):

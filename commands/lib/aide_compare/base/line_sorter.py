@@ -3,8 +3,7 @@ from heapq import merge
 
 from aide_compare.base.ending import failing
 from aide_compare.base.escapes import shown
-from aide_compare.base.files import nameless
-from aide_compare.base.folders import private_folder
+from aide_compare.base.files import nameless, private_folder
 
 # Lines are held until they come to so many bytes, each with its key and what Python has beside both.
 MOST_HELD, BESIDE = 8 << 20, 128

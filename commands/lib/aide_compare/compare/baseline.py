@@ -90,7 +90,8 @@ class Baseline:
             self._rename(PART % name, name)
             os.fsync(self.folder)
 
-        self._work(put, source)
+        with failing("it cannot be written"):
+            self._work(put, source)
 
     def reading_beside(self, suffix):
         """A descriptor to read the file beside the baseline whose name ends so; None if that is no readable plain file."""

@@ -10,8 +10,7 @@ from itertools import chain
 from aide_compare.base import progress
 from aide_compare.base.ending import Fault, Status, failing, write_all
 from aide_compare.base.escapes import shown
-from aide_compare.base.files import file_kind, nameless, open_regular
-from aide_compare.base.folders import closed_after, private_folder
+from aide_compare.base.files import closed_after, file_kind, nameless, open_regular, private_folder
 
 BLOCK, FEW = 1 << 18, 1 << 12
 GZIP, COMPRESS = b"\x1f\x8b", b"\x1f\x9d"
