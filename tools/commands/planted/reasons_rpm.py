@@ -84,7 +84,6 @@ PLANTED = (
         (RECORDS, '"--dbpath", folder, "-qa"', '"-qa"'),
         (RECORDS, "time.monotonic() + SECONDS)", "time.monotonic() + SECONDS + 40)"),
         (RECORDS, "if len(text) > MOST_TEXT:", "if False:"),
-        (RECORDS, '        with failing("rpm\'s records cannot be read"):\n', "        if True:\n"),
         (RECORDS, "SECONDS) != 0:\n", "SECONDS) is None:\n"),
         (RECORDS, '(?:list|md5sums))|rpm")', '(?:list|md5sums))")'),
     )

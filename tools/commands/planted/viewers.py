@@ -114,7 +114,7 @@ PLANTED = (
     + seen_by(
         "viewers.try_commands",
         (LIB + "commands/streams.py", "REFUSED = 65", "REFUSED = 1"),
-        (LIB + "commands/streams.py", "        spool.write(part)\n", "        target.write(part)\n"),
+        (LIB + "commands/streams.py", "                spool.write(part)\n", "                write_all(1, part)\n"),
         (LIB + "show/page_heading.py", '"title": escape(title)', '"title": title'),
     )
     + seen_by(

@@ -2,7 +2,7 @@
 import os
 import stat
 
-from aide_compare.base.ending import Fault, Status, failing
+from aide_compare.base.ending import Fault, Status, failing, write_all
 from aide_compare.base.escapes import shown
 from aide_compare.base.files import Spool, open_regular
 from aide_compare.base.options import Parser, some_text
@@ -34,25 +34,19 @@ def _opened(path):
     return open(given, "rb", buffering=BLOCK, closefd=False)
 
 
-def convert(path, work):
-    """Does the work over the input and standard output. What is no whole input is refused with a status of its own."""
+def _write_whole(path, parts_of):
+    """Writes what is made of lines when all of it is known: nothing of what is refused, which is a status of its own."""
+    spool = Spool()
     try:
-        with failing("cannot read or write"), _opened(path) as source, open(1, "wb", buffering=BLOCK, closefd=False) as target:
-            work(source, target)
-            target.flush()
+        with failing("cannot read or write"), _opened(path) as source:
+            for part in parts_of(Reader(source), None):
+                spool.write(part)
+            spool.seek(0)
+            for block in iter(lambda: spool.read(BLOCK), b""):
+                write_all(1, block)
     except Refused as refused:
         raise Fault(REFUSED, str(refused)) from None
     return Status.OK
-
-
-def write_whole(parts, target):
-    """Writes parts when all of them are known, so that nothing is written of what is refused."""
-    spool = Spool()
-    for part in parts:
-        spool.write(part)
-    spool.seek(0)
-    for block in iter(lambda: spool.read(BLOCK), b""):
-        target.write(block)
 
 
 def write_changes(given, parts_of):
@@ -60,8 +54,7 @@ def write_changes(given, parts_of):
     if len(given.files) > 2 or len(given.files) < 2 and (given.config or given.before or given.after):
         raise Fault(Status.USAGE, "name two databases, OLD and NEW, or one file of lines")
     if len(given.files) < 2:
-        path = given.files[0] if given.files else "-"
-        return convert(path, lambda source, target: write_whole(parts_of(Reader(source), None), target))
+        return _write_whole(given.files[0] if given.files else "-", parts_of)
     from aide_compare.commands.compare import request_of
     from aide_compare.compare.comparison import Comparison
     from aide_compare.compare.exclusions import read_exclusions
