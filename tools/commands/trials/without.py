@@ -238,7 +238,11 @@ def try_damage(sandbox):
     write_databases(sandbox)
     lines = NEW.split(b"\n")
     for label, text, said in (
-        ("a field too few", NEW.replace(b"/var/log/x%20y 36 100644 2", b"/var/log/x%20y 36"), b":6: wrong number of fields"),
+        (
+            "a field too few",
+            NEW.replace(b"/var/log/x%20y 36 100644 2", b"/var/log/x%20y 36 100644"),
+            b":6: wrong number of fields",
+        ),
         ("a fault after lines that are left out", NEW.replace(END, b"/z 36 x 1\n" + END), b":7: bad number in column 3"),
         ("the end is missing", b"\n".join(lines[:-2]) + b"\n", b": no @@end_db"),
     ):
