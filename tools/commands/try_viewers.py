@@ -36,7 +36,7 @@ from aide_compare.lines import reader
 from aide_compare.lines.reader import Reader, Refused
 from aide_compare.show.page import script_of
 from aide_compare.show.page_heading import part_of
-from aide_compare.show.rows import entries_of
+from aide_compare.show.page_items import entries_of
 
 REFUSED, USAGE, DEVICE = 65, 15, 18
 # Letters by their class, and yet nothing is seen of them: the Hangul fillers and the empty Braille pattern.
@@ -275,11 +275,9 @@ def main():
     try_occasion(program, tally)
     try_aide_form(program, tally)
     try_deep(tally)
-    looks.try_views(tally)
     looks.try_blank_ends(tally)
     looks.try_heading(tally)
     looks.try_reasons(given.seed, tally)
-    looks.try_only(tally)
     try_cuts(tally)
     try_edits(tally)
     try_bounds(tally)

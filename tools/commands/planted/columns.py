@@ -17,7 +17,7 @@ PLANTED = seen_by(
     (STATE, "for side in SIDES if self._names", "for side in SIDES[:1] if self._names"),
     (HINTS, "if len(sides) == 1 else", "if False else"),
     (LIB + "show/added.py", '"skipped": comparison.skipped}', '"skipped": {}}'),
-    (LIB + "show/page_heading.py", ', *skipped(summary.get("skipped"))', ""),
+    (LIB + "show/page_heading.py", "list(dict.fromkeys(names))[:MOST_MEMBERS]", "()"),
     (HINTS, "shown(name, MOST_NAME)", "name.decode()[:MOST_NAME]"),
     (HINTS, "MOST_HEAD, MOST_NAME = 1 << 16", "MOST_HEAD, MOST_NAME = 1 << 20"),
     (HINTS, 're.split(b"[ \\t]+", spec)', "spec.split()"),

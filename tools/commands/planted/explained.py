@@ -133,6 +133,6 @@ PLANTED = (
     )
     + seen_by(
         READERS % "try_pages",
-        ("commands/lib/aide_compare/show/added.py", '{"reasons": adding.reasons} if adding.reasons else {}', "{}"),
+        ("commands/lib/aide_compare/show/added.py", '{"reasons": reasons} if reasons else {}', "{}"),
     )
 )

@@ -45,7 +45,7 @@ PLANTED = (
         "hosts_page.try_removed",
         (
             LIB + "show/page_items.py",
-            "        if value is VARIOUS:\n            return VARIOUS\n",
+            "    if any(value is VARIOUS for value in values.values()):\n        return VARIOUS\n",
             "",
         ),
     )
@@ -95,10 +95,14 @@ PLANTED = (
         "hosts_page.try_markup",
         (
             LIB + "show/page_items.py",
-            'text += "<code>%s</code>" % escape(entry.name)',
-            'text += "<code>%s</code>" % entry.name',
+            "(mark, words, escape(entry.name))",
+            "(mark, words, entry.name)",
         ),
-        (LIB + "show/rows.py", 'shown_path(bytes_of(fields, "path"))', 'bytes_of(fields, "path").decode("utf-8", "replace")'),
+        (
+            LIB + "show/page_items.py",
+            'shown_path(bytes_of(fields, "path"))',
+            'bytes_of(fields, "path").decode("utf-8", "replace")',
+        ),
     )
     + seen_by(
         "hosts_page.try_room",
@@ -121,7 +125,7 @@ PLANTED = (
     )
     + seen_by(
         "hosts_quiet.try_reports",
-        (LIB + "show/rows.py", 'severity = fields.get("severity")', 'severity = fields.get("severities")'),
+        (LIB + "show/page_items.py", 'entry.fields.get("severity")', 'entry.fields.get("severities")'),
         (LIB + "commands/hosts_report.py", " if given.alarm == ALARMS[0] else not all(map(is_explained, report.hosts))", ""),
         (
             LIB + "hosts/host_changes.py",

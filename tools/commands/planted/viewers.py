@@ -11,14 +11,10 @@ PLANTED = (
     + seen_by(
         "viewers.try_hostile",
         (LIB + "show/page_items.py", '"<td>" + escape(value)', '"<td>" + value'),
-        (LIB + "show/page_items.py", '"<code>%s</code>" % escape(entry.name)', '"<code>%s</code>" % entry.name'),
-        (LIB + "show/page_items.py", "% (int(row.new) - int(row.old))", "% (int(row.old) - int(row.new))"),
-        (LIB + "show/rows.py", "value if PLAIN.fullmatch(value) else", "value if True else"),
-        (
-            LIB + "show/rows.py",
-            "return shown_value(value) if type(value) is bytes",
-            'return value.decode("latin-1") if type(value) is bytes',
-        ),
+        (LIB + "show/page_items.py", "(mark, words, escape(entry.name))", "(mark, words, entry.name)"),
+        (LIB + "show/page_items.py", "% (new - old)", "% (old - new)"),
+        (LIB + "show/page_items.py", "type(value) is str and PLAIN.fullmatch(value)", "type(value) is str"),
+        (LIB + "show/page_items.py", "shown_value(exact_bytes(value))", 'exact_bytes(value).decode("latin-1")'),
     )
     + seen_by(
         "viewers.try_reasons",
@@ -26,17 +22,17 @@ PLANTED = (
         (LIB + "show/page.py", "return standing, -self.counts[key], what", "return standing, self.counts[key], what"),
         (LIB + "show/page.py", "SEVERITIES.index(what) if what else len(SEVERITIES)", "what"),
         (
-            LIB + "show/rows.py",
+            LIB + "show/page_items.py",
             'standing=1 + told["verified"]',
             "standing=2",
         ),
         (LIB + "show/page_heading.py", "</p>\\n' % HINT", '</p>\\n\' % ""'),
         (LIB + "show/page_heading.py", "if type(given.get(key)) is int", "if key in given"),
-        (LIB + "show/rows.py", "else shown_note(text, MOST_NOTE)", "else text"),
+        (LIB + "show/page_items.py", "shown_note(text, MOST_NOTE) for", "text for"),
         (
             LIB + "show/page_items.py",
-            ' <span class="reason">%s</span>\' % escape(reason)',
-            ' <span class="reason">%s</span>\' % reason',
+            '<span class="reason"> %s</span>\' % escape(reason)',
+            '<span class="reason"> %s</span>\' % reason',
         ),
     )
     + seen_by(
@@ -53,21 +49,12 @@ PLANTED = (
     )
     + seen_by(
         "viewers.try_heading",
-        (LIB + "show/page_heading.py", '[left_out(summary.get("left_out")), ', "["),
+        (LIB + "show/page_heading.py", "in numbers) and any(numbers):", "in numbers) and False:"),
         (
             LIB + "show/page_heading.py",
             "(escape(name), escape(value)) for name, value in rows",
             "(escape(name), value) for name, value in rows",
         ),
-    )
-    + seen_by(
-        "viewers.try_views",
-        (LIB + "show/page_view.py", '(path + "/").startswith(self.directory + "/")', "path.startswith(self.directory)"),
-    )
-    + seen_by(
-        "viewers.try_only",
-        (LIB + "show/page_view.py", 'self.fault = "%s=%s" % (name, value)', "pass"),
-        (LIB + "show/page.py", "if not (is_plain and only) or view.fits(words_of(entry)):", "if True:"),
     )
     + seen_by(
         "viewers.try_blank_ends",
@@ -97,9 +84,14 @@ PLANTED = (
         (LIB + "lines/reader.py", 'self.summary["format"] == FORMAT', "True"),
         (LIB + "lines/reader.py", '        and fields["differences"] is (status_of(counts[1:]) > 0)\n', ""),
         (LIB + "lines/reader.py", 'self.count == self.summary["entries"] and all(', "all("),
-        (LIB + "show/rows.py", 'demand(LETTERS.fullmatch(fields["summary"]), "a summary string has 18 letters")', "pass"),
-        (LIB + "show/rows.py", 'demand(labels <= FORMS.keys(), "an attribute is unknown")', "pass"),
-        (LIB + "show/rows.py", 'demand(all(type(text) is dict for text in texts), "texts are objects")', "pass"),
+        (
+            LIB + "show/page_items.py",
+            'demand(LETTERS.fullmatch(fields["summary"]), "a summary string has 18 letters")',
+            "pass",
+        ),
+        (LIB + "show/page_items.py", 'demand(side.keys() <= FORMS.keys(), "an attribute is unknown")', "pass"),
+        (LIB + "show/page_items.py", "demand({type(value) for value in side.values()} <= TYPES,", "demand(True,"),
+        (LIB + "show/page_items.py", "type(texts) is dict and all(type(text) is str for text in texts.values())", "True"),
     )
     + seen_by(
         "viewers.try_bounds",
@@ -151,8 +143,8 @@ PLANTED = (
         (LIB + "lines/decoded.py", 'fields.get("summary", "")[:1] == "!"', "False"),
         (LIB + "lines/decoded.py", "        del old[label], new[label]\n", "        pass\n"),
         (LIB + "show/added.py", "os.fsencode(getattr(comparison, side))", 'b""'),
-        (LIB + "show/added.py", "{name: value, **{key", '{"path": "", **{key'),
-        (LIB + "show/added.py", "copies[side].sha256 if copies", "'' if copies"),
+        (LIB + "show/added.py", "found[side] = {**name, ", 'found[side] = {"path": "", '),
+        (LIB + "show/added.py", "copy.sha256 if copy", "'' if copy"),
         (LIB + "commands/streams.py", "comparison))\n    return comparison.status\n", "comparison))\n    return Status.OK\n"),
     )
     + seen_by(
@@ -174,8 +166,8 @@ PLANTED = (
         "viewers.try_program",
         (
             LIB + "commands/page.py",
-            "page(reader, given.title, given.plain, given.only)",
-            "page(reader, given.title, False, given.only)",
+            "page(reader, given.title, given.plain)",
+            "page(reader, given.title, False)",
         ),
     )
     + seen_by("viewers.try_installed", ("commands/bin/aide-compare", "    sys.dont_write_bytecode = True\n", ""))

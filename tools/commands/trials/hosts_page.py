@@ -62,7 +62,7 @@ def try_removed(sandbox):
     texts = {"good%d" % number: (database(line(b"/gone", b"x" * number), line(b"/same")), database()) for number in (1, 2)}
     hosts.compared(texts)
     heads = [each.partition("</summary>")[0] for each in items_of(hosts.report("--format=page")[1])]
-    found = {re.search("<code>(.*?)</code>", head).group(1): re.search("<i[^>]*>(.*?)</i>", head).group(1) for head in heads}
+    found = {re.search("<code>(.*?)</code>", head).group(1): re.search("<i[^>]*> (.*?)</i>", head).group(1) for head in heads}
     wanted = {"/gone": "various", "/same": "-rw-r--r--  0:0  0 bytes"}
     sandbox.holds("the lines of files that went", found == wanted, found)
 

@@ -9,7 +9,7 @@ SEED = 20261125
 COUNTS = {"try_hostile": 80, "try_program": 20}
 PARTS = (
     *(deep.try_times, deep.try_work, deep.try_memory, deep.try_sizes, deep.try_script),
-    *(looks.try_heading, looks.try_blank_ends, looks.try_reasons, looks.try_views, looks.try_only),
+    *(looks.try_heading, looks.try_blank_ends, looks.try_reasons),
     *(try_viewers.try_installed, try_viewers.try_cuts, try_viewers.try_edits, try_viewers.try_bounds),
     *(try_viewers.try_shown, try_viewers.try_commands, try_viewers.try_hostile, try_viewers.try_program),
     *(texts.try_table, texts.try_zones, aide_form.try_aide_form, occasion.try_occasion),

@@ -4,13 +4,14 @@ import os
 import re
 import time
 
-from tools.commands.viewers.looks import cases
 from tools.commands.viewers.samples import DEMO
 
 from tools.commands.viewers.pages import KINDS, wanted_folders
 
+from aide_compare.show.page import CHOICES
 from aide_compare.show.page_heading import part_of
-from aide_compare.show.page_view import CHOICES
+
+CASES = os.path.join(os.path.dirname(os.path.abspath(__file__)), "views.json")
 
 READY = "document.getElementById('view') !== null && !document.getElementById('view').hidden"
 ENTRY = "#list > li:not(.section)"
@@ -29,7 +30,7 @@ VIEWED = """(() => {
 })()"""
 # The facts beside the added program, and the least width of a folder's name.
 FACTS = """[...document.querySelectorAll('#list li')].find((one) => one.textContent.includes('sbin/.x')).querySelector(
-  'i').textContent"""
+  'i').textContent.trim()"""
 # Opens all directories; what the tree then says of each; and the entries that are listed.
 UNFOLD = """for (let folds; (folds = [...document.querySelectorAll('[aria-expanded="false"] > .folder > .fold')]).length;) {
   for (const fold of folds) fold.click(); }"""
@@ -77,7 +78,8 @@ def search(browser, text):
 
 def try_views(browser, tally):
     """The table of views, by the functions of the page's script."""
-    table = cases()
+    with open(CASES, encoding="utf-8") as file:
+        table = json.load(file)
     entries = [
         {
             "path": one["path"],
@@ -87,8 +89,8 @@ def try_views(browser, tally):
             "place": one["place"],
             "standing": one.get("standing", "unexplained"),
             "reason": one.get("reason", ""),
-            "attributes": " ".join(one["attributes"]),
-            "growth": abs(one.get("growth", 0)),
+            "attribute": " ".join(one["attributes"]),
+            "about": (" Size %+d" if one["kind"] == "changed" else " %d bytes") % one.get("growth", 0),
         }
         for one in table["entries"]
     ]
@@ -107,7 +109,7 @@ def try_folders(browser, path, tally):
     opened(browser, path, "#order=path")
     browser.value(UNFOLD)
     browser.value("window.dispatchEvent(new Event('beforeprint'))")
-    entries = [(KINDS.index(kind), name) for kind, name in browser.value(LISTED)]
+    entries = [(KINDS.index(words.split()[0]), name) for words, name in browser.value(LISTED)]
     wanted = [[name + "/", [count for count in counts if count]] for name, counts in wanted_folders(entries)]
     given = [[label.split(", ")[0], list(map(int, re.findall(r", ([0-9]+) ", label)))] for label in browser.value(LABELS)]
     tally.add("directories", [] if sorted(given) == sorted(wanted) and given else ["%r, and not %r" % (given[:9], wanted[:9])])

@@ -98,7 +98,6 @@ def try_large(program, count, tally):
             file.write("database_in=file:%s\ndatabase_new=file:%s\n" % (path_in("old"), path_in("new")))
         for label, words, source, target in (
             ("aide_lines", [lines_program_of(program), "-E", "-c", path_in("conf")], "conf", "proved"),
-            ("aide-compare json --no-text", [*JSON, "--no-text"], "proved", "lines"),
             ("aide-compare json --full", [*JSON, "--full"], "proved", "lines"),
             ("aide-compare json", [*JSON], "proved", "lines"),
             ("aide-compare page", [*HTML], "lines", "page"),

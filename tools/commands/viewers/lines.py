@@ -8,7 +8,7 @@ from tools.commands.viewers import HTML  # noqa: F401, it puts the modules of th
 from tools.lib.tally import lines_program_of
 
 from aide_compare.lines.reader import Reader
-from aide_compare.show.added import Adding, added_lines
+from aide_compare.show.added import added_lines
 from aide_compare.show.page import page
 
 
@@ -32,7 +32,7 @@ def proved_lines(program, configuration):
 
 def objects_of(text):
     """The objects of proved lines, as aide-compare json writes them."""
-    lines = added_lines(Reader(io.BytesIO(text)), None, Adding(full=False))
+    lines = added_lines(Reader(io.BytesIO(text)), None, {})
     return [json.loads(line) for line in lines]
 
 

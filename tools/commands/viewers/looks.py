@@ -1,51 +1,18 @@
-"""What a page says of reasons, severities, hosts and times, and how its filters and orders work."""
-import json
-import os
+"""What a page says of reasons, severities, hosts and times."""
 import random
 import re
 
-from tools.commands.viewers import HTML  # It puts the modules of the commands in reach.
 from tools.commands.viewers.hostile import NAMES
-from tools.commands.viewers.lines import changes_of, lines_of, objects_of, page_of, run
-from tools.commands.viewers.pages import page_faults, standing_of
+from tools.commands.viewers.lines import changes_of, objects_of, page_of
+from tools.commands.viewers.pages import page_faults
 from tools.commands.viewers.refused import rich_lines
 
 from aide_compare.base.escapes import shown as escaped
 from aide_compare.base.words import SEVERITIES
 from aide_compare.lines.reader import Refused
-from aide_compare.show.page_view import CHOICES, View
-from aide_compare.show.rows import GRADES
+from aide_compare.show.page_items import GRADES
 
-CASES = os.path.join(os.path.dirname(os.path.abspath(__file__)), "views.json")
 STREAMS = 60
-# The name of an entry of the list.
-LISTED = re.compile("</em> <code>([^<]*)</code>")
-
-
-def cases():
-    with open(CASES, encoding="utf-8") as file:
-        return json.load(file)
-
-
-def words_of(fields):
-    """An entry of the table of cases as filters see it."""
-    words = {name: {fields[name]} if name in fields else set() for name in ("kind", "severity", "reason")}
-    standing = fields.get("standing", "unexplained")
-    return {**words, "standing": {standing}, "attribute": set(fields["attributes"]), "path": fields["path"]}
-
-
-def try_views(tally):
-    """Each case of the table: what a view finds. How it is written and in which order it finds only the script knows."""
-    table = cases()
-    known, CHOICES["attribute"] = CHOICES["attribute"], table["attributes"]
-    try:
-        entries = [words_of(fields) for fields in table["entries"]]
-        for case in table["cases"]:
-            view = View(case["view"])
-            found = sorted(words["path"] for words in entries if view.fits(words))
-            tally.add("view %s" % case["view"], [] if found == sorted(case["found"]) else ["it finds %r" % found])
-    finally:
-        CHOICES["attribute"] = known
 
 
 def with_reasons(objects, pick):
@@ -146,26 +113,5 @@ def try_heading(tally):
     entry["new_text"] = {"Perm": "-rwsr-xr-x", "ACL": "user::rw-<"}
     for is_plain in (False, True):
         text = page_of(objects, is_plain)
-        tally.add("a new file", [] if ">-rwsr-xr-x  0:50  18344 bytes</i>" in text else ["its mode and owner are not there"])
+        tally.add("a new file", [] if "> -rwsr-xr-x  0:50  18344 bytes</i>" in text else ["its mode and owner are not there"])
         tally.add("a decoded value", [] if "<summary>user::rw-&lt;</summary>POSIX,dXNl<" in text else ["it is not there"])
-
-
-def try_only(tally):
-    """With a filter, a plain page lists only what fits, and says so."""
-    objects = with_reasons(objects_of(rich_lines()), random.Random(3))
-    lines = lines_of(objects)
-    entries = changes_of(objects)
-    for words, wanted in (
-        ("standing=unexplained", [fields for fields in entries if standing_of(fields) == 0]),
-        ("kind=added,removed", [fields for fields in entries if fields["kind"] != "changed"]),
-        ("severity=high&path=ETC", [fields for fields in entries if fields["severity"] == "high" and "etc" in fields["path"]]),
-    ):
-        status, output, errors = run([*HTML, "--plain", "--only", words], lines)
-        names = LISTED.findall(output.decode())
-        good = not status and sorted(names) == sorted(fields["path"] for fields in wanted)
-        tally.add("only " + words, [] if good else ["status %d, %r, %r" % (status, names, errors)])
-        said = "These lists have the %d entr" % len(wanted)
-        tally.add("only %s is said" % words, [] if said in output.decode() else ["it is not"])
-    status, output, errors = run([*HTML, "--only", "severity=grave"], lines)
-    good = status == 15 and not output and b"severity=grave" in errors
-    tally.add("a filter that is none", [] if good else ["%d %r" % (status, errors)])

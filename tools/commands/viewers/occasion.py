@@ -116,13 +116,11 @@ def try_names(kept, tally):
     for words, wanted in (
         (["--names"], ({"UID": 0, "GID": 0}, {"UID": 4000000000, "GID": 1}, {"UID": "root", "GID": "root"})),
         ([], ({"UID": 0, "GID": 0}, {"UID": 4000000000, "GID": 1}, None)),
-        (["--names", "--no-text"], ({"UID": 0, "GID": 0}, {"UID": 4000000000, "GID": 1}, None)),
     ):
         _, objects, _ = lines(text, *words)
         given = objects[1]["old"], objects[1]["new"], objects[1].get("old_text")
         tally.add("users %r" % words, [] if given == wanted else ["%r" % given])
-    texts = json.dumps(lines(kept.lines, "--no-text")[1])
-    tally.add("no texts", [] if "_text" not in texts and "_text" in json.dumps(lines(kept.lines)[1]) else ["there are some"])
+    tally.add("texts", [] if "_text" in json.dumps(lines(kept.lines)[1]) else ["there are none"])
 
 
 def try_one_text(kept, tally):

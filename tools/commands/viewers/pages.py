@@ -13,11 +13,11 @@ from aide_compare.base.escapes import shown_note
 
 TAGS = set(
     """html head meta title style body header main h1 h2 p dl dt dd div details summary code small section label
-    input nav ul ol li button span b i em a select table tr th td script""".split()
+    input nav ul ol li button span b i a select table tr th td script""".split()
 )
 ATTRIBUTES = set(
     """lang charset http-equiv content name class id for type placeholder autocomplete spellcheck role
-    aria-label aria-labelledby aria-pressed hidden title scope href tabindex open data-standing data-order data-state""".split()
+    aria-label aria-labelledby aria-pressed hidden title scope href tabindex open data-standing data-order""".split()
 )
 DIGESTS = {attribute.detail for attribute in KNOWN if isinstance(attribute.form, tuple)}
 KINDS = ["added", "removed", "changed"]
@@ -33,8 +33,8 @@ GROUP = re.compile(
     re.DOTALL,
 )
 HEAD = (
-    '<b class="(added|removed|changed)">\\1</b> (?:<em(?: class="high")?>(high|medium|low)</em> )?<code>([^<]*)</code>'
-    '(?: <span class="reason">([^<]*)</span>)?(?: <i(?: title="([^"<]*)")?>([^<]*)</i>)?'
+    '<b class="(added|removed|changed)(?P<mark> high)?">\\1 (?:(?P<severity>(?(mark)high|(?:medium|low))) )?</b><code>([^<]*)</code>'
+    '(?:<span class="reason"> ([^<]*)</span>)?(?:<i(?: title="([^"<]*)")?> ([^<]*)</i>)?'
 )
 ITEM = re.compile("<li>(?:<details><summary>)?%s(?:</summary>(.*)</details>)?" % HEAD)
 CELL = '<td(?: class="(none)")?>(?:<details><summary>([^<]*)</summary>)?([^<]*)(?:</details>)?'
@@ -165,10 +165,10 @@ def listed(text):
         found = ITEM.fullmatch(line)
         if not found:
             return items, ["an item is %r" % line[:300]]
-        kind, severity, path, reason, title, about = (part and unescape(part) for part in found.groups()[:6])
+        kind, _, severity, path, reason, title, about = (part and unescape(part) for part in found.groups()[:7])
         words = (title or about or "").split()
         growth = next((int(word) for word in words if word[0] in "+-"), None)
-        inner = found.group(7) or ""
+        inner = found.group(8) or ""
         rows = {
             unescape(row[1]): [None if row[none] else bytes_shown(unescape(row[value])) for none, value in ((2, 4), (5, 7))]
             for row in ROW.finditer(inner)

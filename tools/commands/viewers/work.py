@@ -9,7 +9,7 @@ import tracemalloc
 from tools.commands.viewers import COMMANDS  # It puts the modules of the commands in reach.
 
 from aide_compare.lines.reader import Reader
-from aide_compare.show.added import Adding, added_lines
+from aide_compare.show.added import added_lines
 from aide_compare.show.page import page
 
 OURS = COMMANDS + "/lib/aide_compare/"
@@ -62,7 +62,7 @@ def additions_to(lines):
     """A call that reads proved lines and adds texts to them."""
 
     def work():
-        for _ in added_lines(Reader(io.BytesIO(lines)), None, Adding(full=False)):
+        for _ in added_lines(Reader(io.BytesIO(lines)), None, {}):
             pass
 
     return work

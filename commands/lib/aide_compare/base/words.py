@@ -55,10 +55,10 @@ def age_in_words(seconds):
     return "%d days" % (seconds // 86400)
 
 
-def counted(number, word):
-    """A number and a word, which is in the plural unless the number is 1."""
+def counted(number, word, form="d"):
+    """A number in a form and a word, which is in the plural unless the number is 1."""
     plural = word[:-1] + "ies" if word.endswith("y") else word + "s"
-    return "%d %s" % (number, word if number == 1 else plural)
+    return "%s %s" % (format(number, form), word if number == 1 else plural)
 
 
 def most_frequent(counts, most):

@@ -4,9 +4,8 @@ from html import escape
 from aide_compare.base.escapes import shown_note
 from aide_compare.base.files import Spool
 from aide_compare.hosts.hosts_text import ORDERS, Share, headline, host_lists, names_of, reason_words
-from aide_compare.show.page_heading import beginning, cards
-from aide_compare.show.page_items import head_of, item, number, table
-from aide_compare.show.rows import entry_of
+from aide_compare.show.page_heading import beginning, cards, number
+from aide_compare.show.page_items import entry_of, head_of, item, table
 
 # The most bytes of a page, and of each of its lists of hosts.
 MOST, MOST_LIST, RESERVE = 20000000, 1500000, 8000
@@ -19,7 +18,7 @@ def item_of(fields, hosts):
     """A change: its kind, its path and its hosts are seen at once, its values on demand."""
     entry = entry_of(fields, fields.get("old_various", ()))
     where = "on %s of %s hosts: %s" % (number(fields["hosts"]), number(hosts), names_of(fields))
-    inner = table(entry.rows)
+    inner = table(entry)
     if fields.get("per_host"):
         inner += '<p class="hint">Of each host: %s</p>' % escape(", ".join(fields["per_host"]))
     return item(head_of(entry, "; ".join(filter(None, (where, reason_words(fields))))), inner)

@@ -86,17 +86,6 @@ def _cut(text):
     return text if len(text) <= MOST else text[:MOST] + "..."
 
 
-def _acl_entries(text):
-    """The entries of a list, None if it is not one."""
-    entries = []
-    for line in text.rstrip(b"\n").split(b"\n", MOST // 10) if text else ():
-        found = ACL_ENTRY.fullmatch(line)
-        if not found:
-            return None
-        entries.append(tuple(shown(part) for part in found.groups() if part))
-    return entries
-
-
 def acl_lists(value):
     """The entries of both lists of a field, `POSIX,` and both in base 64, each with what the mask leaves of it; None if it is no
     such field."""
@@ -104,8 +93,11 @@ def acl_lists(value):
     texts = [_from_base64(text) for text in lists]
     if kind != b"POSIX" or len(texts) != 2 or None in texts:
         return None
-    found = [_acl_entries(text) for text in texts]
-    return None if None in found else found
+    lines = [text.rstrip(b"\n").split(b"\n", MOST // 10) if text else () for text in texts]
+    entries = [[ACL_ENTRY.fullmatch(line) for line in each] for each in lines]
+    if None in entries[0] + entries[1]:
+        return None
+    return [[tuple(shown(part) for part in entry.groups() if part) for entry in each] for each in entries]
 
 
 def acl_text(value):
@@ -206,11 +198,6 @@ def named_capabilities(value):
     return _cut(text.decode()) if CAPABILITIES_TEXT.fullmatch(text) else None
 
 
-def utc_text(seconds):
-    """A time in UTC: 2026-11-25T06:00:00Z, None outside of the years 1 to 9999."""
-    return "%04d-%02d-%02dT%02d:%02d:%02dZ" % time.gmtime(seconds)[:6] if FIRST <= seconds <= LAST else None
-
-
 @lru_cache(maxsize=8192)
 def time_text(seconds):
     """A time in the zone of this host (or of TZ), as AIDE prints it: 2026-11-25 07:00:00 +0100. None if it has no such date."""
@@ -232,6 +219,9 @@ def mode_text(digits, kind=None):
 
 FIELDS = {"ACL": acl_text, "XAttrs": xattrs_text, "SELinux": label_text, "E2FSAttrs": flags_text, "Caps": named_capabilities}
 TIMES = ("Atime", "Mtime", "Ctime")
+# The members of a change that have texts, and the attributes that may be in these.
+TEXTS = ("old_text", "new_text")
+NOTED = frozenset((*FIELDS, *TIMES, "Perm", "UID", "GID"))
 _kept = lru_cache(maxsize=2048)(lambda label, value: FIELDS[label](value))
 
 
@@ -242,7 +232,7 @@ def decoded(label, value, kind=None):
     """
     if label in TIMES:
         return time_text(value) if type(value) is int else None
-    if isinstance(value, int) or label != "Perm" and label not in FIELDS:
+    if value is None or isinstance(value, int) or label != "Perm" and label not in FIELDS:
         return None
     value = exact_bytes(value)
     if label == "Perm":
@@ -280,18 +270,16 @@ def kinds_of(fields, both):
     return [values.get("Type", kind) for values in both]
 
 
-def texts_of(fields, has_names=False):
-    """The texts of both sides by the names of the attributes. If two values have one text, which would hide the change,
-    neither has it. `has_names`: users and groups have the names of this host."""
-    both = [values_of(fields, side) for side in SIDES]
-    kinds, texts = kinds_of(fields, both), ({}, {})
-    for values, kind, found in zip(both, kinds, texts):
-        for label, value in values.items():
-            is_named = has_names and label in ("UID", "GID") and type(value) is int
-            text = name_text(label, value) if is_named else decoded(label, value, kind)
-            if text is not None:
-                found[label] = text
+def texts_of(fields, both, has_names=False):
+    """The texts of the values of both sides by the names of the attributes. If two values have one text, which would hide the
+    change, neither has it. `has_names`: users and groups have the names of this host."""
+    texts = []
+    for values, kind in zip(both, kinds_of(fields, both)):
+        noted = {label: decoded(label, value, kind) for label, value in values.items() if label in NOTED}
+        named = [label for label in ("UID", "GID") if has_names and type(values.get(label)) is int]
+        noted.update((label, name_text(label, values[label])) for label in named)
+        texts.append({label: text for label, text in noted.items() if text is not None})
     old, new = texts
     for label in [label for label, text in old.items() if new.get(label) == text and both[0][label] != both[1][label]]:
         del old[label], new[label]
-    return old, new
+    return texts

@@ -32,13 +32,13 @@ def _shown(value, text):
 def values_in(fields, others=()):
     """For each attribute of a change its name and both values for people, None for one that is not there. Of the digests the
     strongest says as much as all, and the type is said already unless it changed. `others`: attributes that it has too."""
-    old, new = (values_of(fields, side) for side in SIDES)
-    texts, labels = texts_of(fields), {*old, *new, *others}
+    both = [values_of(fields, side) for side in SIDES]
+    texts, labels = texts_of(fields, both), {*others}.union(*both)
     digest = next((label for label in STRENGTH if label in labels), None)
     for label in FORMS:
         is_said = label == "Type" and fields["kind"] != "changed" or label in STRENGTH and label != digest
         if label in labels and not is_said:
-            yield (label, *(_shown(values.get(label), each.get(label)) for values, each in zip((old, new), texts)))
+            yield (label, *(_shown(values.get(label), each.get(label)) for values, each in zip(both, texts)))
 
 
 def change_lines(fields):

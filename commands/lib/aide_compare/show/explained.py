@@ -5,11 +5,11 @@ from aide_compare.base import progress
 from aide_compare.base.ending import Fault, Status, why_of
 from aide_compare.base.escapes import shown
 from aide_compare.compare.outputs import Output
-from aide_compare.show.added import Adding, added_lines, written
 from aide_compare.lines.reader import Refused, reader_over
 from aide_compare.reasons.explainer import Evidence, Explainer, evidence_of, members_of
 from aide_compare.reasons.records import SUFFIX, mismatch
 from aide_compare.reasons.tables import Severity
+from aide_compare.show.added import added_lines, full_members, written
 from aide_compare.show.brief import brief, unjudged
 
 MOST_WEIGHED = 200000  # Each takes half a kilobyte of memory. Of more the report is printed, which takes none.
@@ -100,10 +100,11 @@ class Explained:
             comparison.doubts.append("what packages explain is not verified: %s" % doubt)
 
     def lines(self):
-        """All lines, as aide-compare json --full writes them: the summary with the counts of the reasons, and each change with
-        its reason, if they were looked for."""
-        adding = Adding(reasons=self.counts._asdict(), members=map(members_of, self.changes)) if self.counts else Adding()
-        return added_lines(reader_over(self.descriptor), self.comparison, adding)
+        """All lines, as aide-compare json --full writes them: the summary with the counts of the
+        reasons, and each change with its reason, if they were looked for."""
+        reader = reader_over(self.descriptor)
+        found = {"reasons": self.counts._asdict(), "members": map(members_of, self.changes)} if self.counts else {}
+        return added_lines(reader, self.comparison, full_members(reader.summary, self.comparison), **found)
 
     def brief(self):
         """The bytes of what people read first; nothing if the changes were not looked at."""

@@ -1,10 +1,11 @@
 // Takes the items of the entries out of the document, and shows those again that the address asks for.
 const PAGE = 100, FEW = 25, REASONS = 4;
 const STANDINGS = { unexplained: 'not explained', not_verified: 'explained, not verified', explained: 'explained' };
+const ORDERS = { importance: 'what matters most', size: 'change of size' };
 const find = (id) => document.getElementById(id), on = (target, event, act) => target.addEventListener(event, act);
 const number = (count) => count.toLocaleString('en');
 const entriesOf = (count) => count === 1 ? '1 entry' : number(count) + ' entries';
-// All entries in the order of paths, in each other order that was asked for, and those that are shown.
+// All entries in the order of paths, in each order that was asked for, and those that are shown.
 const entries = [], inOrder = new Map();
 let view = viewOf(''), matching = [], firstOrder = '', shownOrder = '', written = '';
 
@@ -18,25 +19,26 @@ function make(tag, attributes, ...inner) {
 
 // An entry: its item, and what filters and orders need of it. `section` is the heading of its group.
 function entryOf(item, standing, section, place) {
-  const opening = item.firstElementChild, head = opening.tagName === 'DETAILS' ? opening.firstElementChild : item, parts = {};
-  for (let part = head.firstElementChild; part; part = part.nextElementSibling) parts[part.tagName] = part;
-  const wordOf = (tag) => parts[tag] ? parts[tag].textContent : '', names = parts.I;
-  const path = wordOf('CODE'), about = wordOf('I'), reason = standing === 'explained' ? section : wordOf('SPAN');
-  const [, grown, size] = /Size [+-](\d+)|(\d+) bytes$/.exec(about) || [];
+  const opening = item.firstElementChild, head = opening.tagName === 'DETAILS' ? opening.firstElementChild : item;
+  const mark = head.firstElementChild, code = mark.nextElementSibling, next = code.nextElementSibling;
+  const why = next && next.tagName === 'SPAN' ? next : null, names = why ? why.nextElementSibling : next;
+  const [kind, severity] = mark.textContent.split(' '), path = code.textContent, about = names ? names.textContent : '';
   return {
-    item, standing, section, place, path, reason, folded: path.toLowerCase(), key: path.replaceAll('/', '\0'),
-    kind: wordOf('B'), severity: wordOf('EM'), attributes: names && names.title || about, growth: Number(grown || size || 0),
-    node: null, told: null,
+    item, standing, section, place, kind, severity, path, about,
+    attribute: names && names.title || about.replace(/ [+-]\d+/, ''),
+    reason: standing === 'explained' ? section : why ? why.textContent.slice(1) : '',
+    folded: path.toLowerCase(), key: path.replaceAll('/', '\0'), node: null, told: null,
   };
 }
 
 function readEntries() {
   for (const group of document.querySelectorAll('#content > .group')) {
     const section = group.querySelector('h2 span').textContent;
-    for (const item of group.querySelector('ul').children) {
+    for (let item = group.querySelector('ul').firstElementChild; item; item = item.nextElementSibling) {
       entries.push(entryOf(item, group.dataset.standing, section, entries.length));
     }
   }
+  inOrder.set('importance', [...entries]);
   entries.sort((one, two) => one.key < two.key ? -1 : 1);
   inOrder.set('path', entries);
 }
@@ -81,9 +83,9 @@ function itemOf(entry) {
   const { item, path, standing, reason } = entry, details = item.querySelector('details'), cut = path.lastIndexOf('/') + 1;
   if (details) details.open = view.values !== '';
   if (!entry.told) {
-    entry.told = make('span', { class: 'reason' }, standing === 'explained' ? reason : '');
+    entry.told = make('span', { class: 'reason' }, standing === 'explained' ? ' ' + reason : '');
     item.querySelector('code').replaceChildren(path.slice(0, cut), make('b', {}, path.slice(cut)));
-    item.querySelector('code').after(' ', entry.told);
+    item.querySelector('code').after(entry.told);
   }
   entry.told.hidden = shownOrder === 'importance';
   return item;
@@ -151,9 +153,11 @@ function choiceButton(name, word, text, count) {
 
 // How many entries have each word of a filter: in the order of the words, or the most frequent ones first.
 function countedWords(name) {
-  const counts = new Map();
-  const wordsOf = name === 'attribute' ? ({ attributes }) => attributes.split(' ') : (entry) => [entry[name]];
-  for (const entry of entries) for (const word of wordsOf(entry)) counts.set(word, (counts.get(word) || 0) + 1);
+  const whole = new Map(), counts = new Map();
+  for (const entry of entries) whole.set(entry[name], (whole.get(entry[name]) || 0) + 1);
+  for (const [text, count] of whole) {
+    for (const word of name === 'attribute' ? text.split(' ') : [text]) counts.set(word, (counts.get(word) || 0) + count);
+  }
   const frequent = (one, two) => counts.get(two) - counts.get(one) || (one < two ? -1 : 1);
   const words = choices[name] || [...counts.keys()].sort(frequent);
   return words.filter((word) => word && counts.has(word)).map((word) => [word, counts.get(word)]);
@@ -190,7 +194,7 @@ function makeFilters() {
   showChoices('reason', 'Explained by');
   for (const order of Object.keys(KEYS)) {
     if (hasReasons || (order !== 'importance' && order !== 'severity')) {
-      find('order').append(make('option', { value: order }, ORDERS[order]));
+      find('order').append(make('option', { value: order }, ORDERS[order] || order));
     }
   }
 }
@@ -243,14 +247,13 @@ function listen() {
 }
 
 function begin() {
-  const { order, state } = find('content').dataset;
-  firstOrder = order;
+  firstOrder = find('content').dataset.order;
   readEntries();
   placeEntries(entries);
   find('content').remove();
   find('bar').id = 'content';
   makeFilters();
-  const text = location.hash.slice(1) || state || (entries.length <= FEW ? 'values=shown' : '');
+  const text = location.hash.slice(1) || (entries.length <= FEW ? 'values=shown' : '');
   view = viewOf(text);
   filter();
   for (let first = shownChildren(root); first.length === 1 && first[0].node.below && opened.size < DEEP;

@@ -5,15 +5,14 @@ from array import array
 from collections import Counter
 from html import escape
 
-from aide_compare.base.escapes import shown_note
 from aide_compare.base.files import Spool
-from aide_compare.base.words import SEVERITIES
-from aide_compare.show.page_heading import head, part_of
-from aide_compare.show.page_items import entries, head_of, item, number, table
-from aide_compare.show.page_view import CHOICES, ORDERS, View, words_of
-from aide_compare.show.rows import STANDINGS, entries_of
+from aide_compare.base.words import KINDS, SEVERITIES
+from aide_compare.show.page_heading import entries, head, number, part_of
+from aide_compare.show.page_items import NAMES, STANDINGS, entries_of, head_of, item, table
 
 SCRIPTS = ("page_logic.js", "page_tree.js", "page.js")
+# The words of the filters of a page, in their order.
+CHOICES = {"kind": KINDS, "standing": STANDINGS, "severity": SEVERITIES, "attribute": list(dict.fromkeys(NAMES.values()))}
 # The most bytes of a page. Values get what heads leave, or an eighth if there are so many entries that a browser has enough to
 # do with their heads.
 MOST, RESERVE = 20000000, 8000
@@ -27,7 +26,7 @@ GROUP = '<details class="group" data-standing="%s"%s><summary><h2><span>%s</span
 
 
 def script_of():
-    words = "const choices = %s, ORDERS = %s;" % (json.dumps(CHOICES), json.dumps(ORDERS))
+    words = "const choices = %s;" % json.dumps(CHOICES)
     return "'use strict';\n(() => {\n%s\n})();\n" % "\n".join([words, *map(part_of, SCRIPTS)])
 
 
@@ -55,25 +54,20 @@ class Groups:
         self.listed, self.valued = 0, 0
 
     def add(self, entry):
-        entry = self.few_reasons(entry) if entry.reason else entry
-        standing = entry.standing if self.has_reasons else 0
-        severity = entry.severity if self.has_reasons and standing < 2 else None
-        key = (standing, entry.reason if standing == 2 else severity)
+        standing, reason = (entry.standing, entry.reason) if self.has_reasons else (0, "")
+        if reason and len(self.reasons) >= MOST_REASONS and reason not in self.reasons:
+            reason = "%s: %s" % (reason.partition(":")[0], OTHERS)
+        self.reasons.add(reason)
+        severity = entry.fields.get("severity") if self.has_reasons and standing < 2 else None
+        key = (standing, reason if standing == 2 else severity)
         heads, tables = self.rooms.setdefault((standing, severity), (Room(MOST), Room(MOST)))
-        head = head_of(entry, entry.reason if standing == 1 else "").encode()
+        text = head_of(entry, reason if standing == 1 else "").encode()
         self.counts[key] += 1
-        self.size += len(head) + len(ITEM)
-        if heads.takes(len(head)):
+        self.size += len(text) + len(ITEM)
+        if heads.takes(len(text)):
             self.places.setdefault(key, array("Q")).append(self.spool.tell())
-            inner = table(entry.rows).encode() if tables.left >= 0 else LEFT_OUT
-            self.spool.write(b"%s\n%s\n" % (head, inner if tables.takes(len(inner)) else LEFT_OUT))
-
-    def few_reasons(self, entry):
-        """The entry with a reason of which there are not too many."""
-        if len(self.reasons) < MOST_REASONS or entry.reason in self.reasons:
-            self.reasons.add(entry.reason)
-            return entry
-        return entry._replace(reason="%s: %s" % (entry.reason.partition(":")[0], OTHERS))
+            inner = table(entry).encode() if tables.left >= 0 else LEFT_OUT
+            self.spool.write(b"%s\n%s\n" % (text, inner if tables.takes(len(inner)) else LEFT_OUT))
 
     def order(self, key):
         standing, what = key
@@ -107,40 +101,36 @@ class Groups:
         before = self.listed
         for place in places:
             self.spool.seek(place)
-            head, inner = self.spool.readline()[:-1], self.spool.readline()[:-1]
-            if not heads.takes(len(head) + len(ITEM)):
+            text, inner = self.spool.readline()[:-1], self.spool.readline()[:-1]
+            if not heads.takes(len(text) + len(ITEM)):
                 break
             has_values = inner != LEFT_OUT and tables.takes(len(inner) + len(OPENING))
-            file.write(item(head.decode(), inner.decode() if has_values else "").encode())
+            file.write(item(text.decode(), inner.decode() if has_values else "").encode())
             self.listed += 1
             self.valued += has_values
         return self.listed - before
 
-    def notes(self, count, only):
-        """What the lists leave out of so many entries."""
-        fitting, notes = sum(self.counts.values()), []
-        if only:
-            notes.append("These lists have the %s of %s that fit %s." % (entries(fitting), number(count), shown_note(only)))
-        if self.listed < fitting:
-            told = (entries(self.listed), number(fitting))
+    def notes(self):
+        """What the lists leave out."""
+        notes, total = [], sum(self.counts.values())
+        if self.listed < total:
+            told = (entries(self.listed), number(total))
             notes.append("This page has room for %s of %s. The counts are those of all." % told)
         if self.valued < self.listed:
             notes.append("Values are on this page of the first %s only: it stays below 20 MB." % entries(self.valued))
         return notes
 
 
-def page(reader, title, is_plain, only=""):
+def page(reader, title, is_plain):
     """Yields the page of the lines of a Reader, when all of them have been read and are good."""
-    view, groups, lists, title = View(only), Groups("reasons" in reader.summary), Spool(), os.fsencode(title or "")
+    groups, lists, title = Groups("reasons" in reader.summary), Spool(), os.fsencode(title or "")
     for entry in entries_of(reader):
-        if not (is_plain and only) or view.fits(words_of(entry)):
-            groups.add(entry)
+        groups.add(entry)
     has_script = bool(reader.count) and not is_plain
     script, controls = (script_of(), part_of("controls.html")) if has_script else ("", "")
-    order = "importance" if groups.has_reasons else "path"
-    controls += '<div id="content" tabindex="-1" data-order="%s" data-state="%s">\n' % (order, escape(only * has_script))
+    controls += '<div id="content" tabindex="-1" data-order="%s">\n' % ("importance" if groups.has_reasons else "path")
     groups.write(lists, MOST - RESERVE - len(head(reader, title, script, [])) - len(controls))
-    yield head(reader, title, script, groups.notes(reader.count, only * is_plain))
+    yield head(reader, title, script, groups.notes())
     yield controls.encode()
     lists.seek(0)
     yield from lists

@@ -6,16 +6,14 @@ import re
 from html import escape
 
 from aide_compare.base.escapes import shown_note, shown_value
-from aide_compare.base.words import KINDS, SEVERITIES, SIDES
+from aide_compare.base.words import KINDS, SEVERITIES, SIDES, counted
 from aide_compare.compare.state import GRADE_KEYS, REASON_KEYS, ReasonCounts
 from aide_compare.lines.reader import bytes_of
-from aide_compare.show.page_items import entries, number
-from aide_compare.show.rows import STANDINGS
 
 HERE = os.path.dirname(os.path.abspath(__file__))
-POLICY = "default-src 'none'; base-uri 'none'; form-action 'none'; style-src '%s'"
+POLICY = "default-src 'none'; base-uri 'none'; form-action 'none'; style-src 'sha256-%s'"
 OUTCOMES = {True: "The two databases differ", False: "No differences between the two databases"}
-CARDS = dict(zip(STANDINGS, ("Not explained", "Explained, not verified", "Explained")))
+CARDS = {"unexplained": "Not explained", "not_verified": "Explained, not verified", "explained": "Explained"}
 KNOWN = set(
     """format differences total added removed changed entries old new reasons left_out skipped host @timestamp status old_time
     new_time old_digest new_digest""".split()
@@ -28,25 +26,29 @@ HINT = (
 )
 
 
+def number(count):
+    return format(count, ",")
+
+
+def entries(count):
+    return counted(count, "entry", ",")
+
+
 def part_of(name):
     """A file of the page that is the same for each report."""
     with open(os.path.join(HERE, name), encoding="utf-8") as file:
         return file.read()
 
 
-def policy_name(text):
-    """The name that a content policy has for a script or style."""
-    return "sha256-" + base64.b64encode(hashlib.sha256(text.encode()).digest()).decode()
-
-
 def beginning(title, script="", **parts):
-    """The beginning of a page, up to the entries. `title` is a text; the parts are markup."""
+    """The beginning of a page, up to the entries. `title` is a text; the parts are markup. The content policy names what may
+    run and colour the page by its digest."""
     style = part_of("page.css")
-    policy = POLICY % policy_name(style) + ("; script-src '%s'" % policy_name(script) if script else "")
+    digests = [base64.b64encode(hashlib.sha256(text.encode()).digest()).decode() for text in (style, script)]
+    policy = POLICY % digests[0] + ("; script-src 'sha256-%s'" % digests[1] if script else "")
     fixed = {"title": escape(title), "style": style, "policy": policy, "script": script and "<script>%s</script>\n" % script}
-    return (part_of("page.html") % {"heading": escape(title), "databases": "", **parts, **fixed}).encode(
-        "utf-8", "backslashreplace"
-    )
+    text = part_of("page.html") % {"heading": escape(title), "databases": "", **parts, **fixed}
+    return text.encode("utf-8", "backslashreplace")
 
 
 def member(summary, name):
@@ -107,17 +109,15 @@ def counts(reader):
     return '<div class="cards">%s</div>\n%s%s' % (text, told, look)
 
 
-def left_out(value):
-    """What the comparison has left out, as far as the summary says it: for each database, how many entries."""
-    numbers = [value.get(side) for side in SIDES] if isinstance(value, dict) else [value]
-    if not all(type(count) is int for count in numbers) or not any(numbers):
-        return ""
-    where = " and ".join("%s of the %s database" % (entries(count), side) for count, side in zip(numbers, SIDES))
-    return "The comparison left out %s, by the rules of --exclude-from." % (where if len(numbers) == 2 else entries(*numbers))
-
-
-def skipped(value):
-    """The columns of the databases that were not compared, as far as the summary says it."""
+def remarks_of(summary):
+    """What the comparison has left out of each database, and the columns that were not compared, as far as the summary says
+    it."""
+    value = summary.get("left_out")
+    numbers = [value.get(side) for side in SIDES] if isinstance(value, dict) else []
+    if all(type(count) is int for count in numbers) and any(numbers):
+        where = " and ".join("%s of the %s database" % (entries(count), side) for count, side in zip(numbers, SIDES))
+        yield "The comparison left out %s, by the rules of --exclude-from." % where
+    value = summary.get("skipped")
     names = [name for names in value.values() for name in names] if isinstance(value, dict) else []
     for name in list(dict.fromkeys(names))[:MOST_MEMBERS]:
         yield "The column %s is not compared: the program does not know it." % shown_note(str(name))
@@ -128,7 +128,6 @@ def head(reader, title, script, notes):
     summary, host = reader.summary, member(reader.summary, "host")
     title = shown_value(title[:MOST_LETTERS]) if title else "File changes on %s" % host if host else "File changes"
     kinds = ": " + ", ".join("%s %s" % (number(summary[kind]), kind) for kind in KINDS)
-    remarks = filter(None, [left_out(summary.get("left_out")), *skipped(summary.get("skipped")), *notes])
     return beginning(
         title,
         script,
@@ -136,5 +135,5 @@ def head(reader, title, script, notes):
         outcome=OUTCOMES[summary["differences"]],
         databases=facts(summary) + databases(summary),
         counts=counts(reader),
-        remarks="".join('<p class="remark">%s</p>\n' % escape(text) for text in remarks),
+        remarks="".join('<p class="remark">%s</p>\n' % escape(text) for text in [*remarks_of(summary), *notes]),
     )

@@ -1,12 +1,16 @@
 // What a reader asks for: filters and an order, as they are written in the address after "#". Nothing here knows the page.
-// page_view.py has the same filters for plain pages. One table of cases is tried with both. `choices` are their words.
-// The number by which an order sorts entries; those that are equal in it stay in path order.
+// `choices` are the words of the filters.
+// The number by which an order sorts entries; those that are equal in it stay in path order. A size or its growth is in what is
+// seen of an entry.
 const KEYS = {
   importance: ({ place }) => place,
   path: () => 0,
   kind: ({ kind }) => choices.kind.indexOf(kind),
   severity: ({ severity }) => severity ? choices.severity.indexOf(severity) : choices.severity.length,
-  size: ({ growth }) => -growth,
+  size: ({ about }) => {
+    const [, grown, size] = /Size [+-](\d+)|(\d+) bytes$/.exec(about) || [];
+    return -(grown || size || 0);
+  },
 };
 
 // A view from its text. A filter without words takes every entry; several words take what has one of them.
@@ -45,7 +49,7 @@ function textOf(view) {
 // Whether an entry fits; `folded` is the text of the path filter in small letters.
 function fits(view, folded, entry) {
   return ['kind', 'standing', 'severity', 'reason'].every((name) => !view[name].size || view[name].has(entry[name]))
-    && (!view.attribute.size || [...view.attribute].some((name) => entry.attributes.includes(name)))
+    && (!view.attribute.size || [...view.attribute].some((name) => entry.attribute.includes(name)))
     && (!folded || entry.folded.includes(folded))
     && (!view.directory || entry.path === view.directory || entry.path.startsWith(view.directory + '/'));
 }

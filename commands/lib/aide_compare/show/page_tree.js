@@ -18,10 +18,13 @@ function childOf(parent, name) {
 const nodeAt = (path) => path.split('/').slice(1).reduce((node, name) => node && node.children.get(name), root);
 
 function placeEntries(entries) {
-  for (const entry of entries) entry.node = entry.path.split('/').slice(1, -1).reduce(childOf, root);
+  let node = root;
   for (const entry of entries) {
-    entry.node = entry.node.children.get(entry.path.slice(entry.path.lastIndexOf('/') + 1)) || entry.node;
+    const cut = entry.path.lastIndexOf('/'), folder = entry.path.slice(0, cut);
+    if (folder !== node.path) node = folder.split('/').slice(1).reduce(childOf, root);
+    Object.assign(entry, { node, name: entry.path.slice(cut + 1) });
   }
+  for (const entry of entries) entry.node = entry.node.children.get(entry.name) || entry.node;
 }
 
 // Counts some entries, directory by directory.
