@@ -63,7 +63,7 @@ PLANTED = (
             "for key, count in (self.reasons._asdict() if self.reasons else {}).items()",
             "for key, count in ()",
         ),
-        (BRIEF, "        if change.reason is None:", '        if change.reason is None and change.severity != "high":'),
+        (BRIEF, "if change.reason is None]", 'if change.reason is None and change.severity != "high"]'),
         (WORDS, "differ = differences(old, new)", "differ = differences(old, old)"),
     )
     + seen_by("run.try_counts", (COMPARISON, "        if self.settings(texts) is None:\n            return False\n", ""))

@@ -20,8 +20,8 @@ PLANTED = (
         ),
         (
             BRIEF,
-            'self.severity == "high" and change.owner == ROOT',
-            'self.severity == "high" and change.owner in (None, ROOT)',
+            'change.severity == "high" and change.owner == ROOT',
+            'change.severity == "high" and change.owner in (None, ROOT)',
         ),
         (EXPLAINER, 'entry.bits & USER and "uid" in entry.places', '"uid" in entry.places'),
         (EXPLAINER, "change.owner = 0 if 0 in owners else None if None in owners else min(owners)", "pass"),
@@ -29,27 +29,27 @@ PLANTED = (
     + seen_by(
         "floods.try_folders",
         (BRIEF, "keys[change] = place[0],", "keys[change] = False,"),
-        (BRIEF, "place = folders.is_only_that(change), change.folder()", "place = False, change.folder()"),
+        (BRIEF, "place = self._is_only_that(change), change.folder()", "place = False, change.folder()"),
         (BRIEF, "if not (stat.S_ISDIR(change.old_mode) and stat.S_ISDIR(change.new_mode)):", "if change.is_replaced:"),
         (BRIEF, "return has_other_names(old, new, differences(old, new))", "return True"),
         (
             BRIEF,
-            "is_named = change.path in self.named and self.is_only_that(change)",
-            "is_named = self.is_only_that(change)",
+            "if change.path in self.named and self._is_only_that(change):",
+            "if self._is_only_that(change):",
         ),
-        (BRIEF, "change.path in self.named and self.is_only_that(change)", "change.path in self.named"),
+        (BRIEF, "change.path in self.named and self._is_only_that(change)", "change.path in self.named"),
         (BRIEF, "[change.folder()] if change.is_replaced else []", "[change.folder()]"),
-        (BRIEF, "        self.count += is_named\n", ""),
+        (BRIEF, "                self.count += 1\n", "                pass\n"),
     )
     + seen_by(
         "floods.try_flooded_mail",
         (BRIEF, "ROOMS = (200, 100, 100)", "ROOMS = (200, 100, 10000)"),
-        (BRIEF, "most_frequent(counts, MOST_FOLDERS)", "[], []"),
+        (BRIEF, "most_frequent(rest, MOST_FOLDERS)", "[], []"),
     )
     + seen_by(
         "floods.try_cut_lists",
         (CHANGES, 'ORDER = ("changed", "removed", "added")', 'ORDER = ("added", "removed", "changed")'),
-        (CHANGES, "            self.rest.update([folder] if folder in self.shares else [])\n", ""),
+        (CHANGES, "                rests[kind][folder] += 1\n", "                pass\n"),
     )
     + seen_by(
         "floods.try_same_content",

@@ -1,5 +1,6 @@
 """The changes of lines as a text for people: each with its values, or only the first paths where all would be too much."""
 from collections import Counter
+from contextlib import suppress
 
 from aide_compare.base.escapes import guarded, shown
 from aide_compare.base.words import KINDS, SIDES, most_frequent
@@ -58,47 +59,45 @@ def changes_text(reader):
         yield "\n" + "".join(change_lines(fields))
 
 
-class CutList:
-    """The first paths of a kind. A folder, and the tree below the first two pieces of a path, has a share of it, so that
-    nobody fills it with files of his own."""
+class Shares:
+    """What has been listed, for each key: no more than its limit, so that nobody fills a list with files of his own."""
 
     def __init__(self):
-        self.lines, self.shares, self.rest = [], Counter(), Counter()
+        self.listed = Counter()
 
-    def add(self, fields):
-        path = bytes_of(fields, "path")
-        folder, tree = path.rpartition(b"/")[0] or b"/", b"/".join(path.split(b"/")[:3])
-        if len(self.lines) < MOST_PATHS and self.shares[folder] < FOLDER_SHARE and self.shares[b"", tree] < TREE_SHARE:
-            self.shares.update((folder, (b"", tree)))
-            self.lines.append("%s: %s\n" % (fields["summary"], shown(path, MOST_PATHS)))
-        else:
-            self.rest.update([folder] if folder in self.shares else [])
-
-    def folders(self):
-        """Lines for the folders of which most is left out."""
-        return [
-            "%s: %d more\n" % (shown(folder, MOST_PATHS), count) for folder, count in most_frequent(self.rest, MOST_FOLDERS)[0]
-        ]
+    def takes(self, limits):
+        """Whether there is room for something by its keys and their limits, which then is taken."""
+        if any(self.listed[key] >= most for key, most in limits):
+            return False
+        self.listed.update(key for key, _ in limits)
+        return True
 
 
 def cut_text(reader, most, command):
-    """The beginning of a text of at most about so many bytes: the first paths of each kind."""
-    lists, room, paths = {kind: CutList() for kind in KINDS}, most, 0
-    try:
+    """The beginning of a text of at most about so many bytes: the first paths of each kind, and for the folders of which most is
+    left out how much. A folder has a share of the paths, and the tree below the first two pieces of a path."""
+    shares, lists, rests = Shares(), {kind: [] for kind in ORDER}, {kind: Counter() for kind in ORDER}
+    with suppress(Refused):  # They were cut, and those that are there are told.
         for _, fields in reader:
-            lists[fields["kind"]].add(fields)
-    except Refused:  # They were cut, and those that are there are told.
-        pass
-    text = head_of(reader.summary)
-    for kind in ORDER:
-        found = lists[kind]
-        text += "\n%s entries:\n\n" % kind.capitalize() if found.lines else ""
-        for place, line in enumerate(found.lines[: MOST_PATHS - paths] + found.folders()):
+            kind, path = fields["kind"], bytes_of(fields, "path")
+            folder, tree = path.rpartition(b"/")[0] or b"/", b"/".join(path.split(b"/")[:3])
+            limits = [(kind, MOST_PATHS), ((kind, folder), FOLDER_SHARE), ((kind, "tree", tree), TREE_SHARE)]
+            if shares.takes(limits):
+                lists[kind].append("%s: %s\n" % (fields["summary"], shown(path, MOST_PATHS)))
+            elif shares.listed[kind, folder]:
+                rests[kind][folder] += 1
+    text, room, paths = head_of(reader.summary), most, 0
+    for kind, lines in lists.items():
+        text += "\n%s entries:\n\n" % kind.capitalize() if lines else ""
+        folders = most_frequent(rests[kind], MOST_FOLDERS)[0]
+        rest = ["%s: %d more\n" % (shown(folder, MOST_PATHS), count) for folder, count in folders]
+        lines = lines[: MOST_PATHS - paths]
+        for place, line in enumerate(lines + rest):
             room -= len(line.encode("utf-8", "backslashreplace"))
             if room < 0:
                 break
             text += line
-            paths += place < len(found.lines)
+            paths += place < len(lines)
     total = sum(counts_in(reader.summary))
     return text + (
         "\nThis mail is cut: %d paths are listed, %d are left out, and no values are shown.\n"
