@@ -10,7 +10,8 @@ STATE, HINTS, MAIL, MESSAGE = (
 )
 STATUS = LIB + "commands/status.py"
 # The state says that a mail has told them before it is sent.
-TOLD_BEFORE = "    keep_told(given, state, kept)\n    if message:\n        deliver(way, message)\n"
+SENT = "    if message:\n        deliver(way, message)\n"
+TOLD_BEFORE = "    kept.commit(state.with_told(unknown_columns(given, state)).text())\n" + SENT
 
 PLANTED = seen_by(
     "columns.try_columns",
@@ -21,15 +22,11 @@ PLANTED = seen_by(
     (HINTS, "shown(name, MOST_NAME)", "name.decode()[:MOST_NAME]"),
     (HINTS, "MOST_HEAD, MOST_NAME = 1 << 16", "MOST_HEAD, MOST_NAME = 1 << 20"),
     (HINTS, 're.split(b"[ \\t]+", spec)', "spec.split()"),
-    (MAIL, "    if unknown_columns(given, state):\n        return False\n", ""),
+    (MAIL, "if not columns and (state.status == 0", "if (state.status == 0"),
     (MAIL, "and name not in given.known]", "]"),
-    (
-        MAIL,
-        "        return None\n    try:\n        return read_state",
-        "        return []\n    try:\n        return read_state",
-    ),
-    (MAIL, "    keep_told(given, state, kept)\n", ""),
-    (MAIL, "    if message:\n        deliver(way, message)\n", TOLD_BEFORE),
+    (MAIL, "[] if given.run and given.state else None", "[]"),
+    (MAIL, "        kept.commit(state.with_told(told).text())\n", "        pass\n"),
+    (MAIL, SENT, TOLD_BEFORE),
     (MAIL, "if state.status > 7 or name in", "if name in"),
     (STATUS, "json.dumps(name, ensure_ascii=False)", "'\"%s\"' % name"),
     (STATUS, 'counts += " (%s)" % not_compared(state.skipped_names) if state.skipped else ""', "pass"),

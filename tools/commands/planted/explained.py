@@ -108,21 +108,21 @@ PLANTED = (
     + seen_by(
         READERS % "try_alarm",
         (
-            MESSAGE,
-            "state.reasons.total > 0 and not state.reasons.unanswered",
-            "state.reasons.total > 0 and not state.reasons.unexplained",
+            WEEKLY,
+            "counts.total > 0 and not counts.unanswered",
+            "counts.total > 0 and not counts.unexplained",
         ),
     )
-    + seen_by(READERS % "try_mails", (MESSAGE, "first = beginning(brief, most // 2)", 'first = b""'))
+    + seen_by(READERS % "try_mails", (MESSAGE, "first = clean(brief)", 'first = b""'))
     + seen_by(
         READERS % "try_cut",
         (
             MESSAGE,
-            '    return text[: text.rfind(b"\\n", 0, most) + 1] + b"  ... (the list below has more)\\n\\n"\n',
-            '    return text[:most] + b"  ... (the list below has more)\\n\\n"\n',
+            'first[: first.rfind(b"\\n", 0, most // 2) + 1]',
+            "first[: most // 2]",
         ),
     )
-    + seen_by(READERS % "try_sign_of_life", (WEEKLY, "    changes += state.reasons.explained if state.reasons else 0\n", ""))
+    + seen_by(READERS % "try_sign_of_life", (WEEKLY, "    explained += state.reasons.explained if state.reasons else 0\n", ""))
     + seen_by(
         READERS % "try_metrics_and_log",
         (

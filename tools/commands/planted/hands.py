@@ -42,7 +42,7 @@ PLANTED = (
         (MAIL, "parsed(own + runs + words), refusal", "parsed(own + words), refusal"),
         (MAIL, "parsed(own + runs + words), refusal", "parsed(runs + words), refusal"),
         (MAIL, 'if keeps or name != "--weekly"', "if True"),
-        (MAIL, "without_state(given.words)", "given.words"),
+        (MAIL, '= others, "", None, None', '= words, "", None, None'),
         (MAIL, '"--format", "report", ', ""),
         (DEFAULTS, "        if name in options:\n", "        if True:\n"),
         (DEFAULTS, '{OFF, "--help"', '{"--help"'),

@@ -9,7 +9,7 @@ MAIL, MESSAGE, CHANGES, SENDING, CHILD, QUEUE, WEEKLY, HINTS, COMPARISON, FILES 
         "show/changes",
         "mail/sending",
         "base/processes",
-        "mail/queue",
+        "mail/sending",
         "commands/mail",
         "compare/hints",
         "compare/comparison",
@@ -19,8 +19,8 @@ MAIL, MESSAGE, CHANGES, SENDING, CHILD, QUEUE, WEEKLY, HINTS, COMPARISON, FILES 
 PLANTED = (
     seen_by(
         "mail.try_queue",
-        (QUEUE, "with failing(", 'with __import__("contextlib").nullcontext('),
-        (QUEUE, "                os.unlink(name, dir_fd=folder.fd)\n", ""),
+        (QUEUE, 'with failing("cannot send or', 'with __import__("contextlib").nullcontext("cannot send or'),
+        (QUEUE, "                    os.unlink(name, dir_fd=folder.fd)\n", ""),
         (QUEUE, "    if failed:\n        raise failed\n", ""),
         (QUEUE, " | os.O_NOFOLLOW | os.O_NONBLOCK", ""),
         (QUEUE, ">= MOST_WAITING:", ">= 10**9:"),
@@ -58,7 +58,7 @@ PLANTED = (
             "    return state.status\n",
         ),
         (MAIL, "    if comparison.status == Status.USAGE:", "    if False:"),
-        (MAIL, 'Output(given.run.state, "the state file").fd is not None', "False"),
+        (MAIL, 'Output(given.state, "the state file").fd is not None', "False"),
     )
     + seen_by(
         "mail.try_refusals",
@@ -120,14 +120,14 @@ PLANTED = (
         ),
         (
             SENDING,
-            "_no_longer_than(min(QUIT_SECONDS, (limit - time.monotonic()) / 2))",
+            "signal.setitimer(signal.ITIMER_REAL, max(min(QUIT_SECONDS, (limit - time.monotonic()) / 2), 0.01))",
             "connection.sock.settimeout(QUIT_SECONDS)",
         ),
     )
     + seen_by("smtp.try_refusing_servers", (SENDING, "in refused.items())", "in ())"))
     + seen_by(
         "smtp.try_odd_servers",
-        (SENDING, "    _limit_memory(len(message))\n", ""),
+        (SENDING, "    bound_of(resource.RLIMIT_AS, used + 10 * len(message) + MOST_ANSWERS)\n", ""),
         (
             SENDING,
             "in_child(str(server), lambda: _hand_over(server, seconds, message), seconds)",

@@ -116,7 +116,7 @@ def try_sign_of_life(sandbox):
     prepare(sandbox)
     day, other = time.strftime("%a", time.localtime()), time.strftime("%a", time.localtime(time.time() + 2 * 86400))
     words = [*REASONS, *QUIET, "--state", "quiet.state", "--weekly"]
-    sandbox.write("quiet.state.quiet", "4 0\n")
+    sandbox.write("quiet.state.quiet", "4 0 0\n")
     for new in ("gone.db", "o.db", "gone.db"):
         found = call(sandbox, *words, other, "o.db", new)
         sandbox.holds("another day is quiet", found[1] is None, found)

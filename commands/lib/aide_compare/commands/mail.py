@@ -1,4 +1,5 @@
 """aide-compare mail: compares two databases and mails what differs, or why nothing was compared."""
+import argparse
 import os
 import re
 import shlex
@@ -17,8 +18,8 @@ from aide_compare.compare.comparison import Comparison, Request
 from aide_compare.compare.hints import hint_for_owner
 from aide_compare.compare.outputs import Later, Output
 from aide_compare.compare.state import read_state
-from aide_compare.mail.message import build, clean, host, is_explained, subject, text_of, within
-from aide_compare.mail.sending import SECONDS, alert, deliver, server, way_out
+from aide_compare.mail.message import build, clean, host, subject, text_of, within
+from aide_compare.mail.sending import SECONDS, alert, deliver, send_all, server, way_in, way_out
 from aide_compare.show.told import told_of
 
 NAME = "aide-compare mail"
@@ -51,38 +52,14 @@ def parser():
     made.value("send-queue", "DIRECTORY", some_text, "compare nothing, and send the mails of this directory")
     made.value("unit-failed", "NAME", unit, "with --send-queue: mail first that this unit of systemd has failed")
     made.take("user")
+    made.take("state", help=argparse.SUPPRESS)  # It is the comparison's, and not for the command that a mail names.
     made.flag("alarm-sent-is-success", "end with 0 also after differences or errors that were mailed")
     return made
-
-
-def without_state(words):
-    """The words without --state and its value: a command for reading must not overwrite the state."""
-    state = Parser(NAME, "")
-    state.take("state")
-    return state.parse_own(words)[1]
-
-
-def known_columns(given):
-    """The columns that mails have told, of those that are not compared, as the state of the last run says; None if no state is
-    kept that a next run can see."""
-    if not (given.run and given.run.state):
-        return None
-    try:
-        return read_state(given.run.state).told
-    except Fault:
-        return []
 
 
 def unknown_columns(given, state):
     """The columns that are not compared, and that no earlier mail can have told."""
     return [name for name in state.skipped_names if given.known is not None and name not in given.known]
-
-
-def is_quiet(given, state):
-    """Whether a State is no alarm."""
-    if unknown_columns(given, state):
-        return False
-    return state.status == 0 or (given.alarm == "unexplained" and 1 <= state.status <= 7 and is_explained(state))
 
 
 def message_of(given, comparison, explained):
@@ -92,15 +69,18 @@ def message_of(given, comparison, explained):
     told = told_of(comparison) + "".join("%s: %s\n" % (NAME, hint) for hint in hints)
     if comparison.status == Status.USAGE:  # Who has typed it sees it at once.
         write_all(2, told.encode("utf-8", "backslashreplace"))
-    if is_quiet(given, state):
+    columns, counts = unknown_columns(given, state), state.reasons
+    all_explained = 1 <= state.status <= 7 and bool(counts) and counts.total > 0 and not counts.unanswered
+    if not columns and (state.status == 0 or given.alarm == "unexplained" and all_explained):
         return b""
-    command, notes = shlex.join([find_installed(FRONT), "--format", "report", *without_state(given.words)]), [given.fault]
+    # A command for reading must not overwrite the state: --state is none of the words for the comparison.
+    command, notes = shlex.join([find_installed(FRONT), "--format", "report", *given.words]), [given.fault]
     if given.html and comparison.differs:
         page, why = page_of(explained, given.max_mail)
         notes.insert(0, "there is no page: %s" % why if why else "")
     text = text_of(comparison, told, explained.brief() if explained else b"", given.max_mail, command)
     text += clean("".join("\n%s: %s\n" % (NAME, note) for note in notes if note))
-    return build(given.to, subject(state, unknown_columns(given, state)), text, page)
+    return build(given.to, subject(state, columns), text, page)
 
 
 def page_of(explained, most):
@@ -121,53 +101,37 @@ def page_of(explained, most):
 
 def way_of(given):
     """The way of a mail; none leaves before that is there."""
-    if given.queue:
-        from aide_compare.mail.queue import way_in
-
-        return way_in(given.queue)
-    return way_out(given.smtp, given.mail_time)
+    return way_in(given.queue) if given.queue else way_out(given.smtp, given.mail_time)
 
 
 def simple(given, subject, text):
     return build(given.to, "aide on %s: %s" % (host(), subject), clean(text))
 
 
-def quiet_text(runs, explained):
-    """The subject and the text of a heartbeat."""
-    if not explained:
-        return "no difference in %s" % counted(runs, "run"), "%s found no difference.\n" % counted(runs, "comparison")
-    return "%s, %s explained" % (counted(runs, "quiet run"), counted(explained, "change")), (
-        "In %s nothing was unexplained. %s had a reason.\n" % (counted(runs, "comparison"), counted(explained, "change"))
-    )
-
-
-def quiet_runs(path):
-    """The number of quiet runs, the time of the last heartbeat, and the number of explained changes; zeros without such a
-    file. One with two numbers is of a time when no changes were explained."""
-    with suppress(Fault):
-        words = read_file(path, 100).split()
-        if len(words) in (2, 3) and all(word.isdigit() for word in words):
-            return tuple(map(int, words + [b"0"]))[:3]
-    return 0, 0, 0
-
-
 def be_quiet(given, way, state):
-    """Counts a run that raises no alarm, and its explained changes, in a file beside the state. On the day, or a week after the
-    last heartbeat, a mail has both counts, and they begin anew."""
-    path, now = given.run.state + ".quiet", int(time.time())
-    runs, sent, changes = quiet_runs(path)
+    """Counts a run that raises no alarm, and its explained changes, in a file beside the state, which has the time of the last
+    heartbeat too. On the day, or a week after that, a mail has both counts, and they begin anew."""
+    path, now, kept = given.state + ".quiet", int(time.time()), None
+    with suppress(Fault):
+        kept = re.fullmatch(b"([0-9]+) ([0-9]+) ([0-9]+)\n", read_file(path, 100))
+    runs, sent, explained = map(int, kept.groups()) if kept else (0, 0, 0)
     sent = sent if sent <= now else 0  # A clock that was ahead must not silence the signs of life.
     runs += 1
-    changes += state.reasons.explained if state.reasons else 0
+    explained += state.reasons.explained if state.reasons else 0
     today, last = time.localtime(now), time.localtime(sent)
     is_day = DAYS[today.tm_wday] == given.weekly and today[:3] != last[:3]
     if os.path.isdir(path):
         raise Fault(Status.DEVICE, "cannot write the number of quiet runs in %s: it is a directory" % shown(path))
     with closing(Replacement(path, what="the number of quiet runs in").begin()) as file:
         if is_day or (sent and now - sent > 7 * 86400):
-            deliver(way, simple(given, *quiet_text(runs, changes)))
-            runs, sent, changes = 0, now, 0
-        file.commit(b"%d %d %d\n" % (runs, sent, changes))
+            all_runs, changes = counted(runs, "comparison"), counted(explained, "change")
+            title, text = "no difference in %s" % counted(runs, "run"), "%s found no difference.\n" % all_runs
+            if explained:
+                title = "%s, %s explained" % (counted(runs, "quiet run"), changes)
+                text = "In %s nothing was unexplained. %s had a reason.\n" % (all_runs, changes)
+            deliver(way, simple(given, title, text))
+            runs, sent, explained = 0, now, 0
+        file.commit(b"%d %d %d\n" % (runs, sent, explained))
 
 
 def compared(given):
@@ -191,16 +155,12 @@ def compared(given):
     return state, task.state, message.held
 
 
-def keep_told(given, state, kept):
-    """The state says which columns mails have told, now that this mail is on its way: one that is lost is no mail."""
-    told = [name for name in given.known or () if state.status > 7 or name in state.skipped_names]
-    told += unknown_columns(given, state)
-    if told:
-        kept.commit(state.with_told(told).text())
-
-
 def compare_and_mail(given):
-    given.known = known_columns(given)
+    # The columns that mails have told, as the state of the last run says; None if no state is kept that a next run can see.
+    given.known = [] if given.run and given.state else None
+    if given.known is not None:
+        with suppress(Fault):
+            given.known = read_state(given.state).told
     state, kept, message = compared(given)
     try:
         way = way_of(given)
@@ -211,55 +171,48 @@ def compare_and_mail(given):
         deliver(way, message)
     elif given.weekly:
         be_quiet(given, way, state)
-    keep_told(given, state, kept)
+    # This mail is on its way now: one that is lost has told nothing.
+    told = [name for name in given.known or () if state.status > 7 or name in state.skipped_names]
+    told += unknown_columns(given, state)
+    if told:
+        kept.commit(state.with_told(told).text())
     return 0 if given.alarm_sent_is_success else state.status
 
 
-def failed_unit(given):
-    """The unit that should have queued a mail and has failed, and how, or None. The command line says which; systemd 251 and
-    later say how by variables, which are enough without the option too."""
+def empty_queue(given):
+    """Sends what waits, and first that the unit that should have queued a mail has failed. The command line says which; systemd
+    251 and later say how by variables, which are enough without the option too."""
+    way, name, how = way_of(given), given.unit_failed, ""
     result, status = os.environ.get("MONITOR_SERVICE_RESULT", "success"), os.environ.get("MONITOR_EXIT_STATUS", "unknown")
     if result != "success":
-        name = os.environ.get("MONITOR_UNIT", "")
-        return given.unit_failed or (name if UNIT.fullmatch(name) else "a unit"), ": %s, status %s" % (result, status)
-    return (given.unit_failed, "") if given.unit_failed else None
-
-
-def empty_queue(given):
-    """Sends what waits, and first that a unit has failed."""
-    from aide_compare.mail.queue import send_all
-
-    way, failed = way_of(given), failed_unit(given)
-    if failed:
-        text = "%s failed%s. Its lines: journalctl -u %s\n" % (failed + (shlex.quote(failed[0]),))
+        named = os.environ.get("MONITOR_UNIT", "")
+        name, how = name or (named if UNIT.fullmatch(named) else "a unit"), ": %s, status %s" % (result, status)
+    if name:
+        text = "%s failed%s. Its lines: journalctl -u %s\n" % (name, how, shlex.quote(name))
         deliver(way, simple(given, "the comparison failed", text))
     send_all(given.send_queue, way)
     return 0
 
 
-def with_day(words):
-    """The words with the day of --weekly, which stands after it or is left out."""
-    cut, named = end_of_options(words), [*words[1:], ""]
-    days = [word == "--weekly" and day not in DAYS for word, day in zip(words[:cut], named)]
-    return [word + "=Mon" * is_bare for word, is_bare in zip(words, days)] + words[cut:]
-
-
 def parsed(words):
     """The options; a Fault for those that mean nothing without another one. A Fault in those of the comparison is mailed."""
-    given, others = parser().parse_own(with_day(words))
+    cut = end_of_options(words)
+    bare = [word == "--weekly" and day not in DAYS for word, day in zip(words[:cut], [*words[1:], ""])]
+    words = [word + "=Mon" * is_bare for word, is_bare in zip(words, bare)] + words[cut:]
+    given, others = parser().parse_own(words)
     given.words, given.fault, given.run, given.refusal = others, "", None, None
     try:
         given.run = compare.parser().parse(others)
-        given.run.user = given.user
     except Fault as fault:
         given.refusal = fault
         return given
+    given.run.user, given.run.state = given.user, given.state
     if given.alarm == "unexplained" and not given.run.reasons:
         raise Fault(Status.USAGE, "--alarm unexplained needs --reasons, which finds out what explains a change")
-    if given.weekly and not given.run.state:
+    if given.weekly and not given.state:
         raise Fault(Status.USAGE, "--weekly needs --state, beside which the number of quiet runs is kept")
-    if given.run.state and Output(given.run.state, "the state file").fd is not None:
-        raise Fault(Status.USAGE, "--state needs a file here, which the next run reads: %s" % shown(given.run.state, 200))
+    if given.state and Output(given.state, "the state file").fd is not None:
+        raise Fault(Status.USAGE, "--state needs a file here, which the next run reads: %s" % shown(given.state, 200))
     if given.unit_failed and not given.send_queue:
         raise Fault(Status.USAGE, "--unit-failed needs --send-queue")
     return given

@@ -1,8 +1,9 @@
 """The mails of aide-compare mail: built from changes and error lines, and never larger than allowed.
 
-The text is written by the rules of RFC 5322 and MIME. The package email of the standard library takes 60 ms to load, fails
-over odd addresses, and adds nothing here: each header is ASCII of our own.
+The text is written by the rules of RFC 5322 and MIME. The package email of the standard library, which reads mails here, takes
+60 ms to load for that, fails over odd addresses, and adds nothing: each header is ASCII of our own.
 """
+import email
 import os
 import quopri
 import re
@@ -19,11 +20,6 @@ from aide_compare.show.changes import changes_text, cut_text
 def host():
     """The name of this machine, with only those bytes that a subject may have."""
     return re.sub(r"[^A-Za-z0-9._-]", "", os.uname().nodename)[:200] or "unknown"
-
-
-def is_explained(state):
-    """Whether something explains every change of a State for certain."""
-    return bool(state.reasons) and state.reasons.total > 0 and not state.reasons.unanswered
 
 
 def subject(state, columns=()):
@@ -54,14 +50,6 @@ def opening(state):
     return text + "To accept what is reported here, and nothing else:\n    %s\n\n" % accept
 
 
-def beginning(brief, most):
-    """What people read first, in whole lines and at most so many bytes."""
-    text = clean(brief)
-    if len(text) <= most:
-        return text
-    return text[: text.rfind(b"\n", 0, most) + 1] + b"  ... (the list below has more)\n\n"
-
-
 def within(parts, room):
     """The parts as one, or None if they have more than so many bytes."""
     whole = bytearray()
@@ -72,22 +60,19 @@ def within(parts, room):
     return bytes(whole)
 
 
-def _changes(comparison, room, command):
-    """The text of the changes: whole if it has room, and otherwise the first paths."""
-    text = None
-    if not comparison.is_cut:
-        text = within(map(clean, changes_text(reader_over(comparison.lines))), room)
-    return text or clean(cut_text(reader_over(comparison.lines), room - room // 4, command))
-
-
 def text_of(comparison, told, brief, most, command):
-    """The text of the mail, in bytes: whole if it fits, cut otherwise. All bytes of others are escaped. `told` are the lines
-    that were told, `brief` is what people read first, and `command` prints the whole report."""
+    """The text of the mail, in bytes, with all bytes of others escaped: what people read first, `brief`, in whole lines; the
+    changes, or the first paths if they have no room; and the lines that were `told`. `command` prints the whole report."""
     told = told.encode("utf-8", "surrogateescape")[: most // 8 + 1].strip(b"\n")
     if not comparison.differs:
         return clean(told + b"\n")
-    first = beginning(brief, most // 2)
-    text = _changes(comparison, most - most // 4 - len(first), command)
+    first = clean(brief)
+    if len(first) > most // 2:
+        first = first[: first.rfind(b"\n", 0, most // 2) + 1] + b"  ... (the list below has more)\n\n"
+    room, text = most - most // 4 - len(first), None
+    if not comparison.is_cut:
+        text = within(map(clean, changes_text(reader_over(comparison.lines))), room)
+    text = text or clean(cut_text(reader_over(comparison.lines), room - room // 4, command))
     return first + clean(opening(comparison.state())) + text + (clean(b"\n" + told + b"\n") if told else b"")
 
 
@@ -117,17 +102,10 @@ def build(address, subject, text, page=None):
     return ("\n--%s\n" % mark).encode().join(parts) + ("\n--%s--\n" % mark).encode()
 
 
-def parsed(message):
-    """The Message that the bytes of a mail mean."""
-    import email
-
-    return email.message_from_bytes(message)
-
-
 def shortened(message, why):
     """A short mail in the place of one that was refused: its headers, its first lines, and the reason. It is made of the
     whole one, since that is all that a queue has."""
-    whole = parsed(message)
+    whole = email.message_from_bytes(message)
     first = next((each for each in whole.walk() if each.get_content_type() == "text/plain"), whole)
     lines = (first.get_payload(decode=True) or b"").split(b"\n")[:25]
     reason = "The whole mail of %d bytes was refused: %s\nThe first lines of it:\n\n" % (len(message), why)

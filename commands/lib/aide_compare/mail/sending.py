@@ -1,23 +1,26 @@
-"""How a mail leaves this machine: sendmail with a time limit, SMTP if that is chosen, and the system log if neither takes it.
+"""How a mail leaves this machine: sendmail with a time limit, SMTP if that is chosen, and the system log if neither takes it. It
+may first wait in a folder for the unit that sends it: there each is a file with the whole message, put there in one step.
 
 A way is a function that is given the bytes of a message, and raises a Fault if it was not taken.
 """
 import argparse
 import contextlib
+import email
 import fcntl
 import os
 import resource
 import signal
 import socket
+import stat
 import time
 from collections import namedtuple
 from functools import partial
 
 from aide_compare.base.ending import Fault, Status, failing, say
 from aide_compare.base.escapes import shown
-from aide_compare.base.files import closed_after, in_memory
+from aide_compare.base.files import closed_after, in_memory, open_folder, replace
 from aide_compare.base.processes import bound_of, ended, in_child, kill_group
-from aide_compare.mail.message import parsed, shortened
+from aide_compare.mail.message import shortened
 
 SECONDS = 60
 MAILERS = ("/usr/sbin/sendmail", "/usr/lib/sendmail")  # cron's PATH does not have their folders.
@@ -26,6 +29,7 @@ AUTH_ALERT = 4 * 8 + 1
 MOST_ANSWER = 1 << 16
 MOST_ANSWERS = 64 << 20  # Bytes of memory for all that a server answers.
 QUIT_SECONDS = 5
+MOST_WAITING, MOST_BYTES = 64, 64 << 20
 
 
 class Server(namedtuple("Server", "host port")):
@@ -57,21 +61,16 @@ def way_out(server, seconds):
     raise Fault(Status.DEVICE, "cannot find sendmail, so no mail can be sent")
 
 
-def _answer_file():
-    """A file in memory for what a program says, which cannot grow."""
-    descriptor = os.memfd_create("answer", os.MFD_CLOEXEC | os.MFD_ALLOW_SEALING)
-    os.ftruncate(descriptor, MOST_ANSWER)
-    fcntl.fcntl(descriptor, fcntl.F_ADD_SEALS, fcntl.F_SEAL_GROW)
-    return descriptor
-
-
 def by_sendmail(path, seconds, message):
     """Hands a message to sendmail. Postfix's one tries for ever if it cannot write to the spool, so it gets a time limit. It
     lives on if this process is ended: a mail that is on its way should go."""
     import subprocess
 
-    with closed_after(in_memory(message)) as given, closed_after(_answer_file()) as answer:
+    sealed = os.MFD_CLOEXEC | os.MFD_ALLOW_SEALING
+    with closed_after(in_memory(message)) as given, closed_after(os.memfd_create("answer", sealed)) as answer:
         os.lseek(given, 0, os.SEEK_SET)
+        os.ftruncate(answer, MOST_ANSWER)  # What sendmail says cannot grow beyond that.
+        fcntl.fcntl(answer, fcntl.F_ADD_SEALS, fcntl.F_SEAL_GROW)
         words = [path, "-oi", "-t"]
         process = subprocess.Popen(words, stdin=given, stdout=answer, stderr=answer, start_new_session=True)
         try:
@@ -95,15 +94,22 @@ def _hand_over(server, seconds, message):
     """The work of the child. The server has to take the message for each address."""
     import smtplib
 
-    limit, mail = time.monotonic() + seconds, parsed(message)
+    def over(*_):
+        raise TimeoutError
+
+    limit, mail = time.monotonic() + seconds, email.message_from_bytes(message)
     sender = mail["From"] = "aide-compare@" + (os.uname().nodename or "localhost")
-    _limit_memory(len(message))
+    # Room for some copies of the message and for what a server answers, and for no more.
+    with open("/proc/self/statm") as file:
+        used = int(file.read().split()[0]) * resource.getpagesize()
+    bound_of(resource.RLIMIT_AS, used + 10 * len(message) + MOST_ANSWERS)
     try:
         connection = smtplib.SMTP(*server, timeout=seconds)
         refused = connection.send_message(mail, sender)
-        # The server has the mail: what it answers to QUIT changes nothing.
+        # The server has the mail: what it answers to QUIT, however slowly, changes nothing.
         with contextlib.suppress(OSError, smtplib.SMTPException):
-            _no_longer_than(min(QUIT_SECONDS, (limit - time.monotonic()) / 2))
+            signal.signal(signal.SIGALRM, over)
+            signal.setitimer(signal.ITIMER_REAL, max(min(QUIT_SECONDS, (limit - time.monotonic()) / 2), 0.01))
             connection.quit()
         why = "; ".join("%s: %d %s" % (name, code, said.decode("ascii", "replace")) for name, (code, said) in refused.items())
         why = why and " for " + shown(why, 300)  # The others get the second, short one too, which says who has none.
@@ -113,23 +119,6 @@ def _hand_over(server, seconds, message):
         why = ": " + shown(str(error), 300)
     if why:
         raise Fault(Status.DEVICE, "%s did not take it%s" % (server, why))
-
-
-def _no_longer_than(seconds):
-    """A TimeoutError after so many seconds, however slowly something answers."""
-
-    def over(*_):
-        raise TimeoutError
-
-    signal.signal(signal.SIGALRM, over)
-    signal.setitimer(signal.ITIMER_REAL, max(seconds, 0.01))
-
-
-def _limit_memory(size):
-    """Room for some copies of a message of this size and for what a server answers, and for no more."""
-    with open("/proc/self/statm") as file:
-        most = int(file.read().split()[0]) * resource.getpagesize() + 10 * size + MOST_ANSWERS
-    bound_of(resource.RLIMIT_AS, most)
 
 
 def alert(text):
@@ -165,6 +154,43 @@ def deliver(way, message):
     if _refusal(way, shortened(message, why)) is None:
         say("only a short mail was sent: %s" % why)
         return
-    is_logged = alert("no mail could be sent (%s): %s" % (why, parsed(message)["Subject"]))
+    is_logged = alert("no mail could be sent (%s): %s" % (why, email.message_from_bytes(message)["Subject"]))
     log = "the system log has a line at priority alert" if is_logged else "there is no system log either"
     raise Fault(Status.DEVICE, "cannot send the mail: %s; %s" % (why, log))
+
+
+def waiting(folder):
+    """The names of the messages that wait in a folder, the oldest first."""
+    with closed_after(os.open(".", os.O_RDONLY | os.O_DIRECTORY | os.O_CLOEXEC, dir_fd=folder.fd)) as listing:
+        return sorted(name for name in os.listdir(listing) if name.endswith(".mail") and not name.startswith("."))
+
+
+def way_in(path):
+    """A way that keeps a message in this folder for the unit that sends it."""
+    with open_folder(path, make=True) as folder:
+        if len(waiting(folder)) >= MOST_WAITING:
+            alert("%d mails wait in %s: none can be sent" % (MOST_WAITING, path))
+            raise Fault(Status.DEVICE, "%d mails wait already in %s: none is sent" % (MOST_WAITING, shown(path)))
+    name = "%020d-%d.mail" % (time.time_ns(), os.getpid())
+    return lambda message: replace(os.path.join(path, name), message, 0o600, "the mail that waits")
+
+
+def send_all(path, way):
+    """Sends what waits, the oldest first. What cannot be sent stays, and is tried again the next time; so does what is anything
+    else than a regular file of the caller."""
+    failed, flags = None, os.O_RDONLY | os.O_NOFOLLOW | os.O_NONBLOCK | os.O_CLOEXEC
+    with open_folder(path, make=True) as folder:
+        for name in waiting(folder):
+            try:
+                with failing("cannot send or remove the mail %s" % shown(name)):
+                    with open(os.open(name, flags, dir_fd=folder.fd), "rb") as file:
+                        found = os.fstat(file.fileno())
+                        if not stat.S_ISREG(found.st_mode) or found.st_uid != os.geteuid() or found.st_size > MOST_BYTES:
+                            raise Fault(Status.DEVICE, "%s is no mail that this user has put there" % shown(name))
+                        message = file.read()
+                    deliver(way, message)
+                    os.unlink(name, dir_fd=folder.fd)
+            except Fault as fault:
+                failed = fault
+    if failed:
+        raise failed
