@@ -11,7 +11,7 @@ from tools.oracle.configuration import BOOL_OPTIONS, SET_OPTIONS
 from aide_compare import VERSION
 from aide_compare.base import ending, escapes, options, words
 from aide_compare.compare import configuration, state
-from aide_compare.lines import attributes, reader
+from aide_compare.lines import reader
 from aide_compare.reasons import entries
 from aide_compare.show import brief
 
@@ -49,14 +49,14 @@ def try_texts(tally, folder):
 def try_tables(tally, _):
     """The tables of attributes say the same: each digest is in the order of strength, in the reasons and in the schema. The
     options of the definitions are none that is misspelt."""
-    labels = [label for label, form in attributes.FORMS.items() if form == "digest"]
+    labels = [label for label, form in reader.FORMS.items() if form == "digest"]
     columns = sorted(label.lower().replace("-", "_").replace("/", "_") for label in labels)
     with open(os.path.join(TOP, "contrib", "json", "aide-compare-lines.schema.json"), encoding="utf-8") as file:
         schema = json.load(file)
-    expect(tally, "digests by strength", sorted(attributes.STRENGTH), sorted(labels))
-    expect(tally, "digests of the reasons", sorted(attributes.DIGEST_COLUMNS), columns)
+    expect(tally, "digests by strength", sorted(reader.STRENGTH), sorted(labels))
+    expect(tally, "digests of the reasons", sorted(reader.DIGEST_COLUMNS), columns)
     names = [name for name in schema["$defs"]["side"]["properties"] if not name.endswith("_hex")]
-    expect(tally, "attributes of the schema", names, list(attributes.FORMS))
+    expect(tally, "attributes of the schema", names, list(reader.FORMS))
     names = {name.encode() for name in ["report_level", "report_url", "report_format"] + BOOL_OPTIONS + SET_OPTIONS}
     expect(tally, "options of the report", sorted(names - configuration.OPTIONS), [])
 

@@ -80,7 +80,7 @@ PLANTED = (
     + seen_by(
         "viewers.try_edits",
         (LIB + "lines/reader.py", "lambda: last < names", "lambda: True"),
-        (LIB + "lines/reader.py", "        if self.file.read(1):\n", "        if False:\n"),
+        (LIB + "lines/reader.py", "                if self.file.read(1):\n", "                if False:\n"),
         (LIB + "lines/reader.py", 'self.summary["format"] == FORMAT', "True"),
         (LIB + "lines/reader.py", '        and fields["differences"] is (status_of(counts[1:]) > 0)\n', ""),
         (LIB + "lines/reader.py", 'self.count == self.summary["entries"] and all(', "all("),
@@ -125,7 +125,7 @@ PLANTED = (
         (LIB + "lines/decoded.py", '" +0x%x" % (flags & ~KNOWN_FLAGS) if flags & ~KNOWN_FLAGS else ""', '""'),
         (LIB + "lines/decoded.py", 'QUOTED_ESCAPES = {34: "\\\\042"}', "QUOTED_ESCAPES = {}"),
         (LIB + "lines/decoded.py", "for letter in ' \";'", "for letter in ' '"),
-        (LIB + "lines/decoded.py", "and LABEL.fullmatch(data)", "and _is_text(data)"),
+        (LIB + "lines/decoded.py", "and LABEL.fullmatch(data)", "and data.isascii()"),
         (
             LIB + "lines/decoded.py",
             "        if length > MOST:\n            break\n",

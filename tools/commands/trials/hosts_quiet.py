@@ -115,7 +115,7 @@ def try_reports(sandbox):
     good = len(gone) == 1 and gone[0]["hosts"] == HOSTS and gone[0]["reason"]["verified"] and "host" not in gone[0]
     sandbox.holds("the object of an explained change", good, gone)
     page = fleet.call("aide-compare hosts report", "--format=page", hosts)[1]
-    parts = ['<em class="high">high</em> <code>/usr/.x y</code>', "; unexplained</span>"]
+    parts = ['<b class="added high">added high </b><code>/usr/.x y</code>', "; unexplained</span>"]
     parts += ["; explained: gone, as its rule allows (ARF)"]
     sandbox.holds("the page", all(part in page for part in parts), page[-900:])
     sandbox.stub("sendmail", "cat > %s" % sandbox.path("mailed"))

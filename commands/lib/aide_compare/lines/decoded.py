@@ -5,6 +5,8 @@ Nothing is refused here. A value that does not decode has no text, a long text i
 in any case. Bytes of others are escaped in every text.
 """
 import base64
+import grp
+import pwd
 import re
 import stat
 import struct
@@ -15,7 +17,7 @@ from urllib.parse import unquote_to_bytes
 
 from aide_compare.base.escapes import shown
 from aide_compare.base.words import SIDES
-from aide_compare.lines.attributes import FORMS
+from aide_compare.lines.reader import FORMS
 
 NUMBERS = frozenset(label for label, form in FORMS.items() if form in ("number", "time"))
 # A text for people has at most so many characters; a longer one is cut, and ends with "...".
@@ -40,7 +42,7 @@ ACL_ENTRY = re.compile(
     rb"((?:user|group|mask|other):[^\x00-\x20:,#\x7f]{0,300}:[r-][w-][x-])(?:[\t ]+(#effective:[r-][w-][x-]))?"
 )
 COUNT = re.compile(rb"0|[1-9][0-9]{0,5}")
-TEXT = re.compile("[^\x00-\x08\x0b-\x1f\x7f]*\x00?")
+TEXT = re.compile("[^\x00-\x08\x0b-\x1f\x7f]*\x00?")  # No controls but a zero byte at the end.
 LABEL = re.compile(rb"[^\x00-\x20\";\x7f]+\x00?")
 # What would end a name or a value of a line of extended attributes is escaped in them.
 NAME_ESCAPES = {ord(letter): "\\%03o" % ord(letter) for letter in ' ";'}
@@ -116,20 +118,9 @@ def attributes_of(value):
     return found if all(name and data is not None for name, data in found) else None
 
 
-def _is_text(data):
-    """Whether bytes are UTF-8 without controls but a zero byte at the end."""
-    with suppress(UnicodeDecodeError):
-        return bool(TEXT.fullmatch(data.decode()))
-    return False
-
-
-def _label(data):
-    return shown(data[:-1] if data[-1:] == b"\0" else data, MOST)
-
-
 def label_text(value):
     """A label of SELinux, which AIDE keeps in base 64."""
-    return _label(_from_base64(value) or b"")
+    return shown((_from_base64(value) or b"").removesuffix(b"\0"), MOST)
 
 
 def _attribute_text(name, data):
@@ -138,9 +129,10 @@ def _attribute_text(name, data):
     if text is not None:
         return text
     if name == b"security.selinux" and LABEL.fullmatch(data):
-        return _label(data)
-    if _is_text(data):
-        return '"%s"' % shown(data, MOST).translate(QUOTED_ESCAPES)
+        return shown(data.removesuffix(b"\0"), MOST)
+    with suppress(UnicodeDecodeError):
+        if TEXT.fullmatch(data.decode()):
+            return '"%s"' % shown(data, MOST).translate(QUOTED_ESCAPES)
     return "0s" + base64.b64encode(data[:MOST]).decode()
 
 
@@ -243,9 +235,6 @@ def decoded(label, value, kind=None):
 @lru_cache(maxsize=10000)
 def name_text(label, number):
     """The name that this host has for the number of a user (UID) or of a group (GID)."""
-    import grp
-    import pwd
-
     with suppress(KeyError, OverflowError, OSError, ValueError):
         return shown(pwd.getpwuid(number).pw_name if label == "UID" else grp.getgrgid(number).gr_name, 100)
     return None

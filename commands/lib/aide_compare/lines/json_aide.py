@@ -5,9 +5,8 @@ import re
 
 from aide_compare.base.files import Spool
 from aide_compare.base.words import KINDS, SIDES
-from aide_compare.lines.attributes import FORMS
 from aide_compare.lines.decoded import acl_lists, attributes_of, decoded, exact_bytes, kinds_of, values_of
-from aide_compare.lines.reader import BLOCK, Refused, bytes_of
+from aide_compare.lines.reader import BLOCK, FORMS, Refused, bytes_of
 
 OUTLINES = {
     True: "AIDE found differences between the two databases!!",
@@ -78,22 +77,6 @@ def details_of(fields):
     return {NAMES.get(label) or re.sub("[/-]", "_", label.lower()): found[label] for label in FORMS if label in found}
 
 
-def _members_of(fields):
-    """What the object has of a change: in which of its parts, and the text of the member."""
-    path, details = encode(name_of(bytes_of(fields, "path"))), details_of(fields)
-    yield fields["kind"], "%s: %s" % (path, encode(fields["summary"]))
-    if details:
-        yield "details", "%s: %s" % (path, encode(details))
-
-
-def _put(parts, name, text):
-    """Adds a member to a part, which is kept in a private file."""
-    before = ",\n    " if name in parts else "\n    "
-    if name not in parts:
-        parts[name] = Spool()
-    parts[name].write((before + text.replace("\n", "\n    ")).encode())
-
-
 def _databases(summary):
     """The member that has both, which may have the same name."""
     texts = []
@@ -104,29 +87,28 @@ def _databases(summary):
     return ',\n  "databases": {\n' + ",\n".join(texts) + "\n  }"
 
 
-def _written(parts, summary, members, ended):
-    """Yields the object. `ended` is when the comparison ended, None if that is not known."""
+def aide_parts(reader, summary, members, ended):
+    """Yields the object for the changes of a Reader, after it has read all of them, each of its parts into a private file.
+    `summary` names the databases. `ended` is when the comparison ended, None if that is not known."""
+    parts = {name: Spool() for name in (*KINDS, "details")}
+    for _, fields in reader:
+        try:
+            path, details = encode(name_of(bytes_of(fields, "path"))), details_of(fields)
+            texts = {fields["kind"]: encode(fields["summary"]), "details": encode(details) if details else ""}
+        except (ValueError, KeyError, TypeError, AttributeError):
+            raise Refused(reader.number, "this is not a line of aide-compare json") from None
+        for name in filter(texts.get, texts):
+            before = ",\n    " if parts[name].tell() else "\n    "
+            parts[name].write(("%s%s: %s" % (before, path, texts[name].replace("\n", "\n    "))).encode())
     whole = {"outline": OUTLINES[summary["differences"]], **members, "report_level": LEVEL}
-    kinds = KINDS if summary["differences"] else ()
-    whole["number_of_entries"] = {kind: summary[kind] for kind in ("total",) + kinds}
-    texts = ['  "%s": %s' % (name, encode(value).replace("\n", "\n  ")) for name, value in whole.items()]
-    yield ("{\n" + ",\n".join(texts)).encode()
-    for name in [name for name in KINDS + ("details",) if name in parts]:
-        yield (',\n  "%s": {' % name).encode()
+    counted = ("total", *KINDS) if summary["differences"] else ("total",)
+    whole["number_of_entries"] = {name: summary[name] for name in counted}
+    lines = ['  "%s": %s' % (name, encode(value).replace("\n", "\n  ")) for name, value in whole.items()]
+    yield ("{\n" + ",\n".join(lines)).encode()
+    for name in [name for name, part in parts.items() if part.tell()]:
         parts[name].seek(0)
+        yield (',\n  "%s": {' % name).encode()
         yield from iter(lambda: parts[name].read(BLOCK), b"")
         yield b"\n  }"
     end = "" if ended is None else ',\n  "end_time": %s' % encode(decoded("Mtime", ended))
     yield (_databases(summary) + end + "\n}\n").encode()
-
-
-def aide_parts(reader, summary, members, ended):
-    """Yields the object for the changes of a Reader, after it has read all of them. `summary` names the databases."""
-    parts = {}
-    for _, fields in reader:
-        try:
-            for name, text in _members_of(fields):
-                _put(parts, name, text)
-        except (ValueError, KeyError, TypeError, AttributeError):
-            raise Refused(reader.number, "this is not a line of aide-compare json") from None
-    yield from _written(parts, summary, members, ended)

@@ -1,5 +1,6 @@
 """Reads the lines of aide_lines, which are also those of aide-compare json: a summary, a line for each change in the order of
-paths, and an end. The end says the counts again, so that a stream that was cut shows."""
+paths, and an end. The end says the counts again, so that a stream that was cut shows. Here is also the one table of attributes:
+what they are called in a report and in a database, and what values they have."""
 import json
 import os
 
@@ -10,6 +11,21 @@ FORMAT, BLOCK = 2, 1 << 18
 LINE_LIMIT = 1 << 25
 COUNTS = ("total",) + KINDS
 ENCODE = json.JSONEncoder(separators=(",", ":")).encode
+# In the order of the details. Behind a label is the form of its values.
+_TABLE = (
+    "Type=type Lname=link Size=number Bcount=number Perm=perm UID=number GID=number Atime=time Mtime=time Ctime=time "
+    "Inode=number Linkcount=number MD5=digest SHA1=digest SHA256=digest SHA512=digest RMD160=digest TIGER=digest CRC32=digest "
+    "CRC32B=digest HAVAL=digest GOST=digest WHIRLPOOL=digest STRIBOG256=digest STRIBOG512=digest SHA512/256=digest "
+    "SHA3-256=digest SHA3-512=digest ACL=bytes XAttrs=bytes SELinux=bytes E2FSAttrs=bytes Caps=bytes"
+)
+FORMS = dict(row.split("=") for row in _TABLE.split())
+# The digest that people look at first, if an entry has it, and so on.
+STRENGTH = tuple(
+    "SHA256 SHA512 SHA3-256 SHA3-512 SHA512/256 STRIBOG256 STRIBOG512 WHIRLPOOL RMD160 SHA1 GOST TIGER HAVAL MD5 CRC32 "
+    "CRC32B".split()
+)
+# The columns of digests in a database.
+DIGEST_COLUMNS = frozenset(label.lower().replace("-", "_").replace("/", "_") for label in STRENGTH)
 
 
 class Refused(Exception):
@@ -62,7 +78,12 @@ class Reader:
         while self.count <= self.summary["entries"]:
             fields, line = self._next("this ends too early: the last line is missing")
             if "end" in fields:
-                self._judge_end(fields)
+                wanted = {"end": True, "status": status_of(counts_in(self.summary))}
+                wanted.update((name, self.summary[name]) for name in COUNTS)
+                is_whole = self.count == self.summary["entries"] and all(fields.get(name) == wanted[name] for name in wanted)
+                self._demand(lambda: is_whole, "the end does not fit the lines before it")
+                if self.file.read(1):
+                    raise Refused(self.number + 1, "this is after the end")
                 self.end = line
                 return
             self._demand(lambda: fields["kind"] in KINDS and bytes_of(fields, "path")[:1] == b"/", "this is no change")
@@ -84,13 +105,6 @@ class Reader:
             fields = None
         self._demand(lambda: line[-1:] == b"\n" and isinstance(fields, dict), "this is not a line of aide-compare json")
         return fields, line
-
-    def _judge_end(self, fields):
-        wanted = {"end": True, "status": status_of(counts_in(self.summary)), **{name: self.summary[name] for name in COUNTS}}
-        is_whole = self.count == self.summary["entries"] and all(fields.get(name) == wanted[name] for name in wanted)
-        self._demand(lambda: is_whole, "the end does not fit the lines before it")
-        if self.file.read(1):
-            raise Refused(self.number + 1, "this is after the end")
 
     def _demand(self, judge, words):
         """Refuses the line that was read last unless something holds of it."""

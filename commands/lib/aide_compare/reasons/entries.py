@@ -10,7 +10,7 @@ from functools import lru_cache, partial
 
 from aide_compare.base.files import reopened
 from aide_compare.base.paths import key_of, key_of_path, unescaped
-from aide_compare.lines.attributes import DIGEST_COLUMNS as DIGESTS
+from aide_compare.lines.reader import DIGEST_COLUMNS as DIGESTS
 
 fields_of = re.compile(rb"[^ \t\n]+").findall
 ABSENT = b"0"

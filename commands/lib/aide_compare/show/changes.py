@@ -4,9 +4,8 @@ from contextlib import suppress
 
 from aide_compare.base.escapes import guarded, shown
 from aide_compare.base.words import KINDS, SIDES, most_frequent
-from aide_compare.lines.attributes import FORMS, STRENGTH
 from aide_compare.lines.decoded import texts_of, values_of
-from aide_compare.lines.reader import Refused, bytes_of, counts_in
+from aide_compare.lines.reader import FORMS, STRENGTH, Refused, bytes_of, counts_in
 
 MOST_VALUE = 200
 MOST_PATHS = 1000

@@ -7,9 +7,8 @@ from html import escape
 from aide_compare.base.escapes import PLAIN, shown_note, shown_path, shown_value
 from aide_compare.base.words import SEVERITIES, SIDES, counted
 from aide_compare.compare.state import REASON_KEYS
-from aide_compare.lines.attributes import FORMS, STRENGTH
 from aide_compare.lines.decoded import NOTED, TEXTS, exact_bytes, texts_of, values_of
-from aide_compare.lines.reader import Refused, bytes_of
+from aide_compare.lines.reader import FORMS, STRENGTH, Refused, bytes_of
 
 # The attributes in their order on a page: the digests at the end, the strongest first. The name of each digest is the same.
 LABELS = [label for label in FORMS if label not in STRENGTH] + list(STRENGTH)
