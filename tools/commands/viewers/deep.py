@@ -141,7 +141,7 @@ def try_deep(tally):
 
 def try_script(script, tally):
     """The script of the page has no function that calls itself as deep as folders are nested."""
-    body = script[script.index("function fillOne(") : script.index("function toggle(")]
+    body = script[script.index("function fill(") : script.index("function toggle(")]
     item = script[script.index("function folderItem(") : script.index("// Folders that are open are filled")]
     calls = [
         line for line in (item + body).splitlines() if "fill(" in line and "function" not in line and "CHILDREN" not in line

@@ -10,7 +10,7 @@ from itertools import groupby
 from aide_compare.base.line_sorter import LineSorter
 from aide_compare.base.paths import key_of
 from aide_compare.base.words import SEVERITIES, SIDES
-from aide_compare.lines.reader import FORMS, ENCODE, bytes_of
+from aide_compare.lines.reader import ENCODE, FORMS, bytes_of
 
 OWN = frozenset(["Bcount", "Atime", "Mtime", "Ctime", "Inode", "Linkcount"])
 MOST_SEEN, EXPLAINED = 100000, 2

@@ -1,8 +1,6 @@
-"""The values of a change, and their texts for people: what the exact value of an attribute says, in the words of the tools of
-the system. The lines of aide-compare json have the texts beside the values.
+"""The values of a change, and what they say to people in the words of the system's tools, with bytes of others escaped.
 
-Nothing is refused here. A value that does not decode has no text, a long text is cut, and the exact value stands beside it
-in any case. Bytes of others are escaped in every text.
+Nothing is refused here: a value that does not decode has no text, a long text is cut, and the exact value stands beside it.
 """
 import base64
 import grp
@@ -16,7 +14,6 @@ from functools import lru_cache
 from urllib.parse import unquote_to_bytes
 
 from aide_compare.base.escapes import shown
-from aide_compare.base.words import SIDES
 from aide_compare.lines.reader import FORMS
 
 NUMBERS = frozenset(label for label, form in FORMS.items() if form in ("number", "time"))
@@ -48,13 +45,9 @@ LABEL = re.compile(rb"[^\x00-\x20\";\x7f]+\x00?")
 NAME_ESCAPES = {ord(letter): "\\%03o" % ord(letter) for letter in ' ";'}
 QUOTED_ESCAPES = {34: "\\042"}
 # The bits of linux/fs.h in the order of lsattr (e2fsprogs 1.47) and of AIDE 0.18.
-FLAGS = [
-    (pair[0], int(pair[2:], 16))
-    for pair in (
-        "s=1 u=2 S=8 D=10000 i=10 a=20 d=40 A=80 c=4 E=800 j=4000 I=1000 t=8000 T=20000 e=80000 C=800000 x=2000000 "
-        "F=40000000 N=10000000 P=20000000 V=100000 m=400"
-    ).split()
-]
+_FLAGS = "s=1 u=2 S=8 D=10000 i=10 a=20 d=40 A=80 c=4 E=800 j=4000 I=1000 t=8000 T=20000 e=80000 C=800000 x=2000000 "
+_FLAGS += "F=40000000 N=10000000 P=20000000 V=100000 m=400"
+FLAGS = [(pair[0], int(pair[2:], 16)) for pair in _FLAGS.split()]
 KNOWN_FLAGS = sum(bit for _, bit in FLAGS)
 # capabilities(7), in the order of their numbers; the letters of the sets that one is in, by bits; and the words of 32 bits that
 # follow the first one of the attribute (vfs_cap_data of linux/capability.h), by its version.
@@ -89,8 +82,7 @@ def _cut(text):
 
 
 def acl_lists(value):
-    """The entries of both lists of a field, `POSIX,` and both in base 64, each with what the mask leaves of it; None if it is no
-    such field."""
+    """The entries of both lists of a field, `POSIX,` and both in base 64, each with what the mask leaves of it, or None."""
     kind, *lists = value.split(b",", 3)
     texts = [_from_base64(text) for text in lists]
     if kind != b"POSIX" or len(texts) != 2 or None in texts:
@@ -109,8 +101,7 @@ def acl_text(value):
 
 
 def attributes_of(value):
-    """The names and values of a field of extended attributes: their number, and for each its name with percent escapes and its
-    value in base 64. None if it is no such field."""
+    """The names and values of a field: their number, each name with percent escapes, each value in base 64; None of no such one."""
     number, *fields = value.split(b",")
     if not COUNT.fullmatch(number) or len(fields) != 2 * int(number):
         return None
@@ -166,8 +157,7 @@ def _clauses(sets, numbers, base):
 
 
 def file_capabilities(data):
-    """The text that cap_to_text(3) gives of the attribute security.capability: the sets that most capabilities are in, then those
-    that differ. None if it is no such attribute."""
+    """What cap_to_text(3) gives of security.capability: the sets of most capabilities, then those that differ; or None."""
     first = struct.unpack("<I", data[:4])[0] if len(data) >= 4 else 0
     count = WORDS.get(first & VERSION)
     if count is None or len(data) != 4 + 4 * count or first & ~VERSION & ~EFFECTIVE:
@@ -218,10 +208,7 @@ _kept = lru_cache(maxsize=2048)(lambda label, value: FIELDS[label](value))
 
 
 def decoded(label, value, kind=None):
-    """The value of an attribute (by its name in the details) for people, None if there is nothing to decode.
-
-    Times are numbers, all other values bytes, or a text without bytes of its own. `kind` is the type of the file in words.
-    """
+    """The value of an attribute (by its name in the details) of a file of this kind for people, None if nothing is to decode."""
     if label in TIMES:
         return time_text(value) if type(value) is int else None
     if value is None or isinstance(value, int) or label != "Perm" and label not in FIELDS:
@@ -253,15 +240,14 @@ def values_of(fields, side):
 
 
 def kinds_of(fields, both):
-    """The types of both sides in words, None where the line does not tell it: an old entry has the type of the new one, unless
-    the letters say that it changed."""
+    """The types of both sides in words, or None: an old entry has that of the new one, unless the letters say that it changed."""
     kind = None if fields.get("summary", "")[:1] == "!" else fields.get("type")
     return [values.get("Type", kind) for values in both]
 
 
 def texts_of(fields, both, has_names=False):
-    """The texts of the values of both sides by the names of the attributes. If two values have one text, which would hide the
-    change, neither has it. `has_names`: users and groups have the names of this host."""
+    """The texts of the values of both sides, with `has_names` also the names that users and groups have on this host. If two
+    values have one text, which would hide the change, neither has it."""
     texts = []
     for values, kind in zip(both, kinds_of(fields, both)):
         noted = {label: decoded(label, value, kind) for label, value in values.items() if label in NOTED}

@@ -8,18 +8,12 @@ from aide_compare.base.words import KINDS, SIDES
 from aide_compare.lines.decoded import acl_lists, attributes_of, decoded, exact_bytes, kinds_of, values_of
 from aide_compare.lines.reader import BLOCK, FORMS, Refused, bytes_of
 
-OUTLINES = {
-    True: "AIDE found differences between the two databases!!",
-    False: "AIDE found NO differences between the two databases. Looks okay!!",
-}
+DIFFERENT = "AIDE found differences between the two databases!!"
+SAME = "AIDE found NO differences between the two databases. Looks okay!!"
 # AIDE's names of attributes that are not those of the details in small letters.
-NAMES = dict(
-    pair.split("=")
-    for pair in (
-        "Type=file_type Lname=link_name Bcount=block_count Atime=access_time Mtime=modify_time Ctime=change_time "
-        "Linkcount=link_count Caps=capabilities"
-    ).split()
-)
+_NAMES = "Type=file_type Lname=link_name Bcount=block_count Atime=access_time Mtime=modify_time Ctime=change_time "
+_NAMES += "Linkcount=link_count Caps=capabilities"
+NAMES = dict(pair.split("=") for pair in _NAMES.split())
 # Lines have what a report of this level shows.
 LEVEL = "added_removed_entries"
 GRAPHIC = re.compile(rb"[!-~]*\0?")
@@ -77,19 +71,8 @@ def details_of(fields):
     return {NAMES.get(label) or re.sub("[/-]", "_", label.lower()): found[label] for label in FORMS if label in found}
 
 
-def _databases(summary):
-    """The member that has both, which may have the same name."""
-    texts = []
-    for side in SIDES:
-        digest = base64.b64encode(bytes.fromhex(summary[side]["sha256"])).decode()
-        name = encode(name_of(bytes_of(summary[side], "path")))
-        texts.append('    %s: {\n      "sha256": "%s"\n    }' % (name, digest))
-    return ',\n  "databases": {\n' + ",\n".join(texts) + "\n  }"
-
-
 def aide_parts(reader, summary, members, ended):
-    """Yields the object for the changes of a Reader, after it has read all of them, each of its parts into a private file.
-    `summary` names the databases. `ended` is when the comparison ended, None if that is not known."""
+    """Yields the object for all changes of a Reader, whose parts private files have before. `summary` names the databases."""
     parts = {name: Spool() for name in (*KINDS, "details")}
     for _, fields in reader:
         try:
@@ -100,7 +83,7 @@ def aide_parts(reader, summary, members, ended):
         for name in filter(texts.get, texts):
             before = ",\n    " if parts[name].tell() else "\n    "
             parts[name].write(("%s%s: %s" % (before, path, texts[name].replace("\n", "\n    "))).encode())
-    whole = {"outline": OUTLINES[summary["differences"]], **members, "report_level": LEVEL}
+    whole = {"outline": DIFFERENT if summary["differences"] else SAME, **members, "report_level": LEVEL}
     counted = ("total", *KINDS) if summary["differences"] else ("total",)
     whole["number_of_entries"] = {name: summary[name] for name in counted}
     lines = ['  "%s": %s' % (name, encode(value).replace("\n", "\n  ")) for name, value in whole.items()]
@@ -110,5 +93,10 @@ def aide_parts(reader, summary, members, ended):
         yield (',\n  "%s": {' % name).encode()
         yield from iter(lambda: parts[name].read(BLOCK), b"")
         yield b"\n  }"
+    databases = []  # They may have the same name.
+    for side in SIDES:
+        digest = base64.b64encode(bytes.fromhex(summary[side]["sha256"])).decode()
+        name = encode(name_of(bytes_of(summary[side], "path")))
+        databases.append('    %s: {\n      "sha256": "%s"\n    }' % (name, digest))
     end = "" if ended is None else ',\n  "end_time": %s' % encode(decoded("Mtime", ended))
-    yield (_databases(summary) + end + "\n}\n").encode()
+    yield (',\n  "databases": {\n%s\n  }%s\n}\n' % (",\n".join(databases), end)).encode()

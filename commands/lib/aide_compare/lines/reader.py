@@ -1,6 +1,5 @@
 """Reads the lines of aide_lines, which are also those of aide-compare json: a summary, a line for each change in the order of
-paths, and an end. The end says the counts again, so that a stream that was cut shows. Here is also the one table of attributes:
-what they are called in a report and in a database, and what values they have."""
+paths, and an end that says the counts again, so that a stream that was cut shows. Their attributes are in one table."""
 import json
 import os
 
@@ -64,8 +63,7 @@ def _is_summary(fields):
 
 
 class Reader:
-    """The lines of a file: the `first` one and its object, the `summary`; by iteration each change as its line and its object,
-    once and in order; and then the last line, `end`."""
+    """The lines of a file: its `summary`, by iteration each change as line and object, once, and then the last line, `end`."""
 
     def __init__(self, file):
         self.file, self.number, self.count, self.end = file, 0, 0, b""

@@ -1,5 +1,5 @@
-"""The lines of aide-compare json: those of aide_lines, each with what the commands add at its end. That are texts for people, and
-what is known of the comparison: where, when, of which databases, with which status."""
+"""The lines of aide-compare json: those of aide_lines, each with what the commands add at its end: texts for people, and where,
+when, of which databases and with which status."""
 import os
 import time
 
@@ -12,8 +12,7 @@ DIGITS = 16
 
 
 def summary_of(given, comparison):
-    """The first line: the databases by their names, as text or in base 16, what was left out, and the columns that were not
-    compared. Without a Comparison, of lines from elsewhere, only what they say themselves is known."""
+    """The first line, with the names of both databases, what was left out and was not compared, if a Comparison knows that."""
     if comparison is None:
         return given
     found = dict(given)

@@ -33,14 +33,8 @@ TOGETHER = {"package_made": "made by packages", "directory": "directories", "mov
 TIMES_IN_ORDER = ("mtime", "ctime", "atime")
 # What is named of an entry with its value of before and of now.
 PAIRS = {"type": "", "perm": "mode ", "uid": "owner ", "gid": "group ", "size": "size ", "lcount": "links "}
-OTHERS = {
-    "lname": "target",
-    "acl": "ACL",
-    "xattrs": "extended attributes",
-    "selinux": "SELinux",
-    "e2fsattrs": "flags",
-    "capabilities": "capabilities",
-}
+OTHERS = {"lname": "target", "acl": "ACL", "xattrs": "extended attributes", "selinux": "SELinux", "e2fsattrs": "flags"}
+OTHERS["capabilities"] = "capabilities"
 # What is named only if nothing else has changed.
 ALONE = {"inode": "another inode", "bcount": "blocks"}
 
@@ -88,10 +82,6 @@ def entry_words(old, new):
     return ""
 
 
-def kind_of(change):
-    return "added" if change.old_at is None else "removed" if change.new_at is None else "changed"
-
-
 def group_of_owner(owner):
     """0 for root and for an owner that is not known, 1 for a service, 2 for all others."""
     return 0 if owner in (None, ROOT) else 1 if owner < FIRST_USER else 2
@@ -107,8 +97,7 @@ def limits_of(change):
 
 
 class Listing:
-    """The lines for changes. `read` gives what both databases say of one; `named` are the folders of the names that were listed,
-    and `count` says how many changed folders are only counted for that."""
+    """The lines for changes, the folders of the names in them, and how many changed folders are only counted for that."""
 
     def __init__(self, read):
         self.read, self.named, self.count = read, set(), 0
@@ -143,20 +132,20 @@ class Listing:
         return sorted(keys, key=keys.get)
 
     def _group_lines(self, changes, shares):
-        """The lines for the changes of one severity and one group of owners: first those that there is room for, then the
-        largest folders of the others, and one line for what is left."""
+        """The lines for changes of one severity and one group of owners that there is room for, and for the other folders."""
         rest = Counter()
         for change in changes:
+            kind = "added" if change.old_at is None else "removed" if change.new_at is None else "changed"
             if change.path in self.named and self._is_only_that(change):
                 self.count += 1
             elif shares.takes(limits_of(change)):
                 words = entry_words(*self.read(change))
                 path = shown(change.path, MOST_PATHS[group_of_owner(change.owner)])
-                yield "%-7s  %s%s" % (kind_of(change), path, words and ": " + words)
+                yield "%-7s  %s%s" % (kind, path, words and ": " + words)
                 self.named.update([change.folder()] if change.is_replaced else [])
             else:
                 is_file = stat.S_ISREG(change.new_mode or change.old_mode)
-                rest[change.folder(), kind_of(change), "more file" if is_file else "more entry"] += 1
+                rest[change.folder(), kind, "more file" if is_file else "more entry"] += 1
         first, others = most_frequent(rest, MOST_FOLDERS)
         for (folder, kind, word), count in first:
             yield "%-7s  %s: %s" % (kind, shown(folder, MOST_PATHS[1]), counted(count, word))
@@ -166,8 +155,7 @@ class Listing:
 
 
 def reason_lines(changes):
-    """How many changes each reason explains, the most frequent first; then the files with the content of before, counted for each
-    folder, as in "/var/spool/postfix/etc/ssl/certs: 288 files, same content, another inode"."""
+    """How many changes each reason explains; then "/var/spool/postfix/etc/ssl/certs: 288 files, same content, another inode"."""
     groups, same, how = Counter(), Counter(), ("other times", "another inode")
     for change in changes:
         name, text = change.reason.name, change.reason.text
@@ -188,16 +176,13 @@ def reason_lines(changes):
         yield "  same content in other directories: %s" % counted(sum(count for _, count in others), "file")
 
 
-def unjudged(changes, counts, read):
-    """The text if nobody has looked for reasons: all changes by their severity."""
-    lines = [", ".join([counted(counts.total, "change")] + counts.severities()), "", *Listing(read).lines(changes, SEVERITIES)]
-    return "\n".join(lines) + "\n"
-
-
 def brief(changes, counts, read, came):
     """The text. `read` gives what both databases say of a change; `came` are the packages that came new, of which those come
-    first that no signed index has. Entries that are unexplained are listed, and of those whose reason is not verified the ones of
-    high severity; the others are counted by their reasons."""
+    first that no signed index has, None if nobody has looked for reasons. What is unexplained is listed, and of what is not
+    verified that of high severity."""
+    if came is None:
+        first = ", ".join([counted(counts.total, "change")] + counts.severities())
+        return "\n".join([first, "", *Listing(read).lines(changes, SEVERITIES)]) + "\n"
     unexplained = [change for change in changes if change.reason is None]
     unverified = [change for change in changes if change.reason and not change.reason.verified]
     explained = [change for change in changes if change.is_verified()]

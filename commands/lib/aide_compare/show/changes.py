@@ -30,8 +30,8 @@ def _shown(value, text):
 
 
 def values_in(fields, others=()):
-    """For each attribute of a change its name and both values for people, None for one that is not there. Of the digests the
-    strongest says as much as all, and the type is said already unless it changed. `others`: attributes that it has too."""
+    """Each attribute of a change, and those that it has too, with both values for people, None for one that is not there. Of the
+    digests the strongest says as much as all, and the type is said already unless it changed."""
     both = [values_of(fields, side) for side in SIDES]
     texts, labels = texts_of(fields, both), {*others}.union(*both)
     digest = next((label for label in STRENGTH if label in labels), None)

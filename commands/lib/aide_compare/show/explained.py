@@ -10,7 +10,7 @@ from aide_compare.reasons.explainer import Evidence, Explainer, evidence_of, mem
 from aide_compare.reasons.records import SUFFIX, mismatch
 from aide_compare.reasons.tables import Severity
 from aide_compare.show.added import added_lines, full_members, written
-from aide_compare.show.brief import brief, unjudged
+from aide_compare.show.brief import brief
 
 MOST_WEIGHED = 200000  # Each takes half a kilobyte of memory. Of more the report is printed, which takes none.
 
@@ -38,8 +38,7 @@ class Sources:
         return evidence_of(self.given)
 
     def _beside_new(self, comparison):
-        """The records that were kept when AIDE wrote the new database, if they are there. Its digests decide on each of them,
-        as on those of now."""
+        """The records of the time of the new database, or None. Its digests decide on each of them, as on those of now."""
         path = comparison.new + SUFFIX
         try:
             is_kept = not self.given.packages_now and os.path.lexists(path)
@@ -49,8 +48,7 @@ class Sources:
 
 
 class Wanted:
-    """What a run is asked for beside its report: the places of --json and --page, and the Sources of --reasons, None
-    without this option. `made` is given each output. `weighs`: severities are wanted."""
+    """What a run is asked for beside its report: --json, --page, --reasons, severities. `made` is given each output."""
 
     def __init__(self, given, made, weighs):
         self.lines = made(Output(given.json, "the lines").begin()) if given.json else None
@@ -77,8 +75,7 @@ class Wanted:
 
 
 class Explained:
-    """The changes of a comparison, in all its lines; with `sources` as the explainer has them, and their counts; and if it
-    `weighs` the changes with their severity only."""
+    """The changes of a comparison: their lines, and with `sources` their reasons; if it `weighs`, only severities."""
 
     def __init__(self, comparison, sources, weighs):
         if comparison.is_cut:
@@ -100,8 +97,7 @@ class Explained:
             comparison.doubts.append("what packages explain is not verified: %s" % doubt)
 
     def lines(self):
-        """All lines, as aide-compare json --full writes them: the summary with the counts of the
-        reasons, and each change with its reason, if they were looked for."""
+        """All lines, as aide-compare json --full writes them, with the reasons, if they were looked for."""
         reader = reader_over(self.descriptor)
         found = {"reasons": self.counts._asdict(), "members": map(members_of, self.changes)} if self.counts else {}
         return added_lines(reader, self.comparison, full_members(reader.summary, self.comparison), **found)
@@ -110,9 +106,8 @@ class Explained:
         """The bytes of what people read first; nothing if the changes were not looked at."""
         if self.changes is None:
             return b""
-        given = (self.changes, self.explainer.counts, self.explainer.read)
-        came = self.packages.came() if self.packages else []
-        text = unjudged(*given) if self.counts is None else brief(*given, came)
+        came = None if self.counts is None else self.packages.came() if self.packages else []
+        text = brief(self.changes, self.explainer.counts, self.explainer.read, came)
         return text.encode("utf-8", "backslashreplace")
 
 

@@ -31,18 +31,6 @@ function entryOf(item, standing, section, place) {
   };
 }
 
-function readEntries() {
-  for (const group of document.querySelectorAll('#content > .group')) {
-    const section = group.querySelector('h2 span').textContent;
-    for (let item = group.querySelector('ul').firstElementChild; item; item = item.nextElementSibling) {
-      entries.push(entryOf(item, group.dataset.standing, section, entries.length));
-    }
-  }
-  inOrder.set('importance', [...entries]);
-  entries.sort((one, two) => one.key < two.key ? -1 : 1);
-  inOrder.set('path', entries);
-}
-
 // Finds what fits, and counts it directory by directory; what is in the chosen one is shown, in the chosen order.
 function filter() {
   const folded = view.path.toLowerCase(), everywhere = { ...view, directory: '' };
@@ -64,19 +52,6 @@ function askedWords() {
   return parts.length ? 'Only entries ' + parts.join(', ') + '.' : '';
 }
 
-function showCounts(pages) {
-  const asked = askedWords(), found = matching.length === entries.length ? '' : number(matching.length) + ' of ';
-  find('found').textContent = found + entriesOf(entries.length) + (view.directory ? ' in ' + view.directory + '/' : '');
-  find('asked').textContent = asked;
-  find('clear').hidden = !asked;
-  find('pager').hidden = pages === 1;
-  find('place').textContent = 'Page ' + number(view.page) + ' of ' + number(pages);
-  find('previous').disabled = view.page === 1;
-  find('next').disabled = view.page === pages;
-  find('unfold').setAttribute('aria-pressed', view.values !== '');
-  find('order').value = shownOrder;
-}
-
 // The item of an entry as it is shown: its name stands out from its directory, and the reason of an explained one is beside
 // it, if that is not in the heading.
 function itemOf(entry) {
@@ -93,62 +68,52 @@ function itemOf(entry) {
 
 // Shows some of the entries; in the order of importance with headings, which have the number of entries of all pages.
 function showItems(from, count) {
-  const sizes = new Map(), items = [];
+  const sizes = new Map(), list = find('list');
   if (shownOrder === 'importance') for (const { section } of matching) sizes.set(section, (sizes.get(section) || 0) + 1);
   let last = null;
+  list.replaceChildren();
   for (const entry of matching.slice(from, from + count)) {
     const { section, standing } = entry;
     if (sizes.size && section !== last) {
-      items.push(make('li', { class: 'section', 'data-standing': standing },
-        make('h2', {}, section + ': ' + entriesOf(sizes.get(section)))));
+      const heading = make('h2', {}, section + ': ' + entriesOf(sizes.get(section)));
+      list.append(make('li', { class: 'section', 'data-standing': standing }, heading));
     }
-    items.push(itemOf(entry));
+    list.append(itemOf(entry));
     last = section;
   }
-  find('list').replaceChildren();
-  for (const item of items) find('list').append(item);
 }
 
 function showList() {
-  const pages = Math.max(1, Math.ceil(matching.length / PAGE));
+  const pages = Math.max(1, Math.ceil(matching.length / PAGE)), asked = askedWords();
+  const found = matching.length === entries.length ? '' : number(matching.length) + ' of ';
   view.page = Math.min(view.page, pages);
   showItems((view.page - 1) * PAGE, PAGE);
-  showCounts(pages);
+  find('found').textContent = found + entriesOf(entries.length) + (view.directory ? ' in ' + view.directory + '/' : '');
+  find('asked').textContent = asked;
+  find('clear').hidden = !asked;
+  find('pager').hidden = pages === 1;
+  find('place').textContent = 'Page ' + number(view.page) + ' of ' + number(pages);
+  find('previous').disabled = view.page === 1;
+  find('next').disabled = view.page === pages;
+  find('unfold').setAttribute('aria-pressed', view.values !== '');
+  find('order').value = shownOrder;
 }
 
 // The search and every other thing that was asked for are written into the address.
-function write() {
-  written = textOf(view);
-  if (location.hash.slice(1) !== written) location.replace('#' + written);
-}
-
 function change(what, isFilter = true) {
   view = { ...view, page: 1, ...what };
   filter();
   if (isFilter) showTree();
   showChosen();
   for (const button of find('filters').querySelectorAll('[aria-pressed]')) button.show();
-  write();
+  written = textOf(view);
+  if (location.hash.slice(1) !== written) location.replace('#' + written);
   showList();
 }
 
 function turn(step) {
-  view.page += step;
-  write();
-  showList();
+  change({ page: view.page + step }, false);
   find('list').scrollIntoView();
-}
-
-function choiceButton(name, word, text, count) {
-  const button = make('button', { type: 'button', class: name === 'reason' ? '' : word, tabindex: -1, 'aria-pressed': false },
-    text + ' ', make('small', {}, number(count)));
-  button.show = () => button.setAttribute('aria-pressed', view[name].has(word));
-  on(button, 'click', () => {
-    const words = new Set(view[name]);
-    if (!words.delete(word)) words.add(word);
-    change({ [name]: words });
-  });
-  return button;
 }
 
 // How many entries have each word of a filter: in the order of the words, or the most frequent ones first.
@@ -165,7 +130,17 @@ function countedWords(name) {
 
 // A row of buttons that are pressed or not, for the words of a filter. Arrow keys go from one to the next.
 function showChoices(name, title) {
-  const buttons = countedWords(name).map(([word, count]) => choiceButton(name, word, STANDINGS[word] || word, count));
+  const buttons = countedWords(name).map(([word, count]) => {
+    const attributes = { type: 'button', class: name === 'reason' ? '' : word, tabindex: -1, 'aria-pressed': false };
+    const button = make('button', attributes, (STANDINGS[word] || word) + ' ', make('small', {}, number(count)));
+    button.show = () => button.setAttribute('aria-pressed', view[name].has(word));
+    on(button, 'click', () => {
+      const words = new Set(view[name]);
+      if (!words.delete(word)) words.add(word);
+      change({ [name]: words });
+    });
+    return button;
+  });
   const row = make('span', { class: 'choices' }, ...buttons);
   if (!buttons.length) return;
   buttons[0].tabIndex = 0;
@@ -186,16 +161,11 @@ function showChoices(name, title) {
 }
 
 function makeFilters() {
-  const hasReasons = firstOrder === 'importance';
-  if (hasReasons) showChoices('standing', 'Reason');
-  showChoices('severity', 'Severity');
-  showChoices('kind', 'Kind');
-  showChoices('attribute', 'Attribute');
-  showChoices('reason', 'Explained by');
-  for (const order of Object.keys(KEYS)) {
-    if (hasReasons || (order !== 'importance' && order !== 'severity')) {
-      find('order').append(make('option', { value: order }, ORDERS[order] || order));
-    }
+  const hasReasons = firstOrder === 'importance', isHere = (name) => hasReasons || !['importance', 'severity'].includes(name);
+  const titles = { severity: 'Severity', kind: 'Kind', attribute: 'Attribute', reason: 'Explained by' };
+  for (const [name, title] of Object.entries(hasReasons ? { standing: 'Reason', ...titles } : titles)) showChoices(name, title);
+  for (const order of Object.keys(KEYS).filter(isHere)) {
+    find('order').append(make('option', { value: order }, ORDERS[order] || order));
   }
 }
 
@@ -207,48 +177,50 @@ function showView(text) {
   change({ page: view.page });
 }
 
-function readAddress() {
-  const text = location.hash.slice(1);
-  if (text !== 'content' && text !== written) showView(text);
-}
-
-function clear() {
-  showView('order=' + view.order + '&values=' + view.values);
-  find('search').focus();
-}
-
-function treeClick(event) {
-  const item = event.target.closest('[role="treeitem"]');
-  if (item) (event.target.classList.contains('fold') ? toggle : choose)(item);
-}
-
 function listen() {
   let timer = 0;
   on(find('search'), 'input', (event) => {
     clearTimeout(timer);
     timer = setTimeout(() => change({ path: event.target.value }), 100);
   });
-  on(find('clear'), 'click', clear);
+  on(find('clear'), 'click', () => {
+    showView('order=' + view.order + '&values=' + view.values);
+    find('search').focus();
+  });
   on(find('order'), 'change', () => change({ order: find('order').value }, false));
   on(find('unfold'), 'click', () => change({ page: view.page, values: view.values ? '' : 'shown' }, false));
   on(find('previous'), 'click', () => turn(-1));
   on(find('next'), 'click', () => turn(1));
   on(find('print'), 'click', () => window.print());
   on(find('tree'), 'keydown', treeKey);
-  on(find('tree'), 'click', treeClick);
+  on(find('tree'), 'click', ({ target }) => {
+    const item = target.closest('[role="treeitem"]');
+    if (item) (target.classList.contains('fold') ? toggle : choose)(item);
+  });
   on(document, 'click', (event) => {
     if (!event.target.matches('[href="#content"]')) return;
     event.preventDefault();
     find('content').focus();
   });
-  on(window, 'hashchange', readAddress);
+  on(window, 'hashchange', () => {
+    const text = location.hash.slice(1);
+    if (text !== 'content' && text !== written) showView(text);
+  });
   on(window, 'beforeprint', () => showItems(0, matching.length));
   on(window, 'afterprint', showList);
 }
 
 function begin() {
   firstOrder = find('content').dataset.order;
-  readEntries();
+  for (const group of document.querySelectorAll('#content > .group')) {
+    const section = group.querySelector('h2 span').textContent;
+    for (let item = group.querySelector('ul').firstElementChild; item; item = item.nextElementSibling) {
+      entries.push(entryOf(item, group.dataset.standing, section, entries.length));
+    }
+  }
+  inOrder.set('importance', [...entries]);
+  entries.sort((one, two) => one.key < two.key ? -1 : 1);
+  inOrder.set('path', entries);
   placeEntries(entries);
   find('content').remove();
   find('bar').id = 'content';

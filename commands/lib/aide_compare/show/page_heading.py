@@ -12,7 +12,6 @@ from aide_compare.lines.reader import bytes_of
 
 HERE = os.path.dirname(os.path.abspath(__file__))
 POLICY = "default-src 'none'; base-uri 'none'; form-action 'none'; style-src 'sha256-%s'"
-OUTCOMES = {True: "The two databases differ", False: "No differences between the two databases"}
 CARDS = {"unexplained": "Not explained", "not_verified": "Explained, not verified", "explained": "Explained"}
 KNOWN = set(
     """format differences total added removed changed entries old new reasons left_out skipped host @timestamp status old_time
@@ -41,8 +40,7 @@ def part_of(name):
 
 
 def beginning(title, script="", **parts):
-    """The beginning of a page, up to the entries. `title` is a text; the parts are markup. The content policy names what may
-    run and colour the page by its digest."""
+    """The beginning of a page, up to the entries. `title` is a text; the parts are markup. Its policy knows script and style."""
     style = part_of("page.css")
     digests = [base64.b64encode(hashlib.sha256(text.encode()).digest()).decode() for text in (style, script)]
     policy = POLICY % digests[0] + ("; script-src 'sha256-%s'" % digests[1] if script else "")
@@ -59,27 +57,19 @@ def member(summary, name):
     return value.replace("T", " ").replace("Z", " UTC") if DATE.fullmatch(value) else shown_note(value)
 
 
-def facts(summary):
-    """The host, the time, and what else the caller has written into the summary."""
+def about(summary):
+    """The host, the time, what else the caller has written into the summary, and the databases, with the time of each."""
     more = [name for name, value in summary.items() if name not in KNOWN and isinstance(value, str)][:MOST_MEMBERS]
     rows = [("Host", member(summary, "host")), ("Compared", member(summary, "@timestamp"))]
     rows += [(shown_note(name), member(summary, name)) for name in more]
     text = "".join("<div><dt>%s</dt><dd>%s</dd></div>" % (escape(name), escape(value)) for name, value in rows if value)
-    return '<dl class="facts">%s</dl>\n' % text if text else ""
-
-
-def databases(summary):
-    """The databases, with the time of each if the summary has it."""
-    lines = ""
+    lines, facts = "", '<dl class="facts">%s</dl>\n' % text if text else ""
     for side in SIDES:
-        fields, time = summary[side], member(summary, side + "_time")
-        lines += "<dt>%s</dt><dd><code>%s</code>%s<small>SHA-256 <code>%s</code></small></dd>" % (
-            side.capitalize(),
-            escape(shown_value(bytes_of(fields, "path")[:MOST_LETTERS])),
-            " <span>of %s</span>" % escape(time) if time else "",
-            fields["sha256"],
-        )
-    return '<details class="databases"><summary>Databases</summary><dl>%s</dl></details>\n' % lines
+        name, time = shown_value(bytes_of(summary[side], "path")[:MOST_LETTERS]), member(summary, side + "_time")
+        of_time = " <span>of %s</span>" % escape(time) if time else ""
+        told = (side.capitalize(), escape(name), of_time, summary[side]["sha256"])
+        lines += "<dt>%s</dt><dd><code>%s</code>%s<small>SHA-256 <code>%s</code></small></dd>" % told
+    return facts + '<details class="databases"><summary>Databases</summary><dl>%s</dl></details>\n' % lines
 
 
 def cards(rows):
@@ -89,18 +79,14 @@ def cards(rows):
 
 
 def counts(reader):
-    """The counts of what is explained and how severe the rest is, if that was asked, and of each kind; and how many entries to
-    look at: a narrow screen has this line in their place, as a link to them."""
+    """The counts of what is explained, if that was asked, and of each kind; a narrow screen has a link in their place."""
     summary, count, told, text = reader.summary, reader.count, "", ""
     if "reasons" in summary:
         given = summary["reasons"]
         reasons = ReasonCounts(**{key: given[key] for key in REASON_KEYS + GRADE_KEYS if type(given.get(key)) is int})
         severe = ", ".join("%s %s" % (number(getattr(reasons, name)), name) for name in SEVERITIES if getattr(reasons, name))
-        for title, words in (
-            ("Severity of what is not explained or not verified", severe),
-            ("Explained by", reasons.grades()),
-        ):
-            told += '<p class="severities">%s: %s</p>\n' % (title, words) if words else ""
+        told = '<p class="severities">Severity of what is not explained or not verified: %s</p>\n' % severe if severe else ""
+        told += '<p class="severities">Explained by: %s</p>\n' % reasons.grades() if reasons.grades() else ""
         told += '<p class="hint">%s</p>\n' % HINT
         text, count = cards((name, words, getattr(reasons, name)) for name, words in CARDS.items()), reasons.unanswered
     rows = [(kind, kind.capitalize(), summary[kind]) for kind in KINDS]
@@ -110,8 +96,7 @@ def counts(reader):
 
 
 def remarks_of(summary):
-    """What the comparison has left out of each database, and the columns that were not compared, as far as the summary says
-    it."""
+    """What the comparison has left out, and the columns that were not compared, as far as the summary says it."""
     value = summary.get("left_out")
     numbers = [value.get(side) for side in SIDES] if isinstance(value, dict) else []
     if all(type(count) is int for count in numbers) and any(numbers):
@@ -132,8 +117,8 @@ def head(reader, title, script, notes):
         title,
         script,
         heading=escape(title + kinds),
-        outcome=OUTCOMES[summary["differences"]],
-        databases=facts(summary) + databases(summary),
+        outcome="The two databases differ" if summary["differences"] else "No differences between the two databases",
+        databases=about(summary),
         counts=counts(reader),
         remarks="".join('<p class="remark">%s</p>\n' % escape(text) for text in [*remarks_of(summary), *notes]),
     )

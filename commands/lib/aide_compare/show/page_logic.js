@@ -1,7 +1,6 @@
 // What a reader asks for: filters and an order, as they are written in the address after "#". Nothing here knows the page.
 // `choices` are the words of the filters.
-// The number by which an order sorts entries; those that are equal in it stay in path order. A size or its growth is in what is
-// seen of an entry.
+// The number by which an order sorts entries; those that are equal in it stay in path order.
 const KEYS = {
   importance: ({ place }) => place,
   path: () => 0,

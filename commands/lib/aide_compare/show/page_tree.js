@@ -52,12 +52,6 @@ function shownChildren(node) {
   });
 }
 
-function bar({ counts }, whole) {
-  const parts = KINDS.map((kind) => make('span', { class: kind }));
-  parts.forEach((part, kind) => { part.style.width = 100 * counts[kind] / whole + '%'; });
-  return make('span', { class: 'bar', 'aria-hidden': 'true' }, ...parts);
-}
-
 const treeItem = (label, row) => make('li', { role: 'treeitem', 'aria-label': label, tabindex: -1 }, row);
 const isChosen = (node) => view.directory !== '' && node.path === view.directory;
 
@@ -65,8 +59,10 @@ function folderItem({ node, name }, whole, waiting) {
   const all = KINDS.map((word, kind) => ({ word, sign: SIGNS[kind], count: node.counts[kind] }));
   const kinds = all.filter(({ count }) => count);
   const numbers = kinds.flatMap(({ word, sign, count }) => [make('span', { class: word }, sign + number(count)), ' ']);
+  const parts = kinds.map(({ word }) => make('span', { class: word }));
+  kinds.forEach(({ count }, place) => { parts[place].style.width = 100 * count / whole + '%'; });
   const row = make('div', { class: 'folder' }, make('span', { class: node.below ? 'fold' : '' }), make('code', {}, name),
-    bar(node, whole), make('span', { class: 'numbers' }, ...numbers));
+    make('span', { class: 'bar', 'aria-hidden': 'true' }, ...parts), make('span', { class: 'numbers' }, ...numbers));
   const item = treeItem(name + ', ' + kinds.map(({ word, count }) => number(count) + ' ' + word).join(', '), row);
   item.node = node;
   if (node.below) {
@@ -81,20 +77,19 @@ function folderItem({ node, name }, whole, waiting) {
 // Folders that are open are filled one after another: a call within a call could go too deep.
 function fill(...first) {
   const waiting = [first];
-  while (waiting.length) fillOne(waiting, ...waiting.pop());
+  while (waiting.length) {
+    const [list, node, from = 0] = waiting.pop(), children = shownChildren(node), left = children.length - from - CHILDREN;
+    list.append(...children.slice(from, from + CHILDREN).map((child) => folderItem(child, total(node), waiting)));
+    if (left > 0) {
+      const words = number(left) + ' more directories', more = treeItem(words, make('div', { class: 'folder more' }, words));
+      more.more = () => {
+        more.remove();
+        fill(list, node, from + CHILDREN);
+      };
+      list.append(more);
+    }
+  }
   showChosen();
-}
-
-function fillOne(waiting, list, node, from = 0) {
-  const children = shownChildren(node), left = children.length - from - CHILDREN, words = number(left) + ' more directories';
-  list.append(...children.slice(from, from + CHILDREN).map((child) => folderItem(child, total(node), waiting)));
-  if (left <= 0) return;
-  const more = treeItem(words, make('div', { class: 'folder more' }, words));
-  more.more = () => {
-    more.remove();
-    fill(list, node, from + CHILDREN);
-  };
-  list.append(more);
 }
 
 function toggle(item) {

@@ -1,8 +1,5 @@
-"""What commands tell of a comparison beside its report, as lines with their name, and colours for what people read on a terminal.
-
-The colours are around words of ours only. All names are escaped by then, so that the only bytes that a terminal obeys are those
-that are put in here.
-"""
+"""What commands tell of a comparison beside its report, and colours for what people read on a terminal. They are around words of
+ours only; names are escaped by then, so that a terminal obeys no bytes but those that are put in here."""
 import os
 import re
 from contextlib import suppress
@@ -49,8 +46,7 @@ def coloured(text):
 
 
 def told_of(comparison, quiet=False):
-    """The lines: notes, the errors of the program with what explains them, doubts, and what ended the comparison. Of one that
-    failed the cause is enough. With `quiet` only what went wrong."""
+    """The lines: notes, errors, doubts, and what ended the comparison, whose cause is enough; with `quiet` what went wrong."""
     fault, is_quiet = comparison.fault, quiet and comparison.status <= 7
     lines = [] if quiet or fault else ["aide-compare: " + guarded(line) for line in comparison.notes]
     lines += [] if is_quiet else filter(None, shown_lines(comparison.errors).split("\n"))
