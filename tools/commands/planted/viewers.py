@@ -136,7 +136,7 @@ PLANTED = (
     + seen_by(
         "viewers.try_zones",
         (LIB + "lines/decoded.py", 'time.strftime("%z", given)', '"+%02d%02d" % divmod(abs(given.tm_gmtoff) // 60, 60)'),
-        (LIB + "lines/decoded.py", " and 1 <= given.tm_year <= 9999:", ":"),
+        (LIB + "lines/decoded.py", "if 1 <= given.tm_year <= 9999:", "if True:"),
     )
     + seen_by(
         "viewers.try_occasion",

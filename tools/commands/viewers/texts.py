@@ -170,9 +170,10 @@ FIRST, LAST = -62135596800, 253402300799
 
 def local_text(seconds):
     """A time of the years 1 to 9999 as strftime has it."""
-    if not FIRST <= seconds <= LAST:
+    try:
+        local = time.localtime(seconds)
+    except (OverflowError, ValueError, OSError):
         return None
-    local = time.localtime(seconds)
     return "%04d-" % local.tm_year + time.strftime("%m-%d %H:%M:%S %z", local) if 1 <= local.tm_year <= 9999 else None
 
 

@@ -21,8 +21,6 @@ NUMBERS = frozenset(label for label, form in FORMS.items() if form in ("number",
 MOST = 4000
 # Texts of values up to this length are kept, since most files of a system share theirs.
 KEPT = 600
-# Times outside of the years 1 to 9999 have no date.
-FIRST, LAST = -62135596800, 253402300799
 # The types of files in words, as reports name them.
 TYPES = {
     "File": stat.S_IFREG,
@@ -185,7 +183,7 @@ def time_text(seconds):
     """A time in the zone of this host (or of TZ), as AIDE prints it: 2026-11-25 07:00:00 +0100. None if it has no such date."""
     with suppress(OverflowError, ValueError, OSError):
         given = time.localtime(seconds)
-        if FIRST <= seconds <= LAST and 1 <= given.tm_year <= 9999:
+        if 1 <= given.tm_year <= 9999:
             return "%04d-%02d-%02d %02d:%02d:%02d " % given[:6] + time.strftime("%z", given)
     return None
 

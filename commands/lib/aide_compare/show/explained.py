@@ -1,5 +1,6 @@
 """The changes of a comparison, explained and written for people and for programs."""
 import os
+from contextlib import suppress
 
 from aide_compare.base import progress
 from aide_compare.base.ending import Fault, Status, why_of
@@ -40,11 +41,10 @@ class Sources:
     def _beside_new(self, comparison):
         """The records of the time of the new database, or None. Its digests decide on each of them, as on those of now."""
         path = comparison.new + SUFFIX
-        try:
+        with suppress(Fault):
             is_kept = not self.given.packages_now and os.path.lexists(path)
             return path if is_kept and not mismatch(path, comparison.copies["new"].sha256) else None
-        except Fault:
-            return None
+        return None
 
 
 class Wanted:

@@ -43,9 +43,8 @@ function filter() {
 
 // The filters in words, also for a page that is printed; nothing without a filter.
 function askedWords() {
-  const words = Object.keys(choices).filter((name) => view[name].size)
-    .map((name) => name + ' ' + chosen(view, name).join(' or ').replace('_', ' '));
-  if (view.reason.size) words.push('reason ' + chosen(view, 'reason').join(' or '));
+  const words = [...Object.keys(choices), 'reason'].filter((name) => view[name].size)
+    .map((name) => name + ' ' + chosen(view, name).join(' or ').replace('not_verified', 'not verified'));
   if (view.path) words.push('path with \u201c' + view.path + '\u201d');
   const parts = words.length ? ['with: ' + words.join(', ')] : [];
   if (view.directory) parts.push('in ' + view.directory + '/');
