@@ -91,6 +91,7 @@ PLANTED = (
         ),
         (LIB + "show/page_items.py", 'demand(side.keys() <= FORMS.keys(), "an attribute is unknown")', "pass"),
         (LIB + "show/page_items.py", "demand({type(value) for value in side.values()} <= TYPES,", "demand(True,"),
+        (LIB + "show/page_items.py", 'demand(type(fields.get("type", "")) is str,', "demand(True,"),
         (LIB + "show/page_items.py", "type(texts) is dict and all(type(text) is str for text in texts.values())", "True"),
     )
     + seen_by(

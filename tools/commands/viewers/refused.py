@@ -80,6 +80,7 @@ LINE_EDITS = {
     "a short summary string": changed_line(1, summary="f++"),
     "no summary string": changed_line(1, summary=...),
     "values in a list": changed_line(1, new=["Size"]),
+    "a type in a list": changed_line(1, type=["File"]),
     "an unknown attribute": changed_line(1, new={"<b>": 5}),
     "a value in a list": changed_line(1, new={"Size": [5]}),
     "a value that is true": changed_line(1, new={"Size": True}),

@@ -153,7 +153,7 @@ ROWS = [
         prepare=expectations.put_records,
         needs="jq",
     ),
-    Commands("man/aide-compare-page.1", "A list for mail, of what was added or removed:", [7], expectations.has_lists),
+    Commands("man/aide-compare-page.1", "A list for mail:", [7], expectations.has_lists),
     Commands(JSON, "The paths of all entries that were added:", [0], expectations.prints("/a\n"), needs="jq"),
     Commands(JSON, "Where, when and what, for an event that has to stand alone:", [0], expectations.has_events, needs="jq"),
     Commands(

@@ -25,13 +25,9 @@ def name_of(data):
     return data.decode("utf-8", "surrogateescape")
 
 
-def _lines(lines):
-    return lines[0] if len(lines) == 1 else lines
-
-
 def acl_value(data, _):
     lists = acl_lists(data)
-    return lists and _lines([mark + "\t".join(entry) for mark, found in zip(("A: ", "D: "), lists) for entry in found])
+    return lists and [mark + "\t".join(entry) for mark, found in zip(("A: ", "D: "), lists) for entry in found]
 
 
 def xattrs_value(data, other):
@@ -44,10 +40,10 @@ def xattrs_value(data, other):
         is_graphic = GRAPHIC.fullmatch(value)
         text = value.rstrip(b"\0").decode() if is_graphic else base64.b64encode(value).decode()
         lines.append("[%d] %s %s %s" % (number, name_of(name), "=" if is_graphic else "<=>", text))
-    return _lines(lines)
+    return lines
 
 
-# What takes the bytes of a value and those of the other side.
+# What takes the bytes of a value and those of the other side. Of lines a single one is a text.
 BY_BYTES = {"Lname": lambda data, _: name_of(data), "ACL": acl_value, "XAttrs": xattrs_value}
 
 
@@ -59,6 +55,8 @@ def value_of(label, value, kind, other):
         made = base64.b64encode(bytes.fromhex(value)).decode()
     else:
         made = decoded(label, value, kind)
+    if type(made) is list and len(made) == 1:
+        return made[0]
     return made if made is not None else name_of(value) if isinstance(value, bytes) else value
 
 

@@ -63,7 +63,7 @@ def _is_summary(fields):
 
 
 class Reader:
-    """The lines of a file: its `summary`, by iteration each change as line and object, once, and then the last line, `end`."""
+    """The lines of a file: the `first` and its object, the `summary`; by iteration each change as both; then the last, `end`."""
 
     def __init__(self, file):
         self.file, self.number, self.count, self.end = file, 0, 0, b""

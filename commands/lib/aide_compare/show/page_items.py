@@ -39,6 +39,7 @@ def entry_of(fields, various=()):
     same on all hosts. All values are judged here, since what is shown of them is made only if there is room for it."""
     values = [values_of(fields, side) for side in SIDES]
     demand(fields.get("severity") in (None, *SEVERITIES), "a severity has another name")
+    demand(type(fields.get("type", "")) is str, "a type is a text")
     for side, texts in zip(values, (fields.get(name, {}) for name in TEXTS)):
         demand(side.keys() <= FORMS.keys(), "an attribute is unknown")
         demand({type(value) for value in side.values()} <= TYPES, "a value is a number or a text")
