@@ -63,11 +63,11 @@ def _is_summary(fields):
 
 
 class Reader:
-    """The lines of a file: the `first` and its object, the `summary`; by iteration each change as both; then the last, `end`."""
+    """The lines of a file: its `summary`; by iteration each change as line and object, once; then the last line, `end`."""
 
     def __init__(self, file):
         self.file, self.number, self.count, self.end = file, 0, 0, b""
-        self.summary, self.first = self._next("nothing was given: was nothing compared?")
+        self.summary, _ = self._next("nothing was given: was nothing compared?")
         self._demand(lambda: self.summary["format"] == FORMAT, "the first line is the summary, of format %d" % FORMAT)
         self._demand(lambda: _is_summary(self.summary), "the summary has other values")
 
