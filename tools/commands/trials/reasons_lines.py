@@ -63,7 +63,7 @@ def try_same(sandbox):
             (objects[0], counts),
         )
     given = before.output.replace(b'"kind":"', b'"kind": "')
-    answer = sandbox.call("aide-compare json", "--no-text", "--with", "site=x", text=given)
+    answer = sandbox.call("aide-compare json", "--with", "site=x", text=given)
     lines = [line.replace(b',"site":"x"}', b"}") for line in answer.output.splitlines(True)]
     sandbox.holds("lines with other blanks", lines[1:] == given.splitlines(True)[1:] and answer.status == 0, answer)
     sandbox.write("same.db", OLD)
