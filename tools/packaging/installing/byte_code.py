@@ -56,14 +56,14 @@ def try_code(trial):
         return
     source, prefix = trial.copy("coded"), trial.path("code")
     modules = os.path.join(source, "commands/lib/aide_compare")
-    os.rename(os.path.join(modules, "mail/sending.py"), trial.path("sending.py"))
+    os.rename(os.path.join(modules, "lines/json_aide.py"), trial.path("json_aide.py"))
     # Its text is edited when it is installed.
     trial.write("coded/commands/lib/aide_compare/show/former.py", "TABLE = '/usr/local/share/aide-compare/severity.conf'\n")
     install(trial, "a first time", source, prefix)
     for change in ("nothing", "two modules"):
         if change == "two modules":
             os.remove(os.path.join(modules, "show/former.py"))
-            os.rename(trial.path("sending.py"), os.path.join(modules, "mail/sending.py"))
+            os.rename(trial.path("json_aide.py"), os.path.join(modules, "lines/json_aide.py"))
         install(trial, "again, with %s changed" % change, source, prefix)
     tree_of = os.path.join(source, "examples/small_tree")
     words = [tree_of + "/old.db", tree_of + "/new.db"]

@@ -117,12 +117,12 @@ def is_page(sandbox, done):
 
 
 def has_lists(sandbox, done):
-    """A page without script, of the entries that were added or removed."""
+    """A page without script, of all entries that differ."""
     text = sandbox.read("/tmp/page.html")
     found = ["<code>/%s</code>" % name in text for name in "abc"]
     sandbox.holds(
         "the lists",
-        not done[1] and not faults_in(done[2]) and "<script" not in text and found[2] is False and any(found),
+        not done[1] and not faults_in(done[2]) and "<script" not in text and all(found),
         done,
     )
 
