@@ -1,4 +1,5 @@
 """Escapes, times, the command line, the state file, statuses, and how a command ends."""
+import argparse
 import json
 import os
 import subprocess
@@ -72,10 +73,12 @@ def try_escapes(tally, _):
 
 
 def try_times(tally, _):
-    for text, want in TIMES:
-        expect(tally, "the time %r" % text, outcome(words.seconds_of, text), want)
-    for text in NO_TIMES:
-        expect_fault(tally, "the time %r" % text, outcome(words.seconds_of, text), 15)
+    for text, want in [*TIMES, *((text, None) for text in NO_TIMES)]:
+        try:
+            found = options.duration(text)
+        except argparse.ArgumentTypeError:
+            found = None
+        expect(tally, "the time %r" % text, found, want)
     expect(tally, "a date", words.date_of(1795602777), "2026-11-25T10:32:57Z")
     expect(tally, "no date", words.date_of(1 << 62), "@%d" % (1 << 62))
     expect(tally, "a minute", words.minute_of(1795602777), "2026-11-25 10:32 UTC")

@@ -43,7 +43,7 @@ PLANTED = (
     + seen_by("base.try_times", (TIMES, "if seconds < unit * most:", "if seconds <= unit * most:"))
     + seen_by(
         "base.try_options",
-        (TIMES, '"k": 1 << 10,', '"k": 1000,'),
+        ("commands/lib/aide_compare/base/options.py", '"k": 1 << 10,', '"k": 1000,'),
     )
     + seen_by(
         "base.try_state",

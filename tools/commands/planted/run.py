@@ -126,7 +126,7 @@ PLANTED = (
     )
     + seen_by(
         "age.try_values",
-        (TIMES, 're.fullmatch("([0-9]{1,9})', 're.match("([0-9]{1,9})'),
+        (OPTIONS, "if seconds > MOST_SECONDS:", "if seconds > 10 * MOST_SECONDS:"),
     )
     + seen_by(
         "attacks.try_names_that_clash",

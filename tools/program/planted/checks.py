@@ -22,7 +22,7 @@ PLANTED = (
         (EDITS + "after_in_place_of_before.edit", "old: before: Word::new", "old: before: Words::new"),
         (EDITS + "new_word_is_empty.edit", "file: src/words.rt", "file: src/job.rt"),
     )
-    + seen_by("check_layers", (TIMES, "import time\n\nfrom", "import time\n\nfrom aide_compare.mail import message\nfrom"))
+    + seen_by("check_layers", (TIMES, "import time\n\n", "import time\n\nfrom aide_compare.mail import message\n\n"))
     + seen_by(
         "check_layout",
         ("crates/aide_words/src/words.rt", "pub fn as_str(&self) -> &str", "pub fn as_str(&self)" + 90 * " " + " -> &str"),

@@ -15,11 +15,13 @@ from aide_compare.base.ending import Done, Fault, Status, failing, write_all
 from aide_compare.base.escapes import shown
 from aide_compare.base.files import lines_of
 from aide_compare.base.paths import Pattern
-from aide_compare.base.words import seconds_of, size_of
 
 OPERAND = "\0"  # Before a word that follows --. No argument has this byte.
 # Which changes raise an alarm: all, or only those that nothing explains for certain.
 ALARMS = ("differences", "unexplained")
+# Seconds and bytes.
+UNITS = {"": 1, "s": 1, "m": 60, "h": 3600, "d": 86400, "k": 1 << 10, "M": 1 << 20, "G": 1 << 30}
+MOST_SECONDS = 30 * 86400
 
 
 def matching(pattern, what, taken=str):
@@ -33,20 +35,32 @@ def matching(pattern, what, taken=str):
     return check
 
 
-def argument(read):
-    """The kind of a value that is read by a function which says in a Fault or a ValueError what is wrong."""
+def in_units(text):
+    """The number that digits and a unit mean."""
+    digits = text.rstrip("".join(UNITS))
+    return int(digits) * UNITS[text[len(digits) :]]
 
-    def kind(text):
-        try:
-            return read(text)
-        except (Fault, ValueError) as fault:
-            raise argparse.ArgumentTypeError(str(fault))
 
-    return kind
+def duration(text):
+    """The kind of a time with its unit, in seconds."""
+    seconds = matching("[0-9]{1,9}[smhd]?", "a number and s, m, h or d, as in 26h", in_units)(text)
+    if seconds > MOST_SECONDS:
+        raise argparse.ArgumentTypeError("more than 30 days: %s" % shown(text, 100))
+    return seconds
+
+
+def pattern(text):
+    """The kind of a Pattern of paths."""
+    try:
+        return Pattern(os.fsencode(text))
+    except ValueError as fault:
+        raise argparse.ArgumentTypeError(str(fault))
 
 
 some_text = matching("(?s).+", "a value that is not empty")
-size, duration, pattern = argument(size_of), argument(seconds_of), argument(lambda text: Pattern(os.fsencode(text)))
+size = matching(
+    "[0-9]{1,15}[kMG]?", "a number of bytes, as in 4000000, 500k, 20M or 1G", lambda text: min(in_units(text), 1 << 62)
+)
 
 
 def end_of_options(words):

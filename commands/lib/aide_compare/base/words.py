@@ -1,37 +1,10 @@
-"""The words that all commands have: the sides and the kinds of changes, counts, and times with units."""
-import re
+"""The words that all commands have: the sides and the kinds of changes, counts, and times."""
 import time
-
-from aide_compare.base.ending import Fault, Status
-from aide_compare.base.escapes import shown
 
 # In the order in which states, lines and pages have them.
 SIDES = ("old", "new")
 KINDS = ("added", "removed", "changed")
 SEVERITIES = ("high", "medium", "low")
-
-UNITS, SIZES = {"": 1, "s": 1, "m": 60, "h": 3600, "d": 86400}, {"": 1, "k": 1 << 10, "M": 1 << 20, "G": 1 << 30}
-MOST_SECONDS = 30 * 86400
-
-
-def seconds_of(text):
-    """The seconds of "90", "90s", "15m", "26h" or "3d", at most 30 days; a Fault otherwise."""
-    found = re.fullmatch("([0-9]{1,9})([smhd]?)", text)
-    if not found:
-        form = "not a duration: %s; write a number and s, m, h or d, as in 26h"
-        raise Fault(Status.USAGE, form % (shown(text, 100) or "''"))
-    seconds = int(found.group(1)) * UNITS[found.group(2)]
-    if seconds > MOST_SECONDS:
-        raise Fault(Status.USAGE, "more than 30 days: %s" % shown(text, 100))
-    return seconds
-
-
-def size_of(text):
-    """A number of bytes: plain, or with k, M or G (1024 bytes, and so on); a Fault otherwise."""
-    found = re.fullmatch("([0-9]{1,15})([kMG]?)", text)
-    if not found:
-        raise Fault(Status.USAGE, "needs a number of bytes, as in 4000000, 500k, 20M or 1G: %s" % shown(text, 100))
-    return min(int(found.group(1)) * SIZES[found.group(2)], 1 << 62)
 
 
 def date_of(seconds):
