@@ -130,8 +130,8 @@ PLANTED = (
         (SENDING, "    bound_of(resource.RLIMIT_AS, used + 10 * len(message) + MOST_ANSWERS)\n", ""),
         (
             SENDING,
-            "in_child(str(server), lambda: _hand_over(server, seconds, message), seconds)",
-            "_hand_over(server, seconds, message)",
+            "lambda message: in_child(str(server), partial(_hand_over, server, seconds, message), seconds)",
+            "partial(_hand_over, server, seconds)",
         ),
     )
     + seen_by("smtp.try_places", (SENDING, "len(port) <= 5 and 0 < int(port) < 65536", "int(port) < 65536"))

@@ -176,7 +176,7 @@ def try_no_process(sandbox):
             log.bind(sandbox.path("log"))
             log.settimeout(5)
             words = [sys.executable, "-c", NO_PROCESS, sandbox.path("lib"), sandbox.path("log"), way]
-            done = subprocess.run(words, stdout=subprocess.PIPE, stderr=subprocess.PIPE)
+            done = subprocess.run(words, stdout=subprocess.PIPE, stderr=subprocess.PIPE, env=sandbox.environment())
             try:
                 line = log.recv(10000)
             except socket.timeout:

@@ -14,16 +14,6 @@ REMARK = '<p class="remark">This page has no room for %s more changes. This comm
 CARDS = (("all", "Hosts", "hosts"), ("changed", "Differ", "differ"), ("removed", "Not compared", "not_compared"))
 
 
-def item_of(fields, hosts):
-    """A change: its kind, its path and its hosts are seen at once, its values on demand."""
-    entry = entry_of(fields, fields.get("old_various", ()))
-    where = "on %s of %s hosts: %s" % (number(fields["hosts"]), number(hosts), names_of(fields))
-    inner = table(entry)
-    if fields.get("per_host"):
-        inner += '<p class="hint">Of each host: %s</p>' % escape(", ".join(fields["per_host"]))
-    return item(head_of(entry, "; ".join(filter(None, (where, reason_words(fields))))), inner)
-
-
 def host_list(title, lines):
     """A list of hosts with its title; nothing if it is empty. What is missing is seen at once."""
     items, room = [], MOST_LIST
@@ -50,11 +40,16 @@ def head(summary, hosts, left_out, command):
 
 
 def page(summary, hosts, changes, command, most=MOST):
-    """Yields the page."""
+    """Yields the page. Of a change its kind, its path and its hosts are seen at once, its values on demand."""
     room = most - len(head(summary, hosts, summary["changes"], command)) - RESERVE
     share, items = Share(max(room, 0)), Spool()
     for fields in changes:
-        text = item_of(fields, summary["hosts"]).encode("utf-8", "backslashreplace")
+        entry = entry_of(fields, fields.get("old_various", ()))
+        where = "on %s of %s hosts: %s" % (number(fields["hosts"]), number(summary["hosts"]), names_of(fields))
+        own = ", ".join(fields.get("per_host", ()))
+        inner = table(entry) + ('<p class="hint">Of each host: %s</p>' % escape(own) if own else "")
+        told = "; ".join(filter(None, (where, reason_words(fields))))
+        text = item(head_of(entry, told), inner).encode("utf-8", "backslashreplace")
         if share.takes(fields, len(text)):
             items.write(text)
     yield head(summary, hosts, share.left_out, command)

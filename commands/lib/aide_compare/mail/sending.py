@@ -53,7 +53,8 @@ def server(text):
 def way_out(server, seconds):
     """SMTP if a server is given, otherwise sendmail, which has to be there."""
     if server:
-        return partial(by_smtp, server, seconds)
+        # A child with limits of time and memory has the exchange: a server may answer slowly, or without end.
+        return lambda message: in_child(str(server), partial(_hand_over, server, seconds, message), seconds)
     beside = [folder + "/sendmail" for folder in os.environ.get("PATH", "").split(":") if folder.startswith("/")]
     for path in (*beside, *MAILERS):
         if os.path.isfile(path) and os.access(path, os.X_OK):
@@ -84,14 +85,9 @@ def by_sendmail(path, seconds, message):
         raise Fault(Status.DEVICE, "%s: %s" % (how, shown(lines[-1], 300) if lines else "it gave no reason"))
 
 
-def by_smtp(server, seconds, message):
-    """Hands a message to a mail server by SMTP (RFC 5321), which needs no set-ID program, but the server has to listen. The
-    exchange is the work of a child with limits of time and memory: a server may answer slowly, or without end."""
-    in_child(str(server), lambda: _hand_over(server, seconds, message), seconds)
-
-
 def _hand_over(server, seconds, message):
-    """The work of the child. The server has to take the message for each address."""
+    """Hands a message to a mail server by SMTP (RFC 5321), which needs no set-ID program, but has to listen and to take the
+    message for each address."""
     import smtplib
 
     def over(*_):
