@@ -107,9 +107,10 @@ def _unexplained_keys(given, baseline, copies):
 
     def find():
         become(entry_of(baseline.owner))
-        own = [Copy(nameless(), copy.name, copy.written) for copy in copies]
+        own = [nameless() for _ in copies]
         for copy, other in zip(copies, own):  # The program could not open a file of another user.
-            copy_file(copy.fd, other.fd)
+            copy_file(copy.fd, other)
+        own = [Copy(other, copy.name, copy.written) for copy, other in zip(copies, own)]
         return _write_unexplained(given, baseline.path, own, target)
 
     if baseline.owner is None:
