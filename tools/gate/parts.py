@@ -22,13 +22,13 @@ def at_least(number, *words):
 
 
 FILES = [
-    exactly(526, "tools.source.check_tools"),
-    exactly(217, "tools.source.check_edits"),
-    exactly(569, "tools.source.check_docs"),
+    exactly(506, "tools.source.check_tools"),
+    exactly(219, "tools.source.check_edits"),
+    exactly(575, "tools.source.check_docs"),
     exactly(114, "tools.source.check_layout"),
-    exactly(102, "tools.source.check_layers"),
-    exactly(1006, "tools.source.check_planted"),
-    exactly(1921, "tools.wrong_bodies.check"),
+    exactly(83, "tools.source.check_layers"),
+    exactly(1001, "tools.source.check_planted"),
+    exactly(1933, "tools.wrong_bodies.check"),
 ]
 
 
@@ -50,7 +50,7 @@ def trials(program, lines, in_memory):
         at_least(750, "tools.pages.try_manual", program),
         at_least(1500, "tools.packaging.try_install", program),
         at_least(3700, "tools.commands.try_tools", program),
-        at_least(880, "tools.commands.try_viewers", program, "--count", "40"),
+        at_least(850, "tools.commands.try_viewers", program, "--count", "40"),
         at_least(450, "tools.pages.try_recipes", program),
         at_least(360, "tools.pages.try_commands", program),
         exactly(12, "tools.gate.sample", program),
@@ -62,7 +62,7 @@ def quick_trials(program, lines):
     processes."""
     return [
         at_least(3700, "tools.commands.try_tools", program, "--quick"),
-        at_least(640, "tools.commands.try_viewers", program, "--count", "20"),
+        at_least(610, "tools.commands.try_viewers", program, "--count", "20"),
         at_least(360, "tools.pages.try_commands", program),
         exactly(564, "tools.program.try_line_definitions", "--count", "60"),
         at_least(970, "tools.program.end_to_end", program, "--quick", "--sessions", "50"),

@@ -16,11 +16,14 @@ HOST = STORE + "/hosts/www/aide.db"
 
 
 def faults_in(errors):
-    """The lines on standard error that say more than which databases were read, and how many lines were sorted."""
+    """The lines on standard error that say more than which databases were read, how many changes nothing explains, and how many
+    lines were sorted."""
     return [
         line
         for line in errors.splitlines()
-        if not re.match("aide-compare(: (old|new) database: | sort: (out of order: |AIDE itself writes))", line)
+        if not re.match(
+            "aide-compare(: ((old|new) database: |[0-9]+ unexplained of )| sort: (out of order: |AIDE itself writes))", line
+        )
     ]
 
 
