@@ -27,7 +27,7 @@ FILES = [
     exactly(575, "tools.source.check_docs"),
     exactly(114, "tools.source.check_layout"),
     exactly(83, "tools.source.check_layers"),
-    exactly(1001, "tools.source.check_planted"),
+    exactly(1002, "tools.source.check_planted"),
     exactly(1933, "tools.wrong_bodies.check"),
 ]
 

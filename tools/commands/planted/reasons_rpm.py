@@ -82,6 +82,7 @@ PLANTED = (
     + seen_by(
         "reasons_rpm_records.try_program",
         (RECORDS, '"--dbpath", folder, "-qa"', '"-qa"'),
+        ("commands/lib/aide_compare/base/processes.py", "bound_of(resource.RLIMIT_FSIZE, MOST_FILE)", "pass"),
         (RECORDS, "time.monotonic() + SECONDS)", "time.monotonic() + SECONDS + 40)"),
         (RECORDS, "if len(text) > MOST_TEXT:", "if False:"),
         (RECORDS, "SECONDS) != 0:\n", "SECONDS) is None:\n"),

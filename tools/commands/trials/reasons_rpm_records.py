@@ -75,6 +75,8 @@ def try_program(sandbox):
     room = "/proc/%d/fd/" % os.getpid()
     good = words.startswith("5|--dbpath|" + room) and words.endswith("|-qa|/nonexistent|C||")
     sandbox.holds("what rpm is told", good, words)
+    got = asked("ulimit -f; ulimit -c")
+    sandbox.holds("rpm writes no file of more than 256 MiB, and no core", got == (b"524288\n0\n", True), got)
     for label, body, more in (
         ("it fails", "cat %s; exit 1" % sandbox.path("answer"), {}),
         ("it never ends", "exec sleep 60", {"SECONDS": 0.5}),

@@ -15,7 +15,7 @@ from aide_compare.base.ending import Fault, Status, failing, fault_of, write_all
 from aide_compare.base.escapes import guarded, shown
 from aide_compare.base.folders import closed_after
 
-MOST_RESULT, BLOCK = 1 << 20, 1 << 18
+MOST_RESULT, MOST_FILE, BLOCK = 1 << 20, 256 << 20, 1 << 18
 PAUSE, STOP_SECONDS = 0.25, 10
 FIRST_FREE, NOT_STARTED = 10, 127
 PR_SET_PDEATHSIG = 1
@@ -35,7 +35,8 @@ def bound_of(kind, most):
 
 def _started(words, given, environment):
     """The number of the process of a program, in a group of its own. `given` are its descriptors by the numbers that they have
-    there; other standard ones are /dev/null. The kernel ends it if this process ends first."""
+    there; other standard ones are /dev/null. It writes no larger file than MOST_FILE and leaves no core behind, and the kernel
+    ends it if this process ends first."""
     parent, places = os.getpid(), {}
     with ExitStack() as opened:
         for place, descriptor in given.items():  # Under numbers that are not among those that it is given.
@@ -51,6 +52,8 @@ def _started(words, given, environment):
                         os.dup2(descriptor, place)
                     for number in (signal.SIGPIPE, signal.SIGXFSZ):
                         signal.signal(number, signal.SIG_DFL)
+                    bound_of(resource.RLIMIT_FSIZE, MOST_FILE)
+                    bound_of(resource.RLIMIT_CORE, 0)
                     os.execvpe(words[0], words, environment)
             finally:
                 os._exit(NOT_STARTED)
