@@ -1,6 +1,6 @@
 /* Loaded before the C library (LD_PRELOAD), this lets something happen right before one call of a command that opens,
    makes, changes, names or removes a file: before the call with the number AT_NUMBER, counted from the first that opens
-   a file by O_PATH. AT_WAY says what happens: the process is killed, or the names AT_ONE and AT_OTHER change places,
+   a folder by O_PATH. AT_WAY says what happens: the process is killed, or the names AT_ONE and AT_OTHER change places,
    for that call or for good. Only calls of the first process are counted, or with AT_CHILD only
    those of its children. AT_OLD makes the file system an old one, without files that have no name and without an
    exchange of names. AT_NOTES is a descriptor that gets the name of each call that is counted. AT_MARK is a folder that
@@ -11,7 +11,7 @@
 enum way { KILLED = 1, EXCHANGED_FOR_THE_CALL, EXCHANGED_FOR_GOOD };
 
 #define NEXT ((void *)-1L)
-#define O_PATH 010000000
+#define O_FOLDER 010200000 /* O_PATH and O_DIRECTORY */
 #define O_TMPFILE 020200000
 #define NOT_SUPPORTED 95
 #define INVALID 22
@@ -104,7 +104,7 @@ static long refused(int error)
         return (TYPE)after(back, (REFUSED) ? refused(REFUSED) : (long)real ARGUMENTS); \
     }
 
-#define BEGINS(FLAGS) (begun = begun || ((FLAGS) & O_PATH), 0)
+#define BEGINS(FLAGS) (begun = begun || ((FLAGS) & O_FOLDER) == O_FOLDER, 0)
 #define UNKNOWN_FLAGS(FLAGS) (BEGINS(FLAGS) || (is_old && ((FLAGS) & O_TMPFILE) == O_TMPFILE) ? NOT_SUPPORTED : 0)
 
 CALL(int, open, (const char *path, int flags, int mode), (path, flags, mode), UNKNOWN_FLAGS(flags))
