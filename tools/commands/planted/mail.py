@@ -107,7 +107,16 @@ PLANTED = (
         ("contrib/systemd/dailyaidecheck.service.d/aide-compare.conf", "aide.db.new\n", "aide.db\n"),
     )
     + seen_by("smtp.try_no_process", (SENDING, "    why = _refusal(way, message)\n", "    why = way.send(message)\n"))
-    + seen_by("smtp.try_killed", (CHILD, "        signal.setitimer(signal.ITIMER_REAL, seconds + 5)\n", ""))
+    + seen_by(
+        "smtp.try_killed",
+        (
+            CHILD,
+            "        end_with(os.getppid())  # Which the kernel forgets if the work takes other rights.\n"
+            "        signal.signal(signal.SIGALRM, signal.SIG_DFL)\n"
+            "        signal.setitimer(signal.ITIMER_REAL, seconds + 5)\n",
+            "",
+        ),
+    )
     + seen_by(
         "smtp.try_servers",
         (SENDING, "send_message(mail, sender)", 'sendmail(sender, mail["To"].split(", "), mail.as_bytes())'),
