@@ -93,7 +93,7 @@ COMMANDS = [
     Row("1,000 hosts over 4 workers, one of which is killed", "commands/try_tools.py", "40 hosts; 1,000", BOTH),
     Row("reports as JSON and as a page, whole and cut at each byte", "commands/try_viewers.py", Tool("try_viewers"), GATE),
     Row("the page in Chromium 156: views, keyboard, no scripts", "commands/try_page.py", "111", HAND),
-    Row("a page of 100,000 changes: shown in 3.5 s, its bound of 3 s is missed", "try_page.py --large", "once", HAND),
+    Row("a page of 100,000 changes: shown in 3.3 s, its bound of 3 s is missed", "try_page.py --large", "once", HAND),
     Row("a report of 168 MB, of the former page", "try_viewers.py --large", "once", HAND),
     Row("installing, packing, removing; completions of three shells", "packaging/try_install.py", Tool("try_install"), GATE),
     Row("bugs planted in the commands: each still fits its source", "source/check_planted.py", Bugs(None), GATE),
