@@ -68,7 +68,8 @@ all_none : (p : Attr → Bool) (xs : List Attr) → ((a : Attr) → list_any (is
     → list_any p xs ≡ false
 all_none p [] h = refl
 all_none p (x ∷ xs) h =
-    rw (h x (ap (λ b. b || list_any (is_attr x) xs) (eq-eqb (index x) (index x) refl))) (all_none p xs (λ a l. h a (ap (λ b. is_attr a x || b) l ∙ or_true (is_attr a x))))
+    rw (h x (ap (λ b. b || list_any (is_attr x) xs) (eq-eqb (index x) (index x) refl)))
+    (all_none p xs (λ a l. h a (ap (λ b. is_attr a x || b) l ∙ or_true (is_attr a x))))
   where
     or_true : (b : Bool) → (b || true) ≡ true
     or_true true = refl
@@ -86,7 +87,8 @@ meets set here both xs true listed common tells = sym (all_none (has set) xs (λ
     and_true false = refl
 meets set here both xs false listed common tells = elim (bool_cases (list_any (has set) xs)) [
   | inl e ↦ sym e
-  | inr e ↦ let none = tells.1 (λ a. common a ∙ ap (λ b. has set a && b) (listed a) ∙ neither (has set a) (list_any (is_attr a) xs) (none_listed (has set) xs e a)) in cc
+  | inr e ↦ let none = tells.1 (λ a. common a ∙ ap (λ b. has set a && b) (listed a)
+      ∙ neither (has set a) (list_any (is_attr a) xs) (none_listed (has set) xs e a)) in cc
 ]
   where
     neither : (a b : Bool) → (b ≡ true → a ≡ false) → (a && b) ≡ false
@@ -101,7 +103,8 @@ pub any_from : (s : Sides) (i : Ignore) (r : AttrSet) → ((a : Attr) → has r 
 unfolding count
 any_from s i r h k = elim (bool_cases (any_reported s i)) [
   | inl e ↦ e
-  | inr e ↦ absurd (k (λ a. h a ∙ ap (is_reported s i) (sym (at_index a a)) ∙ none_any (is_reported s i) all_attrs (index a) a e (index_small a)))
+  | inr e ↦ absurd (k (λ a. h a ∙ ap (is_reported s i) (sym (at_index a a))
+      ∙ none_any (is_reported s i) all_attrs (index a) a e (index_small a)))
 ]
 
 pub none_from : (s : Sides) (i : Ignore) (r : AttrSet) → ((a : Attr) → has r a ≡ is_reported s i a)

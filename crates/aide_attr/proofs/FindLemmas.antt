@@ -21,7 +21,13 @@ found_first p (y ∷ ys) x e =
           record { earlier = []; later = ys; order = ap (λ z. z ∷ ys) same; has = ap p (sym same) ∙ h; first = All-nil _ }
       | false ↦ λ h f.
           let rest = found_first p ys x f in
-          record { earlier = y ∷ rest.earlier; later = rest.later; order = ap (λ zs. y ∷ zs) rest.order; has = rest.has; first = All-cons (λ z. p z ≡ false) y rest.earlier h rest.first }
+          record {
+            earlier = y ∷ rest.earlier;
+            later = rest.later;
+            order = ap (λ zs. y ∷ zs) rest.order;
+            has = rest.has;
+            first = All-cons (λ z. p z ≡ false) y rest.earlier h rest.first;
+          }
     ] refl e
 
 -- `find` gives the first that passes

@@ -28,10 +28,12 @@ both true b p q = q
 both false b p q = p
 
 -- how many names a map has that is made of entries in order
-len_sorted : {X : Type 0} (es : List (List ℕ × X)) → T (is_sorted (slice_cmp nat_cmp) es) → len (from_entries {R = slice_cmp nat_cmp} es) ≡ length es
+len_sorted : {X : Type 0} (es : List (List ℕ × X)) → T (is_sorted (slice_cmp nat_cmp) es) → len (from_entries {R = slice_cmp nat_cmp} es)
+    ≡ length es
 len_sorted es h =
     let is_same : from_entries {R = slice_cmp nat_cmp} es ≡ from_sorted es =
-    same_map nat_list_cmp_total exact _ _ (λ q. get-from_entries nat_list_cmp_total es q ∙ sym (get-from_sorted (slice_cmp nat_cmp) es q h)) in
+    same_map nat_list_cmp_total exact _ _ (λ q. get-from_entries nat_list_cmp_total es q
+    ∙ sym (get-from_sorted (slice_cmp nat_cmp) es q h)) in
     ap len is_same ∙ len-entries _ ∙ ap length (entries-from_sorted (slice_cmp nat_cmp) es h)
 
 -- ---- the entries of the code's map
@@ -83,7 +85,8 @@ module _ {A X : Type 0} where
       → plain (insert_entry (λ (v w : Vec ℕ A). slice_cmp nat_cmp v.items w.items) es k v) ≡ put (slice_cmp nat_cmp) k.items v (plain es)
   plain_insert [] k v = refl
   plain_insert (e ∷ es) k v = plain_match (slice_cmp nat_cmp k.items e.0.items) _ _ _
-      ∙ ap (λ z. by_order (slice_cmp nat_cmp k.items e.0.items) ((k.items, v) ∷ plain (e ∷ es)) ((e.0.items, v) ∷ plain es) ((e.0.items, e.1) ∷ z))
+      ∙ ap (λ z. by_order (slice_cmp nat_cmp k.items e.0.items) ((k.items, v) ∷ plain (e ∷ es)) ((e.0.items, v) ∷ plain es)
+      ((e.0.items, e.1) ∷ z))
       (plain_insert es k v)
 
   -- the map after a name is given a value
@@ -148,7 +151,8 @@ module _ {X Y : Type 0} (f : X → Y) where
   find_through (e ∷ es) q = found (eq_by_cmp (slice_cmp nat_cmp) q e.0) e.1 _ _ (find_through es q)
 
   pub get-seen : (m : Names X) (q : List ℕ) → get (seen f m) q ≡ option_map f (get m q)
-  get-seen m q = get-from_entries nat_list_cmp_total (through (entries m)) q ∙ find_through (entries m) q ∙ ap (option_map f) (sym (get-entries m q))
+  get-seen m q = get-from_entries nat_list_cmp_total (through (entries m)) q ∙ find_through (entries m) q
+      ∙ ap (option_map f) (sym (get-entries m q))
 
   below_through : (k : List ℕ) (es : List (List ℕ × X))
       → below_all (slice_cmp nat_cmp) k (through es) ≡ below_all (slice_cmp nat_cmp) k es

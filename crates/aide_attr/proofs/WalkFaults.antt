@@ -153,7 +153,8 @@ known_before look acc p s i (b ∷ bs) (x ∷ d) name rest e w n k o r c u =
     tail_ends [] h = refl
     tail_ends (y ∷ d) h = h
 
-    by_byte : ((q : Spot) (known : Attr → Bool) → (d ≡ [] → q.0 ≡ InName → ⊥) → Reaches (walk look known q.0 q.1 (i + 1) bs) (i + 1 + length d) → ⊥)
+    by_byte : ((q : Spot) (known : Attr → Bool) → (d ≡ [] → q.0 ≡ InName → ⊥)
+        → Reaches (walk look known q.0 q.1 (i + 1) bs) (i + 1 + length d) → ⊥)
         → (o' : Option Spot) → step p s b ≡ o' → (t : Option (Attr → Bool))
         → Reaches (after_byte o' t i (λ q known. walk look known q.0 q.1 (i + 1) bs)) (i + length (x ∷ d)) → ⊥
     by_byte again None m t z = omega arith
@@ -228,7 +229,8 @@ stopped look acc p s i (b ∷ bs) e h =
     unknown q InName m t g = cc
     unknown q AfterName m t g = cc
     unknown q BeforeName m t g =
-        subst (Stopped look BeforeName s i (b ∷ bs)) g (here look BeforeName s i (b ∷ bs) (UnknownName i) refl (by_name (is_name_byte b) refl t))
+        subst (Stopped look BeforeName s i (b ∷ bs)) g
+        (here look BeforeName s i (b ∷ bs) (UnknownName i) refl (by_name (is_name_byte b) refl t))
       where
         by_look : (o : Option (Attr → Bool)) → option_and_then (λ set. Some (apply s (Some set) acc)) o ≡ None
             → o ≡ None
@@ -236,7 +238,8 @@ stopped look acc p s i (b ∷ bs) e h =
         by_look (Some set) z = cc
 
         by_name : (n : Bool) → is_name_byte b ≡ n → taken look acc (cond n (record { adds = s; name = b ∷ name_run bs } ∷ []) []) ≡ None
-            → (r : Spot) × (step BeforeName s b ≡ Some r) × (BeforeName ≡ BeforeName) × (is_name_byte b ≡ true) × (look (b ∷ name_run bs) ≡ None)
+            → (r : Spot) × (step BeforeName s b ≡ Some r) × (BeforeName ≡ BeforeName) × (is_name_byte b ≡ true)
+            × (look (b ∷ name_run bs) ≡ None)
         by_name false k z = cc
         by_name true k z = (q, m, refl, k, by_look (look (b ∷ name_run bs)) z)
 
@@ -378,7 +381,8 @@ is_fault look text e h = by_kind e h (stopped look (λ _. false) BeforeName true
             t.0.done,
             b ∷ name_run rest,
             drop_run rest,
-            t.0.cut ∙ ap (λ y. t.0.done ++ y) (m ∙ ap (λ y. b ∷ y) (split rest)) ∙ sym (append_assoc t.0.done (b ∷ name_run rest) (drop_run rest)),
+            t.0.cut ∙ ap (λ y. t.0.done ++ y) (m ∙ ap (λ y. b ∷ y) (split rest))
+                ∙ sym (append_assoc t.0.done (b ∷ name_run rest) (drop_run rest)),
             omega (arith, t.0.at),
             ends_wanting BeforeName true t.0.done t.0.stage t.0.runs z.2,
             (z.3, each rest),

@@ -61,7 +61,14 @@ after_back s b bs ts q e h = elim (bool_cases (is_blank b)) [
     plus k m = ([], b ∷ bs, refl, tt, subst (λ z. AreMore (z ∷ bs) ts) (sym k) (signed true bs ts (at_spot (BeforeName, true) q bs ts m h)))
 
     minus : b ≡ 45 → (BeforeName, false) ≡ q → AfterBack b bs ts
-    minus k m = ([], b ∷ bs, refl, tt, subst (λ z. AreMore (z ∷ bs) ts) (sym k) (signed false bs ts (at_spot (BeforeName, false) q bs ts m h)))
+    minus k m = (
+      [],
+      b ∷ bs,
+      refl,
+      tt,
+      subst (λ z. AreMore (z ∷ bs) ts) (sym k)
+          (signed false bs ts (at_spot (BeforeName, false) q bs ts m h)),
+    )
 
 pub back : (p : Stage) (s : Bool) (b : ℕ) (bs : List ℕ) (ts : List Term) (q : Spot) → step p s b ≡ Some q
     → At q.0 q.1 bs ts
@@ -178,7 +185,8 @@ known_all : (look : Lookup) (acc known : Attr → Bool) (gs ts : List Term) → 
 known_all look acc known [] ts e h = (h, ap (λ z. meant look z ts) (let k : acc ≡ known = cc in k))
 known_all look acc known (g ∷ gs) ts e h = by_name (λ a e. known_all look a known gs ts e h) (look g.name) refl e
   where
-    by_name : ((a : Attr → Bool) → taken look a gs ≡ Some known → AllKnown look (gs ++ ts) × (meant look a (gs ++ ts) ≡ meant look known ts))
+    by_name : ((a : Attr → Bool) → taken look a gs ≡ Some known → AllKnown look (gs ++ ts)
+        × (meant look a (gs ++ ts) ≡ meant look known ts))
         → (o : Option (Attr → Bool)) → look g.name ≡ o
         → option_and_then (λ set. taken look (apply g.adds (Some set) acc) gs) o ≡ Some known
         → (IsSome (look g.name) × AllKnown look (gs ++ ts)) × (meant look (apply g.adds (look g.name) acc) (gs ++ ts) ≡ meant look known ts)
@@ -196,7 +204,8 @@ walked look acc AfterName s i [] m e = ([], ([], [], refl, tt, refl), tt, (let k
 walked look acc p s i (b ∷ bs) m e =
     by_byte (λ q known e. walked look known q.0 q.1 (i + 1) bs m e) (step p s b) refl (taken look acc (begun p s b bs)) refl e
   where
-    by_byte : ((q : Spot) (known : Attr → Bool) → walk look known q.0 q.1 (i + 1) bs ≡ Ok m → (ts : List Term) × At q.0 q.1 bs ts × AllKnown look ts
+    by_byte : ((q : Spot) (known : Attr → Bool) → walk look known q.0 q.1 (i + 1) bs ≡ Ok m → (ts : List Term) × At q.0 q.1 bs ts
+        × AllKnown look ts
         × (m ≡ meant look known ts))
         → (o : Option Spot) → step p s b ≡ o → (k : Option (Attr → Bool)) → taken look acc (begun p s b bs) ≡ k
         → after_byte o k i (λ q known. walk look known q.0 q.1 (i + 1) bs) ≡ Ok m
@@ -240,7 +249,8 @@ meant_to : (look : Lookup) (ts : List Term) (acc : Attr → Bool) (a : Attr)
     → ts ≡ earlier ++ t ∷ later
     → t.adds ≡ true → set_has (look t.name) a ≡ true → NoneHas look a later → meant look acc ts a ≡ true
 meant_to look ts acc a [] t later e h k n =
-    ap (λ z. meant look acc z a) e ∙ meant_keep look later _ a n ∙ apply_at t.adds (look t.name) acc a ∙ ap (λ b. cond b t.adds (acc a)) k ∙ h
+    ap (λ z. meant look acc z a) e ∙ meant_keep look later _ a n ∙ apply_at t.adds (look t.name) acc a ∙ ap (λ b. cond b t.adds (acc a)) k
+    ∙ h
 meant_to look [] acc a (u ∷ earlier) t later e h k n = cc
 meant_to look (v ∷ ts) acc a (u ∷ earlier) t later e h k n =
     meant_to look ts _ a earlier t later (let f : ts ≡ earlier ++ t ∷ later = cc in f) h k n
@@ -292,10 +302,15 @@ step_named AfterName s b q e h = named_after s b q e h
   where
     sign_apart : (n : ℕ) → is_name_byte n ≡ false → (b == n) ≡ false
     sign_apart n k =
-        elim (bool_cases (b == n)) [ inl m ↦ (let same : b ≡ n = eqb-true b n m in let f : is_name_byte n ≡ true = rw (← same) h in cc) | inr m ↦ m ]
+        elim (bool_cases (b == n)) [
+          | inl m ↦ (let same : b ≡ n = eqb-true b n m in let f : is_name_byte n ≡ true = rw (← same) h in
+              cc)
+          | inr m ↦ m
+        ]
 
     named_after : (s : Bool) (b' : ℕ) (q : Spot) → after_step s b ≡ Some q → is_name_byte b ≡ true → q.0 ≡ InName
-    named_after s b' q e h = absurd (none (rw (name_not_blank b h, sign_apart 43 (sign_not_name true), sign_apart 45 (sign_not_name false)) at e))
+    named_after s b' q e h = absurd (none (rw (name_not_blank b h, sign_apart 43 (sign_not_name true), sign_apart 45 (sign_not_name false))
+        at e))
       where
         none : None ≡ Some q → ⊥
         none z = cc

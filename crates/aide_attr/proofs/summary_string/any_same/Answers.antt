@@ -10,4 +10,5 @@ pub returns : goal.returns
 returns c =
     let s = sides_of c.args.delta.now in
     c.meets.ensures ∙ any_has c.minus.result (is_same s) (attrs_at c.args.slot.letter)
-    (λ a. c.minus.ensures a ∙ ap (λ b. b && not (has c.changes.result a)) (c.common.ensures a) ∙ ap (λ b. (s.in_old a && s.in_new a) && not b) (c.changes.ensures a))
+    (λ a. c.minus.ensures a ∙ ap (λ b. b && not (has c.changes.result a)) (c.common.ensures a)
+    ∙ ap (λ b. (s.in_old a && s.in_new a) && not b) (c.changes.ensures a))

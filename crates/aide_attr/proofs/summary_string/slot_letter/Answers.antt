@@ -24,19 +24,30 @@ returns-then-any_added c =
 pub returns-then-any_removed : goal.returns-then-any_removed
 unfolding slot_letter
 returns-then-any_removed c =
-    sym (later _ _ _ _ (sym c.any_changed.ensures ∙ c.if-any_changed.false) (later _ _ _ _ (sym c.any_added.ensures ∙ c.if-any_added.false) (here _ _ _ (sym c.any_removed.ensures ∙ c.if-any_removed.true))))
+    sym (later _ _ _ _ (sym c.any_changed.ensures ∙ c.if-any_changed.false)
+    (later _ _ _ _ (sym c.any_added.ensures ∙ c.if-any_added.false) (here _ _ _ (sym c.any_removed.ensures ∙ c.if-any_removed.true))))
 
 pub returns-then-any_affected : goal.returns-then-any_affected
 unfolding slot_letter
 returns-then-any_affected c =
-    sym (later _ _ _ _ (sym c.any_changed.ensures ∙ c.if-any_changed.false) (later _ _ _ _ (sym c.any_added.ensures ∙ c.if-any_added.false) (later _ _ _ _ (sym c.any_removed.ensures ∙ c.if-any_removed.false) (here _ _ _ (sym c.any_affected.ensures ∙ c.if-any_affected.true)))))
+    sym (later _ _ _ _ (sym c.any_changed.ensures ∙ c.if-any_changed.false)
+    (later _ _ _ _ (sym c.any_added.ensures ∙ c.if-any_added.false)
+    (later _ _ _ _ (sym c.any_removed.ensures ∙ c.if-any_removed.false)
+    (here _ _ _ (sym c.any_affected.ensures ∙ c.if-any_affected.true)))))
 
 pub returns-then-any_same : goal.returns-then-any_same
 unfolding slot_letter
 returns-then-any_same c =
-    sym (later _ _ _ _ (sym c.any_changed.ensures ∙ c.if-any_changed.false) (later _ _ _ _ (sym c.any_added.ensures ∙ c.if-any_added.false) (later _ _ _ _ (sym c.any_removed.ensures ∙ c.if-any_removed.false) (later _ _ _ _ (sym c.any_affected.ensures ∙ c.if-any_affected.false) (here _ _ _ (sym c.any_same.ensures ∙ c.if-any_same.true))))))
+    sym (later _ _ _ _ (sym c.any_changed.ensures ∙ c.if-any_changed.false)
+    (later _ _ _ _ (sym c.any_added.ensures ∙ c.if-any_added.false)
+    (later _ _ _ _ (sym c.any_removed.ensures ∙ c.if-any_removed.false)
+    (later _ _ _ _ (sym c.any_affected.ensures ∙ c.if-any_affected.false) (here _ _ _ (sym c.any_same.ensures ∙ c.if-any_same.true))))))
 
 pub returns-else-any_same : goal.returns-else-any_same
 unfolding slot_letter
 returns-else-any_same c =
-    sym (later _ _ _ _ (sym c.any_changed.ensures ∙ c.if-any_changed.false) (later _ _ _ _ (sym c.any_added.ensures ∙ c.if-any_added.false) (later _ _ _ _ (sym c.any_removed.ensures ∙ c.if-any_removed.false) (later _ _ _ _ (sym c.any_affected.ensures ∙ c.if-any_affected.false) (later _ _ _ _ (sym c.any_same.ensures ∙ c.if-any_same.false) refl)))))
+    sym (later _ _ _ _ (sym c.any_changed.ensures ∙ c.if-any_changed.false)
+    (later _ _ _ _ (sym c.any_added.ensures ∙ c.if-any_added.false)
+    (later _ _ _ _ (sym c.any_removed.ensures ∙ c.if-any_removed.false)
+    (later _ _ _ _ (sym c.any_affected.ensures ∙ c.if-any_affected.false)
+    (later _ _ _ _ (sym c.any_same.ensures ∙ c.if-any_same.false) refl)))))

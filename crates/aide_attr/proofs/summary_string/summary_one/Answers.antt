@@ -9,6 +9,8 @@ returns c =
     let head : (c.type_letter.result ∷ replicate 17 c.match-alone.mark) ≡ (letter_of_type c.args.kind ∷ replicate 17 c.match-alone.mark) =
     ap (λ t. t ∷ replicate 17 c.match-alone.mark) c.type_letter.ensures in
     elim c.match-alone.branch [
-      | in-Added w ↦ head ∙ ap (λ m. letter_of_type c.args.kind ∷ replicate 17 m) w.mark-is ∙ ap (alone_letters c.args.kind) (sym w.in-Added.is)
-      | in-Removed w ↦ head ∙ ap (λ m. letter_of_type c.args.kind ∷ replicate 17 m) w.mark-is ∙ ap (alone_letters c.args.kind) (sym w.in-Removed.is)
+      | in-Added w ↦ head ∙ ap (λ m. letter_of_type c.args.kind ∷ replicate 17 m) w.mark-is
+          ∙ ap (alone_letters c.args.kind) (sym w.in-Added.is)
+      | in-Removed w ↦ head ∙ ap (λ m. letter_of_type c.args.kind ∷ replicate 17 m) w.mark-is
+          ∙ ap (alone_letters c.args.kind) (sym w.in-Removed.is)
     ]

@@ -9,4 +9,5 @@ returns-then-index c =
 
 pub returns-else-index : goal.returns-else-index
 returns-else-index c =
-    sym (ap (λ (b : Bool). if b then Ftype else c.args.self) (ne_eqb _ _ (λ e. c.if-index.false (c.index.ensures ∙ e ∙ sym c.index-2.ensures))))
+    sym (ap (λ (b : Bool). if b then Ftype else c.args.self)
+    (ne_eqb _ _ (λ e. c.if-index.false (c.index.ensures ∙ e ∙ sym c.index-2.ensures))))
