@@ -91,14 +91,17 @@ groups_define : (xs : List Marked) (x : Marked) (table : Sets) → HasGroups xs 
     → says x ≡ DefinesGroup n text → set_meant x.verdict ≡ Some set
     → HasGroups (xs ++ x ∷ []) (insert table n set)
 groups_define xs x table h n text set e v =
-    let more : group_names (xs ++ x ∷ []) ≡ add_name (Some n) (group_names xs) = names-more xs x ∙ ap (λ z. add_name (group_name_of z) (group_names xs)) e in
+    let more : group_names (xs ++ x ∷ []) ≡ add_name (Some n) (group_names xs) = names-more xs x
+    ∙ ap (λ z. add_name (group_name_of z) (group_names xs)) e in
     record {
       sets = λ m. get-more table n set m ∙ ap (cond (same m n) (Some set)) (h.sets m) ∙ chosen_group (same m n) set (group xs m)
           ∙ ap (λ z. option_or (if same m n then z else None) (group xs m)) (sym v)
           ∙ ap (λ z. option_or z (group xs m)) (sym (ap (λ z. if is_name m (group_name_of z) then set_meant x.verdict else None) e))
           ∙ sym (last_given-more (group_in m) xs x);
-      known = λ m. ap (list_any (same m)) more ∙ known_more m (same m n) refl (list_any (same n) (group_names xs)) refl ∙ ap is_some (sym (get-more table n set m));
-      size = len-insert nat_list_cmp_total table n set ∙ ap (λ z. cond z (len table) (len table + 1)) (sym (h.known n)) ∙ size_more (list_any (same n) (group_names xs)) ∙ ap length (sym more);
+      known = λ m. ap (list_any (same m)) more ∙ known_more m (same m n) refl (list_any (same n) (group_names xs)) refl
+          ∙ ap is_some (sym (get-more table n set m));
+      size = len-insert nat_list_cmp_total table n set ∙ ap (λ z. cond z (len table) (len table + 1)) (sym (h.known n))
+          ∙ size_more (list_any (same n) (group_names xs)) ∙ ap length (sym more);
     }
   where
     known_more : (m : List ℕ) (c : Bool) → same m n ≡ c → (k : Bool) → list_any (same n) (group_names xs) ≡ k
@@ -170,14 +173,16 @@ module _ {A : Type 0} (xs : List Marked) (x : Marked) (p : SettingsBuilder A) (s
       by : (b : Bool) → p.fixed ≡ b → AreOptions (counted (xs ++ x ∷ [])) p.options
       by true g = options_fixed p.options g s.options
       by false g = options_open p.options p.options g (ap fixes_by e ∙ f) s.options
-          (λ h. options_same xs x p.options h (ap level_by e ∙ l) (λ w. ap (switch_by w) e ∙ t w) (λ w. ap (λ z. attrs_by w z x.verdict) e ∙ a w))
+          (λ h. options_same xs x p.options h (ap level_by e ∙ l) (λ w. ap (switch_by w) e ∙ t w)
+          (λ w. ap (λ z. attrs_by w z x.verdict) e ∙ a w))
 
   path_kept : (d : Side) (o : Option (List ℕ)) → o ≡ path_set d xs → path_in d x ≡ None
       → o ≡ path_set d (xs ++ x ∷ [])
   path_kept d o h e = h ∙ sym (last_given-same (path_in d) xs x e)
 
   -- nothing is said of anything but variables
-  stands_with : (r : Effect) → says x ≡ r → SetsOnlyVariables r → (v : Names (Vec ℕ A)) → HasVariables (xs ++ x ∷ []) (values_of v) → IsBuiltFrom (xs ++ x ∷ []) (record p { variables = v })
+  stands_with : (r : Effect) → says x ≡ r → SetsOnlyVariables r → (v : Names (Vec ℕ A)) → HasVariables (xs ++ x ∷ []) (values_of v)
+      → IsBuiltFrom (xs ++ x ∷ []) (record p { variables = v })
   stands_with r e q v h = record {
     groups = groups_same xs x (names_of p.groups) s.groups (ap group_name_of e ∙ q.group);
     variables = h;
@@ -188,21 +193,26 @@ module _ {A : Type 0} (xs : List Marked) (x : Marked) (p : SettingsBuilder A) (s
   }
 
   no_variables : (r : Effect) → says x ≡ r → SetsNone r → HasVariables (xs ++ x ∷ []) (values_of p.variables)
-  no_variables r e n = variables_same xs x (values_of p.variables) s.variables (λ m. ap (variable_by m) e ∙ n.value m) (ap variable_name_of e ∙ n.name)
+  no_variables r e n = variables_same xs x (values_of p.variables) s.variables (λ m. ap (variable_by m) e ∙ n.value m)
+      (ap variable_name_of e ∙ n.name)
 
   -- nothing is said
   pub built_same : (r : Effect) → says x ≡ r → SetsOnlyVariables r → SetsNone r → IsBuiltFrom (xs ++ x ∷ []) p
   built_same r e q n = stands_with r e q p.variables (no_variables r e n)
 
   -- a variable is set
-  pub built_set : (n v : List ℕ) (q : SettingsBuilder A) → says x ≡ DefinesVariable n v → values_of q.variables ≡ insert (values_of p.variables) n v → q ≡ record p { variables = q.variables } → IsBuiltFrom (xs ++ x ∷ []) q
+  pub built_set : (n v : List ℕ) (q : SettingsBuilder A) → says x ≡ DefinesVariable n v → values_of q.variables
+      ≡ insert (values_of p.variables) n v → q ≡ record p { variables = q.variables } → IsBuiltFrom (xs ++ x ∷ []) q
   built_set n v q e t k = subst (IsBuiltFrom (xs ++ x ∷ [])) (sym k)
-      (stands_with (DefinesVariable n v) e defines_only q.variables (subst (HasVariables (xs ++ x ∷ [])) (sym t) (variables_set xs x (values_of p.variables) s.variables n v e)))
+      (stands_with (DefinesVariable n v) e defines_only q.variables
+      (subst (HasVariables (xs ++ x ∷ [])) (sym t) (variables_set xs x (values_of p.variables) s.variables n v e)))
 
   -- a variable is no longer defined
-  pub built_unset : (n : List ℕ) (q : SettingsBuilder A) → says x ≡ DropsVariable n → values_of q.variables ≡ remove (values_of p.variables) n → q ≡ record p { variables = q.variables } → IsBuiltFrom (xs ++ x ∷ []) q
+  pub built_unset : (n : List ℕ) (q : SettingsBuilder A) → says x ≡ DropsVariable n → values_of q.variables
+      ≡ remove (values_of p.variables) n → q ≡ record p { variables = q.variables } → IsBuiltFrom (xs ++ x ∷ []) q
   built_unset n q e t k = subst (IsBuiltFrom (xs ++ x ∷ [])) (sym k)
-      (stands_with (DropsVariable n) e drops_only q.variables (subst (HasVariables (xs ++ x ∷ [])) (sym t) (variables_unset xs x (values_of p.variables) s.variables n e)))
+      (stands_with (DropsVariable n) e drops_only q.variables
+      (subst (HasVariables (xs ++ x ∷ [])) (sym t) (variables_unset xs x (values_of p.variables) s.variables n e)))
 
   -- a report option is set
   pub built_option : (r : Effect) (o : Options) → says x ≡ r → fixes_by r ≡ false → group_name_of r ≡ None

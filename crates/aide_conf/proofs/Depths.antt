@@ -28,7 +28,8 @@ still_open o rest between t no_rest no_between h = elim (cut_at rest (o ∷ betw
         let same : x ≡ o = cc in
         let tail : between ≡ more ++ h.1 ∷ h.2 = cc in
         let inner : Inside (rest ++ o ∷ more) = subst Inside (e ∙ ap (λ z. rest ++ z ∷ more) same) h.5 in
-        no_between (subst IsClosed (sym tail) (IsClosed-more more (h.1 ∷ h.2) ((Settled-inside (rest ++ o ∷ more) inner).ends rest o more refl t)))
+        no_between (subst IsClosed (sym tail) (IsClosed-more more (h.1 ∷ h.2)
+        ((Settled-inside (rest ++ o ∷ more) inner).ends rest o more refl t)))
 
 module _ (here outer : List Seen) (o : Seen) (between : List Seen) (inner : IsInnermost here outer o between) where
   -- what encloses the line after all of them is the innermost opening line, or encloses that line

@@ -44,15 +44,18 @@ line : List ℕ → Effect
 line bytes = line_effect true bytes bytes
 
 level : line (codes "report_level = minimal") ≡ SetsLevel Minimal
-unfolding line line_effect directive_of kept_effect value_effect is_selection is_directive option_named main_option strip is_blank level_named
+unfolding line line_effect directive_of kept_effect value_effect is_selection is_directive option_named main_option strip is_blank
+    level_named
 level = refl
 
 group_line : line (codes "my = p+s") ≡ DefinesGroup (codes "my") (codes "p+s")
-unfolding line line_effect directive_of kept_effect is_selection is_directive option_named main_option switch_named list_named is_accepted is_older strip is_blank is_group_name is_word is_word_byte attr_named row_of row is_empty_name
+unfolding line line_effect directive_of kept_effect is_selection is_directive option_named main_option switch_named list_named is_accepted
+    is_older strip is_blank is_group_name is_word is_word_byte attr_named row_of row is_empty_name
 group_line = refl
 
 taken_name : line (codes "p = s") ≡ Faulty BadName
-unfolding line line_effect directive_of kept_effect is_selection is_directive option_named main_option switch_named list_named is_accepted is_older strip is_blank is_group_name is_word is_word_byte attr_named row_of row is_empty_name
+unfolding line line_effect directive_of kept_effect is_selection is_directive option_named main_option switch_named list_named is_accepted
+    is_older strip is_blank is_group_name is_word is_word_byte attr_named row_of row is_empty_name
 taken_name = refl
 
 no_line : line (codes "hello") ≡ Faulty BadLine
@@ -76,11 +79,13 @@ unfolding path_after
 four_slashes = refl
 
 two_slashes : line (codes "database_in=file://host/old") ≡ Faulty BadUrl
-unfolding line line_effect directive_of kept_effect value_effect is_selection is_directive option_named main_option strip is_blank is_left_out path_of path_after
+unfolding line line_effect directive_of kept_effect value_effect is_selection is_directive option_named main_option strip is_blank
+    is_left_out path_of path_after
 two_slashes = refl
 
 empty_older : line (codes "grouped=") ≡ Faulty BadValue
-unfolding line line_effect directive_of kept_effect is_selection is_directive option_named main_option switch_named list_named is_accepted is_older strip is_blank
+unfolding line line_effect directive_of kept_effect is_selection is_directive option_named main_option switch_named list_named is_accepted
+    is_older strip is_blank
 empty_older = refl
 
 -- ---- settings of places
@@ -88,26 +93,47 @@ empty_older = refl
 -- a used line, with no expression
 at : List ℕ → Marked
 at bytes =
-    record { place = record { text = File; number = 1; line = Some bytes }; used = true; depth = 0; divided = false; first = false; expanded = bytes; verdict = None }
+    record {
+      place = record { text = File; number = 1; line = Some bytes };
+      used = true;
+      depth = 0;
+      divided = false;
+      first = false;
+      expanded = bytes;
+      verdict = None;
+    }
 
 -- of three lines the last level before `report_url=stdout` counts
-last_level : last_given level_in (counted (at (codes "report_level=minimal") ∷ at (codes "report_url=stdout") ∷ at (codes "report_level=summary") ∷ [])) ≡ Some Minimal
-unfolding at last_given says line_effect directive_of kept_effect value_effect is_selection is_directive option_named main_option strip is_blank level_named
+last_level : last_given level_in (counted
+    (at (codes "report_level=minimal") ∷ at (codes "report_url=stdout") ∷ at (codes "report_level=summary") ∷ [])) ≡ Some Minimal
+unfolding at last_given says line_effect directive_of kept_effect value_effect is_selection is_directive option_named main_option strip
+    is_blank level_named
 last_level = refl
 
 last_of_two : last_given (switch_in Quiet) (at (codes "report_quiet=yes") ∷ at (codes "report_quiet=no") ∷ []) ≡ Some false
-unfolding at last_given says line_effect directive_of kept_effect value_effect is_selection is_directive option_named main_option switch_named strip is_blank bool_named
+unfolding at last_given says line_effect directive_of kept_effect value_effect is_selection is_directive option_named main_option
+    switch_named strip is_blank bool_named
 last_of_two = refl
 
 -- ---- faults of places
 
-unknown_attribute : fault_at Check [] (record (at (codes "report_force_attrs=p+nope")) { verdict = Some (Err (UnknownName 2)) }) ≡ Some UnknownAttribute
-unfolding at fault_at says line_effect directive_of kept_effect value_effect is_selection is_directive option_named main_option switch_named list_named strip is_blank
+unknown_attribute : fault_at Check [] (record (at (codes "report_force_attrs=p+nope")) { verdict = Some (Err (UnknownName 2)) })
+    ≡ Some UnknownAttribute
+unfolding at fault_at says line_effect directive_of kept_effect value_effect is_selection is_directive option_named main_option
+    switch_named list_named strip is_blank
 unknown_attribute = refl
 
 end_of_after : Marked
 end_of_after =
-    record { place = record { text = After; number = 1; line = None }; used = true; depth = 0; divided = false; first = false; expanded = []; verdict = None }
+    record {
+      place = record { text = After; number = 1; line = None };
+      used = true;
+      depth = 0;
+      divided = false;
+      first = false;
+      expanded = [];
+      verdict = None;
+    }
 
 no_old : fault_at Compare [] end_of_after ≡ Some NoOldDatabase
 unfolding end_of_after fault_at last_given says

@@ -83,7 +83,8 @@ unseen text [] x e = ap (λ z. if z then seen x ∷ [] else []) e
 unseen text (y ∷ ys) x e = by (is_text text y.place.text) (unseen text ys x e)
   where
     by : (b : Bool) → seen_in text (ys ++ x ∷ []) ≡ seen_in text ys
-        → (if b then seen y ∷ seen_in text (ys ++ x ∷ []) else seen_in text (ys ++ x ∷ [])) ≡ (if b then seen y ∷ seen_in text ys else seen_in text ys)
+        → (if b then seen y ∷ seen_in text (ys ++ x ∷ []) else seen_in text (ys ++ x ∷ []))
+        ≡ (if b then seen y ∷ seen_in text ys else seen_in text ys)
     by true h = ap (λ z. seen y ∷ z) h
     by false h = h
 
@@ -188,7 +189,8 @@ unfolding options_at switch_at
 are_options xs = record {
   level = refl;
   switches = λ s. made_switch (unwrap_or (last_given level_in xs) ChangedAttributes) (switch_at xs) (λ l. list_of l xs) s;
-  attrs = λ l a. ap (λ z. has z a) (made_attrs (unwrap_or (last_given level_in xs) ChangedAttributes) (switch_at xs) (λ m. list_of m xs) l) ∙ has_list_of l xs a;
+  attrs = λ l a. ap (λ z. has z a) (made_attrs (unwrap_or (last_given level_in xs) ChangedAttributes) (switch_at xs) (λ m. list_of m xs) l)
+      ∙ has_list_of l xs a;
 }
 
 settings_at : List Marked → Configured
@@ -209,5 +211,15 @@ reads_somehow need before file after = by (walked need [] (places before file af
     by (inl h) = (Ok (settings_at h.0), record { lines = h.0; all = h.1; sound = h.2; settings = are_settings h.0 })
     by (inr h) = (
       Err (record { text = h.at.place.text; line = h.at.place.number; kind = h.kind }),
-      record { lines = h.lines; at = h.at; rest = h.rest; cut = h.cut; sound = h.sound; marked = h.well; fault = h.fault; text = refl; line = refl },
+      record {
+        lines = h.lines;
+        at = h.at;
+        rest = h.rest;
+        cut = h.cut;
+        sound = h.sound;
+        marked = h.well;
+        fault = h.fault;
+        text = refl;
+        line = refl;
+      },
     )

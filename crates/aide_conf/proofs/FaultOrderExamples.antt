@@ -22,19 +22,30 @@ all_of_them = refl
 -- a used line that so many lines enclose, with no expression
 at : ℕ → List ℕ → Marked
 at depth bytes =
-    record { place = record { text = File; number = 1; line = Some bytes }; used = true; depth = depth; divided = false; first = false; expanded = bytes; verdict = None }
+    record {
+      place = record { text = File; number = 1; line = Some bytes };
+      used = true;
+      depth = depth;
+      divided = false;
+      first = false;
+      expanded = bytes;
+      verdict = None;
+    }
 
 -- an option that is left out, without a value
 older_left_out : has_fault Check [] (at 0 (codes "grouped=")) LeftOut ≡ true
-unfolding at has_fault directive_of is_directive is_selection option_named main_option switch_named list_named is_accepted is_older strip is_blank
+unfolding at has_fault directive_of is_directive is_selection option_named main_option switch_named list_named is_accepted is_older strip
+    is_blank
 older_left_out = refl
 
 older_empty : has_fault Check [] (at 0 (codes "grouped=")) BadValue ≡ true
-unfolding at has_fault directive_of is_directive is_selection option_named main_option switch_named list_named is_accepted is_older strip is_blank
+unfolding at has_fault directive_of is_directive is_selection option_named main_option switch_named list_named is_accepted is_older strip
+    is_blank
 older_empty = refl
 
 empty_told : fault_at Check [] (at 0 (codes "grouped=")) ≡ Some BadValue
-unfolding at fault_at says line_effect directive_of kept_effect is_selection is_directive option_named main_option switch_named list_named is_accepted is_older strip is_blank
+unfolding at fault_at says line_effect directive_of kept_effect is_selection is_directive option_named main_option switch_named list_named
+    is_accepted is_older strip is_blank
 empty_told = refl
 
 -- a URL that is left out leads to no path
@@ -47,7 +58,8 @@ unfolding at has_fault directive_of is_directive is_selection option_named main_
 stdin_no_path = refl
 
 left_out_told : fault_at Check [] (at 0 (codes "database_in=stdin")) ≡ Some LeftOut
-unfolding at fault_at says line_effect directive_of kept_effect value_effect is_selection is_directive option_named main_option strip is_blank is_left_out
+unfolding at fault_at says line_effect directive_of kept_effect value_effect is_selection is_directive option_named main_option strip
+    is_blank is_left_out
 left_out_told = refl
 
 -- a block with a bad name, and one with a condition of a wrong form, in 32 others

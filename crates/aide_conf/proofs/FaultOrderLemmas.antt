@@ -74,7 +74,8 @@ found p = refl
 -- the faults of an expression, and one more
 abbrev last : Verdict → Bool → Option ConfFaultKind
 last v many =
-    cond (has_unknown_name v) (Some faults.UnknownAttribute) (cond (has_bad_form v) (Some faults.BadExpression) (cond many (Some faults.TooMany) None))
+    cond (has_unknown_name v) (Some faults.UnknownAttribute)
+    (cond (has_bad_form v) (Some faults.BadExpression) (cond many (Some faults.TooMany) None))
 
 -- ---- assignments
 
@@ -83,7 +84,8 @@ abbrev of_assignment : List Marked → Verdict → Assignment → Option ConfFau
 of_assignment earlier v a =
     cond (has_bad_group a) (Some faults.BadName) (cond (is_nameless a) (Some faults.BadLine)
     (cond (has_bad_value a) (Some faults.BadValue) (cond (is_left_out_by a) (Some faults.LeftOut)
-    (cond (has_bad_url a) (Some faults.BadUrl) (cond (has_long_path a) (Some faults.ValueTooLong) (last v (has_too_many_groups earlier a)))))))
+    (cond (has_bad_url a) (Some faults.BadUrl)
+    (cond (has_long_path a) (Some faults.ValueTooLong) (last v (has_too_many_groups earlier a)))))))
 
 verdict_first : (v : Verdict) (many : Bool) → option_or (verdict_fault v) (cond many (Some faults.TooMany) None) ≡ last v many
 verdict_first None many = refl
@@ -106,10 +108,14 @@ group_told earlier depth divided v name value true = verdict_first v (is_too_man
 path_told : (look : Look) (earlier : List Marked) (depth : ℕ) (divided : Bool) (v : Verdict) (d : Side) (o : Option (List ℕ))
     → Judged look (path_effect d o) v
     → line_fault earlier depth divided (path_effect d o) v
-    ≡ cond (is_none o) (Some faults.BadUrl) (cond (nat_lt longest_value (length (unwrap_or o []))) (Some faults.ValueTooLong) (last v false))
+    ≡ cond (is_none o) (Some faults.BadUrl) (cond (nat_lt longest_value (length (unwrap_or o []))) (Some faults.ValueTooLong)
+    (last v false))
 path_told look earlier depth divided v d None j = refl
 path_told look earlier depth divided v d (Some p) j =
-    elim (nat_lt longest_value (length p)) as (λ b. Judged look (cond b (Faulty faults.ValueTooLong) (NamesDatabase d p)) v → line_fault earlier depth divided (cond b (Faulty faults.ValueTooLong) (NamesDatabase d p)) v ≡ cond b (Some faults.ValueTooLong) (last v false)) [
+    elim (nat_lt longest_value (length p)) as
+    (λ b. Judged look (cond b (Faulty faults.ValueTooLong) (NamesDatabase d p)) v
+    → line_fault earlier depth divided (cond b (Faulty faults.ValueTooLong) (NamesDatabase d p)) v
+    ≡ cond b (Some faults.ValueTooLong) (last v false)) [
       | true ↦ λ h. refl
       | false ↦ λ h. let none : v ≡ None = h in rw none refl
     ] j
@@ -117,7 +123,8 @@ path_told look earlier depth divided v d (Some p) j =
 url_told : (look : Look) (earlier : List Marked) (depth : ℕ) (divided : Bool) (v : Verdict) (d : Side) (o : Option (List ℕ)) (left : Bool)
     → Judged look (cond left (Faulty faults.LeftOut) (path_effect d o)) v
     → line_fault earlier depth divided (cond left (Faulty faults.LeftOut) (path_effect d o)) v
-    ≡ cond left (Some faults.LeftOut) (cond (is_none o) (Some faults.BadUrl) (cond (nat_lt longest_value (length (unwrap_or o []))) (Some faults.ValueTooLong) (last v false)))
+    ≡ cond left (Some faults.LeftOut) (cond (is_none o) (Some faults.BadUrl)
+    (cond (nat_lt longest_value (length (unwrap_or o []))) (Some faults.ValueTooLong) (last v false)))
 url_told look earlier depth divided v d o true j = refl
 url_told look earlier depth divided v d o false j = path_told look earlier depth divided v d o j
 
@@ -151,7 +158,8 @@ stdout_told look earlier depth divided v false j = let none : v ≡ None = j in 
 abbrev of_value : Verdict → OptionKind → List ℕ → Option ConfFaultKind
 of_value v o value =
     cond (is_no_word_of o value) (Some faults.BadValue) (cond (is_option_left_out o value) (Some faults.LeftOut)
-    (cond (has_bad_url (ToOption o value)) (Some faults.BadUrl) (cond (has_long_path (ToOption o value)) (Some faults.ValueTooLong) (last v false))))
+    (cond (has_bad_url (ToOption o value)) (Some faults.BadUrl)
+    (cond (has_long_path (ToOption o value)) (Some faults.ValueTooLong) (last v false))))
 
 value_told : (look : Look) (earlier : List Marked) (depth : ℕ) (divided : Bool) (v : Verdict) (o : OptionKind) (value : List ℕ)
     → Judged look (value_effect o value) v
@@ -171,15 +179,18 @@ value_told look earlier depth divided v kinds.ReportFormat value j =
 value_told look earlier depth divided v kinds.Accepted value j = let none : v ≡ None = j in rw none refl
 value_told look earlier depth divided v kinds.Older value j = refl
 
-option_told : (look : Look) (earlier : List Marked) (depth : ℕ) (divided : Bool) (v : Verdict) (o : OptionKind) (value : List ℕ) (empty : Bool)
+option_told : (look : Look) (earlier : List Marked) (depth : ℕ) (divided : Bool) (v : Verdict) (o : OptionKind) (value : List ℕ)
+    (empty : Bool)
     → Judged look (cond empty (Faulty faults.BadValue) (value_effect o value)) v
     → line_fault earlier depth divided (cond empty (Faulty faults.BadValue) (value_effect o value)) v
     ≡ cond (empty || is_no_word_of o value) (Some faults.BadValue) (cond (is_option_left_out o value) (Some faults.LeftOut)
-    (cond (has_bad_url (ToOption o value)) (Some faults.BadUrl) (cond (has_long_path (ToOption o value)) (Some faults.ValueTooLong) (last v false))))
+    (cond (has_bad_url (ToOption o value)) (Some faults.BadUrl)
+    (cond (has_long_path (ToOption o value)) (Some faults.ValueTooLong) (last v false))))
 option_told look earlier depth divided v o value true j = refl
 option_told look earlier depth divided v o value false j = value_told look earlier depth divided v o value j
 
-assigned_told : (look : Look) (earlier : List Marked) (depth : ℕ) (divided : Bool) (v : Verdict) (o : Option OptionKind) (name value : List ℕ)
+assigned_told : (look : Look) (earlier : List Marked) (depth : ℕ) (divided : Bool) (v : Verdict) (o : Option OptionKind)
+    (name value : List ℕ)
     → Judged look (assigned o name value) v
     → line_fault earlier depth divided (assigned o name value) v ≡ of_assignment earlier v (assignment_to o name value)
 assigned_told look earlier depth divided v None name value j =
@@ -194,10 +205,13 @@ cut_told look earlier depth divided v None name j = refl
 cut_told look earlier depth divided v (Some value) name j =
     assigned_told look earlier depth divided v (option_named name) name (strip value) j
 
-text_by : (look : Look) (earlier : List Marked) (depth : ℕ) (divided : Bool) (v : Verdict) (o : Option (List ℕ)) (name : List ℕ) (skipped long selects : Bool)
+text_by : (look : Look) (earlier : List Marked) (depth : ℕ) (divided : Bool) (v : Verdict) (o : Option (List ℕ)) (name : List ℕ)
+    (skipped long selects : Bool)
     → Judged look (cond skipped Nothing (cond long (Faulty faults.LineTooLong) (cond selects Nothing (cut_effect o name)))) v
-    → line_fault earlier depth divided (cond skipped Nothing (cond long (Faulty faults.LineTooLong) (cond selects Nothing (cut_effect o name)))) v
-    ≡ cond (not skipped && long) (Some faults.LineTooLong) (of_assignment earlier v (cond (skipped || selects) Silent (assignment_by name o)))
+    → line_fault earlier depth divided (cond skipped Nothing
+    (cond long (Faulty faults.LineTooLong) (cond selects Nothing (cut_effect o name)))) v
+    ≡ cond (not skipped && long) (Some faults.LineTooLong)
+    (of_assignment earlier v (cond (skipped || selects) Silent (assignment_by name o)))
 text_by look earlier depth divided v o name true long selects j = let none : v ≡ None = j in rw none refl
 text_by look earlier depth divided v o name false true selects j = refl
 text_by look earlier depth divided v o name false false true j = let none : v ≡ None = j in rw none refl
@@ -209,19 +223,22 @@ text_told : (look : Look) (earlier : List Marked) (depth : ℕ) (divided : Bool)
     ≡ cond (is_too_long_text None e) (Some faults.LineTooLong) (of_assignment earlier v (assignment_in e))
 unfolding kept_effect
 text_told look earlier depth divided v e j =
-    text_by look earlier depth divided v (bytes_after is_equals e) (strip (bytes_before is_equals e)) (is_skipped e) (nat_lt longest_line (length e)) (is_selection e) j
+    text_by look earlier depth divided v (bytes_after is_equals e) (strip (bytes_before is_equals e)) (is_skipped e)
+    (nat_lt longest_line (length e)) (is_selection e) j
 
 -- ---- directives
 
 set_told : (look : Look) (earlier : List Marked) (depth : ℕ) (divided : Bool) (v : Verdict) (n e : List ℕ) (word long : Bool)
     → Judged look (cond word (cond long (Faulty faults.ValueTooLong) (DefinesVariable n e)) (Faulty faults.BadName)) v
     → line_fault earlier depth divided (cond word (cond long (Faulty faults.ValueTooLong) (DefinesVariable n e)) (Faulty faults.BadName)) v
-    ≡ cond (not word || false) (Some faults.BadName) (cond (long || false) (Some faults.ValueTooLong) (last v (is_one_variable_more earlier n || false)))
+    ≡ cond (not word || false) (Some faults.BadName)
+    (cond (long || false) (Some faults.ValueTooLong) (last v (is_one_variable_more earlier n || false)))
 set_told look earlier depth divided v n e false long j = refl
 set_told look earlier depth divided v n e true true j = refl
 set_told look earlier depth divided v n e true false j =
     let none : v ≡ None = j in
-    rw none (elim (is_one_variable_more earlier n) as (λ b. cond b (Some faults.TooMany) None ≡ cond (b || false) (Some faults.TooMany) None) [ true ↦ refl | false ↦ refl ])
+    rw none (elim (is_one_variable_more earlier n) as
+    (λ b. cond b (Some faults.TooMany) None ≡ cond (b || false) (Some faults.TooMany) None) [ true ↦ refl | false ↦ refl ])
 
 unset_told : (look : Look) (earlier : List Marked) (depth : ℕ) (divided : Bool) (v : Verdict) (n : List ℕ) (word : Bool)
     → Judged look (cond word (DropsVariable n) (Faulty faults.BadName)) v
@@ -260,7 +277,8 @@ used_told : (look : Look) (earlier : List Marked) (x : Marked) (line : List ℕ)
     → line_fault earlier x.depth x.divided (directive_effect true item x.expanded) x.verdict
     ≡ first_by (is_wrong earlier x line item (assignment_of true item x.expanded))
 used_told look earlier x line (Some (Define n v)) used long j =
-    rw (used, long) (set_told look earlier x.depth x.divided x.verdict n x.expanded (is_word n) (nat_lt longest_value (length x.expanded)) j)
+    rw (used, long) (set_told look earlier x.depth x.divided x.verdict n x.expanded (is_word n)
+    (nat_lt longest_value (length x.expanded)) j)
 used_told look earlier x line (Some (Undef n)) used long j =
     rw (used, long) (unset_told look earlier x.depth x.divided x.verdict n (is_word n) j)
 used_told look earlier x line (Some (IfDef n)) used long j =
@@ -277,7 +295,8 @@ used_told look earlier x line None used long j =
 
 -- ---- lines and ends
 
-by_used : (look : Look) (earlier : List Marked) (x : Marked) (line : List ℕ) (item : Option (Directive (List ℕ))) (u long : Bool) → x.used ≡ u
+by_used : (look : Look) (earlier : List Marked) (x : Marked) (line : List ℕ) (item : Option (Directive (List ℕ))) (u long : Bool) → x.used
+    ≡ u
     → nat_lt longest_line (length line) ≡ long
     → Judged look (cond (u && long) (Faulty faults.LineTooLong) (directive_effect u item x.expanded)) x.verdict
     → line_fault earlier x.depth x.divided (cond (u && long) (Faulty faults.LineTooLong) (directive_effect u item x.expanded)) x.verdict
@@ -287,8 +306,11 @@ by_used look earlier x line item true false used long j = used_told look earlier
 by_used look earlier x line item false long used e j = unused_told look earlier x line item used j
 
 by_skipped : (look : Look) (earlier : List Marked) (x : Marked) (line : List ℕ) (item : Option (Directive (List ℕ))) (skipped : Bool)
-    → Judged look (cond skipped Nothing (cond (x.used && nat_lt longest_line (length line)) (Faulty faults.LineTooLong) (directive_effect x.used item x.expanded))) x.verdict
-    → line_fault earlier x.depth x.divided (cond skipped Nothing (cond (x.used && nat_lt longest_line (length line)) (Faulty faults.LineTooLong) (directive_effect x.used item x.expanded))) x.verdict
+    → Judged look (cond skipped Nothing (cond (x.used && nat_lt longest_line (length line)) (Faulty faults.LineTooLong)
+    (directive_effect x.used item x.expanded))) x.verdict
+    → line_fault earlier x.depth x.divided (cond skipped Nothing
+    (cond (x.used && nat_lt longest_line (length line)) (Faulty faults.LineTooLong) (directive_effect x.used item x.expanded)))
+    x.verdict
     ≡ first_by (λ kind. not skipped && is_wrong earlier x line item (assignment_of x.used item x.expanded) kind)
 by_skipped look earlier x line item true j = refl
 by_skipped look earlier x line item false j =

@@ -42,9 +42,11 @@ at_end : (earlier : List Marked) (x : Marked) → x.place.line ≡ None → x.pl
     → fault_at Compare earlier x ≡ None → AreNamed (earlier ++ x ∷ [])
 unfolding fault_at says
 at_end earlier x no_line text sound =
-    let here : place_fault Compare earlier x None ≡ None = subst (λ (l : Option (List ℕ)). place_fault Compare earlier x l ≡ None) no_line sound in
+    let here : place_fault Compare earlier x None ≡ None = subst (λ (l : Option (List ℕ)). place_fault Compare earlier x l ≡ None) no_line
+    sound in
     let both = none_missing _ _ (subst (λ t. end_fault Compare t earlier ≡ None) text (no_later _ _ here)) in
-    let unnamed : (d : Side) → path_in d x ≡ None = λ d. ap (λ (l : Option (List ℕ)). path_by d (line_says l x.used x.expanded)) no_line in (
+    let unnamed : (d : Side) → path_in d x ≡ None =
+    λ d. ap (λ (l : Option (List ℕ)). path_by d (line_says l x.used x.expanded)) no_line in (
       subst IsSome (sym (last_given-same (path_in Old) earlier x (unnamed Old))) (some_path (path_set Old earlier) both.0),
       subst IsSome (sym (last_given-same (path_in New) earlier x (unnamed New))) (some_path (path_set New earlier) both.1),
     )

@@ -55,7 +55,8 @@ seen_in-more text [] x e = ap (λ z. if z then seen x ∷ [] else []) (ap (is_te
 seen_in-more text (y ∷ ys) x e = by (is_text text y.place.text) (seen_in-more text ys x e)
   where
     by : (b : Bool) → seen_in text (ys ++ x ∷ []) ≡ seen_in text ys ++ seen x ∷ []
-        → (if b then seen y ∷ seen_in text (ys ++ x ∷ []) else seen_in text (ys ++ x ∷ [])) ≡ (if b then seen y ∷ seen_in text ys else seen_in text ys) ++ seen x ∷ []
+        → (if b then seen y ∷ seen_in text (ys ++ x ∷ []) else seen_in text (ys ++ x ∷ []))
+        ≡ (if b then seen y ∷ seen_in text ys else seen_in text ys) ++ seen x ∷ []
     by true h = ap (λ z. seen y ∷ z) h
     by false h = h
 
@@ -67,12 +68,14 @@ not_zero n = grind (arith, nat_tests)
 abbrev else_fault : Bool → Option ConfFaultKind
 else_fault b = if b then Some StrayElse else None
 
-module _ (here : List Seen) (fs : List Frame) (o : IsOpen here fs) (earlier : List Marked) (defined : List ℕ → Bool) (out : List ℕ) (v : Option (Result AttrSet ExprFault)) where
+module _ (here : List Seen) (fs : List Frame) (o : IsOpen here fs) (earlier : List Marked) (defined : List ℕ → Bool) (out : List ℕ)
+    (v : Option (Result AttrSet ExprFault)) where
   divides_well : (x : Seen) → x.role ≡ Divides → (gs : List Frame) → IsOpen here gs
       → (if length gs == 0 || top_divided gs then Some StrayElse else None) ≡ None
       → IsOpen (here ++ x ∷ []) (divided_at gs)
   divides_well x e [] h f = let bad : Some StrayElse ≡ None = f in cc
-  divides_well x e (g ∷ gs) h f = divides_next here g gs x h (ap divides e) (by g.second (sym (ap (λ z. else_fault (z || g.second)) (not_zero (length gs))) ∙ f))
+  divides_well x e (g ∷ gs) h f = divides_next here g gs x h (ap divides e)
+      (by g.second (sym (ap (λ z. else_fault (z || g.second)) (not_zero (length gs))) ∙ f))
     where
       by : (b : Bool) → (if b then Some StrayElse else None) ≡ None → b ≡ false
       by true k = let bad : Some StrayElse ≡ None = k in cc
@@ -114,7 +117,8 @@ not_directive (b ∷ bs) h =
     let no_at : nat_eq 64 b ≡ false = ap (nat_eq 64) hash in
     rw no_at refl
 
-module _ (need : Need) (earlier : List Marked) (text : ConfText) (n : ℕ) (line : List ℕ) (fs : List Frame) (o : IsOpen (seen_in text earlier) fs) where
+module _ (need : Need) (earlier : List Marked) (text : ConfText) (n : ℕ) (line : List ℕ) (fs : List Frame)
+    (o : IsOpen (seen_in text earlier) fs) where
   abbrev out : List ℕ
   out = expansion_after (value earlier) 0 (directive_text line (directive_of line))
 
@@ -163,9 +167,11 @@ module _ (need : Need) (earlier : List Marked) (text : ConfText) (n : ℕ) (line
 
   -- what is taken where the blocks are right afterwards
   takes_place : {A : Type 0} (gs : List Frame) (q : SettingsBuilder A) (result : Result (Unit {0}) ConfFaultKind)
-      → ((v : Option (Result AttrSet ExprFault)) → line_fault earlier (length fs) (top_divided fs) effect_here v ≡ None → OnOk result (IsOpen (seen_in text earlier ++ seen (marked v) ∷ []) gs))
+      → ((v : Option (Result AttrSet ExprFault)) → line_fault earlier (length fs) (top_divided fs) effect_here v ≡ None
+      → OnOk result (IsOpen (seen_in text earlier ++ seen (marked v) ∷ []) gs))
       → (result ≡ Err Memory → line_grows (top_used fs) (length fs) line ≡ true)
-      → TakesEffect {E = Unit {0}} earlier (length fs) (top_divided fs) effect_here q result → TakesOne {E = Unit {0}} need earlier (place_at text n (Some line)) q gs result
+      → TakesEffect {E = Unit {0}} earlier (length fs) (top_divided fs) effect_here q result
+      → TakesOne {E = Unit {0}} need earlier (place_at text n (Some line)) q gs result
   takes_place gs q (Ok u) b m t = (
     marked t.0,
     refl,
@@ -190,16 +196,26 @@ module _ (need : Need) (earlier : List Marked) (text : ConfText) (n : ℕ) (line
   plain_after e v = single_next (seen_in text earlier) fs (seen (marked v)) o (ap (λ i. is_single (role_of i)) e)
 
   -- an empty line or a comment
-  pub skipped_line : {A : Type 0} (q : SettingsBuilder A) (u : Unit {0}) → is_skipped line ≡ true → TakesEffect {E = Unit {0}} earlier (length fs) (top_divided fs) Nothing q (Ok u) → TakesOne {E = Unit {0}} need earlier (place_at text n (Some line)) q fs (Ok u)
-  skipped_line {A} q u h t = takes_place fs q (Ok u) (λ v f. plain_after (skipped_directive h) v) (λ e. let bad : Ok u ≡ Err Memory = e in cc)
+  pub skipped_line : {A : Type 0} (q : SettingsBuilder A) (u : Unit {0}) → is_skipped line ≡ true
+      → TakesEffect {E = Unit {0}} earlier (length fs) (top_divided fs) Nothing q (Ok u)
+      → TakesOne {E = Unit {0}} need earlier (place_at text n (Some line)) q fs (Ok u)
+  skipped_line {A} q u h t = takes_place fs q (Ok u) (λ v f. plain_after (skipped_directive h) v)
+      (λ e. let bad : Ok u ≡ Err Memory = e in cc)
       (subst (λ r. TakesEffect {E = Unit {0}} earlier (length fs) (top_divided fs) r q (Ok u)) (sym (skipped_says h)) t)
 
   -- a used line that is too long
-  pub long_line : {A : Type 0} (gs : List Frame) (q : SettingsBuilder A) → is_skipped line ≡ false → (top_used fs && nat_lt 65536 (length line)) ≡ true → TakesOne {E = Unit {0}} need earlier (place_at text n (Some line)) q gs (Err LineTooLong)
+  pub long_line : {A : Type 0} (gs : List Frame) (q : SettingsBuilder A) → is_skipped line ≡ false
+      → (top_used fs && nat_lt 65536 (length line)) ≡ true → TakesOne {E = Unit {0}} need earlier (place_at text n (Some line)) q gs
+      (Err LineTooLong)
   unfolding line_effect
   long_line {A} gs q h l =
       let r : effect_here ≡ Faulty LineTooLong = rw (h, l) refl in
-      takes_place gs q (Err LineTooLong) (λ v f. tt) (λ e. let bad : LineTooLong ≡ Memory = cc in cc) (inl (None, subst (λ z. IsJudgedWell (meaning_after earlier) (expression_in z) None) (sym r) refl, ap (λ z. line_fault earlier (length fs) (top_divided fs) z None) r))
+      takes_place gs q (Err LineTooLong) (λ v f. tt) (λ e. let bad : LineTooLong ≡ Memory = cc in cc)
+      (inl (
+        None,
+        subst (λ z. IsJudgedWell (meaning_after earlier) (expression_in z) None) (sym r) refl,
+        ap (λ z. line_fault earlier (length fs) (top_divided fs) z None) r,
+      ))
 
   -- any other line
   module _ (h : is_skipped line ≡ false) (l : (top_used fs && nat_lt 65536 (length line)) ≡ false) where
@@ -221,36 +237,49 @@ module _ (need : Need) (earlier : List Marked) (text : ConfText) (n : ℕ) (line
         (sym (ap (λ r. line_fault earlier (length fs) (top_divided fs) r v) says_directive) ∙ f))
 
     directive_taken : {A : Type 0} (gs : List Frame) (q : SettingsBuilder A) (result : Result (Unit {0}) ConfFaultKind)
-        → OnOk result (gs ≡ frames_after (role_of (directive_of line)) (top_used fs) (directive_chooses (is_defined earlier) (directive_of line)) fs)
+        → OnOk result (gs ≡ frames_after (role_of (directive_of line)) (top_used fs)
+        (directive_chooses (is_defined earlier) (directive_of line)) fs)
         → (result ≡ Err Memory → directive_grows (top_used fs) (length fs) (directive_of line) ≡ true)
-        → TakesEffect {E = Unit {0}} earlier (length fs) (top_divided fs) (directive_effect (top_used fs) (directive_of line) out) q result → TakesOne {E = Unit {0}} need earlier (place_at text n (Some line)) q gs result
-    directive_taken gs q (Ok u) b m t = takes_place gs q (Ok u) (directive_after gs b) (λ e. grows_directive (m e)) (subst (λ r. TakesEffect {E = Unit {0}} earlier (length fs) (top_divided fs) r q (Ok u)) (sym says_directive) t)
-    directive_taken gs q (Err kind) b m t = takes_place gs q (Err kind) (λ v f. tt) (λ e. grows_directive (m e)) (subst (λ r. TakesEffect {E = Unit {0}} earlier (length fs) (top_divided fs) r q (Err kind)) (sym says_directive) t)
+        → TakesEffect {E = Unit {0}} earlier (length fs) (top_divided fs) (directive_effect (top_used fs) (directive_of line) out) q result
+        → TakesOne {E = Unit {0}} need earlier (place_at text n (Some line)) q gs result
+    directive_taken gs q (Ok u) b m t = takes_place gs q (Ok u) (directive_after gs b) (λ e. grows_directive (m e))
+        (subst (λ r. TakesEffect {E = Unit {0}} earlier (length fs) (top_divided fs) r q (Ok u)) (sym says_directive) t)
+    directive_taken gs q (Err kind) b m t = takes_place gs q (Err kind) (λ v f. tt) (λ e. grows_directive (m e))
+        (subst (λ r. TakesEffect {E = Unit {0}} earlier (length fs) (top_divided fs) r q (Err kind)) (sym says_directive) t)
 
     -- a directive
-    pub directive_line : {A : Type 0} (i : Option (Directive (List ℕ))) (gs : List Frame) (q : SettingsBuilder A) (result : Result (Unit {0}) ConfFaultKind)
+    pub directive_line : {A : Type 0} (i : Option (Directive (List ℕ))) (gs : List Frame) (q : SettingsBuilder A)
+        (result : Result (Unit {0}) ConfFaultKind)
         → directive_of line ≡ i → directive_text line i ≡ directive_text [] i
         → OnOk result (gs ≡ frames_after (role_of i) (top_used fs) (directive_chooses (is_defined earlier) i) fs)
         → (result ≡ Err Memory → directive_grows (top_used fs) (length fs) i ≡ true)
-        → TakesEffect {E = Unit {0}} earlier (length fs) (top_divided fs) (directive_effect (top_used fs) i (expansion_after (value earlier) 0 (directive_text [] i))) q result → TakesOne {E = Unit {0}} need earlier (place_at text n (Some line)) q gs result
+        → TakesEffect {E = Unit {0}} earlier (length fs) (top_divided fs)
+        (directive_effect (top_used fs) i (expansion_after (value earlier) 0 (directive_text [] i))) q result
+        → TakesOne {E = Unit {0}} need earlier (place_at text n (Some line)) q gs result
     directive_line {A} i gs q result e f b m t = directive_taken gs q result
         (subst (λ z. OnOk result (gs ≡ frames_after (role_of z) (top_used fs) (directive_chooses (is_defined earlier) z) fs)) (sym e) b)
         (λ w. ap (directive_grows (top_used fs) (length fs)) e ∙ m w)
-        (subst (λ z. TakesEffect {E = Unit {0}} earlier (length fs) (top_divided fs) (directive_effect (top_used fs) z (expansion_after (value earlier) 0 (directive_text line z))) q result) (sym e)
-        (subst (λ z. TakesEffect {E = Unit {0}} earlier (length fs) (top_divided fs) (directive_effect (top_used fs) i (expansion_after (value earlier) 0 z)) q result) (sym f) t))
+        (subst (λ z. TakesEffect {E = Unit {0}} earlier (length fs) (top_divided fs)
+        (directive_effect (top_used fs) z (expansion_after (value earlier) 0 (directive_text line z))) q result) (sym e)
+        (subst (λ z. TakesEffect {E = Unit {0}} earlier (length fs) (top_divided fs)
+        (directive_effect (top_used fs) i (expansion_after (value earlier) 0 z)) q result) (sym f) t))
 
     -- a line that is no directive
     pub plain_line : {A : Type 0} (q : SettingsBuilder A) (result : Result (Unit {0}) ConfFaultKind) → is_directive line ≡ false
         → (result ≡ Err Memory → top_used fs ≡ true)
-        → TakesEffect {E = Unit {0}} earlier (length fs) (top_divided fs) (if top_used fs then expanded_effect (strip (expansion_after (value earlier) 0 line)) else Nothing) q result → TakesOne {E = Unit {0}} need earlier (place_at text n (Some line)) q fs result
+        → TakesEffect {E = Unit {0}} earlier (length fs) (top_divided fs)
+        (if top_used fs then expanded_effect (strip (expansion_after (value earlier) 0 line)) else Nothing) q result
+        → TakesOne {E = Unit {0}} need earlier (place_at text n (Some line)) q fs result
     unfolding directive_of
     plain_line q result d m t =
         let e : directive_of line ≡ None = ap (λ z. if z then Some (read_directive (drop 2 line)) else None) d in
         directive_taken fs q result (kept result e) (λ w. ap (directive_grows (top_used fs) (length fs)) e ∙ m w)
-        (subst (λ z. TakesEffect {E = Unit {0}} earlier (length fs) (top_divided fs) (directive_effect (top_used fs) z (expansion_after (value earlier) 0 (directive_text line z))) q result) (sym e) t)
+        (subst (λ z. TakesEffect {E = Unit {0}} earlier (length fs) (top_divided fs)
+        (directive_effect (top_used fs) z (expansion_after (value earlier) 0 (directive_text line z))) q result) (sym e) t)
       where
         kept : (r : Result (Unit {0}) ConfFaultKind) → directive_of line ≡ None
-            → OnOk r (fs ≡ frames_after (role_of (directive_of line)) (top_used fs) (directive_chooses (is_defined earlier) (directive_of line)) fs)
+            → OnOk r (fs ≡ frames_after (role_of (directive_of line)) (top_used fs)
+            (directive_chooses (is_defined earlier) (directive_of line)) fs)
         kept (Ok u) e = ap (λ z. frames_after (role_of z) (top_used fs) (directive_chooses (is_defined earlier) z) fs) (sym e)
         kept (Err k) e = tt
 
@@ -267,7 +296,8 @@ module _ (need : Need) (earlier : List Marked) (text : ConfText) (n : ℕ) (line
       by_length : is_skipped line ≡ false → (b : Bool) → (top_used fs && nat_lt 65536 (length line)) ≡ b
           → (gs : List Frame) × IsOpen (seen_in text earlier ++ seen (marked v) ∷ []) gs
       by_length h true l =
-          let bad : Some LineTooLong ≡ None = sym (ap (λ r. line_fault earlier (length fs) (top_divided fs) r v) (long_says h l)) ∙ sym (fault-marked v) ∙ f in
+          let bad : Some LineTooLong ≡ None = sym (ap (λ r. line_fault earlier (length fs) (top_divided fs) r v) (long_says h l))
+          ∙ sym (fault-marked v) ∙ f in
           absurd (let no : ⊥ = cc in no)
       by_length h false l = (
         frames_after (role_of (directive_of line)) (top_used fs) (directive_chooses (is_defined earlier) (directive_of line)) fs,
@@ -281,7 +311,8 @@ module _ (need : Need) (earlier : List Marked) (text : ConfText) (n : ℕ) (line
 
   -- This line is marked in some way, where its expression is judged in some way.
   pub goes_on : ((v : Option (Result AttrSet ExprFault)) × IsJudgedWell (meaning_after earlier) (expression_in effect_here) v)
-      → (x : Marked) × (x.place ≡ place_at text n (Some line)) × IsMarkedWell earlier x × (fault_at need earlier x ≡ None → (gs : List Frame) × IsOpen (seen_in text (earlier ++ x ∷ [])) gs)
+      → (x : Marked) × (x.place ≡ place_at text n (Some line)) × IsMarkedWell earlier x
+      × (fault_at need earlier x ≡ None → (gs : List Frame) × IsOpen (seen_in text (earlier ++ x ∷ [])) gs)
   goes_on j = (
     marked j.0,
     refl,
@@ -321,7 +352,15 @@ missing_is earlier p s =
 
 module _ (need : Need) (earlier : List Marked) (text : ConfText) (n : ℕ) (fs : List Frame) (o : IsOpen (seen_in text earlier) fs) where
   abbrev end_marked : Marked
-  end_marked = record { place = place_at text n None; used = top_used fs; depth = length fs; divided = top_divided fs; first = false; expanded = []; verdict = None }
+  end_marked = record {
+    place = place_at text n None;
+    used = top_used fs;
+    depth = length fs;
+    divided = top_divided fs;
+    first = false;
+    expanded = [];
+    verdict = None;
+  }
 
   says-end : says end_marked ≡ Nothing
   unfolding says
@@ -342,18 +381,30 @@ module _ (need : Need) (earlier : List Marked) (text : ConfText) (n : ℕ) (fs :
   }
 
   -- this end is marked in some way
-  pub ends_somehow : (x : Marked) × (x.place ≡ place_at text n None) × IsMarkedWell earlier x × (fault_at need earlier x ≡ None → (gs : List Frame) × IsOpen (seen_in text (earlier ++ x ∷ [])) gs)
+  pub ends_somehow : (x : Marked) × (x.place ≡ place_at text n None) × IsMarkedWell earlier x
+      × (fault_at need earlier x ≡ None → (gs : List Frame) × IsOpen (seen_in text (earlier ++ x ∷ [])) gs)
   ends_somehow = (
     end_marked,
     refl,
     well_end,
-    λ f. (fs, subst (λ z. IsOpen z fs) (sym (seen_in-more text earlier end_marked refl)) (single_next (seen_in text earlier) fs (seen end_marked) o refl)),
+    λ f. (
+      fs,
+      subst (λ z. IsOpen z fs) (sym (seen_in-more text earlier end_marked refl))
+          (single_next (seen_in text earlier) fs (seen end_marked) o refl),
+    ),
   )
 
-  pub block_open : {A : Type 0} (p : SettingsBuilder A) → 0 < length fs → TakesOne {E = Unit {0}} need earlier (place_at text n None) p fs (Err MissingEndif)
+  pub block_open : {A : Type 0} (p : SettingsBuilder A) → 0 < length fs
+      → TakesOne {E = Unit {0}} need earlier (place_at text n None) p fs (Err MissingEndif)
   block_open p h =
       let e : (length fs == 0) ≡ false = grind (arith, nat_tests) in
-      inl (end_marked, refl, well_end, fault-end ∙ ap (λ z. option_or (if z then None else Some MissingEndif) (end_fault need text earlier)) e)
+      inl (
+        end_marked,
+        refl,
+        well_end,
+        fault-end ∙ ap
+            (λ z. option_or (if z then None else Some MissingEndif) (end_fault need text earlier)) e,
+      )
 
   no_block : length fs ≡ 0
       → option_or (end_block_fault (length fs)) (end_fault need text earlier) ≡ end_fault need text earlier
@@ -361,23 +412,28 @@ module _ (need : Need) (earlier : List Marked) (text : ConfText) (n : ℕ) (fs :
       let e : (length fs == 0) ≡ true = grind (arith, nat_tests) in
       ap (λ z. option_or (if z then None else Some MissingEndif) (end_fault need text earlier)) e
 
-  pub ended : {A : Type 0} (p : SettingsBuilder A) → IsBuiltFrom earlier p → (u : Unit {0}) → length fs ≡ 0 → end_fault need text earlier ≡ None → TakesOne {E = Unit {0}} need earlier (place_at text n None) p fs (Ok u)
+  pub ended : {A : Type 0} (p : SettingsBuilder A) → IsBuiltFrom earlier p → (u : Unit {0}) → length fs ≡ 0 → end_fault need text earlier
+      ≡ None → TakesOne {E = Unit {0}} need earlier (place_at text n None) p fs (Ok u)
   ended p s u h e = (
     end_marked,
     refl,
     well_end,
     fault-end ∙ no_block h ∙ e,
     built_same earlier end_marked p s Nothing says-end
-        (record { group = refl; fixing = refl; level = refl; switch = λ t. refl; attrs = λ l v. refl; path = λ d. refl }) (record { value = λ m. refl; name = refl }),
-    subst (λ z. IsOpen z fs) (sym (seen_in-more text earlier end_marked refl)) (single_next (seen_in text earlier) fs (seen end_marked) o refl),
+        (record { group = refl; fixing = refl; level = refl; switch = λ t. refl; attrs = λ l v. refl; path = λ d. refl })
+        (record { value = λ m. refl; name = refl }),
+    subst (λ z. IsOpen z fs) (sym (seen_in-more text earlier end_marked refl))
+        (single_next (seen_in text earlier) fs (seen end_marked) o refl),
   )
 
-  pub end_refused : {A : Type 0} (p : SettingsBuilder A) (kind : ConfFaultKind) → length fs ≡ 0 → end_fault need text earlier ≡ Some kind → TakesOne {E = Unit {0}} need earlier (place_at text n None) p fs (Err kind)
+  pub end_refused : {A : Type 0} (p : SettingsBuilder A) (kind : ConfFaultKind) → length fs ≡ 0 → end_fault need text earlier ≡ Some kind
+      → TakesOne {E = Unit {0}} need earlier (place_at text n None) p fs (Err kind)
   end_refused p kind h e = inl (end_marked, refl, well_end, fault-end ∙ no_block h ∙ e)
 
   -- the end of the last text, where databases may be missing
   pub lacking : {A : Type 0} (p : SettingsBuilder A) → IsBuiltFrom earlier p → length fs ≡ 0
       → end_fault need text earlier ≡ end_fault Compare After earlier
-      → (result : Result (Unit {0}) ConfFaultKind) → fault_of result ≡ missing (is_none p.old_path) (is_none p.new_path) → TakesOne {E = Unit {0}} need earlier (place_at text n None) p fs result
+      → (result : Result (Unit {0}) ConfFaultKind) → fault_of result ≡ missing (is_none p.old_path) (is_none p.new_path)
+      → TakesOne {E = Unit {0}} need earlier (place_at text n None) p fs result
   lacking p s h e (Ok u) k = ended p s u h (e ∙ sym (missing_is earlier p s) ∙ sym k)
   lacking p s h e (Err kind) k = end_refused p kind h (e ∙ sym (missing_is earlier p s) ∙ sym k)

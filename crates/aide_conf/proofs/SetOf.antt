@@ -71,8 +71,10 @@ bits_are f (suc n) i h =
     by_place below (inl l) = ap (λ z. z || (bit_at (bit_if (f (attr_of n)) n) i == 1)) (below l)
         ∙ ap (λ z. f (attr_of i) || z) (other_bit (f (attr_of n)) n i l) ∙ or_false (f (attr_of i))
     by_place below (inr e) =
-        let none : (bit_at (bits f n) i == 1) ≡ false = ap (λ z. z == 1) (bit_at_above (bits f n) n i (bits_small f n) (omega (arith, e))) in
-        ap (λ z. z || (bit_at (bit_if (f (attr_of n)) n) i == 1)) none ∙ ap (λ z. bit_at (bit_if (f (attr_of n)) n) z == 1) e ∙ own_bit (f (attr_of n)) n ∙ ap (λ z. f (attr_of z)) (sym e)
+        let none : (bit_at (bits f n) i == 1) ≡ false = ap (λ z. z == 1)
+        (bit_at_above (bits f n) n i (bits_small f n) (omega (arith, e))) in
+        ap (λ z. z || (bit_at (bit_if (f (attr_of n)) n) i == 1)) none ∙ ap (λ z. bit_at (bit_if (f (attr_of n)) n) z == 1) e
+        ∙ own_bit (f (attr_of n)) n ∙ ap (λ z. f (attr_of z)) (sym e)
 
 -- the set of the attributes that pass a test
 pub set_of : (Attr → Bool) → AttrSet

@@ -42,7 +42,8 @@ use Rattle.aide_conf.proofs.Built.{SetsOnlyVariables, SetsNone, built_same, buil
 use Rattle.aide_conf.proofs.Built.{built_fixed, built_named, built_defined, few, many, looks}
 use Rattle.aide_conf.proofs.VariableSteps.{space_left, no_space}
 
-module _ {A : Type 0} (E : Type 0) (earlier : List Marked) (depth : ℕ) (divided : Bool) (p : SettingsBuilder A) (s : IsBuiltFrom earlier p) where
+module _ {A : Type 0} (E : Type 0) (earlier : List Marked) (depth : ℕ) (divided : Bool) (p : SettingsBuilder A)
+    (s : IsBuiltFrom earlier p) where
   abbrev Taken : Effect → SettingsBuilder A → Result E ConfFaultKind → Type 0
   Taken r q result = TakesEffect {E = E} earlier depth divided r q result
 
@@ -57,7 +58,8 @@ module _ {A : Type 0} (E : Type 0) (earlier : List Marked) (depth : ℕ) (divide
     refl,
     refl,
     λ x e w. built_same earlier x p s Nothing e
-        (record { group = refl; fixing = refl; level = refl; switch = λ t. refl; attrs = λ l v. refl; path = λ d. refl }) (record { value = λ n. refl; name = refl }),
+        (record { group = refl; fixing = refl; level = refl; switch = λ t. refl; attrs = λ l v. refl; path = λ d. refl })
+        (record { value = λ n. refl; name = refl }),
   )
 
   pub sets_level : (u : E) (l : Level) → Taken (SetsLevel l) (unless_fixed p (with_level l p.options)) (Ok u)
@@ -65,7 +67,8 @@ module _ {A : Type 0} (E : Type 0) (earlier : List Marked) (depth : ℕ) (divide
     None,
     refl,
     refl,
-    λ x e w. built_option earlier x p s (SetsLevel l) (with_level l p.options) e refl refl refl refl (record { value = λ n. refl; name = refl }) (λ h. options_tell earlier x p.options h l e),
+    λ x e w. built_option earlier x p s (SetsLevel l) (with_level l p.options) e refl refl refl refl
+        (record { value = λ n. refl; name = refl }) (λ h. options_tell earlier x p.options h l e),
   )
 
   pub turns : (u : E) (t : Switch) (b : Bool)
@@ -74,7 +77,8 @@ module _ {A : Type 0} (E : Type 0) (earlier : List Marked) (depth : ℕ) (divide
     None,
     refl,
     refl,
-    λ x e w. built_option earlier x p s (SetsSwitch t b) (with_switch t b p.options) e refl refl refl refl (record { value = λ n. refl; name = refl }) (λ h. options_turn earlier x p.options h t b e),
+    λ x e w. built_option earlier x p s (SetsSwitch t b) (with_switch t b p.options) e refl refl refl refl
+        (record { value = λ n. refl; name = refl }) (λ h. options_turn earlier x p.options h t b e),
   )
 
   pub fixes_here : (u : E) → Taken EndsOptions (record p { fixed = true }) (Ok u)
@@ -103,12 +107,14 @@ module _ {A : Type 0} (E : Type 0) (earlier : List Marked) (depth : ℕ) (divide
     Some (Ok set),
     meant expression set m,
     refl,
-    λ x e w. built_option earlier x p s (SetsAttributes l expression) (with_attrs l set p.options) e refl refl refl refl (record { value = λ n. refl; name = refl })
+    λ x e w. built_option earlier x p s (SetsAttributes l expression) (with_attrs l set p.options) e refl refl refl refl
+        (record { value = λ n. refl; name = refl })
         (λ h. options_list earlier x p.options h l expression set e (ap set_meant w)),
   )
 
   misjudged : (r : Effect) (expression : List ℕ) → expression_in r ≡ Some expression
-      → ((v : Option (Result AttrSet ExprFault)) (k : ConfFaultKind) → verdict_fault v ≡ Some k → line_fault earlier depth divided r v ≡ Some k)
+      → ((v : Option (Result AttrSet ExprFault)) (k : ConfFaultKind) → verdict_fault v ≡ Some k → line_fault earlier depth divided r v
+      ≡ Some k)
       → (kind : ConfFaultKind) (q : SettingsBuilder A) → IsMisjudged (meaning_of (names_of p.groups)) expression kind
       → Taken r q (Err kind)
   misjudged r expression is_in fails kind q m =
@@ -122,7 +128,8 @@ module _ {A : Type 0} (E : Type 0) (earlier : List Marked) (depth : ℕ) (divide
 
   pub defines_misjudged : (name expression : List ℕ) (kind : ConfFaultKind) (q : SettingsBuilder A)
       → IsMisjudged (meaning_of (names_of p.groups)) expression kind → Taken (DefinesGroup name expression) q (Err kind)
-  defines_misjudged name expression = misjudged (DefinesGroup name expression) expression refl (λ v k h. ap (λ z. option_or z (if is_too_many earlier name then Some TooMany else None)) h)
+  defines_misjudged name expression = misjudged (DefinesGroup name expression) expression refl
+      (λ v k h. ap (λ z. option_or z (if is_too_many earlier name then Some TooMany else None)) h)
 
   pub defines : (u : E) (name expression : List ℕ) (set : AttrSet) (q : SettingsBuilder A)
       → IsMeaning (meaning_of (names_of p.groups)) expression set → HasNewGroup name set p q
@@ -138,7 +145,12 @@ module _ {A : Type 0} (E : Type 0) (earlier : List Marked) (depth : ℕ) (divide
       → IsMeaning (meaning_of (names_of p.groups)) expression set → HasNoRoom name p kind
       → Taken (DefinesGroup name expression) q (Err kind)
   undefined name expression set kind q m (inl h) =
-      inl (Some (Ok set), meant expression set m, ap (λ z. if z then Some TooMany else None) (many earlier (names_of p.groups) s.groups name h.1) ∙ ap Some (sym h.0))
+      inl (
+        Some (Ok set),
+        meant expression set m,
+        ap (λ z. if z then Some TooMany else None)
+            (many earlier (names_of p.groups) s.groups name h.1) ∙ ap Some (sym h.0),
+      )
   undefined name expression set kind q m (inr h) = inr h
 
   pub group_taken : (name expression : List ℕ) (set : AttrSet) (q : SettingsBuilder A) (result : Result E ConfFaultKind)
@@ -151,7 +163,9 @@ module _ {A : Type 0} (E : Type 0) (earlier : List Marked) (depth : ℕ) (divide
 
   set_well : (name value : List ℕ) → is_word name ≡ true → (b : Bool) → nat_lt 4096 (length value) ≡ b
       → set_effect name value ≡ (if b then Faulty ValueTooLong else DefinesVariable name value)
-  set_well name value e b f = ap (λ z. if z then (if nat_lt 4096 (length value) then Faulty ValueTooLong else DefinesVariable name value) else Faulty BadName) e ∙ ap (λ z. if z then Faulty ValueTooLong else DefinesVariable name value) f
+  set_well name value e b f = ap (λ z. if z then
+      (if nat_lt 4096 (length value) then Faulty ValueTooLong else DefinesVariable name value) else Faulty BadName) e
+      ∙ ap (λ z. if z then Faulty ValueTooLong else DefinesVariable name value) f
 
   pub set_too_long : (name value : List ℕ) (q : SettingsBuilder A) → is_word name ≡ true → 4096 < length value
       → Taken (set_effect name value) q (Err ValueTooLong)
@@ -161,7 +175,8 @@ module _ {A : Type 0} (E : Type 0) (earlier : List Marked) (depth : ℕ) (divide
 
   pub sets : (u : E) (name value : List ℕ) (q : SettingsBuilder A) → is_word name ≡ true → length value ≤ 4096
       → HasSpace (values_of p.variables) name
-      → values_of q.variables ≡ insert (values_of p.variables) name value → q ≡ record p { variables = q.variables } → Taken (set_effect name value) q (Ok u)
+      → values_of q.variables ≡ insert (values_of p.variables) name value → q ≡ record p { variables = q.variables }
+      → Taken (set_effect name value) q (Ok u)
   sets u name value q e l space t k =
       let f : nat_lt 4096 (length value) ≡ false = grind (arith, nat_tests) in
       subst (λ r. Taken r q (Ok u)) (sym (set_well name value e false f)) (
@@ -178,14 +193,21 @@ module _ {A : Type 0} (E : Type 0) (earlier : List Marked) (depth : ℕ) (divide
       subst (λ r. Taken r q (Err TooMany)) (sym (set_well name value e false f))
       (inl (None, refl, ap (λ z. if z then Some TooMany else None) (no_space earlier (values_of p.variables) s.variables name full)))
 
-  pub unsets : (u : E) (name : List ℕ) (q : SettingsBuilder A) → is_word name ≡ true → values_of q.variables ≡ remove (values_of p.variables) name → q ≡ record p { variables = q.variables } → Taken (unset_effect name) q (Ok u)
-  unsets u name q e t k = subst (λ r. Taken r q (Ok u)) (sym (ap (λ z. if z then DropsVariable name else Faulty BadName) e)) (None, refl, refl, λ x h w. built_unset earlier x p s name q h t k)
+  pub unsets : (u : E) (name : List ℕ) (q : SettingsBuilder A) → is_word name ≡ true → values_of q.variables
+      ≡ remove (values_of p.variables) name → q ≡ record p { variables = q.variables } → Taken (unset_effect name) q (Ok u)
+  unsets u name q e t k = subst (λ r. Taken r q (Ok u)) (sym (ap (λ z. if z then DropsVariable name else Faulty BadName) e))
+      (None, refl, refl, λ x h w. built_unset earlier x p s name q h t k)
 
   -- ---- blocks
 
   unchanged : (r : Effect) → SetsOnlyVariables r → SetsNone r → expression_in r ≡ None → (u : E)
       → line_fault earlier depth divided r None ≡ None → Taken r p (Ok u)
-  unchanged r q n e u f = (None, subst (λ z. IsJudgedWell (meaning_after earlier) z None) (sym e) refl, f, λ x h w. built_same earlier x p s r h q n)
+  unchanged r q n e u f = (
+    None,
+    subst (λ z. IsJudgedWell (meaning_after earlier) z None) (sym e) refl,
+    f,
+    λ x h w. built_same earlier x p s r h q n,
+  )
 
   answered : (r : Effect) → SetsOnlyVariables r → SetsNone r → expression_in r ≡ None → (result : Result E ConfFaultKind)
       → IsAnswered (line_fault earlier depth divided r None) result → Taken r p result
@@ -195,23 +217,30 @@ module _ {A : Type 0} (E : Type 0) (earlier : List Marked) (depth : ℕ) (divide
 
   pub answered_open : (good : Bool) (result : Result E ConfFaultKind)
       → IsAnswered (line_fault [] depth divided (OpensBlock good) None) result → Taken (OpensBlock good) p result
-  answered_open good = answered (OpensBlock good) (record { group = refl; fixing = refl; level = refl; switch = λ t. refl; attrs = λ l v. refl; path = λ d. refl }) (record { value = λ n. refl; name = refl }) refl
+  answered_open good = answered (OpensBlock good)
+      (record { group = refl; fixing = refl; level = refl; switch = λ t. refl; attrs = λ l v. refl; path = λ d. refl })
+      (record { value = λ n. refl; name = refl }) refl
 
   pub answered_other : (used : Bool) (result : Result E ConfFaultKind)
       → IsAnswered (line_fault [] depth divided (if used then Faulty BadDirective else OpensBlock true) None) result
       → Taken (if used then Faulty BadDirective else OpensBlock true) p result
   answered_other true (Ok u) h = let bad : Some BadDirective ≡ None = h in cc
-  answered_other true (Err k) (inl h) = let e : BadDirective ≡ k = cc in subst (λ z. Taken (Faulty BadDirective) p (Err z)) e (faulty BadDirective p)
+  answered_other true (Err k) (inl h) = let e : BadDirective ≡ k = cc in
+      subst (λ z. Taken (Faulty BadDirective) p (Err z)) e (faulty BadDirective p)
   answered_other true (Err k) (inr h) = inr h
   answered_other false result h = answered_open true result h
 
   pub answered_divide : (result : Result E ConfFaultKind)
       → IsAnswered (line_fault [] depth divided DividesBlock None) result → Taken DividesBlock p result
-  answered_divide = answered DividesBlock (record { group = refl; fixing = refl; level = refl; switch = λ t. refl; attrs = λ l v. refl; path = λ d. refl }) (record { value = λ n. refl; name = refl }) refl
+  answered_divide = answered DividesBlock (record
+      { group = refl; fixing = refl; level = refl; switch = λ t. refl; attrs = λ l v. refl; path = λ d. refl })
+      (record { value = λ n. refl; name = refl }) refl
 
   pub answered_close : (result : Result E ConfFaultKind)
       → IsAnswered (line_fault [] depth divided ClosesBlock None) result → Taken ClosesBlock p result
-  answered_close = answered ClosesBlock (record { group = refl; fixing = refl; level = refl; switch = λ t. refl; attrs = λ l v. refl; path = λ d. refl }) (record { value = λ n. refl; name = refl }) refl
+  answered_close = answered ClosesBlock (record
+      { group = refl; fixing = refl; level = refl; switch = λ t. refl; attrs = λ l v. refl; path = λ d. refl })
+      (record { value = λ n. refl; name = refl }) refl
 
   -- what is refused or has no effect
   pub refused_if : (b : Bool) (kind : ConfFaultKind) (result : Result E ConfFaultKind)
@@ -226,11 +255,13 @@ module _ {A : Type 0} (E : Type 0) (earlier : List Marked) (depth : ℕ) (divide
   -- ---- expanded lines
 
   pub skipped : (u : E) (out : List ℕ) → is_skipped out ≡ true → Taken (expanded_effect out) p (Ok u)
-  skipped u out e = subst (λ r. Taken r p (Ok u)) (sym (ap (λ z. if z then Nothing else if nat_lt 65536 (length out) then Faulty LineTooLong else kept_effect out) e)) (nothing u)
+  skipped u out e = subst (λ r. Taken r p (Ok u))
+      (sym (ap (λ z. if z then Nothing else if nat_lt 65536 (length out) then Faulty LineTooLong else kept_effect out) e)) (nothing u)
 
   not_skipped : (out : List ℕ) (b : Bool) → is_skipped out ≡ false → nat_lt 65536 (length out) ≡ b
       → expanded_effect out ≡ (if b then Faulty LineTooLong else kept_effect out)
-  not_skipped out b e f = ap (λ z. if z then Nothing else if nat_lt 65536 (length out) then Faulty LineTooLong else kept_effect out) e ∙ ap (λ z. if z then Faulty LineTooLong else kept_effect out) f
+  not_skipped out b e f = ap (λ z. if z then Nothing else if nat_lt 65536 (length out) then Faulty LineTooLong else kept_effect out) e
+      ∙ ap (λ z. if z then Faulty LineTooLong else kept_effect out) f
 
   pub too_long : (out : List ℕ) (q : SettingsBuilder A) → is_skipped out ≡ false → nat_lt 65536 (length out) ≡ true
       → Taken (expanded_effect out) q (Err LineTooLong)
@@ -242,10 +273,14 @@ module _ {A : Type 0} (E : Type 0) (earlier : List Marked) (depth : ℕ) (divide
   kept_line out bytes r q result b e f k t = subst (λ z. Taken z q result) (k ∙ ap kept_effect b ∙ sym (not_skipped out false e f)) t
 
 -- what a directive of the code says
-pub by_directive : {A : Type 0} (earlier : List Marked) (fs : List Frame) (d e : Directive (Bor (List ℕ))) (r : Effect) (q : SettingsBuilder A) (result : Result (Unit {0}) ConfFaultKind)
+pub by_directive : {A : Type 0} (earlier : List Marked) (fs : List Frame) (d e : Directive (Bor (List ℕ))) (r : Effect)
+    (q : SettingsBuilder A) (result : Result (Unit {0}) ConfFaultKind)
     → d ≡ e
-    → r ≡ directive_effect (top_used fs) (as_lists e) (expansion_after (value earlier) 0 (directive_text [] (as_lists e))) → TakesEffect {E = Unit {0}} earlier (length fs) (top_divided fs) r q result
-    → TakesEffect {E = Unit {0}} earlier (length fs) (top_divided fs) (directive_effect (top_used fs) (as_lists d) (expansion_after (value earlier) 0 (directive_text [] (as_lists d)))) q result
+    → r ≡ directive_effect (top_used fs) (as_lists e) (expansion_after (value earlier) 0 (directive_text [] (as_lists e)))
+    → TakesEffect {E = Unit {0}} earlier (length fs) (top_divided fs) r q result
+    → TakesEffect {E = Unit {0}} earlier (length fs) (top_divided fs)
+    (directive_effect (top_used fs) (as_lists d) (expansion_after (value earlier) 0 (directive_text [] (as_lists d)))) q result
 by_directive earlier fs d e r q result h k t =
     subst (λ z. TakesEffect {E = Unit {0}} earlier (length fs) (top_divided fs) z q result)
-    (k ∙ ap (λ z. directive_effect (top_used fs) (as_lists z) (expansion_after (value earlier) 0 (directive_text [] (as_lists z)))) (sym h)) t
+    (k ∙ ap (λ z. directive_effect (top_used fs) (as_lists z) (expansion_after (value earlier) 0 (directive_text [] (as_lists z))))
+    (sym h)) t

@@ -34,7 +34,9 @@ some_line (b ∷ []) h = by (b == 10)
 some_line (b ∷ c ∷ cs) h = by (b == 10) (some_line (c ∷ cs) (omega arith))
   where
     by : (t : Bool) → lines_of (c ∷ cs) ≡ bytes_before is_newline (c ∷ cs) ∷ lines_of (line_rest (c ∷ cs))
-        → (if t then [] ∷ lines_of (c ∷ cs) else onto_first b (lines_of (c ∷ cs))) ≡ (if t then [] else b ∷ bytes_before is_newline (c ∷ cs)) ∷ lines_of (unwrap_or (if t then Some (c ∷ cs) else bytes_after is_newline (c ∷ cs)) [])
+        → (if t then [] ∷ lines_of (c ∷ cs) else onto_first b (lines_of (c ∷ cs)))
+        ≡ (if t then [] else b ∷ bytes_before is_newline (c ∷ cs)) ∷ lines_of
+        (unwrap_or (if t then Some (c ∷ cs) else bytes_after is_newline (c ∷ cs)) [])
     by true e = refl
     by false e = ap (onto_first b) e
 
@@ -57,12 +59,19 @@ shorter (b ∷ c ∷ cs) h = by (b == 10) (shorter (c ∷ cs) (omega arith))
 -- some places of a text are taken, and others are left
 abbrev pub Going : {A : Type 0} → Need → ConfText → SettingsBuilder A → SettingsBuilder A → List Frame → List Place → List Place → Type 0
 Going need text start p fs all left = (earlier : List Marked) → seen_in text earlier ≡ [] → IsBuiltFrom earlier start
-    → (xs : List Marked) × (map (λ x. x.place) xs ++ left ≡ all) × AreSound need earlier xs × IsBuiltFrom (earlier ++ xs) p × IsOpen (seen_in text (earlier ++ xs)) fs
+    → (xs : List Marked) × (map (λ x. x.place) xs ++ left ≡ all) × AreSound need earlier xs × IsBuiltFrom (earlier ++ xs) p
+    × IsOpen (seen_in text (earlier ++ xs)) fs
 
 pub starts : {A : Type 0} (need : Need) (text : ConfText) (p : SettingsBuilder A) (fs : List Frame) (all : List Place) → fs ≡ []
     → Going need text p p fs all all
-starts need text p fs all e earlier none s =
-    ([], refl, tt, subst (λ z. IsBuiltFrom z p) (sym (append_nothing earlier)) s, subst (λ z. IsOpen (seen_in text z) fs) (sym (append_nothing earlier)) (subst (λ z. IsOpen z fs) (sym none) (subst (IsOpen []) (sym e) nothing)))
+starts need text p fs all e earlier none s = (
+  [],
+  refl,
+  tt,
+  subst (λ z. IsBuiltFrom z p) (sym (append_nothing earlier)) s,
+  subst (λ z. IsOpen (seen_in text z) fs) (sym (append_nothing earlier))
+      (subst (λ z. IsOpen z fs) (sym none) (subst (IsOpen []) (sym e) nothing)),
+)
 
 sound_more : (need : Need) (earlier xs : List Marked) (x : Marked) → AreSound need earlier xs
     → IsMarkedWell (earlier ++ xs) x → fault_at need (earlier ++ xs) x ≡ None → AreSound need earlier (xs ++ x ∷ [])
@@ -72,7 +81,8 @@ sound_more need earlier (y ∷ ys) x h m f = (
   h.0,
   h.1,
   sound_more need (earlier ++ y ∷ []) ys x h.2
-      (subst (λ z. IsMarkedWell z x) (sym (append_assoc earlier (y ∷ []) ys)) m) (subst (λ z. fault_at need z x ≡ None) (sym (append_assoc earlier (y ∷ []) ys)) f),
+      (subst (λ z. IsMarkedWell z x) (sym (append_assoc earlier (y ∷ []) ys)) m)
+      (subst (λ z. fault_at need z x ≡ None) (sym (append_assoc earlier (y ∷ []) ys)) f),
 )
 
 map_more : (xs : List Marked) (x : Marked) (left : List Place)
@@ -80,10 +90,12 @@ map_more : (xs : List Marked) (x : Marked) (left : List Place)
 map_more [] x left = refl
 map_more (y ∷ ys) x left = ap (λ z. y.place ∷ z) (map_more ys x left)
 
-module _ {A : Type 0} (need : Need) (text : ConfText) (start p q : SettingsBuilder A) (fs gs : List Frame) (all left : List Place) (n : ℕ) (line : Option (List ℕ)) (g : Going need text start p fs all (place_at text n line ∷ left)) where
+module _ {A : Type 0} (need : Need) (text : ConfText) (start p q : SettingsBuilder A) (fs gs : List Frame) (all left : List Place) (n : ℕ)
+    (line : Option (List ℕ)) (g : Going need text start p fs all (place_at text n line ∷ left)) where
   -- what one more place does to the builder and the blocks
   abbrev pub One : Result (Unit {0}) ConfFaultKind → Type 0
-  One result = (earlier : List Marked) → IsBuiltFrom earlier p → IsOpen (seen_in text earlier) fs → TakesOne {E = Unit {0}} need earlier (place_at text n line) q gs result
+  One result = (earlier : List Marked) → IsBuiltFrom earlier p → IsOpen (seen_in text earlier) fs
+      → TakesOne {E = Unit {0}} need earlier (place_at text n line) q gs result
 
   -- it is taken
   takes : (u : Unit {0}) → One (Ok u) → Going need text start q gs all left
@@ -98,10 +110,20 @@ module _ {A : Type 0} (need : Need) (text : ConfText) (start p q : SettingsBuild
       )
 
   -- it has a fault
-  stops : (kind : ConfFaultKind) → One (Err kind) → (earlier : List Marked) → seen_in text earlier ≡ [] → IsBuiltFrom earlier start → Stops need earlier all (record { text = text; line = n; kind = kind })
+  stops : (kind : ConfFaultKind) → One (Err kind) → (earlier : List Marked) → seen_in text earlier ≡ [] → IsBuiltFrom earlier start
+      → Stops need earlier all (record { text = text; line = n; kind = kind })
   stops kind one earlier none s =
       let r = g earlier none s in
-      record { lines = r.0; at = place_at text n line; rest = left; cut = sym r.1; sound = r.2; text = refl; line = refl; kind = one (earlier ++ r.0) r.3 r.4 }
+      record {
+        lines = r.0;
+        at = place_at text n line;
+        rest = left;
+        cut = sym r.1;
+        sound = r.2;
+        text = refl;
+        line = refl;
+        kind = one (earlier ++ r.0) r.3 r.4;
+      }
 
 -- all are taken
 ends : {A : Type 0} (need : Need) (text : ConfText) (start q : SettingsBuilder A) (fs : List Frame) (all : List Place)
@@ -111,7 +133,8 @@ ends need text start q fs all g earlier none s =
     let r = g earlier none s in (r.0, sym (append_nothing _) ∙ r.1, r.2, r.3)
 
 next_line : (text : ConfText) (n : ℕ) (rest : List ℕ) → 0 < length rest
-    → places_from text n (lines_of rest) ≡ place_at text n (Some (strip (bytes_before is_newline rest))) ∷ places_from text (n + 1) (lines_of (line_rest rest))
+    → places_from text n (lines_of rest) ≡ place_at text n (Some (strip (bytes_before is_newline rest))) ∷ places_from text (n + 1)
+    (lines_of (line_rest rest))
 next_line text n rest h = ap (places_from text n) (some_line rest h)
 
 at_last : (text : ConfText) (n : ℕ) (rest : List ℕ) → length rest ≡ 0
@@ -119,26 +142,39 @@ at_last : (text : ConfText) (n : ℕ) (rest : List ℕ) → length rest ≡ 0
 at_last text n [] h = refl
 at_last text n (b ∷ bs) h = absurd (omega arith)
 
-module _ {A : Type 0} (need : Need) (start p q : SettingsBuilder A) (fs gs : List Frame) (all : List Place) (text : ConfText) (n : ℕ) (rest line : List ℕ) (h : 0 < length rest) (e : line ≡ strip (bytes_before is_newline rest))
+module _ {A : Type 0} (need : Need) (start p q : SettingsBuilder A) (fs gs : List Frame) (all : List Place) (text : ConfText) (n : ℕ)
+    (rest line : List ℕ) (h : 0 < length rest) (e : line ≡ strip (bytes_before is_newline rest))
     (g : Going need text start p fs all (places_from text n (lines_of rest))) where
   next : Going need text start p fs all (place_at text n (Some line) ∷ places_from text (n + 1) (lines_of (line_rest rest)))
-  next = subst (Going need text start p fs all) (next_line text n rest h ∙ ap (λ z. place_at text n (Some z) ∷ places_from text (n + 1) (lines_of (line_rest rest))) (sym e)) g
+  next = subst (Going need text start p fs all)
+      (next_line text n rest h ∙ ap (λ z. place_at text n (Some z) ∷ places_from text (n + 1) (lines_of (line_rest rest))) (sym e)) g
 
-  pub stop_line : (kind : ConfFaultKind) → ((earlier : List Marked) → IsBuiltFrom earlier p → IsOpen (seen_in text earlier) fs → TakesOne {E = Unit {0}} need earlier (place_at text n (Some line)) q gs (Err kind))
-      → (earlier : List Marked) → seen_in text earlier ≡ [] → IsBuiltFrom earlier start → Stops need earlier all (record { text = text; line = n; kind = kind })
+  pub stop_line : (kind : ConfFaultKind) →
+      ((earlier : List Marked) → IsBuiltFrom earlier p → IsOpen (seen_in text earlier) fs
+      → TakesOne {E = Unit {0}} need earlier (place_at text n (Some line)) q gs (Err kind))
+      → (earlier : List Marked) → seen_in text earlier ≡ [] → IsBuiltFrom earlier start
+      → Stops need earlier all (record { text = text; line = n; kind = kind })
   stop_line kind one = stops need text start p q fs gs all _ n (Some line) next kind one
 
-  pub take_line : (u : Unit {0}) → ((earlier : List Marked) → IsBuiltFrom earlier p → IsOpen (seen_in text earlier) fs → TakesOne {E = Unit {0}} need earlier (place_at text n (Some line)) q gs (Ok u))
+  pub take_line : (u : Unit {0}) → ((earlier : List Marked) → IsBuiltFrom earlier p → IsOpen (seen_in text earlier) fs
+      → TakesOne {E = Unit {0}} need earlier (place_at text n (Some line)) q gs (Ok u))
       → (more : List ℕ) → more ≡ line_rest rest
       → Going need text start q gs all (places_from text (n + 1) (lines_of more))
-  take_line u one more m = subst (λ z. Going need text start q gs all (places_from text (n + 1) (lines_of z))) (sym m) (takes need text start p q fs gs all _ n (Some line) next u one)
+  take_line u one more m = subst (λ z. Going need text start q gs all (places_from text (n + 1) (lines_of z))) (sym m)
+      (takes need text start p q fs gs all _ n (Some line) next u one)
 
-module _ {A : Type 0} (need : Need) (start p : SettingsBuilder A) (fs : List Frame) (all : List Place) (text : ConfText) (n : ℕ) (rest : List ℕ) (h : length rest ≡ 0)
+module _ {A : Type 0} (need : Need) (start p : SettingsBuilder A) (fs : List Frame) (all : List Place) (text : ConfText) (n : ℕ)
+    (rest : List ℕ) (h : length rest ≡ 0)
     (g : Going need text start p fs all (places_from text n (lines_of rest))) where
-  pub stop_end : (kind : ConfFaultKind) → ((earlier : List Marked) → IsBuiltFrom earlier p → IsOpen (seen_in text earlier) fs → TakesOne {E = Unit {0}} need earlier (place_at text n None) p fs (Err kind))
-      → (earlier : List Marked) → seen_in text earlier ≡ [] → IsBuiltFrom earlier start → Stops need earlier all (record { text = text; line = n; kind = kind })
-  stop_end kind one = stops need text start p p fs fs all [] n None (subst (Going need text start p fs all) (at_last text n rest h) g) kind one
+  pub stop_end : (kind : ConfFaultKind) → ((earlier : List Marked) → IsBuiltFrom earlier p → IsOpen (seen_in text earlier) fs
+      → TakesOne {E = Unit {0}} need earlier (place_at text n None) p fs (Err kind))
+      → (earlier : List Marked) → seen_in text earlier ≡ [] → IsBuiltFrom earlier start
+      → Stops need earlier all (record { text = text; line = n; kind = kind })
+  stop_end kind one = stops need text start p p fs fs all [] n None
+      (subst (Going need text start p fs all) (at_last text n rest h) g) kind one
 
-  pub take_end : (u : Unit {0}) → ((earlier : List Marked) → IsBuiltFrom earlier p → IsOpen (seen_in text earlier) fs → TakesOne {E = Unit {0}} need earlier (place_at text n None) p fs (Ok u))
+  pub take_end : (u : Unit {0}) → ((earlier : List Marked) → IsBuiltFrom earlier p → IsOpen (seen_in text earlier) fs
+      → TakesOne {E = Unit {0}} need earlier (place_at text n None) p fs (Ok u))
       → (earlier : List Marked) → seen_in text earlier ≡ [] → IsBuiltFrom earlier start → Takes need earlier all p
-  take_end u one = ends need text start p fs all (takes need text start p p fs fs all [] n None (subst (Going need text start p fs all) (at_last text n rest h) g) u one)
+  take_end u one = ends need text start p fs all
+      (takes need text start p p fs fs all [] n None (subst (Going need text start p fs all) (at_last text n rest h) g) u one)

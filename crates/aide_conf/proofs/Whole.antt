@@ -57,8 +57,12 @@ pub then_more : {A : Type 0} (need : Need) (ps qs : List Place) (p q : SettingsB
     → ((earlier : List Marked) → map (λ (x : Marked). x.place) earlier ≡ ps → IsBuiltFrom earlier p → Takes need earlier qs q)
     → Takes need [] (ps ++ qs) q
 then_more need ps qs p q t u =
-    let v = u t.0 t.1 t.3 in
-    (t.0 ++ v.0, places_append t.0 v.0 ∙ ap (λ z. z ++ map (λ (x : Marked). x.place) v.0) t.1 ∙ ap (λ z. ps ++ z) v.1, sound_append need [] t.0 v.0 t.2 v.2, v.3)
+    let v = u t.0 t.1 t.3 in (
+      t.0 ++ v.0,
+      places_append t.0 v.0 ∙ ap (λ z. z ++ map (λ (x : Marked). x.place) v.0) t.1 ∙ ap (λ z. ps ++ z) v.1,
+      sound_append need [] t.0 v.0 t.2 v.2,
+      v.3,
+    )
 
 pub then_stop : {A : Type 0} (need : Need) (ps qs : List Place) (p : SettingsBuilder A) (e : ConfFault) → Takes need [] ps p
     → ((earlier : List Marked) → map (λ (x : Marked). x.place) earlier ≡ ps → IsBuiltFrom earlier p → Stops need earlier qs e)
@@ -70,7 +74,8 @@ then_stop need ps qs p e t u =
       at = v.at;
       rest = v.rest;
       cut = ap (λ z. ps ++ z) v.cut ∙ ap (λ z. z ++ (map (λ (x : Marked). x.place) v.lines ++ v.at ∷ v.rest)) (sym t.1)
-          ∙ sym (append_assoc (map (λ (x : Marked). x.place) t.0) (map (λ (x : Marked). x.place) v.lines) (v.at ∷ v.rest)) ∙ ap (λ z. z ++ v.at ∷ v.rest) (sym (places_append t.0 v.lines));
+          ∙ sym (append_assoc (map (λ (x : Marked). x.place) t.0) (map (λ (x : Marked). x.place) v.lines) (v.at ∷ v.rest))
+          ∙ ap (λ z. z ++ v.at ∷ v.rest) (sym (places_append t.0 v.lines));
       sound = sound_append need [] t.0 v.lines t.2 v.sound;
       text = v.text;
       line = v.line;
@@ -111,10 +116,26 @@ refused need ps e v = elim v.kind [
     text = v.text ∙ ap (λ (z : Place). z.text) (sym k.1);
     line = v.line ∙ ap (λ (z : Place). z.number) (sym k.1);
   })
-  | inr k ↦ inr (record { lines = v.lines; at = v.at; rest = v.rest; cut = v.cut; sound = v.sound; grows = k.1; kind = k.0; text = v.text; line = v.line })
+  | inr k ↦ inr (record {
+    lines = v.lines;
+    at = v.at;
+    rest = v.rest;
+    cut = v.cut;
+    sound = v.sound;
+    grows = k.1;
+    kind = k.0;
+    text = v.text;
+    line = v.line;
+  })
 ]
 
 pub taken : {A : Type 0} (need : Need) (ps : List Place) (p : SettingsBuilder A) → Takes need [] ps p
     → IsRead need ps (settings_of p)
 taken need ps p t =
-    record { lines = t.0; all = t.1; sound = t.2; settings = record { options = t.3.options; old_path = t.3.old_path; new_path = t.3.new_path } }
+    record {
+      lines = t.0;
+      all = t.1;
+      sound = t.2;
+      settings = record
+          { options = t.3.options; old_path = t.3.old_path; new_path = t.3.new_path };
+    }

@@ -7,7 +7,8 @@ use Rattle.aide_conf.proofs.bounded.after_blanks.Goals as goal
 pub returns-in-Some : goal.returns-in-Some
 returns-in-Some c =
     let h = c.in-Some.ensures in
-    take_rest c.args.bytes.now c.in-Some.start ∙ sym (first_parts _ is_no_blank not_in_blanks c.args.bytes.now c.in-Some.start h.0.high h.0.before h.1).1
+    take_rest c.args.bytes.now c.in-Some.start ∙ sym
+    (first_parts _ is_no_blank not_in_blanks c.args.bytes.now c.in-Some.start h.0.high h.0.before h.1).1
 
 pub returns-in-None : goal.returns-in-None
 returns-in-None c =

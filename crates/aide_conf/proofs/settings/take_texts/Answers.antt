@@ -15,7 +15,8 @@ before_file before xs e = unseen_at File (places_of Before before) xs e (elsewhe
 before_after : (before file : List ℕ) (xs : List Marked)
     → map (λ (x : Marked). x.place) xs ≡ places_of Before before ++ places_of File file → seen_in After xs ≡ []
 before_after before file xs e = unseen_at After (places_of Before before ++ places_of File file) xs e
-    (elsewhere_both After (places_of Before before) (places_of File file) (elsewhere After Before 1 (lines_of before) refl) (elsewhere After File 1 (lines_of file) refl))
+    (elsewhere_both After (places_of Before before) (places_of File file) (elsewhere After Before 1 (lines_of before) refl)
+    (elsewhere After File 1 (lines_of file) refl))
 
 pub returns-in-Err-clause-taken : goal.returns-in-Err-clause-taken
 returns-in-Err-clause-taken g c = λ s.
@@ -31,7 +32,8 @@ returns-in-Err-take_text-clause-taken g c = λ s.
     let qs = places_of File c.args.file.now in
     let rs = places_of After c.args.after.now in
     more_behind _ (ps ++ qs) rs _
-    (then_stop _ ps qs c.take_text.new.self _ (c.in_default.ensures.taken [] refl s) (λ earlier e t. c.in-Err-take_text.ensures.taken earlier (before_file b earlier e) t))
+    (then_stop _ ps qs c.take_text.new.self _ (c.in_default.ensures.taken [] refl s)
+    (λ earlier e t. c.in-Err-take_text.ensures.taken earlier (before_file b earlier e) t))
 
 pub returns-clause-taken : goal.returns-clause-taken
 returns-clause-taken g c = λ s.
@@ -41,7 +43,8 @@ returns-clause-taken g c = λ s.
     let qs = places_of File f in
     let rs = places_of After c.args.after.now in
     then_all _ (ps ++ qs) rs c.take_text-2.new.self _ _
-    (then_more _ ps qs c.take_text.new.self _ (c.in_default.ensures.taken [] refl s) (λ earlier e t. c.in_default-take_text.ensures.taken earlier (before_file b earlier e) t))
+    (then_more _ ps qs c.take_text.new.self _ (c.in_default.ensures.taken [] refl s)
+    (λ earlier e t. c.in_default-take_text.ensures.taken earlier (before_file b earlier e) t))
     (λ earlier e t. c.take_text-3.ensures.taken earlier (before_after b f earlier e) t)
 
 pub returns-in-Err-clause-named : goal.returns-in-Err-clause-named

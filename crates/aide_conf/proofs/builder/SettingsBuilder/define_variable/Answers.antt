@@ -15,7 +15,8 @@ pub returns-in-Ok-None-clause-taken : goal.returns-in-Ok-None-clause-taken
 returns-in-Ok-None-clause-taken g c =
     let w : is_word c.args.name.now ≡ true = search rules in
     λ earlier depth divided s.
-    let h = subst (λ f. IsExpandedValue (expansion_after f 0 c.args.text.now) c.in-Ok-None.field-0) (values_are earlier _ s.variables) c.in-Ok-None.ensures in
+    let h = subst (λ f. IsExpandedValue (expansion_after f 0 c.args.text.now) c.in-Ok-None.field-0)
+    (values_are earlier _ s.variables) c.in-Ok-None.ensures in
     set_too_long (Unit {0}) earlier depth divided _ s c.args.name.now (expansion_after (value earlier) 0 c.args.text.now) c.args.self.now w
     (subst (IsExpandedValue (expansion_after (value earlier) 0 c.args.text.now)) c.in-Ok-None.field-0-is h)
 
@@ -23,16 +24,20 @@ pub returns-in-Ok-clause-taken : goal.returns-in-Ok-clause-taken
 returns-in-Ok-clause-taken g c =
     let w : is_word c.args.name.now ≡ true = search rules in
     λ earlier depth divided s.
-    let h = subst (λ f. IsExpandedValue (expansion_after f 0 c.args.text.now) c.in-Ok-Some.field-0) (values_are earlier _ s.variables) c.in-Ok-Some.ensures in
+    let h = subst (λ f. IsExpandedValue (expansion_after f 0 c.args.text.now) c.in-Ok-Some.field-0)
+    (values_are earlier _ s.variables) c.in-Ok-Some.ensures in
     let k = subst (IsExpandedValue (expansion_after (value earlier) 0 c.args.text.now)) c.in-Ok-Some.field-0-is h in
-    sets (Unit {0}) earlier depth divided _ s tt c.args.name.now (expansion_after (value earlier) 0 c.args.text.now) _ w k.1 (has_space _ _ c.in-Ok.ensures.space)
+    sets (Unit {0}) earlier depth divided _ s tt c.args.name.now (expansion_after (value earlier) 0 c.args.text.now) _ w k.1
+    (has_space _ _ c.in-Ok.ensures.space)
     (one_defined _ _ _ c.in-Ok-Some.value c.in-Ok.ensures.ok ∙ ap (insert (values_of c.args.self.now.variables) c.args.name.now) k.0) refl
 
 pub returns-in-Err-Full-clause-taken : goal.returns-in-Err-Full-clause-taken
 returns-in-Err-Full-clause-taken g c =
     let w : is_word c.args.name.now ≡ true = search rules in
     λ earlier depth divided s.
-    let h = subst (λ f. IsExpandedValue (expansion_after f 0 c.args.text.now) c.in-Ok-Some.field-0) (values_are earlier _ s.variables) c.in-Ok-Some.ensures in
+    let h = subst (λ f. IsExpandedValue (expansion_after f 0 c.args.text.now) c.in-Ok-Some.field-0)
+    (values_are earlier _ s.variables) c.in-Ok-Some.ensures in
     let k = subst (IsExpandedValue (expansion_after (value earlier) 0 c.args.text.now)) c.in-Ok-Some.field-0-is h in
-    no_space_to_set (Unit {0}) earlier depth divided _ s c.args.name.now (expansion_after (value earlier) 0 c.args.text.now) c.args.self.now w k.1
+    no_space_to_set (Unit {0}) earlier depth divided _ s c.args.name.now
+    (expansion_after (value earlier) 0 c.args.text.now) c.args.self.now w k.1
     (is_full _ _ (subst (IsNameMapFault c.args.self.now.variables c.args.name.now) c.in-Err-Full.field-0-is c.in-Err-Full.ensures.err))

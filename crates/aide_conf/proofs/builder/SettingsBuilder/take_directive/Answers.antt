@@ -18,7 +18,8 @@ returns-then-used-clause-taken g c =
     let u : top_used fs ≡ true = search rules in
     λ earlier s.
     let r = set_effect c.in-Define.name.now (expansion_after (value earlier) 0 c.in-Define.text.now) in
-    by_directive earlier fs c.args.directive (code.Define c.in-Define.name c.in-Define.text) r c.define_variable.new.self c.define_variable.result c.in-Define.is
+    by_directive earlier fs c.args.directive (code.Define c.in-Define.name c.in-Define.text) r c.define_variable.new.self
+    c.define_variable.result c.in-Define.is
     (sym (ap (λ z. if z then r else Nothing) u)) (c.define_variable.ensures.taken earlier (length fs) (top_divided fs) s)
 
 pub returns-else-used-clause-taken : goal.returns-else-used-clause-taken
@@ -52,20 +53,24 @@ pub returns-in-IfDef-clause-taken : goal.returns-in-IfDef-clause-taken
 returns-in-IfDef-clause-taken g c =
     let fs = frames_of c.args.blocks.now in
     let good = not (top_used fs) || is_word c.in-IfDef.name.now in
-    λ earlier s. by_directive earlier fs c.args.directive (code.IfDef c.in-IfDef.name) (OpensBlock good) c.args.self.now c.open_block.result c.in-IfDef.is refl
+    λ earlier s. by_directive earlier fs c.args.directive (code.IfDef c.in-IfDef.name)
+    (OpensBlock good) c.args.self.now c.open_block.result c.in-IfDef.is refl
     (answered_open (Unit {0}) earlier (length fs) (top_divided fs) _ s good c.open_block.result c.open_block.ensures.answered)
 
 pub returns-in-IfNotDef-clause-taken : goal.returns-in-IfNotDef-clause-taken
 returns-in-IfNotDef-clause-taken g c =
     let fs = frames_of c.args.blocks.now in
     let good = not (top_used fs) || is_word c.in-IfNotDef.name.now in
-    λ earlier s. by_directive earlier fs c.args.directive (code.IfNotDef c.in-IfNotDef.name) (OpensBlock good) c.args.self.now c.open_block-in-IfNotDef.result c.in-IfNotDef.is refl
-    (answered_open (Unit {0}) earlier (length fs) (top_divided fs) _ s good c.open_block-in-IfNotDef.result c.open_block-in-IfNotDef.ensures.answered)
+    λ earlier s. by_directive earlier fs c.args.directive (code.IfNotDef c.in-IfNotDef.name)
+    (OpensBlock good) c.args.self.now c.open_block-in-IfNotDef.result c.in-IfNotDef.is refl
+    (answered_open (Unit {0}) earlier (length fs) (top_divided fs) _ s good c.open_block-in-IfNotDef.result
+    c.open_block-in-IfNotDef.ensures.answered)
 
 pub returns-in-IfOther-clause-taken : goal.returns-in-IfOther-clause-taken
 returns-in-IfOther-clause-taken g c =
     let fs = frames_of c.args.blocks.now in
-    λ earlier s. by_directive earlier fs c.args.directive code.IfOther (if top_used fs then Faulty BadDirective else OpensBlock true) c.args.self.now c.open_other.result c.in-IfOther.is refl
+    λ earlier s. by_directive earlier fs c.args.directive code.IfOther
+    (if top_used fs then Faulty BadDirective else OpensBlock true) c.args.self.now c.open_other.result c.in-IfOther.is refl
     (answered_other (Unit {0}) earlier (length fs) (top_divided fs) _ s (top_used fs) c.open_other.result c.open_other.ensures.answered)
 
 pub returns-in-Else-clause-taken : goal.returns-in-Else-clause-taken
@@ -84,7 +89,8 @@ pub returns-in-Omitted-clause-taken : goal.returns-in-Omitted-clause-taken
 returns-in-Omitted-clause-taken g c =
     let fs = frames_of c.args.blocks.now in
     let b = c.is_used-used.result || c.in-Omitted.begins_with_if in
-    λ earlier s. by_directive earlier fs c.args.directive (code.Omitted c.in-Omitted.begins_with_if) (if b then Faulty LeftOut else Nothing) c.args.self.now c.refuse.result c.in-Omitted.is
+    λ earlier s. by_directive earlier fs c.args.directive (code.Omitted c.in-Omitted.begins_with_if)
+    (if b then Faulty LeftOut else Nothing) c.args.self.now c.refuse.result c.in-Omitted.is
     (ap (λ z. if z || c.in-Omitted.begins_with_if then Faulty LeftOut else Nothing) c.is_used-used.ensures)
     (refused_if (Unit {0}) earlier (length fs) (top_divided fs) _ s b LeftOut c.refuse.result c.refuse.ensures.answered)
 
@@ -92,6 +98,8 @@ pub returns-in-Unknown-clause-taken : goal.returns-in-Unknown-clause-taken
 returns-in-Unknown-clause-taken g c =
     let fs = frames_of c.args.blocks.now in
     let b = c.is_used-used.result || c.in-Unknown.begins_with_if in
-    λ earlier s. by_directive earlier fs c.args.directive (code.Unknown c.in-Unknown.begins_with_if) (if b then Faulty BadDirective else Nothing) c.args.self.now c.refuse-in-Unknown.result c.in-Unknown.is
+    λ earlier s. by_directive earlier fs c.args.directive (code.Unknown c.in-Unknown.begins_with_if)
+    (if b then Faulty BadDirective else Nothing) c.args.self.now c.refuse-in-Unknown.result c.in-Unknown.is
     (ap (λ z. if z || c.in-Unknown.begins_with_if then Faulty BadDirective else Nothing) c.is_used-used.ensures)
-    (refused_if (Unit {0}) earlier (length fs) (top_divided fs) _ s b BadDirective c.refuse-in-Unknown.result c.refuse-in-Unknown.ensures.answered)
+    (refused_if (Unit {0}) earlier (length fs) (top_divided fs) _ s b BadDirective c.refuse-in-Unknown.result
+    c.refuse-in-Unknown.ensures.answered)

@@ -7,39 +7,60 @@ use Rattle.aide_conf.proofs.Takes.{defines_misjudged}
 use Rattle.aide_conf.proofs.builder.SettingsBuilder.take_effect.Goals as goal
 
 pub returns-in-Nothing : goal.returns-in-Nothing
-returns-in-Nothing g c = λ earlier depth divided s. subst (λ r. TakesEffect {E = Unit {0}} earlier depth divided r c.args.self.now (Ok tt)) (sym (ap effect_of c.in-Nothing.is))
+returns-in-Nothing g c = λ earlier depth divided s. subst (λ r. TakesEffect {E = Unit {0}} earlier depth divided r c.args.self.now (Ok tt))
+    (sym (ap effect_of c.in-Nothing.is))
     (nothing (Unit {0}) earlier depth divided _ s tt)
 
 pub returns-in-NamesDatabase : goal.returns-in-NamesDatabase
-returns-in-NamesDatabase g c = λ earlier depth divided s. subst (λ r. TakesEffect {E = Unit {0}} earlier depth divided r c.name_database.new.self c.name_database.result) (sym (ap effect_of c.in-NamesDatabase.is))
-    (path_taken (Unit {0}) earlier depth divided _ s c.in-NamesDatabase.side c.in-NamesDatabase.path.now c.name_database.new.self c.name_database.result c.name_database.ensures.ok c.name_database.ensures.err)
+returns-in-NamesDatabase g c = λ earlier depth divided s. subst
+    (λ r. TakesEffect {E = Unit {0}} earlier depth divided r c.name_database.new.self c.name_database.result)
+    (sym (ap effect_of c.in-NamesDatabase.is))
+    (path_taken (Unit {0}) earlier depth divided _ s c.in-NamesDatabase.side c.in-NamesDatabase.path.now c.name_database.new.self
+    c.name_database.result c.name_database.ensures.ok c.name_database.ensures.err)
 
 pub returns-in-SetsLevel : goal.returns-in-SetsLevel
-returns-in-SetsLevel g c = λ earlier depth divided s. subst (λ r. TakesEffect {E = Unit {0}} earlier depth divided r c.set_level.new.self (Ok tt)) (sym (ap effect_of c.in-SetsLevel.is))
-    (subst (λ q. TakesEffect {E = Unit {0}} earlier depth divided (SetsLevel c.in-SetsLevel.level) q (Ok tt)) (sym c.set_level.ensures) (sets_level (Unit {0}) earlier depth divided _ s tt c.in-SetsLevel.level))
+returns-in-SetsLevel g c = λ earlier depth divided s. subst
+    (λ r. TakesEffect {E = Unit {0}} earlier depth divided r c.set_level.new.self (Ok tt)) (sym (ap effect_of c.in-SetsLevel.is))
+    (subst (λ q. TakesEffect {E = Unit {0}} earlier depth divided (SetsLevel c.in-SetsLevel.level) q (Ok tt)) (sym c.set_level.ensures)
+    (sets_level (Unit {0}) earlier depth divided _ s tt c.in-SetsLevel.level))
 
 pub returns-in-SetsSwitch : goal.returns-in-SetsSwitch
-returns-in-SetsSwitch g c = λ earlier depth divided s. subst (λ r. TakesEffect {E = Unit {0}} earlier depth divided r c.set_switch.new.self (Ok tt)) (sym (ap effect_of c.in-SetsSwitch.is))
-    (subst (λ q. TakesEffect {E = Unit {0}} earlier depth divided (SetsSwitch c.in-SetsSwitch.switch c.in-SetsSwitch.on) q (Ok tt)) (sym c.set_switch.ensures)
+returns-in-SetsSwitch g c = λ earlier depth divided s. subst
+    (λ r. TakesEffect {E = Unit {0}} earlier depth divided r c.set_switch.new.self (Ok tt)) (sym (ap effect_of c.in-SetsSwitch.is))
+    (subst (λ q. TakesEffect {E = Unit {0}} earlier depth divided (SetsSwitch c.in-SetsSwitch.switch c.in-SetsSwitch.on) q (Ok tt))
+    (sym c.set_switch.ensures)
     (turns (Unit {0}) earlier depth divided _ s tt c.in-SetsSwitch.switch c.in-SetsSwitch.on))
 
 pub returns-in-Ok : goal.returns-in-Ok
-returns-in-Ok g c = λ earlier depth divided s. subst (λ r. TakesEffect {E = Unit {0}} earlier depth divided r c.set_attributes.new.self (Ok tt)) (sym (ap effect_of c.in-SetsAttributes.is))
-    (subst (λ q. TakesEffect {E = Unit {0}} earlier depth divided (SetsAttributes c.in-SetsAttributes.list c.in-SetsAttributes.text.now) q (Ok tt)) (sym c.set_attributes.ensures)
+returns-in-Ok g c = λ earlier depth divided s. subst
+    (λ r. TakesEffect {E = Unit {0}} earlier depth divided r c.set_attributes.new.self (Ok tt)) (sym (ap effect_of c.in-SetsAttributes.is))
+    (subst (λ q. TakesEffect {E = Unit {0}} earlier depth divided (SetsAttributes c.in-SetsAttributes.list c.in-SetsAttributes.text.now) q
+    (Ok tt)) (sym c.set_attributes.ensures)
     (lists (Unit {0}) earlier depth divided _ s tt c.in-SetsAttributes.list c.in-SetsAttributes.text.now c.in-Ok.set c.in-Ok.ensures.ok))
 
 pub returns-in-Err : goal.returns-in-Err
-returns-in-Err g c = λ earlier depth divided s. subst (λ r. TakesEffect {E = Unit {0}} earlier depth divided r c.args.self.now (Err c.in-Err.kind)) (sym (ap effect_of c.in-SetsAttributes.is))
-    (lists_misjudged (Unit {0}) earlier depth divided _ s c.in-SetsAttributes.list c.in-SetsAttributes.text.now c.in-Err.kind c.args.self.now c.in-Err.ensures.err)
+returns-in-Err g c = λ earlier depth divided s. subst
+    (λ r. TakesEffect {E = Unit {0}} earlier depth divided r c.args.self.now (Err c.in-Err.kind))
+    (sym (ap effect_of c.in-SetsAttributes.is))
+    (lists_misjudged (Unit {0}) earlier depth divided _ s c.in-SetsAttributes.list c.in-SetsAttributes.text.now c.in-Err.kind
+    c.args.self.now c.in-Err.ensures.err)
 
 pub returns-in-EndsOptions : goal.returns-in-EndsOptions
-returns-in-EndsOptions g c = λ earlier depth divided s. subst (λ r. TakesEffect {E = Unit {0}} earlier depth divided r (record c.args.self.now { fixed = true }) (Ok tt)) (sym (ap effect_of c.in-EndsOptions.is))
+returns-in-EndsOptions g c = λ earlier depth divided s. subst
+    (λ r. TakesEffect {E = Unit {0}} earlier depth divided r (record c.args.self.now { fixed = true }) (Ok tt))
+    (sym (ap effect_of c.in-EndsOptions.is))
     (fixes_here (Unit {0}) earlier depth divided _ s tt)
 
 pub returns-in-Ok-judge : goal.returns-in-Ok-judge
-returns-in-Ok-judge g c = λ earlier depth divided s. subst (λ r. TakesEffect {E = Unit {0}} earlier depth divided r c.define_group.new.self c.define_group.result) (sym (ap effect_of c.in-DefinesGroup.is))
-    (group_taken (Unit {0}) earlier depth divided _ s c.in-DefinesGroup.name.now c.in-DefinesGroup.text.now c.in-Ok-judge.set c.define_group.new.self c.define_group.result c.in-Ok-judge.ensures.ok c.define_group.ensures.ok c.define_group.ensures.err)
+returns-in-Ok-judge g c = λ earlier depth divided s. subst
+    (λ r. TakesEffect {E = Unit {0}} earlier depth divided r c.define_group.new.self c.define_group.result)
+    (sym (ap effect_of c.in-DefinesGroup.is))
+    (group_taken (Unit {0}) earlier depth divided _ s c.in-DefinesGroup.name.now c.in-DefinesGroup.text.now c.in-Ok-judge.set
+    c.define_group.new.self c.define_group.result c.in-Ok-judge.ensures.ok c.define_group.ensures.ok c.define_group.ensures.err)
 
 pub returns-in-Err-judge : goal.returns-in-Err-judge
-returns-in-Err-judge g c = λ earlier depth divided s. subst (λ r. TakesEffect {E = Unit {0}} earlier depth divided r c.args.self.now (Err c.in-Err-judge.kind)) (sym (ap effect_of c.in-DefinesGroup.is))
-    (defines_misjudged (Unit {0}) earlier depth divided _ s c.in-DefinesGroup.name.now c.in-DefinesGroup.text.now c.in-Err-judge.kind c.args.self.now c.in-Err-judge.ensures.err)
+returns-in-Err-judge g c = λ earlier depth divided s. subst
+    (λ r. TakesEffect {E = Unit {0}} earlier depth divided r c.args.self.now (Err c.in-Err-judge.kind))
+    (sym (ap effect_of c.in-DefinesGroup.is))
+    (defines_misjudged (Unit {0}) earlier depth divided _ s c.in-DefinesGroup.name.now c.in-DefinesGroup.text.now c.in-Err-judge.kind
+    c.args.self.now c.in-Err-judge.ensures.err)

@@ -13,7 +13,8 @@ returns-then-depth-gt0-clause-taken g c =
 pub returns-in-Check-clause-taken : goal.returns-in-Check-clause-taken
 returns-in-Check-clause-taken g c =
     let k : length (frames_of c.args.blocks.now) ≡ 0 = search rules in
-    λ earlier n s o. ended c.args.need earlier c.args.text n (frames_of c.args.blocks.now) o c.args.self.now s tt k (ap (λ z. end_fault z c.args.text earlier) c.in-Check.is)
+    λ earlier n s o. ended c.args.need earlier c.args.text n (frames_of c.args.blocks.now) o c.args.self.now s tt k
+    (ap (λ z. end_fault z c.args.text earlier) c.in-Check.is)
 
 pub returns-in-Before-clause-taken : goal.returns-in-Before-clause-taken
 returns-in-Before-clause-taken g c =
@@ -31,4 +32,5 @@ pub returns-in-After-clause-taken : goal.returns-in-After-clause-taken
 returns-in-After-clause-taken g c =
     let k : length (frames_of c.args.blocks.now) ≡ 0 = search rules in
     λ earlier n s o. lacking c.args.need earlier c.args.text n (frames_of c.args.blocks.now) o c.args.self.now s k
-    (ap (λ z. end_fault z c.args.text earlier) c.in-Compare.is ∙ ap (λ z. end_fault Compare z earlier) c.in-After.is) c.need_databases.result c.need_databases.ensures.lacks
+    (ap (λ z. end_fault z c.args.text earlier) c.in-Compare.is ∙ ap (λ z. end_fault Compare z earlier) c.in-After.is)
+    c.need_databases.result c.need_databases.ensures.lacks

@@ -11,26 +11,33 @@ use Rattle.aide_conf.proofs.builder.SettingsBuilder.take_plain.Goals as goal
 
 pub returns-in-Ok-Skipped : goal.returns-in-Ok-Skipped
 returns-in-Ok-Skipped g c = λ earlier depth divided s.
-    let h = subst (λ f. IsExpandedLine (expansion_after f 0 c.args.line.now) c.in-Ok-Skipped.field-0) (values_are earlier _ s.variables) c.in-Ok-Skipped.ensures in
+    let h = subst (λ f. IsExpandedLine (expansion_after f 0 c.args.line.now) c.in-Ok-Skipped.field-0)
+    (values_are earlier _ s.variables) c.in-Ok-Skipped.ensures in
     let k = subst (IsExpandedLine (expansion_after (value earlier) 0 c.args.line.now)) c.in-Ok-Skipped.field-0-is h in
     skipped (Unit {0}) earlier depth divided _ s tt (strip (expansion_after (value earlier) 0 c.args.line.now)) k
 
 pub returns-in-Ok-TooLong : goal.returns-in-Ok-TooLong
 returns-in-Ok-TooLong g c = λ earlier depth divided s.
-    let h = subst (λ f. IsExpandedLine (expansion_after f 0 c.args.line.now) c.in-Ok-TooLong.field-0) (values_are earlier _ s.variables) c.in-Ok-TooLong.ensures in
+    let h = subst (λ f. IsExpandedLine (expansion_after f 0 c.args.line.now) c.in-Ok-TooLong.field-0)
+    (values_are earlier _ s.variables) c.in-Ok-TooLong.ensures in
     let k = subst (IsExpandedLine (expansion_after (value earlier) 0 c.args.line.now)) c.in-Ok-TooLong.field-0-is h in
     too_long (Unit {0}) earlier depth divided _ s (strip (expansion_after (value earlier) 0 c.args.line.now)) c.args.self.now k.0 k.1
 
 pub returns-in-Ok : goal.returns-in-Ok
 returns-in-Ok g c = λ earlier depth divided s.
-    let h = subst (λ f. IsExpandedLine (expansion_after f 0 c.args.line.now) c.in-Ok-Line.field-0) (values_are earlier _ s.variables) c.in-Ok-Line.ensures in
+    let h = subst (λ f. IsExpandedLine (expansion_after f 0 c.args.line.now) c.in-Ok-Line.field-0)
+    (values_are earlier _ s.variables) c.in-Ok-Line.ensures in
     let k = subst (IsExpandedLine (expansion_after (value earlier) 0 c.args.line.now)) c.in-Ok-Line.field-0-is h in
-    kept_line (Unit {0}) earlier depth divided _ s (strip (expansion_after (value earlier) 0 c.args.line.now)) c.as_slice.result.now (effect_of c.in-Ok.effect) c.take_effect.new.self c.take_effect.result
+    kept_line (Unit {0}) earlier depth divided _ s (strip (expansion_after (value earlier) 0 c.args.line.now)) c.as_slice.result.now
+    (effect_of c.in-Ok.effect) c.take_effect.new.self c.take_effect.result
     (c.as_slice.ensures.value ∙ k.0) k.1 k.2 c.in-Ok.ensures.says (c.take_effect.ensures earlier depth divided s)
 
 pub returns : goal.returns
 returns g c = λ earlier depth divided s.
-    let h = subst (λ f. IsExpandedLine (expansion_after f 0 c.args.line.now) c.in-Ok-Line.field-0) (values_are earlier _ s.variables) c.in-Ok-Line.ensures in
+    let h = subst (λ f. IsExpandedLine (expansion_after f 0 c.args.line.now) c.in-Ok-Line.field-0)
+    (values_are earlier _ s.variables) c.in-Ok-Line.ensures in
     let k = subst (IsExpandedLine (expansion_after (value earlier) 0 c.args.line.now)) c.in-Ok-Line.field-0-is h in
-    kept_line (Unit {0}) earlier depth divided _ s (strip (expansion_after (value earlier) 0 c.args.line.now)) c.as_slice.result.now (Faulty c.in-Err-kept_effect.kind) c.args.self.now (Err c.in-Err-kept_effect.kind)
-    (c.as_slice.ensures.value ∙ k.0) k.1 k.2 c.in-Err-kept_effect.ensures.says (faulty (Unit {0}) earlier depth divided _ s c.in-Err-kept_effect.kind c.args.self.now)
+    kept_line (Unit {0}) earlier depth divided _ s (strip (expansion_after (value earlier) 0 c.args.line.now)) c.as_slice.result.now
+    (Faulty c.in-Err-kept_effect.kind) c.args.self.now (Err c.in-Err-kept_effect.kind)
+    (c.as_slice.ensures.value ∙ k.0) k.1 k.2 c.in-Err-kept_effect.ensures.says
+    (faulty (Unit {0}) earlier depth divided _ s c.in-Err-kept_effect.kind c.args.self.now)

@@ -7,13 +7,15 @@ use Rattle.aide_conf.proofs.builder.SettingsBuilder.take_text.Goals as goal
 pub lines-init : goal.lines-init
 lines-init g c = (
   omega arith,
-  starts c.args.need c.args.text c.args.self.now (frames_of c.new-blocks.result) (places_of c.args.text c.args.bytes.now) c.new-blocks.ensures,
+  starts c.args.need c.args.text c.args.self.now (frames_of c.new-blocks.result)
+      (places_of c.args.text c.args.bytes.now) c.new-blocks.ensures,
 )
 
 pub returns-in-Err-clause-taken : goal.returns-in-Err-clause-taken
 returns-in-Err-clause-taken g c =
     let k : 0 < length c.lines.rest.now = search rules in
-    stop_line _ _ _ c.take_line.new.self _ (frames_of c.take_line.new.blocks) _ _ _ _ c.strip.result.now k (c.strip.ensures ∙ ap strip c.cut_line.ensures.line) c.lines.invariant.1 c.in-Err.kind
+    stop_line _ _ _ c.take_line.new.self _ (frames_of c.take_line.new.blocks) _ _ _ _ c.strip.result.now k
+    (c.strip.ensures ∙ ap strip c.cut_line.ensures.line) c.lines.invariant.1 c.in-Err.kind
     (λ earlier s o. c.in-Err.ensures c.args.need earlier c.args.text c.lines.line s o)
 
 pub lines-smaller : goal.lines-smaller
@@ -25,7 +27,8 @@ pub lines-preserved : goal.lines-preserved
 lines-preserved g c =
     let k : 0 < length c.lines.rest.now = search rules in (
       omega (arith, shorter c.lines.rest.now k, ap length c.cut_line.ensures.rest, c.lines.invariant.0),
-      take_line _ _ _ c.take_line.new.self _ (frames_of c.take_line.new.blocks) _ _ _ _ c.strip.result.now k (c.strip.ensures ∙ ap strip c.cut_line.ensures.line) c.lines.invariant.1 c.in_default.field-0
+      take_line _ _ _ c.take_line.new.self _ (frames_of c.take_line.new.blocks) _ _ _ _ c.strip.result.now k
+          (c.strip.ensures ∙ ap strip c.cut_line.ensures.line) c.lines.invariant.1 c.in_default.field-0
           (λ earlier s o. c.in_default.ensures c.args.need earlier c.args.text c.lines.line s o) _ c.cut_line.ensures.rest,
     )
 
@@ -37,4 +40,5 @@ returns-in-Ok-clause-taken g c =
 pub returns-clause-taken : goal.returns-clause-taken
 returns-clause-taken g c =
     let k : length c.lines.rest.now ≡ 0 = search rules in
-    stop_end _ _ _ _ _ _ _ _ k c.lines.invariant.1 c.in-Err-take_end.kind (λ earlier s o. c.in-Err-take_end.ensures.taken earlier c.lines.line s o)
+    stop_end _ _ _ _ _ _ _ _ k c.lines.invariant.1 c.in-Err-take_end.kind
+    (λ earlier s o. c.in-Err-take_end.ensures.taken earlier c.lines.line s o)

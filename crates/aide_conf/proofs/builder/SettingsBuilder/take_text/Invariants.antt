@@ -6,7 +6,8 @@ use Rattle.aide_conf.proofs.builder.SettingsBuilder.take_text.Given as goal
 
 abbrev pub invariant-lines : goal.invariant-lines
 invariant-lines g l =
-    (l.line + length l.rest ≤ length l.bytes + 1) × Going l.need l.text l.initial.self l.self (frames_of l.blocks) (places_of l.text l.bytes) (places_from l.text l.line (lines_of l.rest))
+    (l.line + length l.rest ≤ length l.bytes + 1) × Going l.need l.text l.initial.self l.self (frames_of l.blocks)
+    (places_of l.text l.bytes) (places_from l.text l.line (lines_of l.rest))
 
 abbrev pub decreases-lines : goal.decreases-lines
 decreases-lines g l = length l.rest
