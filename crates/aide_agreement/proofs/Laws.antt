@@ -1,0 +1,318 @@
+-- Laws of agreement, and of what accounts for a change.
+use Rattle.std.proofs.Common.{◌≡◌, ◌∙◌, ℕ, Bool, true, false, List, refl, sym, ap, inl, inr}
+use Rattle.std.specs.Prelude.{◌||◌, ◌&&◌, not, Option, Some, None, IsSome, if◌then◌else◌, is_some}
+use Rattle.std.specs.List.{list_any}
+use Rattle.aide_attr.specs.Attr.{all_attrs}
+use Rattle.aide_attr.specs.Difference.{Sides, is_added, is_changed, is_removed, is_reported, is_same}
+use Rattle.aide_attr.specs.Set.{has}
+use Rattle.aide_attr.specs.declared.attr.Attr.{Attr}
+use Rattle.aide_attr.specs.declared.attr.Attr.TheVariants.{Ftype, Lname}
+use Rattle.aide_attr.specs.declared.delta.Ignore.{Ignore}
+use Rattle.aide_attr.specs.declared.file_type.FileType.{FileType}
+use Rattle.aide_attr.specs.declared.file_type.FileType.TheVariants as kinds
+use Rattle.aide_attr.proofs.WalkLemmas.{bool_cases}
+use Rattle.aide_entry.specs.Attributes.{Attributes, Value, link_value, sides_between, type_in}
+use Rattle.aide_agreement.specs.Account.{Pair, is_as_old, is_as_trusted, same_as}
+use Rattle.aide_agreement.specs.Agreement.{agree, agree_by, has_target, is_alone, is_shared, shares_content, strays}
+use Rattle.aide_agreement.specs.Meaning.{Agrees, HasTarget, HaveSameDigests, SaysContent, SharesDigest}
+use Rattle.aide_agreement.specs.Own.{is_digest, is_directory, is_own, is_strong}
+use Rattle.aide_agreement.specs.declared.account.SameAs.{SameAs}
+use Rattle.aide_agreement.specs.declared.account.SameAs.TheVariants.{Old, Trusted}
+use Rattle.aide_agreement.proofs.ListLemmas.{found_any, none_at, none_of, some_at}
+use Rattle.aide_agreement.proofs.SetLemmas.{digest_not_own, link_not_own, strong_is_digest, type_not_own}
+use Rattle.aide_agreement.proofs.SetLemmas.{link_no_digest, type_no_digest}
+use Rattle.aide_agreement.proofs.SideLemmas.{alike_at, alike_no_stray, digest_at, digest_no_stray, own_no_stray}
+use Rattle.aide_agreement.proofs.SideLemmas.{same_from, same_of, shared_at, target_at, target_from}
+
+-- ---- what it means that two entries agree
+
+first_of : (a b : Bool) → (a && b) ≡ true → a ≡ true
+first_of true b e = refl
+first_of false b e = cc
+
+second_of : (a b : Bool) → (a && b) ≡ true → b ≡ true
+second_of true b e = e
+second_of false b e = cc
+
+negative : (a : Bool) → not a ≡ true → a ≡ false
+negative true e = cc
+negative false e = refl
+
+no_stray : (x y : Attributes) (kind : FileType) → agree_by (Some kind) x y ≡ true
+    → (a : Attr) → strays (is_directory kind) (sides_between x y) a ≡ false
+no_stray x y kind e =
+    none_at (strays (is_directory kind) (sides_between x y))
+    (negative _ (second_of (shares_content kind (sides_between x y) (x Lname) (y Lname)) _ e))
+
+alike_by : (x y : Attributes) (kind : FileType) → agree_by (Some kind) x y ≡ true
+    → (a : Attr) → is_own (is_directory kind) a ≡ false → is_digest a ≡ false → x a ≡ y a
+alike_by x y kind e a own digest =
+    alike_at (x a) (y a) (is_digest a) (is_own (is_directory kind) a) own digest (no_stray x y kind e a)
+
+digests_by : (x y : Attributes) (kind : FileType) → agree_by (Some kind) x y ≡ true
+    → (a : Attr) → is_digest a ≡ true → (u v : Value) → x a ≡ Some u → y a ≡ Some v → u ≡ v
+digests_by x y kind e a digest u v is_u is_v =
+    digest_at (x a) (y a) u v (is_digest a) (is_own (is_directory kind) a) is_u is_v
+    (digest_not_own (is_directory kind) a digest) (no_stray x y kind e a)
+
+shared_by : (x y : Attributes) → list_any (is_shared (sides_between x y)) all_attrs ≡ true → SharesDigest x y
+shared_by x y e =
+    let found = found_any (is_shared (sides_between x y)) all_attrs e in
+    let same = first_of (is_same (sides_between x y) found.0) (is_strong found.0) found.1 in
+    let shared = shared_at (x found.0) (y found.0) same in
+    record {
+      attribute = found.0;
+      value = shared.0;
+      strong = second_of (is_same (sides_between x y) found.0) (is_strong found.0) found.1;
+      in_first = shared.1;
+      in_second = shared.2;
+    }
+
+content_of_file : (x y : Attributes) (kind : FileType) → agree_by (Some kind) x y ≡ true → kind ≡ kinds.File → SharesDigest x y
+content_of_file x y kind e is =
+    let content = first_of (shares_content kind (sides_between x y) (x Lname) (y Lname)) _ e in
+    shared_by x y (ap (λ k. shares_content k (sides_between x y) (x Lname) (y Lname)) (sym is) ∙ content)
+
+content_of_link : (x y : Attributes) (kind : FileType) → agree_by (Some kind) x y ≡ true → kind ≡ kinds.Link
+    → HasTarget x × HasTarget y
+content_of_link x y kind e is =
+    let content = first_of (shares_content kind (sides_between x y) (x Lname) (y Lname)) _ e in
+    let both : (has_target (x Lname) && has_target (y Lname)) ≡ true =
+    ap (λ k. shares_content k (sides_between x y) (x Lname) (y Lname)) (sym is) ∙ content in (
+      target_at x (first_of (has_target (x Lname)) (has_target (y Lname)) both),
+      target_at y (second_of (has_target (x Lname)) (has_target (y Lname)) both),
+    )
+
+agrees_by : (x y : Attributes) (o : Option FileType) → type_in (x Ftype) ≡ o → agree_by o x y ≡ true → Agrees x y
+agrees_by x y None is e = cc
+agrees_by x y (Some kind) is e = record {
+  kind = kind;
+  of_first = is;
+  of_second = sym (ap type_in (alike_by x y kind e Ftype (type_not_own (is_directory kind)) type_no_digest)) ∙ is;
+  alike = alike_by x y kind e;
+  digests = digests_by x y kind e;
+  shared = content_of_file x y kind e;
+  target = content_of_link x y kind e;
+}
+
+-- Entries that agree have one type, the same values but for what each machine has of its own and digests that only one
+-- of them has, and the same content.
+pub meaning_of_agree : (x y : Attributes) → agree x y ≡ true → Agrees x y
+unfolding agree
+meaning_of_agree x y e = agrees_by x y (type_in (x Ftype)) refl e
+
+content_from : (x y : Attributes) (kind : FileType) → (kind ≡ kinds.File → SharesDigest x y)
+    → (kind ≡ kinds.Link → HasTarget x × HasTarget y)
+    → shares_content kind (sides_between x y) (x Lname) (y Lname) ≡ true
+content_from x y kinds.File shared target =
+    let digest = shared refl in
+    some_at (is_shared (sides_between x y)) digest.attribute
+    ((λ i. same_of (digest.in_first i) (digest.in_second i) && is_strong digest.attribute)
+    ∙ ap (λ b. b && is_strong digest.attribute) (same_from digest.value) ∙ digest.strong)
+content_from x y kinds.Link shared target =
+    let targets = target refl in rw (target_from x targets.0, target_from y targets.1) refl
+content_from x y kinds.Directory shared target = refl
+content_from x y kinds.Char shared target = refl
+content_from x y kinds.Block shared target = refl
+content_from x y kinds.Fifo shared target = refl
+content_from x y kinds.Socket shared target = refl
+content_from x y (kinds.Other bits) shared target = refl
+
+stays : (x y : Attributes) (h : Agrees x y) (a : Attr) → strays (is_directory h.kind) (sides_between x y) a ≡ false
+stays x y h a = elim (bool_cases (is_own (is_directory h.kind) a)) [
+  | inl own ↦ own_no_stray (x a) (y a) (is_digest a) (is_own (is_directory h.kind) a) own
+  | inr own ↦ elim (bool_cases (is_digest a)) [
+    | inl digest ↦ digest_no_stray (x a) (y a) (is_digest a) (is_own (is_directory h.kind) a) digest (h.digests a digest)
+    | inr digest ↦ alike_no_stray (x a) (y a) (is_digest a) (is_own (is_directory h.kind) a) (h.alike a own digest)
+  ]
+]
+
+-- And entries of which this holds agree.
+pub agree_from_meaning : (x y : Attributes) → Agrees x y → agree x y ≡ true
+unfolding agree
+agree_from_meaning x y h =
+    let none : list_any (strays (is_directory h.kind) (sides_between x y)) all_attrs ≡ false =
+    none_of (strays (is_directory h.kind) (sides_between x y)) (stays x y h) all_attrs in
+    ap (λ t. agree_by t x y) h.of_first
+    ∙ (λ i. content_from x y h.kind h.shared h.target i && not (none i))
+
+-- ---- agreement is an equivalence, as far as digests tell
+
+same_kind : (x y : FileType) → Some x ≡ Some y → x ≡ y
+same_kind x y e = cc
+
+-- An entry that says what its content is agrees with itself.
+pub agree_itself : (x : Attributes) → SaysContent x → agree x x ≡ true
+agree_itself x h = agree_from_meaning x x (record {
+  kind = h.kind;
+  of_first = h.of_entry;
+  of_second = h.of_entry;
+  alike = λ a own digest. refl;
+  digests = λ a digest u v is_u is_v. some_injective u v (sym is_u ∙ is_v);
+  shared = h.shared;
+  target = λ is. (h.target is, h.target is);
+})
+  where
+    some_injective : (u v : Value) → Some u ≡ Some v → u ≡ v
+    some_injective u v e = cc
+
+turned : (x y : Attributes) → Agrees x y → Agrees y x
+turned x y h = record {
+  kind = h.kind;
+  of_first = h.of_second;
+  of_second = h.of_first;
+  alike = λ a own digest. sym (h.alike a own digest);
+  digests = λ a digest u v is_u is_v. sym (h.digests a digest v u is_v is_u);
+  shared = λ is. let d = h.shared is in record {
+    attribute = d.attribute;
+    value = d.value;
+    strong = d.strong;
+    in_first = d.in_second;
+    in_second = d.in_first;
+  };
+  target = λ is. let t = h.target is in (t.1, t.0);
+}
+
+-- Which of two entries is the first one has no part in whether they agree.
+pub agree_turned : (x y : Attributes) → agree x y ≡ true → agree y x ≡ true
+agree_turned x y e = agree_from_meaning y x (turned x y (meaning_of_agree x y e))
+
+there : (o : Option Value) (v : Value) (p : Option Value) → o ≡ Some v → is_some o ≡ is_some p → (w : Value) × (p ≡ Some w)
+there o v None is e = let f = ap is_some (sym is) ∙ e in cc
+there o v (Some w) is e = (w, refl)
+
+across : (x y z : Attributes) → Agrees x y → Agrees y z → HaveSameDigests y z → Agrees x z
+across x y z g h same =
+    let kind : g.kind ≡ h.kind = same_kind g.kind h.kind (sym g.of_second ∙ h.of_first) in
+    let owned = λ (a : Attr) (own : is_own (is_directory g.kind) a ≡ false).
+    ap (λ k. is_own (is_directory k) a) (sym kind) ∙ own in
+    record {
+      kind = g.kind;
+      of_first = g.of_first;
+      of_second = h.of_second ∙ ap Some (sym kind);
+      alike = λ a own digest. g.alike a own digest ∙ h.alike a (owned a own) digest;
+      digests = λ a digest u w is_u is_w.
+          let middle = there (z a) w (y a) is_w (sym (same a digest)) in
+          g.digests a digest u middle.0 is_u middle.1 ∙ h.digests a digest middle.0 w middle.1 is_w;
+      shared = λ is. let d = g.shared is in
+          let digest = strong_is_digest d.attribute d.strong in
+          let last = there (y d.attribute) d.value (z d.attribute) d.in_second (same d.attribute digest) in
+          record {
+            attribute = d.attribute;
+            value = d.value;
+            strong = d.strong;
+            in_first = d.in_first;
+            in_second = last.1 ∙ ap Some (sym (h.digests d.attribute digest d.value last.0 d.in_second last.1));
+          };
+      target = λ is. ((g.target is).0, (h.target (sym kind ∙ is)).1);
+    }
+
+-- An entry that agrees with one that agrees with a third agrees with the third, if the latter two have the same digests.
+pub agree_across : (x y z : Attributes) → agree x y ≡ true → agree y z ≡ true → HaveSameDigests y z → agree x z ≡ true
+agree_across x y z e f same =
+    agree_from_meaning x z (across x y z (meaning_of_agree x y e) (meaning_of_agree y z f) same)
+
+-- ---- what accounts for a change
+
+by_tests : (old trusted : Bool) (answer : Option SameAs)
+    → answer ≡ (if old then Some Old else (if trusted then Some Trusted else None)) → answer ≡ Some Old → old ≡ true
+by_tests true trusted answer is e = refl
+by_tests false true answer is e = let f = sym is ∙ e in cc
+by_tests false false answer is e = let f = sym is ∙ e in cc
+
+by_trusted : (old trusted : Bool) (answer : Option SameAs)
+    → answer ≡ (if old then Some Old else (if trusted then Some Trusted else None)) → answer ≡ Some Trusted → trusted ≡ true
+by_trusted true trusted answer is e = let f = sym is ∙ e in cc
+by_trusted false true answer is e = refl
+by_trusted false false answer is e = let f = sym is ∙ e in cc
+
+old_agrees : (found trusted : Pair) → same_as found trusted ≡ Some Old → is_as_old found ≡ true
+unfolding same_as
+old_agrees found trusted e = by_tests (is_as_old found) (is_as_trusted found trusted) (same_as found trusted) refl e
+
+trusted_has : (found trusted : Pair) → same_as found trusted ≡ Some Trusted → is_as_trusted found trusted ≡ true
+unfolding same_as
+trusted_has found trusted e = by_trusted (is_as_old found) (is_as_trusted found trusted) (same_as found trusted) refl e
+
+reported_stays : (c a r i j k digest own : Bool)
+    → ((c || ((a || r) && not digest)) && not own) ≡ false → own ≡ false → ((c && i) || (a && j) || (r && k)) ≡ true
+    → (digest ≡ true) × (c ≡ false)
+reported_stays true a r i j k digest true e own is = cc
+reported_stays true a r i j k digest false e own is = cc
+reported_stays false a r i j k digest true e own is = cc
+reported_stays false a r i j k true false e own is = (refl, refl)
+reported_stays false true r i j k false false e own is = cc
+reported_stays false false true i j k false false e own is = cc
+reported_stays false false false i j k false false e own is = cc
+
+-- Where the old entry accounts for a change, no attribute is reported, whatever the options ignore, but what each machine
+-- has of its own, and digests that only one of the entries has.
+pub old_reports_own : (old new : Attributes) (trusted : Pair) → same_as (Some old, Some new) trusted ≡ Some Old
+    → (kind : FileType) × (type_in (new Ftype) ≡ Some kind)
+    × ((i : Ignore) (a : Attr) → is_reported (sides_between old new) i a ≡ true → is_own (is_directory kind) a ≡ false
+    → (is_digest a ≡ true) × (is_changed (sides_between old new) a ≡ false))
+old_reports_own old new trusted e =
+    let h = meaning_of_agree old new (old_agrees (Some old, Some new) trusted e) in (
+      h.kind,
+      h.of_second,
+      λ i a reported own.
+          let s : Sides = sides_between old new in
+          reported_stays (is_changed s a) (is_added s a) (is_removed s a) (not (has i.changed a)) (not (has i.added a))
+          (not (has i.removed a)) (is_digest a) (is_own (is_directory h.kind) a) (stays old new h a) own reported,
+    )
+
+-- Where a trusted machine accounts for an added or a changed entry, it has an entry there that agrees with the new one.
+pub trusted_here : (old : Option Attributes) (new : Attributes) (trusted : Pair)
+    → same_as (old, Some new) trusted ≡ Some Trusted → (t : Attributes) × (trusted.1 ≡ Some t) × Agrees new t
+trusted_here old new (trusted_old, None) e = let f = trusted_has (old, Some new) (trusted_old, None) e in cc
+trusted_here old new (trusted_old, Some t) e =
+    (t, refl, meaning_of_agree new t (trusted_has (old, Some new) (trusted_old, Some t) e))
+
+-- Where it accounts for a removed entry, it had one there, and has it no more.
+pub trusted_gone : (old : Option Attributes) (trusted : Pair) → same_as (old, None) trusted ≡ Some Trusted
+    → IsSome old × IsSome trusted.0 × (trusted.1 ≡ None)
+trusted_gone old trusted e = gone old trusted (trusted_has (old, None) trusted e)
+  where
+    gone : (old : Option Attributes) (trusted : Pair) → is_as_trusted (old, None) trusted ≡ true
+        → IsSome old × IsSome trusted.0 × (trusted.1 ≡ None)
+    gone (Some old) (Some t, None) e = (refl, refl, refl)
+    gone (Some old) (None, None) e = cc
+    gone (Some old) (None, Some u) e = cc
+    gone (Some old) (Some t, Some u) e = cc
+    gone None (None, None) e = cc
+    gone None (Some t, None) e = cc
+    gone None (None, Some u) e = cc
+    gone None (Some t, Some u) e = cc
+
+-- At a path that a trusted machine never had, nothing is accounted for by it.
+pub none_without_path : (found : Pair) → same_as found (None, None) ≡ Some Trusted → ⊥
+none_without_path found e = no_path found (trusted_has found (None, None) e)
+  where
+    no_path : (found : Pair) → is_as_trusted found (None, None) ≡ true → ⊥
+    no_path (None, None) e = cc
+    no_path (None, Some new) e = cc
+    no_path (Some old, None) e = cc
+    no_path (Some old, Some new) e = cc
+
+-- Two states of a host for which one entry of a trusted machine accounts are the same but for what each machine has of
+-- its own, and digests that one of them or the trusted entry lacks.
+pub one_state : (x y t : Attributes) → agree x t ≡ true → agree y t ≡ true
+    → (kind : FileType) × (type_in (x Ftype) ≡ Some kind) × (type_in (y Ftype) ≡ Some kind)
+    × ((a : Attr) → is_own (is_directory kind) a ≡ false → is_digest a ≡ false → x a ≡ y a)
+    × ((a : Attr) → is_digest a ≡ true → IsSome (t a) → (u v : Value) → x a ≡ Some u → y a ≡ Some v → u ≡ v)
+one_state x y t e f =
+    let g = meaning_of_agree x t e in
+    let h = meaning_of_agree y t f in
+    let kind : g.kind ≡ h.kind = same_kind g.kind h.kind (sym g.of_second ∙ h.of_second) in (
+      g.kind,
+      g.of_first,
+      h.of_first ∙ ap Some (sym kind),
+      (λ a own digest. g.alike a own digest
+          ∙ sym (h.alike a (ap (λ k. is_own (is_directory k) a) (sym kind) ∙ own) digest)),
+      λ a digest has u v is_u is_v. let w = some_value (t a) has in
+          g.digests a digest u w.0 is_u w.1 ∙ sym (h.digests a digest v w.0 is_v w.1),
+    )
+  where
+    some_value : (o : Option Value) → IsSome o → (w : Value) × (o ≡ Some w)
+    some_value (Some w) has = (w, refl)
+    some_value None has = cc

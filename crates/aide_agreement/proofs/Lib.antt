@@ -1,0 +1,5 @@
+pub mod ListLemmas
+pub mod SetLemmas
+pub mod SideLemmas
+pub mod AgreeLemmas
+pub mod Laws

@@ -1,0 +1,128 @@
+-- Two values at one attribute: whether entries stray from each other there, and what they share.
+use Rattle.std.proofs.Common.{◌≡◌, ◌∙◌, ℕ, Bool, true, false, List, refl, sym, ap, inl, inr}
+use Rattle.std.specs.Prelude.{◌||◌, ◌&&◌, not, Option, Some, None, is_some}
+use Rattle.aide_attr.specs.declared.attr.Attr.TheVariants.{Lname}
+use Rattle.aide_attr.proofs.WalkLemmas.{bool_cases}
+use Rattle.aide_entry.specs.Attributes.{Attributes, Value, number_value, mode_value, type_value, link_value}
+use Rattle.aide_entry.specs.Attributes.{digest_value, opaque_value, is_different}
+use Rattle.aide_entry.proofs.ValueLaws.{same_value-Decides}
+use Rattle.aide_agreement.specs.Agreement.{has_target}
+use Rattle.aide_agreement.specs.Meaning.{HasTarget}
+
+-- whether two entries with these values stray from each other at an attribute
+abbrev pub stray_of : (x y : Option Value) (digest own : Bool) → Bool
+stray_of x y digest own =
+    ((is_different x y && is_some x && is_some y)
+    || (((is_some y && not (is_some x)) || (is_some x && not (is_some y))) && not digest)) && not own
+
+-- whether they have the same value
+abbrev pub same_of : (x y : Option Value) → Bool
+same_of x y = is_some x && is_some y && not (is_different x y && is_some x && is_some y)
+
+negated : (b : Bool) → not b ≡ false → b ≡ true
+negated true e = refl
+negated false e = cc
+
+equal_values : (u v : Value) → is_different (Some u) (Some v) ≡ false → u ≡ v
+equal_values u v e = (same_value-Decides u v).0 (negated _ e)
+
+never : (u : Value) → is_different (Some u) (Some u) ≡ false
+never u = rw ((same_value-Decides u u).1 refl) refl
+
+not_different : (u v : Value) → u ≡ v → is_different (Some u) (Some v) ≡ false
+not_different u v e = ap (λ w. is_different (Some u) (Some w)) (sym e) ∙ never u
+
+different_by : (b : Bool) → (((b && true) || (false && true)) && not false) ≡ false → b ≡ false
+different_by true e = cc
+different_by false e = refl
+
+same_by : (d digest own : Bool) → own ≡ false → (((d && true && true) || (((true && not true) || (true && not true)) && not digest)) && not own) ≡ false
+    → d ≡ false
+same_by true true true o e = cc
+same_by true false true o e = cc
+same_by true true false o e = cc
+same_by true false false o e = cc
+same_by false digest own o e = refl
+
+both_at : (u v : Value) (digest own : Bool) → own ≡ false → stray_of (Some u) (Some v) digest own ≡ false → u ≡ v
+both_at u v digest own o e = equal_values u v (same_by (is_different (Some u) (Some v)) digest own o e)
+
+-- at an attribute that is neither a machine's own nor a digest, entries that do not stray have the same value or none
+pub alike_at : (x y : Option Value) (digest own : Bool) → own ≡ false → digest ≡ false → stray_of x y digest own ≡ false
+    → x ≡ y
+alike_at None None digest own o d e = refl
+alike_at None (Some v) true own o d e = cc
+alike_at None (Some v) false true o d e = cc
+alike_at None (Some v) false false o d e = cc
+alike_at (Some u) None true own o d e = cc
+alike_at (Some u) None false true o d e = cc
+alike_at (Some u) None false false o d e = cc
+alike_at (Some u) (Some v) digest own o d e = ap Some (both_at u v digest own o e)
+
+-- a digest that both have is the same
+pub digest_at : (x y : Option Value) (u v : Value) (digest own : Bool) → x ≡ Some u → y ≡ Some v → own ≡ false
+    → stray_of x y digest own ≡ false → u ≡ v
+digest_at x y u v digest own is_u is_v o e =
+    both_at u v digest own o ((λ i. stray_of (sym is_u i) (sym is_v i) digest own) ∙ e)
+
+-- what they share is one value
+pub shared_at : (x y : Option Value) → same_of x y ≡ true → (v : Value) × (x ≡ Some v) × (y ≡ Some v)
+shared_at None y e = cc
+shared_at (Some u) None e = cc
+shared_at (Some u) (Some v) e = (u, refl, ap Some (sym (equal_values u v (not_so (is_different (Some u) (Some v)) e))))
+  where
+    not_so : (d : Bool) → (true && true && not (d && true && true)) ≡ true → d ≡ false
+    not_so true e = cc
+    not_so false e = refl
+
+pub same_from : (u : Value) → same_of (Some u) (Some u) ≡ true
+same_from u = ap (λ d. true && true && not (d && true && true)) (never u)
+
+-- ---- and back
+
+never_own : (b own : Bool) → own ≡ true → (b && not own) ≡ false
+never_own true true o = refl
+never_own false true o = refl
+never_own b false o = cc
+
+pub own_no_stray : (x y : Option Value) (digest own : Bool) → own ≡ true → stray_of x y digest own ≡ false
+own_no_stray x y digest own o = never_own _ own o
+
+pub alike_no_stray : (x y : Option Value) (digest own : Bool) → x ≡ y → stray_of x y digest own ≡ false
+alike_no_stray x y digest own e = ap (λ z. stray_of x z digest own) (sym e) ∙ with_itself x digest own
+  where
+    no : (d digest own : Bool) → d ≡ false → (((d && true && true) || (((true && not true) || (true && not true)) && not digest)) && not own) ≡ false
+    no false true own e = refl
+    no false false own e = refl
+    no true digest own e = cc
+
+    with_itself : (x : Option Value) (digest own : Bool) → stray_of x x digest own ≡ false
+    with_itself None true own = refl
+    with_itself None false own = refl
+    with_itself (Some u) digest own = no (is_different (Some u) (Some u)) digest own (never u)
+
+pub digest_no_stray : (x y : Option Value) (digest own : Bool) → digest ≡ true
+    → ((u v : Value) → x ≡ Some u → y ≡ Some v → u ≡ v) → stray_of x y digest own ≡ false
+digest_no_stray None None true own d h = refl
+digest_no_stray None (Some v) true own d h = refl
+digest_no_stray (Some u) None true own d h = refl
+digest_no_stray (Some u) (Some v) true own d h = alike_no_stray (Some u) (Some v) true own (ap Some (h u v refl refl))
+digest_no_stray x y false own d h = cc
+
+-- ---- targets
+
+target_of : (e : Attributes) (o : Option Value) → e Lname ≡ o → has_target o ≡ true → HasTarget e
+target_of e None is has = cc
+target_of e (Some (number_value n)) is has = cc
+target_of e (Some (mode_value n)) is has = cc
+target_of e (Some (type_value n)) is has = cc
+target_of e (Some (link_value None)) is has = cc
+target_of e (Some (link_value (Some target))) is has = record { target = target; is = is }
+target_of e (Some (digest_value n)) is has = cc
+target_of e (Some (opaque_value n)) is has = cc
+
+pub target_at : (e : Attributes) → has_target (e Lname) ≡ true → HasTarget e
+target_at e has = target_of e (e Lname) refl has
+
+pub target_from : (e : Attributes) → HasTarget e → has_target (e Lname) ≡ true
+target_from e h = ap has_target h.is

@@ -1,0 +1,5 @@
+pub mod Own
+pub mod Agreement
+pub mod Meaning
+pub mod Account
+pub mod Found

@@ -1,0 +1,50 @@
+-- What it means that two entries agree, in facts.
+use Rattle.std.specs.Prelude.{◌≡◌, ℕ, Bool, true, false, List, Option, Some, is_some}
+use Rattle.aide_attr.specs.declared.attr.Attr.{Attr}
+use Rattle.aide_attr.specs.declared.attr.Attr.TheVariants.{Ftype, Lname}
+use Rattle.aide_attr.specs.declared.file_type.FileType.{FileType}
+use Rattle.aide_attr.specs.declared.file_type.FileType.TheVariants.{File, Link}
+use Rattle.aide_entry.specs.Attributes.{Attributes, Value, link_value, type_in}
+use Rattle.aide_agreement.specs.Own.{is_digest, is_directory, is_own, is_strong}
+
+-- both entries have one digest of at least 256 bits
+pub record SharesDigest (first second : Attributes) : Type 0 where
+  pub attribute : Attr
+  pub value : Value
+  pub strong : is_strong attribute ≡ true
+  pub in_first : first attribute ≡ Some value
+  pub in_second : second attribute ≡ Some value
+
+-- an entry has the name of a link's target
+pub record HasTarget (entry : Attributes) : Type 0 where
+  pub target : List ℕ
+  pub is : entry Lname ≡ Some (link_value (Some target))
+
+-- two entries are the same but for what each machine has of its own, and digests that only one of them has
+pub record Agrees (first second : Attributes) : Type 0 where
+  pub kind : FileType
+  -- both have this type
+  pub of_first : type_in (first Ftype) ≡ Some kind
+  pub of_second : type_in (second Ftype) ≡ Some kind
+  -- both have the same value, or neither has one, for every attribute that is neither a machine's own nor a digest
+  pub alike : (a : Attr) → is_own (is_directory kind) a ≡ false → is_digest a ≡ false
+      → first a ≡ second a
+  -- every digest that both have is the same
+  pub digests : (a : Attr) → is_digest a ≡ true → (x y : Value) → first a ≡ Some x
+      → second a ≡ Some y → x ≡ y
+  -- regular files share a digest of at least 256 bits
+  pub shared : kind ≡ File → SharesDigest first second
+  -- links have a target, which is one, since it is no machine's own
+  pub target : kind ≡ Link → HasTarget first × HasTarget second
+
+-- an entry says what its content is: it has a type, a regular file a digest of at least 256 bits, a link a target
+pub record SaysContent (entry : Attributes) : Type 0 where
+  pub kind : FileType
+  pub of_entry : type_in (entry Ftype) ≡ Some kind
+  pub shared : kind ≡ File → SharesDigest entry entry
+  pub target : kind ≡ Link → HasTarget entry
+
+-- two entries have the same digests, whatever their values
+abbrev pub HaveSameDigests : (first second : Attributes) → Type 0
+HaveSameDigests first second =
+    (a : Attr) → is_digest a ≡ true → is_some (first a) ≡ is_some (second a)

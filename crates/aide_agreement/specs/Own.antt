@@ -1,0 +1,47 @@
+-- The attributes that each machine has of its own, and the digests that tell two contents apart.
+use Rattle.std.specs.Prelude.{ℕ, nat_le, Bool, true, false, ◌&&◌, ◌||◌, List, [], ◌∷◌}
+use Rattle.std.specs.List.{list_any}
+use Rattle.aide_attr.specs.Attr.{form_of}
+use Rattle.aide_attr.specs.Set.{is_attr}
+use Rattle.aide_attr.specs.declared.attr.Attr.{Attr}
+use Rattle.aide_attr.specs.declared.attr.Attr.TheVariants as attr
+use Rattle.aide_attr.specs.declared.file_type.FileType.{FileType}
+use Rattle.aide_attr.specs.declared.file_type.FileType.TheVariants.{Directory}
+use Rattle.aide_attr.specs.declared.form.Form.{Form}
+use Rattle.aide_attr.specs.declared.form.Form.TheVariants.{Digest}
+
+-- what each machine has of its own, so that machines with the same files differ in it: times, inodes and blocks
+abbrev pub own_attrs : List Attr
+own_attrs = attr.Atime ∷ attr.Mtime ∷ attr.Ctime ∷ attr.Inode ∷ attr.Bcount ∷ []
+
+-- what follows from the names in a directory, which are entries of their own
+abbrev pub directory_attrs : List Attr
+directory_attrs = attr.Size ∷ attr.Linkcount ∷ []
+
+-- whether a machine has the attribute of its own, in a directory or elsewhere
+abbrev pub is_own : Bool → Attr → Bool
+is_own directories a =
+    list_any (is_attr a) own_attrs || (directories && list_any (is_attr a) directory_attrs)
+
+-- whether the type is that of directories
+abbrev pub is_directory : FileType → Bool
+is_directory Directory = true
+is_directory _ = false
+
+-- whether values of this form are digests
+abbrev pub is_digest_form : Form → Bool
+is_digest_form (Digest least most) = true
+is_digest_form _ = false
+
+-- the fewest bytes that the digests of a form have
+abbrev pub least_bytes : Form → ℕ
+least_bytes (Digest least most) = least
+least_bytes _ = 0
+
+-- whether the attribute is a digest
+abbrev pub is_digest : Attr → Bool
+is_digest a = is_digest_form (form_of a)
+
+-- whether the attribute is a digest of at least 256 bits
+abbrev pub is_strong : Attr → Bool
+is_strong a = nat_le 32 (least_bytes (form_of a))
