@@ -1,5 +1,6 @@
 -- Blanks as bits.
-use Rattle.std.proofs.Common.{◌≡◌, ◌↔◌, ℕ, ◌+◌, ◌-◌, ◌*◌, ◌^◌, pow_pos, max, ◌⊎◌, ◌<◌, ◌≤◌, List, refl, ap, ◌∙◌, subst, true, false, Bool, cond}
+use Rattle.std.proofs.Common.{◌≡◌, ◌↔◌, ℕ, ◌+◌, ◌-◌, ◌*◌, ◌^◌, pow_pos, max, ◌⊎◌, ◌<◌, ◌≤◌, List, refl, ap, ◌∙◌, subst, true, false, Bool}
+use Rattle.std.proofs.Common.{cond}
 use Rattle.std.proofs.Common.{zero, suc, ◌/◌, ◌%◌, sym, arith, get_or, bit_or, inl, inr}
 use Rattle.std.specs.Prelude.{◌==◌, ◌||◌}
 use Rattle.std.specs.Int.{bit_at}
@@ -30,7 +31,9 @@ plain_below line from base end bits bit plain each below small k low lt =
       | inl before ↦ plain k low before
       | inr behind ↦
           let sum : base + (k - base) ≡ k = omega (arith, behind) in
-          subst (λ (n : ℕ). is_blank (get_or line n 0) ≡ false) sum (each (k - base) (omega (arith, lt, small, behind)) (omega (arith, low, behind)) (below (k - base) (omega (arith, lt, behind))))
+          subst (λ (n : ℕ). is_blank (get_or line n 0) ≡ false) sum
+          (each (k - base) (omega (arith, lt, small, behind)) (omega (arith, low, behind))
+          (below (k - base) (omega (arith, lt, behind))))
     ]
 
 pub plain_all : (line : List ℕ) (from base end bits : ℕ)
@@ -42,7 +45,9 @@ plain_all line from base end bits plain each none k low lt =
       | inl before ↦ plain k low before
       | inr behind ↦
           let sum : base + (k - base) ≡ k = omega (arith, behind) in
-          subst (λ (n : ℕ). is_blank (get_or line n 0) ≡ false) sum (each (k - base) (omega (arith, lt, behind)) (omega (arith, low, behind)) (ap (λ n. bit_at n (k - base)) none ∙ bit_at-zero (k - base)))
+          subst (λ (n : ℕ). is_blank (get_or line n 0) ≡ false) sum
+          (each (k - base) (omega (arith, lt, behind)) (omega (arith, low, behind))
+          (ap (λ n. bit_at n (k - base)) none ∙ bit_at-zero (k - base)))
     ]
 
 -- a number whose bits are all below an index is below that power of two
@@ -53,7 +58,8 @@ below_from_bits n k h =
     let small = mod_below n (2 ^ k) (pow_pos k) in
     let none : (i : ℕ) → bit_at q i ≡ 0 = λ i.
     (let up : bit_at n (i + k) ≡ bit_at q i =
-    ap (λ m. bit_at m (i + k)) (sym sum) ∙ bit_at_cat_high q k (n % 2 ^ k) (i + k) small (omega arith) ∙ ap (λ j. bit_at q j) (omega arith) in
+    ap (λ m. bit_at m (i + k)) (sym sum) ∙ bit_at_cat_high q k (n % 2 ^ k) (i + k) small (omega arith)
+    ∙ ap (λ j. bit_at q j) (omega arith) in
     elim (cases_lt (bit_at q i) 1) [
       | inl none ↦ omega (arith, none)
       | inr set ↦ absurd (let over = h (i + k) (omega (arith, up, set, bit_at-lt q i)) in omega (arith, over))
@@ -145,4 +151,5 @@ bit_at_pred_lowest zero n set below = bit_at_lowest (n - 1) ∙ omega (arith, bi
 bit_at_pred_lowest (suc low) n set below =
     let even : n % 2 ≡ 0 = sym (bit_at_lowest n) ∙ below 0 (omega arith) in
     let half : (n - 1) / 2 ≡ n / 2 - 1 = omega (arith, even) in
-    bit_at-suc (n - 1) low ∙ (ap (λ m. bit_at m low) half ∙ bit_at_pred_lowest low (n / 2) (sym (bit_at-suc n low) ∙ set) (λ k lt. sym (bit_at-suc n k) ∙ below (suc k) (omega (arith, lt))))
+    bit_at-suc (n - 1) low ∙ (ap (λ m. bit_at m low) half ∙ bit_at_pred_lowest low (n / 2) (sym (bit_at-suc n low) ∙ set)
+    (λ k lt. sym (bit_at-suc n k) ∙ below (suc k) (omega (arith, lt))))

@@ -30,20 +30,24 @@ decode_cut (suc n) [] le cut = absurd (omega (arith, le))
 decode_cut (suc zero) (b ∷ r) le cut = plain_first b r (cut 0 (omega arith) (omega arith))
 decode_cut (suc (suc n)) (b ∷ []) le cut = absurd (omega (arith, le))
 decode_cut (suc (suc zero)) (b ∷ h ∷ r) le cut =
-    plain_first b (h ∷ r) (cut 0 (omega arith) (omega arith)) ∙ ap (λ (t : List ℕ). b ∷ t) (plain_first h r (cut 1 (omega arith) (omega arith)))
+    plain_first b (h ∷ r) (cut 0 (omega arith) (omega arith))
+    ∙ ap (λ (t : List ℕ). b ∷ t) (plain_first h r (cut 1 (omega arith) (omega arith)))
 decode_cut (suc (suc (suc n))) (b ∷ h ∷ []) le cut = absurd (omega (arith, le))
 decode_cut (suc (suc (suc n))) (b ∷ h ∷ l ∷ r) le cut =
-    let more = decode_cut (suc (suc n)) (h ∷ l ∷ r) (omega (arith, le)) (λ k lt near. cut (suc k) (omega (arith, lt)) (omega (arith, near))) in
+    let more = decode_cut (suc (suc n)) (h ∷ l ∷ r) (omega (arith, le))
+    (λ k lt near. cut (suc k) (omega (arith, lt)) (omega (arith, near))) in
     let rest = decode_cut n r (omega (arith, le)) (λ k lt near. cut (suc (suc (suc k))) (omega (arith, lt)) (omega (arith, near))) in
     elim (is_escape b h l) as (λ t. cond t ((16 * digit_value h + digit_value l) ∷ percent_decode r) (b ∷ percent_decode (h ∷ l ∷ r))
-    ≡ cond t ((16 * digit_value h + digit_value l) ∷ percent_decode (take n r)) (b ∷ percent_decode (h ∷ l ∷ take n r)) ++ percent_decode (drop n r)) [
+    ≡ cond t ((16 * digit_value h + digit_value l) ∷ percent_decode (take n r)) (b ∷ percent_decode (h ∷ l ∷ take n r)) ++ percent_decode
+    (drop n r)) [
       | true ↦ ap (λ (t : List ℕ). (16 * digit_value h + digit_value l) ∷ t) rest
       | false ↦ ap (λ (t : List ℕ). b ∷ t) more
     ]
 
 cut_same : (x y : List ℕ) (n : ℕ) → n ≤ length x → n ≤ length y → take n x ≡ take n y → IsBetweenEscapes x n → IsBetweenEscapes y n
 cut_same x y n left right same cut k lt near =
-    ap (λ (b : ℕ). b == 37) (sym (get_or-take n y k 0 lt) ∙ (ap (λ (t : List ℕ). get_or t k 0) (sym same) ∙ get_or-take n x k 0 lt)) ∙ cut k lt near
+    ap (λ (b : ℕ). b == 37) (sym (get_or-take n y k 0 lt) ∙ (ap (λ (t : List ℕ). get_or t k 0) (sym same) ∙ get_or-take n x k 0 lt))
+    ∙ cut k lt near
 
 behind_front : (p x y : List ℕ) → slice_cmp nat_cmp (p ++ x) (p ++ y) ≡ slice_cmp nat_cmp x y
 behind_front [] x y = refl
@@ -58,15 +62,21 @@ pub path_behind : (x y : List ℕ) (n : ℕ) (found : Ordering) → n ≤ length
 path_behind x y n found left right same cut is =
     let there : IsBetweenEscapes y n = cut_same x y n left right same cut in
     let front = map rank_of (percent_decode (take n x)) in
-    let one : map rank_of (percent_decode x) ≡ front ++ map rank_of (percent_decode (drop n x)) = ap (map rank_of) (decode_cut n x left cut) ∙ map-append rank_of (percent_decode (take n x)) (percent_decode (drop n x)) in
+    let one : map rank_of (percent_decode x) ≡ front ++ map rank_of (percent_decode (drop n x)) =
+    ap (map rank_of) (decode_cut n x left cut) ∙ map-append rank_of (percent_decode (take n x)) (percent_decode (drop n x)) in
     let two : map rank_of (percent_decode y) ≡ front ++ map rank_of (percent_decode (drop n y)) =
-    ap (map rank_of) (decode_cut n y right there ∙ ap (λ (t : List ℕ). percent_decode t ++ percent_decode (drop n y)) (sym same)) ∙ map-append rank_of (percent_decode (take n x)) (percent_decode (drop n y)) in
-    is ∙ sym (path_cmp_ranks (percent_decode x) (percent_decode y) ∙ (ap (λ (t : List ℕ). slice_cmp nat_cmp t (map rank_of (percent_decode y))) one
-    ∙ (ap (slice_cmp nat_cmp (front ++ map rank_of (percent_decode (drop n x)))) two ∙ behind_front front (map rank_of (percent_decode (drop n x))) (map rank_of (percent_decode (drop n y))))))
+    ap (map rank_of) (decode_cut n y right there ∙ ap (λ (t : List ℕ). percent_decode t ++ percent_decode (drop n y)) (sym same))
+    ∙ map-append rank_of (percent_decode (take n x)) (percent_decode (drop n y)) in
+    is ∙ sym (path_cmp_ranks (percent_decode x) (percent_decode y)
+    ∙ (ap (λ (t : List ℕ). slice_cmp nat_cmp t (map rank_of (percent_decode y))) one
+    ∙ (ap (slice_cmp nat_cmp (front ++ map rank_of (percent_decode (drop n x)))) two
+    ∙ behind_front front (map rank_of (percent_decode (drop n x))) (map rank_of (percent_decode (drop n y))))))
 
 take_two : (n m : ℕ) (x : List ℕ) → take (n + m) x ≡ take n x ++ take m (drop n x)
 take_two n m x =
-    sym (take-append-drop n (take (n + m) x)) ∙ (ap (λ (t : List ℕ). t ++ drop n (take (n + m) x)) (take-take n (n + m) x (omega arith)) ∙ ap (λ (t : List ℕ). take n x ++ t) (drop-take n m x))
+    sym (take-append-drop n (take (n + m) x)) ∙
+    (ap (λ (t : List ℕ). t ++ drop n (take (n + m) x)) (take-take n (n + m) x (omega arith))
+    ∙ ap (λ (t : List ℕ). take n x ++ t) (drop-take n m x))
 
 -- so many bytes more that are the same
 pub record HasFront (x y left right : List ℕ) (count : ℕ) : Type 0 where
@@ -85,13 +95,15 @@ front_more x y left right more_left more_right count n h a b le lf e = record {
   right_at = b ∙ (ap (drop n) h.right_at ∙ drop-drop n count y);
   left_in = omega (arith, le, h.left_in, ap length h.left_at, length-drop count x);
   right_in = omega (arith, lf, h.right_in, ap length h.right_at, length-drop count y);
-  same = take_two count n x ∙ (ap (λ (t : List ℕ). t ++ take n (drop count x)) h.same ∙ (ap (λ (t : List ℕ). take count y ++ t) (ap (take n) (sym h.left_at) ∙ (e ∙ ap (take n) h.right_at)) ∙ sym (take_two count n y)));
+  same = take_two count n x ∙ (ap (λ (t : List ℕ). t ++ take n (drop count x)) h.same
+      ∙ (ap (λ (t : List ℕ). take count y ++ t) (ap (take n) (sym h.left_at) ∙ (e ∙ ap (take n) h.right_at)) ∙ sym (take_two count n y)));
 }
 
 pub byte_more : (x y left right more_left more_right : List ℕ) (count a b : ℕ) → HasFront x y left right count
     → left ≡ a ∷ more_left → right ≡ b ∷ more_right → a ≡ b → HasFront x y more_left more_right (count + 1)
 byte_more x y left right more_left more_right count a b h l r e =
-    front_more x y left right more_left more_right count 1 h (sym (ap (drop 1) l)) (sym (ap (drop 1) r)) (omega (arith, ap length l)) (omega (arith, ap length r)) (ap (take 1) l ∙ (ap (λ (k : ℕ). k ∷ []) e ∙ sym (ap (take 1) r)))
+    front_more x y left right more_left more_right count 1 h (sym (ap (drop 1) l)) (sym (ap (drop 1) r)) (omega (arith, ap length l))
+    (omega (arith, ap length r)) (ap (take 1) l ∙ (ap (λ (k : ℕ). k ∷ []) e ∙ sym (ap (take 1) r)))
 
 by : (t : Bool) → false ≡ not t → t ≡ true
 by true e = refl

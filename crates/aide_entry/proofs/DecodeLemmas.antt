@@ -19,10 +19,12 @@ slice_ok : (single more : Option DecodeError) (small : Bool) (space m n : ℕ)
     → or_error single (cond small (Err OutputSliceTooSmall) (or_error more (bytes_fit m space))) ≡ Ok n
     → (or_else single more ≡ None) × (m ≡ n) × (n ≤ space)
 slice_ok None None true space m n e = cc
-slice_ok None None false space m n e = elim (nat_lt space m) as (λ b. nat_lt space m ≡ b → cond b (Err OutputSliceTooSmall) (Ok m) ≡ Ok n → ◌≡◌ {A = Option DecodeError} None None × (m ≡ n) × (n ≤ space)) [
-  | true ↦ λ lt h. cc
-  | false ↦ λ ge h. let same : m ≡ n = cc in (refl, same, omega (arith, same, ltb-false space m ge))
-] refl e
+slice_ok None None false space m n e = elim (nat_lt space m) as
+    (λ b. nat_lt space m ≡ b → cond b (Err OutputSliceTooSmall) (Ok m) ≡ Ok n → ◌≡◌ {A = Option DecodeError} None None × (m ≡ n)
+    × (n ≤ space)) [
+      | true ↦ λ lt h. cc
+      | false ↦ λ ge h. let same : m ≡ n = cc in (refl, same, omega (arith, same, ltb-false space m ge))
+    ] refl e
 slice_ok None (Some d) true space m n e = cc
 slice_ok None (Some d) false space m n e = cc
 slice_ok (Some d) more small space m n e = cc
@@ -37,12 +39,14 @@ slice_err : (single more : Option DecodeError) (space q : ℕ) (bytes b : List �
     → result_ok (decode_outcome (or_else single more) bytes) ≡ Some b → space < length b
 slice_err None None space q bytes b e long is some =
     let same : bytes ≡ b = cc in
-    let large : space < length bytes = elim (nat_lt (space / 3) q) as (λ t. nat_lt (space / 3) q ≡ t → cond t (Err OutputSliceTooSmall) (bytes_fit (length bytes) space) ≡ Err e → space < length bytes) [
+    let large : space < length bytes = elim (nat_lt (space / 3) q) as
+    (λ t. nat_lt (space / 3) q ≡ t → cond t (Err OutputSliceTooSmall) (bytes_fit (length bytes) space) ≡ Err e → space < length bytes) [
       | true ↦ λ lt h. long (ltb-true (space / 3) q lt)
-      | false ↦ λ ge h. elim (nat_lt space (length bytes)) as (λ t. nat_lt space (length bytes) ≡ t → cond t (Err OutputSliceTooSmall) (Ok (length bytes)) ≡ Err e → space < length bytes) [
-        | true ↦ λ lt k. ltb-true space (length bytes) lt
-        | false ↦ λ ge k. cc
-      ] refl h
+      | false ↦ λ ge h. elim (nat_lt space (length bytes)) as
+          (λ t. nat_lt space (length bytes) ≡ t → cond t (Err OutputSliceTooSmall) (Ok (length bytes)) ≡ Err e → space < length bytes) [
+            | true ↦ λ lt k. ltb-true space (length bytes) lt
+            | false ↦ λ ge k. cc
+          ] refl h
     ] refl is in
     omega (arith, large, ap (λ (xs : List ℕ). length xs) same)
 slice_err None (Some d) space q bytes b e long is some = cc
@@ -65,7 +69,9 @@ unfolding decoded_of
 decoded_ok s old new space n ok written =
     let q : ℕ = groups_before_last (length s) in
     let single = lone_error standard.decode_table standard.padding.value s in
-    let more = or_else (groups_error standard.decode_table s q) (suffix_error standard.decode_table standard.padding.value standard.config.decode_allow_trailing_bits standard.config.decode_padding_mode (4 * q) s) in
+    let more = or_else (groups_error standard.decode_table s q)
+    (suffix_error standard.decode_table standard.padding.value standard.config.decode_allow_trailing_bits
+    standard.config.decode_padding_mode (4 * q) s) in
     let bytes = decoded_bytes_of standard s in
     let h = slice_ok single more (nat_lt (space / 3) q) space (length bytes) n ok in
     let front : take n new ≡ bytes = rw (written) (take_at bytes (drop (length bytes) old) n h.1) in
@@ -77,5 +83,7 @@ unfolding decoded_of
 decoded_err s new space e err b some =
     let q : ℕ = groups_before_last (length s) in
     let single = lone_error standard.decode_table standard.padding.value s in
-    let more = or_else (groups_error standard.decode_table s q) (suffix_error standard.decode_table standard.padding.value standard.config.decode_allow_trailing_bits standard.config.decode_padding_mode (4 * q) s) in
+    let more = or_else (groups_error standard.decode_table s q)
+    (suffix_error standard.decode_table standard.padding.value standard.config.decode_allow_trailing_bits
+    standard.config.decode_padding_mode (4 * q) s) in
     slice_err single more space q (decoded_bytes_of standard s) b e (groups_long s space) err some

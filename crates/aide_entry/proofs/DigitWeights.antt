@@ -15,7 +15,8 @@ use Rattle.aide_entry.specs.code.TimeDigits.{are_light, are_three, is_one}
 use Rattle.aide_entry.specs.declared.time_digits.TheConstants.{FIRST, SECOND, THIRD, FOURTH, LAST}
 
 pub light_at : (weights : List ℕ) → are_light weights ≡ true → (byte : ℕ) → byte < 256 → slice_index weights byte ≤ 2
-light_at weights light byte small = leb-true (slice_index weights byte) 2 (all_below_at (λ b. nat_le (slice_index weights b) 2) 256 byte light small)
+light_at weights light byte small = leb-true (slice_index weights byte) 2
+    (all_below_at (λ b. nat_le (slice_index weights b) 2) 256 byte light small)
 
 -- the value that the decoder's table has for a symbol
 abbrev pub value : ℕ → ℕ
@@ -39,7 +40,8 @@ passes weights test b = implies (nat_le 1 (slice_index weights b)) (test (slice_
 passed : (weights : List ℕ) (test : ℕ → ℕ → Bool) → all_below (passes weights test) 256 ≡ true
     → (b : ℕ) → b < 256 → 1 ≤ slice_index weights b → test (slice_index weights b) b ≡ true
 passed weights test all b small some =
-    implied (nat_le 1 (slice_index weights b)) (test (slice_index weights b) b) (all_below_at (passes weights test) 256 b all small) (le-leb 1 (slice_index weights b) some)
+    implied (nat_le 1 (slice_index weights b)) (test (slice_index weights b) b) (all_below_at (passes weights test) 256 b all small)
+    (le-leb 1 (slice_index weights b) some)
 
 first_value : (b : ℕ) → b < 256 → 1 ≤ slice_index FIRST b → (12 ≤ value b) × (value b + slice_index FIRST b ≤ 15)
 unfolding implies
@@ -122,7 +124,13 @@ pub first_high : (a b c d : ℕ) → a < 256 → b < 256 → c < 256 → d < 256
 unfolding are_three
 first_high a b c d small_a small_b small_c small_d is =
     let enough = leb-true 7 (slice_index FIRST a + slice_index SECOND b + slice_index THIRD c + slice_index FOURTH d) is in
-    elim (first_is a small_a (omega (arith, enough, light_at SECOND refl b small_b, light_at THIRD refl c small_c, light_at FOURTH refl d small_d))) [
+    elim (first_is a small_a (omega (
+      arith,
+      enough,
+      light_at SECOND refl b small_b,
+      light_at THIRD refl c small_c,
+      light_at FOURTH refl d small_d,
+    ))) [
       | inl e ↦ omega (arith, e)
       | inr more ↦ elim more [ inl e ↦ omega (arith, e) | inr e ↦ omega (arith, e) ]
     ]

@@ -25,7 +25,8 @@ none_bad : (i : ℕ) (xs : List (Column × List ℕ)) → first_bad_from i xs �
     → list_all (λ x. has_form x.0 x.1) xs ≡ true
 none_bad i [] e = refl
 none_bad i (x ∷ xs) e =
-    elim (has_form x.0 x.1) as (λ b. cond b (first_bad_from (i + 1) xs) (Some (fault_of_column x.0 i)) ≡ None → (b && list_all (λ y. has_form y.0 y.1) xs) ≡ true) [
+    elim (has_form x.0 x.1) as (λ b. cond b (first_bad_from (i + 1) xs) (Some (fault_of_column x.0 i)) ≡ None
+    → (b && list_all (λ y. has_form y.0 y.1) xs) ≡ true) [
       | true ↦ λ h. none_bad (i + 1) xs h
       | false ↦ λ h. cc
     ] e
@@ -70,4 +71,5 @@ pub entry_is_fine : (cs : List Column) (es : List (List ℕ)) (l : List ℕ) →
 entry_is_fine cs es l has before =
     let forms = and_parts ((length (fields l) == length cs) && is_path (path_of cs l)) (have_forms cs (fields l)) has in
     let count = and_parts (length (fields l) == length cs) (is_path (path_of cs l)) forms.0 in
-    guard_pass _ FieldCount _ count.0 ∙ (guard_pass _ BadName _ count.1 ∙ (guard_pass _ OutOfOrder _ before ∙ all_good 1 (zip cs (fields l)) forms.1))
+    guard_pass _ FieldCount _ count.0 ∙ (guard_pass _ BadName _ count.1
+    ∙ (guard_pass _ OutOfOrder _ before ∙ all_good 1 (zip cs (fields l)) forms.1))

@@ -44,7 +44,9 @@ all_front line n t le each = λ k d lt.
 pub field_none : (line : List ℕ) → ((k : ℕ) → k < length line → is_blank (get_or line k 0) ≡ true) → fields line ≡ []
 field_none line each =
     ap fields (sym (append-nil line))
-    ∙ (skip_blanks line [] (recursion_from_All (λ b. is_blank b ≡ true) line (subst (λ (xs : List ℕ). All (λ b. is_blank b ≡ true) xs) (take_all (length line) line (omega arith)) (all_front line (length line) true (omega arith) each)))
+    ∙ (skip_blanks line [] (recursion_from_All (λ b. is_blank b ≡ true) line
+    (subst (λ (xs : List ℕ). All (λ b. is_blank b ≡ true) xs) (take_all (length line) line (omega arith))
+    (all_front line (length line) true (omega arith) each)))
     ∙ no_field)
 
 -- a field at the front
@@ -72,10 +74,18 @@ pub field_first : (line : List ℕ) (start end : ℕ) → start < length line
     → (fields line ≡ take end (drop start line) ∷ fields (drop end (drop start line))) × (0 < end)
 field_first line start end lt blanks here le each stops =
     let long : 0 < length (drop start line) = omega (arith, length-drop start line) in
-    let first : is_blank (get_or (drop start line) 0 0) ≡ false = subst (λ (x : ℕ). is_blank x ≡ false) (sym (get_or-drop start line 0 0 ∙ ap (λ n. get_or line n 0) (let e : start + 0 ≡ start = omega arith in e))) here in
-    let some : 0 < end = elim (cases_lt 0 end) [ inl h ↦ h | inr h ↦ let e : end ≡ 0 = omega arith in let b : is_blank (get_or (drop start line) 0 0) ≡ true = subst (λ (n : ℕ). is_blank (get_or (drop start line) n 0) ≡ true) e (stops (omega arith)) in cc ] in (
+    let first : is_blank (get_or (drop start line) 0 0) ≡ false =
+    subst (λ (x : ℕ). is_blank x ≡ false) (sym
+    (get_or-drop start line 0 0 ∙ ap (λ n. get_or line n 0) (let e : start + 0 ≡ start = omega arith in e))) here in
+    let some : 0 < end = elim (cases_lt 0 end) [
+      | inl h ↦ h
+      | inr h ↦ let e : end ≡ 0 = omega arith in
+          let b : is_blank (get_or (drop start line) 0 0) ≡ true =
+          subst (λ (n : ℕ). is_blank (get_or (drop start line) n 0) ≡ true) e (stops (omega arith)) in cc
+    ] in (
       ap fields (sym (take-append-drop start line))
-          ∙ (skip_blanks (take start line) (drop start line) (recursion_from_All (λ b. is_blank b ≡ true) (take start line) (all_front line start true (omega arith) blanks))
+          ∙ (skip_blanks (take start line) (drop start line)
+          (recursion_from_All (λ b. is_blank b ≡ true) (take start line) (all_front line start true (omega arith) blanks))
           ∙ first_field (drop start line) end some le each stops),
       some,
     )
@@ -88,7 +98,8 @@ pub field_first_parts : (line rest front back : List ℕ) (start end : ℕ) → 
     → (end < length rest → is_blank (get_or rest end 0) ≡ true)
     → (fields line ≡ front ∷ fields back) × (0 < end)
 field_first_parts line rest front back start end e f g lt blanks here le each stops =
-    let P : List ℕ → Type 0 = λ r. end ≤ length r → ((k : ℕ) → k < end → is_blank (get_or r k 0) ≡ false) → (end < length r → is_blank (get_or r end 0) ≡ true) → (fields line ≡ take end r ∷ fields (drop end r)) × (0 < end) in
+    let P : List ℕ → Type 0 = λ r. end ≤ length r → ((k : ℕ) → k < end → is_blank (get_or r k 0) ≡ false)
+    → (end < length r → is_blank (get_or r end 0) ≡ true) → (fields line ≡ take end r ∷ fields (drop end r)) × (0 < end) in
     let h : P rest = subst P (sym e) (λ a b c. field_first line start end lt blanks here a b c) in
     rw (f, g) (h le each stops)
 

@@ -1,6 +1,6 @@
 -- What fields mean, step by step.
-use Rattle.std.proofs.Common.{◌≡◌, ℕ, ℤ, ◌≤◌, List, length, refl, sym, ◌∙◌, true, false, cond, if◌then◌else◌, Bool, Option, Some, None, Ok, Err}
-use Rattle.std.proofs.Common.{nat_le}
+use Rattle.std.proofs.Common.{◌≡◌, ℕ, ℤ, ◌≤◌, List, length, refl, sym, ◌∙◌, true, false, cond, if◌then◌else◌, Bool, Option, Some, None, Ok}
+use Rattle.std.proofs.Common.{Err, nat_le}
 use Rattle.std.specs.Prelude.{option_map}
 use Rattle.std.proofs.lemmas.Bool.{le-leb}
 use Rattle.base64.specs.declared.decode.DecodeError.{DecodeError}
@@ -39,13 +39,15 @@ pub field_on : (cs : List Column) (line : List ℕ) (attr holder : Attr) (bit bi
     → holder ≡ holder_of attr → bit ≡ bit_of attr → bits ≡ bits_in cs line → is_set bit bits ≡ true
     → field ≡ field_under (is_of holder) cs (fields line) → field ≡ field_of cs line attr
 field_on cs line attr holder bit bits field h b f on is =
-    let t : is_on (bit_of attr) (field_under is_bits cs (fields line)) ≡ true = sym (set_is_on (bit_of attr) (field_under is_bits cs (fields line))) ∙ rw (← b, ← f) on in
+    let t : is_on (bit_of attr) (field_under is_bits cs (fields line)) ≡ true =
+    sym (set_is_on (bit_of attr) (field_under is_bits cs (fields line))) ∙ rw (← b, ← f) on in
     is ∙ rw (h, t) refl
 
 pub field_off : (cs : List Column) (line : List ℕ) (attr : Attr) (bit bits : Option ℕ)
     → bit ≡ bit_of attr → bits ≡ bits_in cs line → is_set bit bits ≡ false → None ≡ field_of cs line attr
 field_off cs line attr bit bits b f off =
-    let t : is_on (bit_of attr) (field_under is_bits cs (fields line)) ≡ false = sym (set_is_on (bit_of attr) (field_under is_bits cs (fields line))) ∙ rw (← b, ← f) off in
+    let t : is_on (bit_of attr) (field_under is_bits cs (fields line)) ≡ false =
+    sym (set_is_on (bit_of attr) (field_under is_bits cs (fields line))) ∙ rw (← b, ← f) off in
     rw t refl
 
 none_either : (b : Bool) (field : Option (List ℕ)) → None ≡ field → None ≡ (if b then field else None)

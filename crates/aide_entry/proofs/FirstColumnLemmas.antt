@@ -1,5 +1,6 @@
 -- Where the first column of a kind stands.
-use Rattle.std.proofs.Common.{◌≡◌, ℕ, ◌+◌, ◌-◌, ◌<◌, ◌≢◌, List, [], ◌∷◌, ◌++◌, length, take, drop, set, get_or, replicate, map, suc, zero, refl, sym, ap, ◌∙◌}
+use Rattle.std.proofs.Common.{◌≡◌, ℕ, ◌+◌, ◌-◌, ◌<◌, ◌≢◌, List, [], ◌∷◌, ◌++◌, length, take, drop, set, get_or, replicate, map, suc, zero}
+use Rattle.std.proofs.Common.{refl, sym, ap, ◌∙◌}
 use Rattle.std.proofs.Common.{Bool, true, false, if◌then◌else◌, Option, None, Some, inl, inr, arith, get_or-set_same, get_or-set_other}
 use Rattle.std.proofs.lemmas.Bool.{cases_eq, eq-eqb, ne_eqb}
 use Rattle.std.proofs.lemmas.List.{drop_all, get_or-replicate, take_more_set, map-append}
@@ -155,7 +156,8 @@ at_first : (first : ℕ) (fields : List (List ℕ)) → (first ≡ 0 → ⊥)
 at_first zero fields some = absurd (some refl)
 at_first (suc index) fields some = let e : suc index - 1 ≡ index = omega arith in rw e refl
 
-module _ (firsts : List ℕ) (cs : List Column) (wanted : Column) (code : ℕ) (is : code ≡ code_of wanted) (are : AreFirstColumns firsts cs) where
+module _ (firsts : List ℕ) (cs : List Column) (wanted : Column) (code : ℕ) (is : code ≡ code_of wanted)
+    (are : AreFirstColumns firsts cs) where
   first_is : get_or firsts code 0 ≡ first_column (is_column wanted) cs
   first_is = ap (λ k. get_or firsts k 0) is ∙ are wanted
 
@@ -166,7 +168,8 @@ module _ (firsts : List ℕ) (cs : List Column) (wanted : Column) (code : ℕ) (
   pub some_found : (get_or firsts code 0 ≡ 0 → ⊥) → (fields : List (List ℕ))
       → field_under (is_column wanted) cs fields ≡ first_in (drop (get_or firsts code 0 - 1) fields)
   some_found some fields =
-      field_placed (is_column wanted) cs fields ∙ ap (λ p. field_at_first p fields) (sym first_is) ∙ at_first (get_or firsts code 0) fields some
+      field_placed (is_column wanted) cs fields ∙ ap (λ p. field_at_first p fields) (sym first_is)
+      ∙ at_first (get_or firsts code 0) fields some
 
 -- ---- bits
 

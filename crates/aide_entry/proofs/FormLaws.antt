@@ -45,7 +45,8 @@ mode_kept None = refl
 mode_kept (Some field) = kept (mode_of field)
   where
     kept : (o : Option ℕ)
-        → option_map (λ mode. mode_value (mode % 4096)) o ≡ option_map (λ mode. mode_value (nat_abs mode)) (number_in (option_map (λ mode. mode_value (mode % 4096)) o))
+        → option_map (λ mode. mode_value (mode % 4096)) o ≡ option_map (λ mode. mode_value (nat_abs mode))
+        (number_in (option_map (λ mode. mode_value (mode % 4096)) o))
     kept None = refl
     kept (Some mode) = refl
 
@@ -61,7 +62,9 @@ digest_kept least most (Some field) = digests_kept (digest_of least most field)
 opaque_kept : (field : Option (List ℕ))
     → value_in Opaque field ≡ option_map opaque_value (opaque_in (value_in Opaque field))
 opaque_kept None = refl
-opaque_kept (Some field) = elim (is_nought field) as (λ b. cond b None (Some (opaque_value field)) ≡ option_map opaque_value (opaque_in (cond b None (Some (opaque_value field))))) [ true ↦ refl | false ↦ refl ]
+opaque_kept (Some field) = elim (is_nought field) as
+    (λ b. cond b None (Some (opaque_value field)) ≡ option_map opaque_value (opaque_in (cond b None (Some (opaque_value field)))))
+    [ true ↦ refl | false ↦ refl ]
 
 -- of each form, what a view answers is the value
 module _ (columns : List Column) (line : List ℕ) (attr : Attr) where

@@ -1,5 +1,6 @@
 -- Fields that were judged: which have a value.
-use Rattle.std.proofs.Common.{◌≡◌, ℕ, List, [], ◌∷◌, refl, sym, ap, ◌∙◌, true, false, Bool, ◌&&◌, ◌||◌, not, if◌then◌else◌, Option, Some, None, inl, inr}
+use Rattle.std.proofs.Common.{◌≡◌, ℕ, List, [], ◌∷◌, refl, sym, ap, ◌∙◌, true, false, Bool, ◌&&◌, ◌||◌, not, if◌then◌else◌, Option, Some}
+use Rattle.std.proofs.Common.{None, inl, inr}
 use Rattle.std.specs.Prelude.{is_some, option_map, codes, length, ◌==◌, nat_le}
 use Rattle.std.specs.Cmp.Lexicographic.{same_text}
 use Rattle.std.proofs.lemmas.Bool.{and_parts}
@@ -19,7 +20,7 @@ use Rattle.aide_attr.specs.declared.attr.Attr.{Attr}
 use Rattle.aide_attr.specs.declared.attr.Attr.TheVariants as attrs
 use Rattle.aide_attr.proofs.DifferenceLemmas.{attr_is}
 use Rattle.aide_attr.proofs.WalkLemmas.{bool_cases}
-use Rattle.aide_entry.specs.Attributes.{digest_value, is_different}
+use Rattle.aide_entry.specs.Attributes.{digest_in, digest_value, is_different}
 use Rattle.aide_entry.specs.Entry.{have_forms, has_entry, is_path, path_of, field_of, is_on}
 use Rattle.aide_entry.specs.Fields.{field_under, is_of, is_bits}
 use Rattle.aide_entry.specs.Text.{fields}
@@ -101,6 +102,22 @@ digest_text least most field bytes each is =
     decode_of_strict standard field bytes (refl, refl) each
     (result_some (decode_of standard field) bytes (of_length_some least most (decoded_of standard field) bytes is))
 
+-- a judged digest that is there has its field as its text
+pub digest_written : (least most : ℕ) (field : List ℕ) → IsBytes field
+    → (is_nought field || is_some (digest_of least most field)) ≡ true → is_nought field ≡ false
+    → Some field ≡ option_map (encode_of standard) (digest_in (option_map digest_value (digest_of least most field)))
+digest_written least most field each judged filled = by_value (digest_of least most field) refl (rw filled at judged)
+  where
+    by_value : (x : Option (List ℕ)) → digest_of least most field ≡ x → is_some x ≡ true
+        → Some field ≡ option_map (encode_of standard) (digest_in (option_map digest_value x))
+    by_value None e some = cc
+    by_value (Some bytes) e some = ap Some (digest_text least most field bytes each e)
+
+-- `0` is no text of a digest
+pub digest_nought : (least most : ℕ) (field : List ℕ) → is_nought field ≡ true → digest_of least most field ≡ None
+digest_nought least most field is =
+    ap (digest_of least most) (same_text field (codes "0") (sym is)) ∙ nought_no_digest least most
+
 -- judged digests of different texts differ, where both are there
 pub digests_differ : (least most : ℕ) (old new : List ℕ) → IsBytes old → IsBytes new → bytes_eq old new ≡ false
     → (is_nought old || is_some (digest_of least most old)) ≡ true → (is_nought new || is_some (digest_of least most new)) ≡ true
@@ -118,7 +135,8 @@ digests_differ least most old new old_bytes new_bytes unlike old_judged new_judg
     by_values (Some x) (Some y) e f = elim (bool_cases (bytes_eq x y)) [
       | inl same ↦
           let alike : x ≡ y = (bytes_eq-Decides x y).0 same in
-          let texts : old ≡ new = digest_text least most old x old_bytes e ∙ ap (encode_of standard) alike ∙ sym (digest_text least most new y new_bytes f) in
+          let texts : old ≡ new = digest_text least most old x old_bytes e ∙ ap (encode_of standard) alike
+          ∙ sym (digest_text least most new y new_bytes f) in
           cc (unlike, (bytes_eq-Decides old new).1 texts)
       | inr other ↦ rw other refl
     ]

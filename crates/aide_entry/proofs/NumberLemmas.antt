@@ -15,7 +15,8 @@ module _ (base bound : ℕ) where
   -- the number so far, a digit further
   pub digit_step : (v d : ℕ) (ds : List ℕ)
       → v * base ^ length (d ∷ ds) + positional base (d ∷ ds) ≡ (v * base + (d - 48)) * base ^ length ds + positional base ds
-  digit_step v d ds = ap (λ p. v * p + positional base (d ∷ ds)) (pow-suc base (length ds)) ∙ spread v (d - 48) (base ^ length ds) (positional base ds)
+  digit_step v d ds = ap (λ p. v * p + positional base (d ∷ ds)) (pow-suc base (length ds))
+      ∙ spread v (d - 48) (base ^ length ds) (positional base ds)
     where
       spread : (v d p r : ℕ) → v * (p * base) + (d * p + r) ≡ (v * base + d) * p + r
       spread v d p r = omega arith
@@ -36,10 +37,13 @@ module _ (base bound : ℕ) where
   natural_empty ds e = rw e refl
 
   pub natural_no_digits : (ds : List ℕ) → list_all (is_digit base) ds ≡ false → digits_of base bound ds ≡ None
-  natural_no_digits ds e = rw e (elim (is_filled ds) as (λ b. cond ((b && false) && nat_lt (positional base ds) bound) (Some (positional base ds)) None ≡ None) [ true ↦ refl | false ↦ refl ])
+  natural_no_digits ds e = rw e (elim (is_filled ds) as
+      (λ b. cond ((b && false) && nat_lt (positional base ds) bound) (Some (positional base ds)) None ≡ None)
+      [ true ↦ refl | false ↦ refl ])
 
   natural_large : (ds : List ℕ) → bound ≤ positional base ds → digits_of base bound ds ≡ None
-  natural_large ds le = rw (le-ltb (positional base ds) bound le) (elim (are_digits base ds) as (λ b. cond (b && false) (Some (positional base ds)) None ≡ None) [ true ↦ refl | false ↦ refl ])
+  natural_large ds le = rw (le-ltb (positional base ds) bound le)
+      (elim (are_digits base ds) as (λ b. cond (b && false) (Some (positional base ds)) None ≡ None) [ true ↦ refl | false ↦ refl ])
 
   pub natural_is : (ds : List ℕ) → is_filled ds ≡ true → list_all (is_digit base) ds ≡ true → positional base ds < bound
       → digits_of base bound ds ≡ Some (positional base ds)
@@ -54,7 +58,8 @@ module _ (base bound : ℕ) where
       → positional base all ≡ v * base ^ length rest + positional base rest → bound ≤ v * base + (d - 48)
       → digits_of base bound all ≡ None
   natural_over some all rest more v d e same le =
-      let n : positional base all ≡ (v * base + (d - 48)) * base ^ length more + positional base more = same ∙ (rw e (digit_step v d more)) in
+      let n : positional base all ≡ (v * base + (d - 48)) * base ^ length more + positional base more = same
+      ∙ (rw e (digit_step v d more)) in
       natural_large all (omega (arith, n, grows (v * base + (d - 48)) (base ^ length more) (pow_some some (length more))))
 
   pub natural_goes : (all rest more : List ℕ) (v d : ℕ) → rest ≡ d ∷ more
@@ -77,7 +82,8 @@ module _ (base bound : ℕ) where
       let parts = and_parts (is_digit base d) (list_all (is_digit base) ds) e in
       let low = leb-true 48 d (and_parts (nat_le 48 d) (nat_lt d (48 + base)) parts.0).0 in
       let high = ltb-true d (48 + base) (and_parts (nat_le 48 d) (nat_lt d (48 + base)) parts.0).1 in
-      subst (λ p. positional base (d ∷ ds) < p) (sym (pow-suc base (length ds))) (one_more (d - 48) base (base ^ length ds) (positional base ds) (omega (arith, low, high)) (positional_below ds parts.1))
+      subst (λ p. positional base (d ∷ ds) < p) (sym (pow-suc base (length ds)))
+      (one_more (d - 48) base (base ^ length ds) (positional base ds) (omega (arith, low, high)) (positional_below ds parts.1))
     where
       one_more : (n b p r : ℕ) → n < b → r < p → n * p + r < p * b
       one_more n zero p r h k = absurd (omega arith)

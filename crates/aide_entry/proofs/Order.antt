@@ -44,8 +44,10 @@ all_before cs [] line pairs last = refl
 all_before cs (x ∷ []) line pairs last = and_from _ true (last (omega arith)) refl
 all_before cs (x ∷ y ∷ es) line pairs last =
     let now : is_before cs (last_of (y ∷ es)) line ≡ true = last (omega arith) in
-    let first : is_before cs x (last_of (y ∷ es)) ≡ true = subst (λ (t : List ℕ). is_before cs x t ≡ true) (sym (last_at y es [])) (pairs 0 (suc (length es)) [] (omega arith) (omega arith)) in
-    and_from _ _ (before_trans cs x (last_of (y ∷ es)) line first now) (all_before cs (y ∷ es) line (λ i j d lt bound. pairs (suc i) (suc j) d (omega arith) (omega arith)) (λ _. now))
+    let first : is_before cs x (last_of (y ∷ es)) ≡ true = subst (λ (t : List ℕ). is_before cs x t ≡ true) (sym (last_at y es []))
+    (pairs 0 (suc (length es)) [] (omega arith) (omega arith)) in
+    and_from _ _ (before_trans cs x (last_of (y ∷ es)) line first now)
+    (all_before cs (y ∷ es) line (λ i j d lt bound. pairs (suc i) (suc j) d (omega arith) (omega arith)) (λ _. now))
 
 -- and the other way
 pub last_before : (cs : List Column) (es : List (List ℕ)) (line : List ℕ)
@@ -67,7 +69,8 @@ entry_filled (x ∷ l) is = refl
 last_filled : (cs : List Column) (y : List ℕ) (es : List (List ℕ)) → All (IsEntryLine cs) (y ∷ es)
     → is_filled (last_of (y ∷ es)) ≡ true
 last_filled cs y es each =
-    entry_filled (last_of (y ∷ es)) (subst (λ (t : List ℕ). kind_of t ≡ Other) (sym (last_at y es [])) (each (length es) [] (omega arith)).0)
+    entry_filled (last_of (y ∷ es)) (subst (λ (t : List ℕ). kind_of t ≡ Other) (sym (last_at y es []))
+    (each (length es) [] (omega arith)).0)
 
 follows_all : (cs : List Column) (es : List (List ℕ)) (last l : List ℕ) → All (IsEntryLine cs) es
     → AllPairs (IsBefore cs) es → last ≡ last_of es → follows cs last l ≡ true

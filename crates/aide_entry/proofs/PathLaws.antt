@@ -35,12 +35,14 @@ rejoined-pieces [] = refl
 rejoined-pieces (x ∷ xs) =
     let s = split_pieces is_slash xs in
     elim (is_slash x) as (λ t. is_slash x ≡ t → rejoined (cond t ([] ∷ pieces xs) (onto_first x (pieces xs))) ≡ x ∷ xs) [
-      | true ↦ λ e. rejoin_slash s.0 s.1 (pieces xs) s.2 ∙ (ap (λ t. 47 ∷ t) (rejoined-pieces xs) ∙ ap (λ t. t ∷ xs) (sym (eqb-true x 47 e)))
+      | true ↦ λ e. rejoin_slash s.0 s.1 (pieces xs) s.2 ∙
+          (ap (λ t. 47 ∷ t) (rejoined-pieces xs) ∙ ap (λ t. t ∷ xs) (sym (eqb-true x 47 e)))
       | false ↦ λ e. rejoin_byte x s.0 s.1 (pieces xs) s.2 ∙ ap (λ t. x ∷ t) (rejoined-pieces xs)
     ] refl
 
 pub path_cmp-IsAntisymmetric : IsAntisymmetric path_cmp
 unfolding path_cmp
 path_cmp-IsAntisymmetric x y e =
-    let same : pieces x ≡ pieces y = slice_cmp-IsAntisymmetric (slice_cmp-IsAntisymmetric nat_cmp-IsAntisymmetric) (pieces x) (pieces y) e in
+    let same : pieces x ≡ pieces y = slice_cmp-IsAntisymmetric (slice_cmp-IsAntisymmetric nat_cmp-IsAntisymmetric) (pieces x)
+    (pieces y) e in
     sym (rejoined-pieces x) ∙ (ap rejoined same ∙ rejoined-pieces y)

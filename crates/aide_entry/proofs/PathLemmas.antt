@@ -62,17 +62,20 @@ by_ranks (x ∷ xs) (y ∷ ys) =
     let p = split_pieces is_slash xs in
     let q = split_pieces is_slash ys in
     let more = by_ranks xs ys in
-    elim (eqb x 47) as (λ b. slice_cmp (slice_cmp nat_cmp) (cond b ([] ∷ pieces xs) (onto_first x (pieces xs))) (cond (eqb y 47) ([] ∷ pieces ys) (onto_first y (pieces ys)))
+    elim (eqb x 47) as (λ b. slice_cmp (slice_cmp nat_cmp) (cond b ([] ∷ pieces xs) (onto_first x (pieces xs)))
+    (cond (eqb y 47) ([] ∷ pieces ys) (onto_first y (pieces ys)))
     ≡ ordering_then (nat_cmp (cond b 0 (x + 1)) (cond (eqb y 47) 0 (y + 1))) (slice_cmp nat_cmp (map rank_of xs) (map rank_of ys))) [
       | true ↦ elim (eqb y 47) as (λ b. slice_cmp (slice_cmp nat_cmp) ([] ∷ pieces xs) (cond b ([] ∷ pieces ys) (onto_first y (pieces ys)))
           ≡ ordering_then (nat_cmp 0 (cond b 0 (y + 1))) (slice_cmp nat_cmp (map rank_of xs) (map rank_of ys))) [
             | true ↦ more
             | false ↦ rw (rank_less y) (onto_least y q.0 q.1 (pieces ys) (pieces xs) q.2)
           ]
-      | false ↦ elim (eqb y 47) as (λ b. slice_cmp (slice_cmp nat_cmp) (onto_first x (pieces xs)) (cond b ([] ∷ pieces ys) (onto_first y (pieces ys)))
+      | false ↦ elim (eqb y 47) as (λ b. slice_cmp (slice_cmp nat_cmp) (onto_first x (pieces xs))
+          (cond b ([] ∷ pieces ys) (onto_first y (pieces ys)))
           ≡ ordering_then (nat_cmp (x + 1) (cond b 0 (y + 1))) (slice_cmp nat_cmp (map rank_of xs) (map rank_of ys))) [
             | true ↦ rw (rank_greater x) (onto_greatest x p.0 p.1 (pieces xs) (pieces ys) p.2)
-            | false ↦ rw (rank_cmp x y) (onto_cmp x y p.0 q.0 p.1 q.1 (pieces xs) (pieces ys) p.2 q.2 ∙ ap (ordering_then (nat_cmp x y)) more)
+            | false ↦ rw (rank_cmp x y) (onto_cmp x y p.0 q.0 p.1 q.1 (pieces xs) (pieces ys) p.2 q.2
+                ∙ ap (ordering_then (nat_cmp x y)) more)
           ]
     ]
 

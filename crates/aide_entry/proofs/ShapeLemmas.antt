@@ -79,7 +79,8 @@ pub shaped_more : (n : ℕ) (line : List ℕ) (shapes : List Shape) (spans : Lis
     → first_misshapen_from (n + 1) (zip (drop (index + 1) shapes) (fields_at line (drop (index + 1) spans)))
     ≡ first_misshapen_from n (zip (drop index shapes) (fields_at line (drop index spans)))
 shaped_more n line shapes spans index shape span field lt less same is =
-    sym (rw (drop_more shapes index shape lt, drop_more spans index span less, ap (has_shape (get_or shapes index shape)) (sym same) ∙ is) refl)
+    sym (rw (drop_more shapes index shape lt, drop_more spans index span less, ap (has_shape (get_or shapes index shape)) (sym same) ∙ is)
+    refl)
 
 -- no field is left to look at
 none_of_no_field : (n : ℕ) (shapes : List Shape) → first_misshapen_from n (zip shapes []) ≡ None

@@ -24,7 +24,8 @@ double s n p h i = omega arith
 in_power : (cs : List Column) → skipped_in cs + 1 ≤ 2 ^ length cs
 in_power [] = omega arith
 in_power (c ∷ cs) =
-    subst (λ p. skipped_in (c ∷ cs) + 1 ≤ p) (sym (pow-suc 2 (length cs))) (double (skipped_bit c) (skipped_in cs) (2 ^ length cs) (bit_small c) (in_power cs))
+    subst (λ p. skipped_in (c ∷ cs) + 1 ≤ p) (sym (pow-suc 2 (length cs)))
+    (double (skipped_bit c) (skipped_in cs) (2 ^ length cs) (bit_small c) (in_power cs))
 
 less_power : (n p q : ℕ) → n + 1 ≤ p → p ≤ q → n < q
 less_power n p q h i = omega arith

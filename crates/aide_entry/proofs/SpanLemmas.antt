@@ -16,8 +16,11 @@ pub span_at : (line : List ℕ) (ps : List Span) (count index : ℕ) (d : Span) 
 span_at line ps count index d le lt e =
     let n : length (take count ps) ≡ count = length-take-le count ps le in
     let m : length (fields_at line (take count ps)) ≡ count = length-map (take count ps) (field_at line) ∙ n in
-    let here : get_or (fields_at line (take count ps)) index (field_at line d) ≡ field_at line (get_or ps index d) = get_or-map (field_at line) (take count ps) index d (field_at line d) (omega (arith, n)) ∙ ap (field_at line) (get_or-take count ps index d lt) in
-    let cut = drop_more (fields_at line (take count ps)) index (field_at line d) (omega (arith, m)) ∙ ap (λ f. f ∷ drop (index + 1) (fields_at line (take count ps))) here in
+    let here : get_or (fields_at line (take count ps)) index (field_at line d) ≡ field_at line (get_or ps index d) =
+    get_or-map (field_at line) (take count ps) index d (field_at line d) (omega (arith, n))
+    ∙ ap (field_at line) (get_or-take count ps index d lt) in
+    let cut = drop_more (fields_at line (take count ps)) index (field_at line d) (omega (arith, m))
+    ∙ ap (λ f. f ∷ drop (index + 1) (fields_at line (take count ps))) here in
     subst (λ (fs : List (List ℕ)). drop index fs ≡ field_at line (get_or ps index d) ∷ drop (index + 1) fs) e cut
 
 -- no field is left
@@ -29,7 +32,9 @@ none_left rest behind skip len e le blanks stops zero goes =
     elim (cases_lt skip (length rest)) [
       | inl lt ↦
           let some : len < length behind = omega (arith, zero, ap length e, length-drop skip rest) in
-          let b : is_blank (get_or rest skip 0) ≡ true = ap (λ n. is_blank (get_or rest n 0)) (let z : skip ≡ skip + len = omega (arith, zero) in z) ∙ (ap is_blank (sym (get_or-drop skip rest len 0)) ∙ (ap (λ xs. is_blank (get_or xs len 0)) (sym e) ∙ goes some)) in
+          let b : is_blank (get_or rest skip 0) ≡ true = ap (λ n. is_blank (get_or rest n 0))
+          (let z : skip ≡ skip + len = omega (arith, zero) in z)
+          ∙ (ap is_blank (sym (get_or-drop skip rest len 0)) ∙ (ap (λ xs. is_blank (get_or xs len 0)) (sym e) ∙ goes some)) in
           let c = stops lt in cc
       | inr ge ↦ field_none rest (λ k lt. blanks k (omega arith))
     ]
@@ -42,10 +47,12 @@ pub span_more : (line rest behind more : List ℕ) (ps : List Span) (at skip len
     → (skip < length rest → is_blank (get_or rest skip 0) ≡ false)
     → len ≤ length behind → ((k : ℕ) → k < len → is_blank (get_or behind k 0) ≡ false)
     → (len < length behind → is_blank (get_or behind len 0) ≡ true) → (len ≡ 0 → ⊥)
-    → (fields_at line (ps ++ record { start = at + skip; len = len } ∷ []) ++ fields more ≡ fields line) × (more ≡ drop (at + skip + len) line) × (fields rest ≡ take len behind ∷ fields more)
+    → (fields_at line (ps ++ record { start = at + skip; len = len } ∷ []) ++ fields more ≡ fields line)
+    × (more ≡ drop (at + skip + len) line) × (fields rest ≡ take len behind ∷ fields more)
 span_more line rest behind more ps at skip len found position e f blanks stops le each ends some =
     let lt : skip < length rest = omega (arith, some, ap length e, length-drop skip rest) in
-    let cut : fields rest ≡ take len behind ∷ fields more = (field_first_parts rest behind (take len behind) more skip len e refl f lt blanks (stops lt) le each ends).0 in
+    let cut : fields rest ≡ take len behind ∷ fields more =
+    (field_first_parts rest behind (take len behind) more skip len e refl f lt blanks (stops lt) le each ends).0 in
     let here : behind ≡ drop (at + skip) line = e ∙ (ap (drop skip) position ∙ drop-drop skip at line) in
     let span : Span = record { start = at + skip; len = len } in
     let it : field_at line span ≡ take len behind = ap (take len) (sym here) in (
@@ -59,7 +66,8 @@ span_more line rest behind more ps at skip len found position e f blanks stops l
 pub too_many : (line rest : List ℕ) (ps : List Span) (f : List ℕ) (fs : List (List ℕ))
     → fields_at line ps ++ fields rest ≡ fields line → fields rest ≡ f ∷ fs → length ps ≡ 64 → 64 < length (fields line)
 too_many line rest ps f fs found cut full =
-    let n : length (fields line) ≡ length (fields_at line ps) + length (fields rest) = sym (ap length found) ∙ length-append (fields_at line ps) (fields rest) in
+    let n : length (fields line) ≡ length (fields_at line ps) + length (fields rest) = sym (ap length found)
+    ∙ length-append (fields_at line ps) (fields rest) in
     omega (arith, n, length-map ps (field_at line), ap length cut, full)
 
 -- as many spans as fields
@@ -76,7 +84,8 @@ blank_passed line at lt blank =
 pub run_field : (line : List ℕ) (ps : List Span) (from at : ℕ) → from < at → at < length line
     → ((k : ℕ) → from ≤ k → k < at → is_blank (get_or line k 0) ≡ false) → is_blank (get_or line at 0) ≡ true
     → fields_at line ps ++ fields (drop from line) ≡ fields line
-    → (fields_at line (ps ++ record { start = from; len = at - from } ∷ []) ++ fields (drop (at + 1) line) ≡ fields line) × (fields (drop from line) ≡ take (at - from) (drop from line) ∷ fields (drop (at + 1) line))
+    → (fields_at line (ps ++ record { start = from; len = at - from } ∷ []) ++ fields (drop (at + 1) line) ≡ fields line)
+    × (fields (drop from line) ≡ take (at - from) (drop from line) ∷ fields (drop (at + 1) line))
 run_field line ps from at lt short plain blank found =
     let rest = drop from line in
     let len = at - from in
@@ -85,11 +94,15 @@ run_field line ps from at lt short plain blank found =
     let sum : from + len ≡ at = omega (arith, lt) in
     let size : len < length rest = omega (arith, lt, short, length-drop from line) in
     let first : is_blank (get_or rest 0 0) ≡ false = ap is_blank (here 0) ∙ plain (from + 0) (omega arith) (omega (arith, lt)) in
-    let each : (k : ℕ) → k < len → is_blank (get_or rest k 0) ≡ false = λ k less. ap is_blank (here k) ∙ plain (from + k) (omega arith) (omega (arith, less)) in
+    let each : (k : ℕ) → k < len → is_blank (get_or rest k 0) ≡ false = λ k less. ap is_blank (here k)
+    ∙ plain (from + k) (omega arith) (omega (arith, less)) in
     let end : is_blank (get_or rest len 0) ≡ true = ap is_blank (here len) ∙ (ap (λ n. is_blank (get_or line n 0)) sum ∙ blank) in
-    let more = span_more line rest rest (drop len rest) ps from 0 len found refl refl refl (λ k less. absurd (omega (arith, less))) (λ _. first) (omega (arith, size)) each (λ _. end) (λ e. omega (arith, e, lt)) in
-    let behind : fields (drop len rest) ≡ fields (drop (at + 1) line) = ap fields (drop-drop len from line ∙ ap (λ n. drop n line) sum) ∙ blank_passed line at short blank in (
-      ap (λ n. fields_at line (ps ++ record { start = n; len = len } ∷ []) ++ fields (drop (at + 1) line)) (sym zero) ∙ (ap (λ fs. fields_at line (ps ++ record { start = from + 0; len = len } ∷ []) ++ fs) (sym behind) ∙ more.0),
+    let more = span_more line rest rest (drop len rest) ps from 0 len found refl refl refl (λ k less. absurd (omega (arith, less)))
+    (λ _. first) (omega (arith, size)) each (λ _. end) (λ e. omega (arith, e, lt)) in
+    let behind : fields (drop len rest) ≡ fields (drop (at + 1) line) = ap fields (drop-drop len from line ∙ ap (λ n. drop n line) sum)
+    ∙ blank_passed line at short blank in (
+      ap (λ n. fields_at line (ps ++ record { start = n; len = len } ∷ []) ++ fields (drop (at + 1) line)) (sym zero)
+          ∙ (ap (λ fs. fields_at line (ps ++ record { start = from + 0; len = len } ∷ []) ++ fs) (sym behind) ∙ more.0),
       more.2 ∙ ap (λ fs. take len rest ∷ fs) behind,
     )
 
@@ -97,7 +110,8 @@ run_field line ps from at lt short plain blank found =
 pub last_field : (line : List ℕ) (ps : List Span) (from : ℕ) → from < length line
     → ((k : ℕ) → from ≤ k → k < length line → is_blank (get_or line k 0) ≡ false)
     → fields_at line ps ++ fields (drop from line) ≡ fields line
-    → (fields_at line (ps ++ record { start = from; len = length line - from } ∷ []) ≡ fields line) × (fields (drop from line) ≡ take (length line - from) (drop from line) ∷ fields (drop (length line - from) (drop from line)))
+    → (fields_at line (ps ++ record { start = from; len = length line - from } ∷ []) ≡ fields line)
+    × (fields (drop from line) ≡ take (length line - from) (drop from line) ∷ fields (drop (length line - from) (drop from line)))
 last_field line ps from lt plain found =
     let rest = drop from line in
     let len = length line - from in
@@ -105,9 +119,13 @@ last_field line ps from lt plain found =
     let zero : from + 0 ≡ from = omega arith in
     let size : length rest ≡ len = length-drop from line in
     let first : is_blank (get_or rest 0 0) ≡ false = ap is_blank (here 0) ∙ plain (from + 0) (omega arith) (omega (arith, lt)) in
-    let each : (k : ℕ) → k < len → is_blank (get_or rest k 0) ≡ false = λ k less. ap is_blank (here k) ∙ plain (from + k) (omega arith) (omega (arith, less)) in
-    let more = span_more line rest rest (drop len rest) ps from 0 len found refl refl refl (λ k less. absurd (omega (arith, less))) (λ _. first) (omega (arith, size)) each (λ less. absurd (omega (arith, less, size))) (λ e. omega (arith, e, lt)) in
+    let each : (k : ℕ) → k < len → is_blank (get_or rest k 0) ≡ false = λ k less. ap is_blank (here k)
+    ∙ plain (from + k) (omega arith) (omega (arith, less)) in
+    let more = span_more line rest rest (drop len rest) ps from 0 len found refl refl refl (λ k less. absurd (omega (arith, less)))
+    (λ _. first) (omega (arith, size)) each (λ less. absurd (omega (arith, less, size))) (λ e. omega (arith, e, lt)) in
     let behind : fields (drop len rest) ≡ [] = ap fields (drop_all len rest (omega (arith, size))) ∙ no_field in (
-      ap (λ n. fields_at line (ps ++ record { start = n; len = len } ∷ [])) (sym zero) ∙ (sym (append-nil (fields_at line (ps ++ record { start = from + 0; len = len } ∷ []))) ∙ (ap (λ fs. fields_at line (ps ++ record { start = from + 0; len = len } ∷ []) ++ fs) (sym behind) ∙ more.0)),
+      ap (λ n. fields_at line (ps ++ record { start = n; len = len } ∷ [])) (sym zero)
+          ∙ (sym (append-nil (fields_at line (ps ++ record { start = from + 0; len = len } ∷ [])))
+          ∙ (ap (λ fs. fields_at line (ps ++ record { start = from + 0; len = len } ∷ []) ++ fs) (sym behind) ∙ more.0)),
       more.2,
     )

@@ -21,4 +21,10 @@ pub full_columns : (held : List Column) (rest more field : List ℕ) (columns : 
     → held ++ map column_named (fields rest) ≡ columns → length held ≡ 64 → fields rest ≡ field ∷ fields more
     → are_columns columns ≡ false
 full_columns held rest more field columns joined full cut =
-    too_many columns (omega (arith, ap length joined, length-append held (map column_named (fields rest)), ap length (ap (map column_named) cut), full))
+    too_many columns (omega (
+      arith,
+      ap length joined,
+      length-append held (map column_named (fields rest)),
+      ap length (ap (map column_named) cut),
+      full,
+    ))

@@ -1,5 +1,6 @@
 -- Base64 by its groups: those before the last one are symbols, and the last one is decoded.
-use Rattle.std.proofs.Common.{◌≡◌, ℕ, ◌+◌, ◌*◌, ◌<◌, ◌≤◌, List, [], ◌∷◌, ◌++◌, length, take, drop, slice_index, refl, sym, ap, ◌∙◌, suc, zero, arith, inl, inr}
+use Rattle.std.proofs.Common.{◌≡◌, ℕ, ◌+◌, ◌*◌, ◌<◌, ◌≤◌, List, [], ◌∷◌, ◌++◌, length, take, drop, slice_index, refl, sym, ap, ◌∙◌, suc}
+use Rattle.std.proofs.Common.{zero, arith, inl, inr}
 use Rattle.std.proofs.Common.{Bool, true, false, not, ◌&&◌, if◌then◌else◌, Option, Some, None, nat_le}
 use Rattle.std.specs.Prelude.{is_some, ◌==◌}
 use Rattle.std.specs.List.{list_all}
@@ -92,7 +93,8 @@ take_four s i h =
     let a : take (i + 1) s ≡ take i s ++ slice_index s i ∷ [] = take_more s i 0 (omega arith) in
     let b : take (i + 1 + 1) s ≡ take (i + 1) s ++ slice_index s (i + 1) ∷ [] = take_more s (i + 1) 0 (omega arith) in
     let c : take (i + 1 + 1 + 1) s ≡ take (i + 1 + 1) s ++ slice_index s (i + 1 + 1) ∷ [] = take_more s (i + 1 + 1) 0 (omega arith) in
-    let d : take (i + 1 + 1 + 1 + 1) s ≡ take (i + 1 + 1 + 1) s ++ slice_index s (i + 1 + 1 + 1) ∷ [] = take_more s (i + 1 + 1 + 1) 0 (omega arith) in
+    let d : take (i + 1 + 1 + 1 + 1) s ≡ take (i + 1 + 1 + 1) s ++ slice_index s (i + 1 + 1 + 1) ∷ [] =
+    take_more s (i + 1 + 1 + 1) 0 (omega arith) in
     let two : i + 1 + 1 ≡ i + 2 = omega arith in
     let three : i + 1 + 1 + 1 ≡ i + 3 = omega arith in
     let four : i + 1 + 1 + 1 + 1 ≡ i + 4 = omega arith in
@@ -160,7 +162,8 @@ module _ (s : List ℕ) (q : ℕ) (bytes : IsBytes s) (last : q ≡ groups_befor
       → decoded_of standard s ≡ prepend_known (groups_bytes table s q) (decoded_of standard (drop (4 * q) s))
   decoded_last symbols = elim (cases_lt 0 (length s)) [
     | inl some ↦
-        let none : groups_error table s q ≡ None = error_none (groups_error table s q) (sym (groups_none s q bytes (omega arith)) ∙ symbols) in
+        let none : groups_error table s q ≡ None = error_none (groups_error table s q)
+        (sym (groups_none s q bytes (omega arith)) ∙ symbols) in
         rw (append-nil s, append-nil (drop (4 * q) s)) at (decoded_of-groups standard s [] q (omega arith) none)
     | inr empty ↦
         let zero_groups : q ≡ 0 = omega arith in

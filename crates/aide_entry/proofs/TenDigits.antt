@@ -1,5 +1,6 @@
 -- A field of ten digits: it is a time, and two different ones are different times.
-use Rattle.std.proofs.Common.{◌≡◌, ◌∙◌, ℕ, ◌+◌, ◌-◌, ◌*◌, ◌^◌, ◌<◌, ◌≤◌, List, [], ◌∷◌, ◌++◌, length, drop, slice_index, refl, sym, ap, subst, zero, suc, arith}
+use Rattle.std.proofs.Common.{◌≡◌, ◌∙◌, ℕ, ◌+◌, ◌-◌, ◌*◌, ◌^◌, ◌<◌, ◌≤◌, List, [], ◌∷◌, ◌++◌, length, drop, slice_index, refl, sym, ap}
+use Rattle.std.proofs.Common.{subst, zero, suc, arith}
 use Rattle.std.proofs.Common.{true, false, Bool, ◌&&◌, ◌||◌, not, nat_le, nat_lt, Some, None}
 use Rattle.std.specs.Prelude.{is_some, ◌==◌, pos}
 use Rattle.std.specs.List.{list_all}
@@ -68,7 +69,8 @@ pub record Ten (s : List ℕ) : Type 0 where
   pub plain : begins_number s ≡ false
 
 pub no_number_first : (s more : List ℕ) (first : ℕ) → s ≡ first ∷ more → 77 ≤ first → begins_number s ≡ false
-no_number_first s more first e high = rw (e, le-ltb first 58 (omega (arith, high)), ne_eqb first 45 (omega (arith, high))) (by_low (nat_le 48 first))
+no_number_first s more first e high = rw (e, le-ltb first 58 (omega (arith, high)), ne_eqb first 45 (omega (arith, high)))
+    (by_low (nat_le 48 first))
   where
     by_low : (b : Bool) → ((b && false) || false) ≡ false
     by_low true = refl
@@ -151,7 +153,8 @@ same_digits (x ∷ xs) (y ∷ ys) p q long e =
     let under_x : positional 10 xs < 10 ^ length ys = subst (λ n. positional 10 xs < 10 ^ n) tail_long (positional_below 10 0 xs px.1) in
     let sums : (x - 48) * 10 ^ length ys + positional 10 xs ≡ (y - 48) * 10 ^ length ys + positional 10 ys =
     ap (λ n. (x - 48) * 10 ^ n + positional 10 xs) (sym tail_long) ∙ e in
-    let parts = same_parts (x - 48) (y - 48) (10 ^ length ys) (positional 10 xs) (positional 10 ys) under_x (positional_below 10 0 ys py.1) sums in
+    let parts = same_parts (x - 48) (y - 48) (10 ^ length ys) (positional 10 xs) (positional 10 ys) under_x
+    (positional_below 10 0 ys py.1) sums in
     let first : x ≡ y = omega (arith, low_x, low_y, parts.0) in
     ap (λ d. d ∷ xs) first ∙ ap (λ ds. y ∷ ds) (same_digits xs ys px.1 py.1 tail_long parts.1)
 
@@ -170,9 +173,11 @@ module _ (x y : List ℕ) (x_bytes : IsBytes x) (y_bytes : IsBytes y) (unlike : 
   -- two different fields of ten digits are different times
   pub ten_differ : (s : Ten x) (t : Ten y) → true ≡ differs_by same_number (time_of x) (time_of y)
   ten_differ s t =
-      rw (ten_time x s, ten_time y t) (elim (int_eq (pos (positional 10 s.text)) (pos (positional 10 t.text))) as (λ b. int_eq (pos (positional 10 s.text)) (pos (positional 10 t.text)) ≡ b → true ≡ not b) [
+      rw (ten_time x s, ten_time y t) (elim (int_eq (pos (positional 10 s.text)) (pos (positional 10 t.text))) as
+      (λ b. int_eq (pos (positional 10 s.text)) (pos (positional 10 t.text)) ≡ b → true ≡ not b) [
         | true ↦ λ same.
-            let numbers : pos (positional 10 s.text) ≡ pos (positional 10 t.text) = (Decides-int_eq (pos (positional 10 s.text)) (pos (positional 10 t.text))).0 same in
+            let numbers : pos (positional 10 s.text) ≡ pos (positional 10 t.text) =
+            (Decides-int_eq (pos (positional 10 s.text)) (pos (positional 10 t.text))).0 same in
             let e : positional 10 s.text ≡ positional 10 t.text = cc in
             absurd (never_same s t e)
         | false ↦ λ other. refl

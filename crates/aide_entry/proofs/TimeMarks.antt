@@ -1,5 +1,6 @@
 -- A field that is known to be a time: its length, its first symbol and its padding tell whether it is one of ten digits.
-use Rattle.std.proofs.Common.{◌≡◌, ◌∙◌, ℕ, ◌+◌, ◌-◌, ◌*◌, ◌/◌, ◌%◌, ◌^◌, ◌<◌, ◌≤◌, ◌⊎◌, inl, inr, List, [], ◌∷◌, ◌++◌, length, take, drop, slice_index, refl, sym, ap, zero, suc, arith}
+use Rattle.std.proofs.Common.{◌≡◌, ◌∙◌, ℕ, ◌+◌, ◌-◌, ◌*◌, ◌/◌, ◌%◌, ◌^◌, ◌<◌, ◌≤◌, ◌⊎◌, inl, inr, List, [], ◌∷◌, ◌++◌, length, take, drop}
+use Rattle.std.proofs.Common.{slice_index, refl, sym, ap, zero, suc, arith}
 use Rattle.std.proofs.Common.{true, false, Bool, ◌&&◌, not, nat_le, nat_lt, Option, Some, None}
 use Rattle.std.specs.Prelude.{is_some, ◌==◌, replicate}
 use Rattle.std.specs.List.{list_all}
@@ -20,7 +21,8 @@ use Rattle.aide_entry.proofs.NumberLemmas.{natural_no_digits, number_plain}
 use Rattle.aide_entry.proofs.TenDigits.{Ten, last_four, no_number_first}
 
 symbol_test : (v : ℕ) → v < 64 → (slice_index standard.encode_table v == 61) ≡ false
-symbol_test v small = not_true (slice_index standard.encode_table v == 61) (all_below_at (λ k. not (slice_index standard.encode_table k == 61)) 64 v refl small)
+symbol_test v small = not_true (slice_index standard.encode_table v == 61)
+    (all_below_at (λ k. not (slice_index standard.encode_table k == 61)) 64 v refl small)
   where
     not_true : (b : Bool) → not b ≡ true → b ≡ false
     not_true true e = cc
@@ -34,15 +36,19 @@ last_alone : (rest x : List ℕ) (a b d : ℕ) → (length rest ≡ 1) ⊎ ((len
     → list_all (is_digit 10) rest ≡ true
     → a ∷ b ∷ 61 ∷ d ∷ [] ≡ encode_symbols standard.encode_table rest ++ x → length rest ≡ 1
 unfolding encode_symbols
-last_alone [] x a b d size digits e = elim size [ inl h ↦ h | inr h ↦ elim h [ inl k ↦ absurd (omega (arith, k)) | inr k ↦ absurd (omega (arith, k)) ] ]
+last_alone [] x a b d size digits e = elim size
+    [ inl h ↦ h | inr h ↦ elim h [ inl k ↦ absurd (omega (arith, k)) | inr k ↦ absurd (omega (arith, k)) ] ]
 last_alone (f ∷ []) x a b d size digits e = refl
 last_alone (f ∷ g ∷ []) x a b d size digits e =
     absurd (no_padding (g % 16 * 4) (omega arith) (sym (ap (λ xs. slice_index xs 2) e)))
 last_alone (f ∷ g ∷ h ∷ []) x a b d size digits e =
-    let third = (and_parts (is_digit 10 h) true (and_parts (is_digit 10 g) (is_digit 10 h && true) (and_parts (is_digit 10 f) (is_digit 10 g && (is_digit 10 h && true)) digits).1).1).0 in
+    let third = (and_parts (is_digit 10 h) true
+    (and_parts (is_digit 10 g) (is_digit 10 h && true)
+    (and_parts (is_digit 10 f) (is_digit 10 g && (is_digit 10 h && true)) digits).1).1).0 in
     let small : h < 58 = ltb-true h (48 + 10) (and_parts (nat_le 48 h) (nat_lt h (48 + 10)) third).1 in
     absurd (no_padding (g % 16 * 4 + h / 64) (omega (arith, small)) (sym (ap (λ xs. slice_index xs 2) e)))
-last_alone (f ∷ g ∷ h ∷ i ∷ rest) x a b d size digits e = elim size [ inl k ↦ absurd (omega (arith, k)) | inr k ↦ elim k [ inl l ↦ absurd (omega (arith, l)) | inr l ↦ absurd (omega (arith, l)) ] ]
+last_alone (f ∷ g ∷ h ∷ i ∷ rest) x a b d size digits e = elim size
+    [ inl k ↦ absurd (omega (arith, k)) | inr k ↦ elim k [ inl l ↦ absurd (omega (arith, l)) | inr l ↦ absurd (omega (arith, l)) ] ]
 
 first_symbol : (first : ℕ) (more x : List ℕ)
     → slice_index (encode_symbols standard.encode_table (first ∷ more) ++ x) 0 ≡ slice_index standard.encode_table (first / 4)
@@ -77,17 +83,22 @@ module _ (s : List ℕ) (bytes : IsBytes s) (size : length s ≡ 16) (high : 77 
   text_ten (first ∷ more) decoded some =
       let text : List ℕ = first ∷ more in
       let x : List ℕ = replicate (padding_len (length text)) 61 in
-      let is : s ≡ encode_symbols standard.encode_table text ++ x = decode_of_strict standard s text (refl, refl) bytes (result_some (decode_of standard s) text decoded) in
-      let lead : slice_index s 0 ≡ slice_index standard.encode_table (first / 4) = ap (λ xs. slice_index xs 0) is ∙ first_symbol first more x in
+      let is : s ≡ encode_symbols standard.encode_table text ++ x =
+      decode_of_strict standard s text (refl, refl) bytes (result_some (decode_of standard s) text decoded) in
+      let lead : slice_index s 0 ≡ slice_index standard.encode_table (first / 4) = ap (λ xs. slice_index xs 0) is
+      ∙ first_symbol first more x in
       let unsigned : first ≡ 45 → ⊥ = λ e. let low : slice_index s 0 ≡ 76 = lead ∙ rw e refl in absurd (omega (arith, low, high)) in
       let digits : list_all (is_digit 10) text ≡ true = digits_some text (sym (number_plain text more first refl unsigned) ∙ some) in
       let sizes : 16 ≡ unpadded_len (length text) + padding_len (length text) =
       sym size ∙ ap (λ (xs : List ℕ). length xs) is ∙ length-append (encode_symbols standard.encode_table text) x
-      ∙ ap (λ n. n + length x) (length-encode_symbols standard.encode_table text) ∙ ap (λ n. unpadded_len (length text) + n) (length-replicate (padding_len (length text)) 61) in
+      ∙ ap (λ n. n + length x) (length-encode_symbols standard.encode_table text)
+      ∙ ap (λ n. unpadded_len (length text) + n) (length-replicate (padding_len (length text)) 61) in
       let least : 10 ≤ length text = omega (arith, sizes) in
       let most : length text ≤ 12 = omega (arith, sizes) in
-      let behind : drop 12 s ≡ encode_symbols standard.encode_table (drop 9 text) ++ x = ap (drop 12) is ∙ drop_encoded standard.encode_table text x 3 (omega (arith, least)) in
-      let group : slice_index s 12 ∷ slice_index s 13 ∷ 61 ∷ slice_index s 15 ∷ [] ≡ encode_symbols standard.encode_table (drop 9 text) ++ x =
+      let behind : drop 12 s ≡ encode_symbols standard.encode_table (drop 9 text) ++ x = ap (drop 12) is
+      ∙ drop_encoded standard.encode_table text x 3 (omega (arith, least)) in
+      let group : slice_index s 12 ∷ slice_index s 13 ∷ 61 ∷ slice_index s 15 ∷ []
+      ≡ encode_symbols standard.encode_table (drop 9 text) ++ x =
       ap (λ c. slice_index s 12 ∷ slice_index s 13 ∷ c ∷ slice_index s 15 ∷ []) (sym pad) ∙ sym (last_four s size) ∙ behind in
       let rest_long : length (drop 9 text) ≡ length text - 9 = length-drop 9 text in
       let alone : length (drop 9 text) ≡ 1 = last_alone (drop 9 text) x (slice_index s 12) (slice_index s 13) (slice_index s 15)
@@ -108,7 +119,10 @@ module _ (s : List ℕ) (bytes : IsBytes s) (size : length s ≡ 16) (high : 77 
   known_ten : is_some (time_of s) ≡ true → Ten s
   unfolding time_of
   known_ten some = by_decoded (decoded_of standard s) refl
-      (rw (no_number_first s (drop 1 s) (slice_index s 0) (drop_more s 0 0 (omega (arith, size))) high, le-leb (length s) 44 (omega (arith, size))) at some)
+      (rw (
+        no_number_first s (drop 1 s) (slice_index s 0) (drop_more s 0 0 (omega (arith, size))) high,
+        le-leb (length s) 44 (omega (arith, size)),
+      ) at some)
 
 -- a time whose length, first byte and padding are those of ten digits
 pub told_ten : (s : List ℕ) → IsBytes s → is_some (time_of s) ≡ true → tells_ten s ≡ true → Ten s

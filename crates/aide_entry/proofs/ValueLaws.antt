@@ -31,8 +31,11 @@ link-Decides (Some x) (Some y) =
 pub same_value-Decides : (x y : Value) → Decides (same_value x y) (x ≡ y)
 same_value-Decides (number_value x) (number_value y) =
     let d = Decides-int_eq x y in (λ e. ap number_value (d.0 e), λ p. let q : x ≡ y = cc in d.1 q)
-same_value-Decides (type_value x) (type_value y) =
-    (λ e. ap type_value (same_type x y (eqb-true (number_of_type x) (number_of_type y) e)), λ p. let q : x ≡ y = cc in eq-eqb (number_of_type x) (number_of_type y) (ap number_of_type q))
+same_value-Decides (type_value x) (type_value y) = (
+  λ e. ap type_value (same_type x y (eqb-true (number_of_type x) (number_of_type y) e)),
+  λ p. let q : x ≡ y = cc in
+      eq-eqb (number_of_type x) (number_of_type y) (ap number_of_type q),
+)
 same_value-Decides (link_value x) (link_value y) =
     let d = link-Decides x y in (λ e. ap link_value (d.0 e), λ p. let q : x ≡ y = cc in d.1 q)
 same_value-Decides (digest_value x) (digest_value y) =

@@ -11,7 +11,8 @@ returns-clause-kept c k le =
     let q = n / 2 ^ s in
     let sum : q * 2 ^ s + n % 2 ^ s ≡ n = div-add-mod' n (2 ^ s) in
     let plain : q * 2 ^ s % 18446744073709551616 ≡ q * 2 ^ s + 0 = omega (arith, sum, c.ranges.bits.fits) in
-    ap (λ (m : ℕ). bit_at m k) plain ∙ (bit_at_cat_high q s 0 k (pow_pos s) le ∙ sym (ap (λ (m : ℕ). bit_at m k) (sym sum) ∙ bit_at_cat_high q s (n % 2 ^ s) k (mod_below n (2 ^ s) (pow_pos s)) le))
+    ap (λ (m : ℕ). bit_at m k) plain ∙ (bit_at_cat_high q s 0 k (pow_pos s) le
+    ∙ sym (ap (λ (m : ℕ). bit_at m k) (sym sum) ∙ bit_at_cat_high q s (n % 2 ^ s) k (mod_below n (2 ^ s) (pow_pos s)) le))
 
 pub returns-clause-gone : goal.returns-clause-gone
 returns-clause-gone c k lt =

@@ -11,7 +11,8 @@ fits : (bits distance : ℕ) → ((k : ℕ) → bit_at bits k ≡ 1 → k < 32) 
 fits bits distance low few =
     let small = below_from_bits bits 32 low in
     let power : 2 ^ distance ≤ 2 ^ 32 = pow_mono few in
-    let product : bits * 2 ^ distance ≤ 4294967295 * 4294967296 = mul-le bits (2 ^ distance) 4294967295 4294967296 (omega (arith, small)) power in
+    let product : bits * 2 ^ distance ≤ 4294967295 * 4294967296 =
+    mul-le bits (2 ^ distance) 4294967295 4294967296 (omega (arith, small)) power in
     omega (arith, product)
 
 pub returns-clause-each : goal.returns-clause-each

@@ -9,4 +9,5 @@ pub returns : goal.returns
 returns c =
     let v = c.args.v in
     let b = c.args.byte in
-    subst (λ ms. HasLanes (sel_l ms (replicate 32 255) (replicate 32 0)) (λ k. cond (eqb (get_or v k 0) b) 255 0)) (sym (tops_compared w8 eqb v (replicate 32 b))) (HasLanes-select eqb v b 255 0 c.fits-v.0)
+    subst (λ ms. HasLanes (sel_l ms (replicate 32 255) (replicate 32 0)) (λ k. cond (eqb (get_or v k 0) b) 255 0))
+    (sym (tops_compared w8 eqb v (replicate 32 b))) (HasLanes-select eqb v b 255 0 c.fits-v.0)

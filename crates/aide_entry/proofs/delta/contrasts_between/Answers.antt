@@ -11,18 +11,26 @@ attrs-init c = record {
       (λ a none. ap is_some (c.attrs_of-rest.ensures.old a none));
   new_filling = begins_filling _ _ (λ a. is_some ((entry_in c.args.new.now).1 a)) c.empty-in_new.ensures
       (λ a none. ap is_some (c.attrs_of-rest.ensures.new a none));
-  differs_filling = begins_filling _ _ (λ a. is_different ((entry_in c.args.old.now).1 a) ((entry_in c.args.new.now).1 a)) c.empty-differs.ensures
+  differs_filling = begins_filling _ _ (λ a. is_different ((entry_in c.args.old.now).1 a) ((entry_in c.args.new.now).1 a))
+      c.empty-differs.ensures
       (λ a none. ap (λ v. is_different v ((entry_in c.args.new.now).1 a)) (c.attrs_of-rest.ensures.old a none));
 }
 
 pub attrs-preserved : goal.attrs-preserved
 attrs-preserved c = record {
-  old_filling = steps c.attrs.in_old c.with_if-in_old.result c.in-Some.attr.now c.contrast_at-contrast.result.in_old c.attrs.rest.now c.in-Some.more.now
-      (λ a. is_some ((entry_in c.args.old.now).1 a)) c.in-Some.ensures.cases.0 (rw c.with_bits-old_read.ensures at c.contrast_at-contrast.ensures.in_old) c.with_if-in_old.ensures c.attrs.invariant.old_filling;
-  new_filling = steps c.attrs.in_new c.with_if-in_new.result c.in-Some.attr.now c.contrast_at-contrast.result.in_new c.attrs.rest.now c.in-Some.more.now
-      (λ a. is_some ((entry_in c.args.new.now).1 a)) c.in-Some.ensures.cases.0 (rw c.with_bits-new_read.ensures at c.contrast_at-contrast.ensures.in_new) c.with_if-in_new.ensures c.attrs.invariant.new_filling;
-  differs_filling = steps c.attrs.differs c.with_if-differs.result c.in-Some.attr.now c.contrast_at-contrast.result.differs c.attrs.rest.now c.in-Some.more.now
-      (λ a. is_different ((entry_in c.args.old.now).1 a) ((entry_in c.args.new.now).1 a)) c.in-Some.ensures.cases.0 (rw (c.with_bits-old_read.ensures, c.with_bits-new_read.ensures) at c.contrast_at-contrast.ensures.differs) c.with_if-differs.ensures c.attrs.invariant.differs_filling;
+  old_filling = steps c.attrs.in_old c.with_if-in_old.result c.in-Some.attr.now c.contrast_at-contrast.result.in_old c.attrs.rest.now
+      c.in-Some.more.now
+      (λ a. is_some ((entry_in c.args.old.now).1 a)) c.in-Some.ensures.cases.0
+      (rw c.with_bits-old_read.ensures at c.contrast_at-contrast.ensures.in_old) c.with_if-in_old.ensures c.attrs.invariant.old_filling;
+  new_filling = steps c.attrs.in_new c.with_if-in_new.result c.in-Some.attr.now c.contrast_at-contrast.result.in_new c.attrs.rest.now
+      c.in-Some.more.now
+      (λ a. is_some ((entry_in c.args.new.now).1 a)) c.in-Some.ensures.cases.0
+      (rw c.with_bits-new_read.ensures at c.contrast_at-contrast.ensures.in_new) c.with_if-in_new.ensures c.attrs.invariant.new_filling;
+  differs_filling = steps c.attrs.differs c.with_if-differs.result c.in-Some.attr.now c.contrast_at-contrast.result.differs
+      c.attrs.rest.now c.in-Some.more.now
+      (λ a. is_different ((entry_in c.args.old.now).1 a) ((entry_in c.args.new.now).1 a)) c.in-Some.ensures.cases.0
+      (rw (c.with_bits-old_read.ensures, c.with_bits-new_read.ensures) at c.contrast_at-contrast.ensures.differs)
+      c.with_if-differs.ensures c.attrs.invariant.differs_filling;
 }
 
 pub returns-clause-in_old : goal.returns-clause-in_old
@@ -35,4 +43,5 @@ returns-clause-in_new c =
 
 pub returns-clause-differs : goal.returns-clause-differs
 returns-clause-differs c =
-    filled _ _ (λ a. is_different ((entry_in c.args.old.now).1 a) ((entry_in c.args.new.now).1 a)) c.in_default.ensures.cases c.attrs.invariant.differs_filling
+    filled _ _ (λ a. is_different ((entry_in c.args.old.now).1 a) ((entry_in c.args.new.now).1 a)) c.in_default.ensures.cases
+    c.attrs.invariant.differs_filling

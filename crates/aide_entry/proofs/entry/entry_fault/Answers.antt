@@ -19,16 +19,30 @@ returns-then-not-is_path-clause-sound c = tt
 
 pub returns-then-not-is_path-clause-found : goal.returns-then-not-is_path-clause-found
 returns-then-not-is_path-clause-found c =
-    λ small es each pairs same. fault_path (columns_in c.args.columns.now) es c.args.line.now (sym (spans_count c.args.line.now _ (c.find.ensures.all c.if-not-find.false)) ∙ (sym c.count.ensures.same ∙ c.if-count-as_slice.false ∙ ap length c.as_slice.ensures.same)) (rw c.path_of-path.ensures at (sym c.is_path.ensures ∙ c.if-not-is_path.true))
+    λ small es each pairs same. fault_path (columns_in c.args.columns.now) es c.args.line.now
+    (sym (spans_count c.args.line.now _ (c.find.ensures.all c.if-not-find.false))
+    ∙ (sym c.count.ensures.same ∙ c.if-count-as_slice.false ∙ ap length c.as_slice.ensures.same))
+    (rw c.path_of-path.ensures at (sym c.is_path.ensures ∙ c.if-not-is_path.true))
 
 pub returns-then-not-follows-clause-found : goal.returns-then-not-follows-clause-found
 returns-then-not-follows-clause-found c =
-    λ small es each pairs same. fault_order (columns_in c.args.columns.now) es c.args.last.now.line.now c.args.line.now (sym (spans_count c.args.line.now _ (c.find.ensures.all c.if-not-find.false)) ∙ (sym c.count.ensures.same ∙ c.if-count-as_slice.false ∙ ap length c.as_slice.ensures.same)) (rw c.path_of-path.ensures at (sym c.is_path.ensures ∙ c.if-not-is_path.false)) each same (sym c.follows.ensures ∙ c.if-not-follows.true)
+    λ small es each pairs same. fault_order (columns_in c.args.columns.now) es c.args.last.now.line.now c.args.line.now
+    (sym (spans_count c.args.line.now _ (c.find.ensures.all c.if-not-find.false))
+    ∙ (sym c.count.ensures.same ∙ c.if-count-as_slice.false ∙ ap length c.as_slice.ensures.same))
+    (rw c.path_of-path.ensures at (sym c.is_path.ensures ∙ c.if-not-is_path.false)) each same
+    (sym c.follows.ensures ∙ c.if-not-follows.true)
 
 pub returns-clause-found : goal.returns-clause-found
 returns-clause-found c =
-    λ small es each pairs same. fault_form (columns_in c.args.columns.now) es c.args.last.now.line.now c.args.line.now _ (sym (spans_count c.args.line.now _ (c.find.ensures.all c.if-not-find.false)) ∙ (sym c.count.ensures.same ∙ c.if-count-as_slice.false ∙ ap length c.as_slice.ensures.same)) (rw c.path_of-path.ensures at (sym c.is_path.ensures ∙ c.if-not-is_path.false)) each pairs same (sym c.follows.ensures ∙ c.if-not-follows.false) c.first_bad.ensures.same
+    λ small es each pairs same. fault_form (columns_in c.args.columns.now) es c.args.last.now.line.now c.args.line.now _
+    (sym (spans_count c.args.line.now _ (c.find.ensures.all c.if-not-find.false))
+    ∙ (sym c.count.ensures.same ∙ c.if-count-as_slice.false ∙ ap length c.as_slice.ensures.same))
+    (rw c.path_of-path.ensures at (sym c.is_path.ensures ∙ c.if-not-is_path.false)) each pairs same
+    (sym c.follows.ensures ∙ c.if-not-follows.false) c.first_bad.ensures.same
 
 pub returns-clause-sound : goal.returns-clause-sound
 returns-clause-sound c =
-    sound_from (columns_in c.args.columns.now) c.args.line.now c.first_bad.result (sym (spans_count c.args.line.now _ (c.find.ensures.all c.if-not-find.false)) ∙ (sym c.count.ensures.same ∙ c.if-count-as_slice.false ∙ ap length c.as_slice.ensures.same)) (rw c.path_of-path.ensures at (sym c.is_path.ensures ∙ c.if-not-is_path.false)) c.first_bad.ensures.same
+    sound_from (columns_in c.args.columns.now) c.args.line.now c.first_bad.result
+    (sym (spans_count c.args.line.now _ (c.find.ensures.all c.if-not-find.false))
+    ∙ (sym c.count.ensures.same ∙ c.if-count-as_slice.false ∙ ap length c.as_slice.ensures.same))
+    (rw c.path_of-path.ensures at (sym c.is_path.ensures ∙ c.if-not-is_path.false)) c.first_bad.ensures.same

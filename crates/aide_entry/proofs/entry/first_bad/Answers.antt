@@ -11,5 +11,6 @@ pub returns-clause-same : goal.returns-clause-same
 returns-clause-same c =
     c.first_misshapen.ensures.same
     ∙ (ap (λ shapes. first_misshapen_from 1 (zip shapes (fields_at c.args.line.now c.as_slice.result.now))) c.shapes.ensures.same
-    ∙ (ap (λ fs. first_misshapen_from 1 (zip (map shape_of (columns_in c.args.columns.now)) fs)) (ap (fields_at c.args.line.now) c.as_slice.ensures ∙ c.requires.spanned)
+    ∙ (ap (λ fs. first_misshapen_from 1 (zip (map shape_of (columns_in c.args.columns.now)) fs))
+    (ap (fields_at c.args.line.now) c.as_slice.ensures ∙ c.requires.spanned)
     ∙ bad_by_shapes 1 (columns_in c.args.columns.now) (fields c.args.line.now)))

@@ -21,5 +21,6 @@ columns-preserved c = record {
 
 pub returns-clause-same : goal.returns-clause-same
 returns-clause-same c =
-    sym (all_shaped (c.columns.index + 1) c.args.line.now c.args.shapes.now c.args.spans.now c.columns.index (omega (arith, c.min-count.ensures, c.columns-test.false)))
+    sym (all_shaped (c.columns.index + 1) c.args.line.now c.args.shapes.now c.args.spans.now c.columns.index
+    (omega (arith, c.min-count.ensures, c.columns-test.false)))
     ∙ c.columns.invariant.same

@@ -11,12 +11,14 @@ fours-preserved c =
     let rest = c.fours.rest.now in
     let more = c.in-Some-split_first_chunk.more.now in
     let parts = c.in-Some-split_first_chunk.ensures.cases in
-    let four = ap (λ xs. list_all (is_digit c.args.base) xs) (sym parts.0) ∙ sym c.are_four_digits.ensures ∙ c.if-not-are_four_digits.false in
+    let four = ap (λ xs. list_all (is_digit c.args.base) xs) (sym parts.0) ∙ sym c.are_four_digits.ensures
+    ∙ c.if-not-are_four_digits.false in
     let position : length bytes - length rest + 4 ≡ length bytes - length more = omega (arith, parts.2, c.fours.invariant.fits) in
     record {
       digits = c.fours.invariant.digits ∙ digits_behind c.args.base rest four ∙ ap (λ xs. list_all (is_digit c.args.base) xs) (sym parts.1);
       fits = omega (arith, parts.2, c.fours.invariant.fits);
-      behind = parts.1 ∙ ap (λ xs. drop 4 xs) c.fours.invariant.behind ∙ drop-drop 4 (length bytes - length rest) bytes ∙ ap (λ (n : ℕ). drop n bytes) position;
+      behind = parts.1 ∙ ap (λ xs. drop 4 xs) c.fours.invariant.behind ∙ drop-drop 4 (length bytes - length rest) bytes
+          ∙ ap (λ (n : ℕ). drop n bytes) position;
     }
 
 pub returns-else-is_empty : goal.returns-else-is_empty
@@ -25,4 +27,5 @@ returns-else-is_empty c =
     let rest = c.fours.rest.now in
     let whole = ap (λ xs. list_all (is_digit c.args.base) xs) (sym c.fours.invariant.behind) in
     c.are_four_digits-else-is_empty.ensures ∙ ap (λ xs. list_all (is_digit c.args.base) xs) c.in-Some.ensures.cases.1.same
-    ∙ digits_from c.args.base bytes (length bytes - 4) (length bytes - length rest) (omega (arith, c.in_default-split_first_chunk.ensures.cases, c.in-Some.ensures.cases.0)) (c.fours.invariant.digits ∙ sym whole)
+    ∙ digits_from c.args.base bytes (length bytes - 4) (length bytes - length rest)
+    (omega (arith, c.in_default-split_first_chunk.ensures.cases, c.in-Some.ensures.cases.0)) (c.fours.invariant.digits ∙ sym whole)

@@ -12,23 +12,30 @@ returns-then-is_empty c = sym (natural_empty 8 (2 ^ 32) c.args.digits.now (grind
 pub returns-then-not-is_digit : goal.returns-then-not-is_digit
 unfolding mode_of
 returns-then-not-is_digit c =
-    sym (natural_stops 8 (2 ^ 32) c.args.digits.now c.digits.rest.now c.in-Some.more.now c.in-Some.byte.now c.in-Some.ensures.cases.0 c.digits.invariant.digits (sym c.is_digit.ensures ∙ c.if-not-is_digit.true))
+    sym (natural_stops 8 (2 ^ 32) c.args.digits.now c.digits.rest.now c.in-Some.more.now c.in-Some.byte.now c.in-Some.ensures.cases.0
+    c.digits.invariant.digits (sym c.is_digit.ensures ∙ c.if-not-is_digit.true))
 
 pub returns-then-value-digit : goal.returns-then-value-digit
 unfolding mode_of
 returns-then-value-digit c =
-    sym (natural_over 8 (2 ^ 32) (omega arith) c.args.digits.now c.digits.rest.now c.in-Some.more.now c.digits.value c.in-Some.byte.now c.in-Some.ensures.cases.0 c.digits.invariant.number
+    sym (natural_over 8 (2 ^ 32) (omega arith) c.args.digits.now c.digits.rest.now c.in-Some.more.now c.digits.value c.in-Some.byte.now
+    c.in-Some.ensures.cases.0 c.digits.invariant.number
     (omega (arith, c.if-value-digit.true, c.from-digit.ensures)))
 
 pub digits-preserved : goal.digits-preserved
 digits-preserved c = record {
   filled = c.digits.invariant.filled;
-  digits = digits_after 8 (2 ^ 32) c.args.digits.now c.digits.rest.now c.in-Some.more.now c.in-Some.byte.now c.in-Some.ensures.cases.0 c.digits.invariant.digits (sym c.is_digit.ensures ∙ c.if-not-is_digit.false);
-  number = natural_goes 8 (2 ^ 32) c.args.digits.now c.digits.rest.now c.in-Some.more.now c.digits.value c.in-Some.byte.now c.in-Some.ensures.cases.0 c.digits.invariant.number
-      ∙ ap (λ (d : ℕ). (c.digits.value * 8 + d) * 8 ^ length c.in-Some.more.now + positional 8 c.in-Some.more.now) (sym c.from-digit.ensures);
+  digits = digits_after 8 (2 ^ 32) c.args.digits.now c.digits.rest.now c.in-Some.more.now c.in-Some.byte.now c.in-Some.ensures.cases.0
+      c.digits.invariant.digits (sym c.is_digit.ensures ∙ c.if-not-is_digit.false);
+  number = natural_goes 8 (2 ^ 32) c.args.digits.now c.digits.rest.now c.in-Some.more.now c.digits.value c.in-Some.byte.now
+      c.in-Some.ensures.cases.0 c.digits.invariant.number
+      ∙ ap (λ (d : ℕ). (c.digits.value * 8 + d) * 8 ^ length c.in-Some.more.now + positional 8 c.in-Some.more.now)
+      (sym c.from-digit.ensures);
 }
 
 pub returns : goal.returns
 unfolding mode_of
 returns c =
-    sym (natural_ends 8 (2 ^ 32) c.args.digits.now c.digits.rest.now c.digits.value (let h : length c.digits.rest.now ≡ 0 = c.in_default.ensures.cases in grind (arith, common_steps)) c.digits.invariant.filled c.digits.invariant.digits c.digits.invariant.number (omega (arith, c.digits.auto.value-fits)))
+    sym (natural_ends 8 (2 ^ 32) c.args.digits.now c.digits.rest.now c.digits.value
+    (let h : length c.digits.rest.now ≡ 0 = c.in_default.ensures.cases in grind (arith, common_steps)) c.digits.invariant.filled
+    c.digits.invariant.digits c.digits.invariant.number (omega (arith, c.digits.auto.value-fits)))

@@ -12,23 +12,30 @@ returns-then-is_empty c = sym (natural_empty 10 (2 ^ 64) c.args.digits.now (grin
 pub returns-then-not-is_digit : goal.returns-then-not-is_digit
 unfolding natural_of
 returns-then-not-is_digit c =
-    sym (natural_stops 10 (2 ^ 64) c.args.digits.now c.digits.rest.now c.in-Some.more.now c.in-Some.byte.now c.in-Some.ensures.cases.0 c.digits.invariant.digits (sym c.is_digit.ensures ∙ c.if-not-is_digit.true))
+    sym (natural_stops 10 (2 ^ 64) c.args.digits.now c.digits.rest.now c.in-Some.more.now c.in-Some.byte.now c.in-Some.ensures.cases.0
+    c.digits.invariant.digits (sym c.is_digit.ensures ∙ c.if-not-is_digit.true))
 
 pub returns-then-is_over : goal.returns-then-is_over
 unfolding natural_of
 returns-then-is_over c =
-    sym (natural_over 10 (2 ^ 64) (omega arith) c.args.digits.now c.digits.rest.now c.in-Some.more.now c.digits.value c.in-Some.byte.now c.in-Some.ensures.cases.0 c.digits.invariant.number
+    sym (natural_over 10 (2 ^ 64) (omega arith) c.args.digits.now c.digits.rest.now c.in-Some.more.now c.digits.value c.in-Some.byte.now
+    c.in-Some.ensures.cases.0 c.digits.invariant.number
     (omega (arith, c.is_over.ensures.over c.if-is_over.true, c.from-digit.ensures)))
 
 pub digits-preserved : goal.digits-preserved
 digits-preserved c = record {
   filled = c.digits.invariant.filled;
-  digits = digits_after 10 (2 ^ 64) c.args.digits.now c.digits.rest.now c.in-Some.more.now c.in-Some.byte.now c.in-Some.ensures.cases.0 c.digits.invariant.digits (sym c.is_digit.ensures ∙ c.if-not-is_digit.false);
-  number = natural_goes 10 (2 ^ 64) c.args.digits.now c.digits.rest.now c.in-Some.more.now c.digits.value c.in-Some.byte.now c.in-Some.ensures.cases.0 c.digits.invariant.number
-      ∙ ap (λ (d : ℕ). (c.digits.value * 10 + d) * 10 ^ length c.in-Some.more.now + positional 10 c.in-Some.more.now) (sym c.from-digit.ensures);
+  digits = digits_after 10 (2 ^ 64) c.args.digits.now c.digits.rest.now c.in-Some.more.now c.in-Some.byte.now c.in-Some.ensures.cases.0
+      c.digits.invariant.digits (sym c.is_digit.ensures ∙ c.if-not-is_digit.false);
+  number = natural_goes 10 (2 ^ 64) c.args.digits.now c.digits.rest.now c.in-Some.more.now c.digits.value c.in-Some.byte.now
+      c.in-Some.ensures.cases.0 c.digits.invariant.number
+      ∙ ap (λ (d : ℕ). (c.digits.value * 10 + d) * 10 ^ length c.in-Some.more.now + positional 10 c.in-Some.more.now)
+      (sym c.from-digit.ensures);
 }
 
 pub returns : goal.returns
 unfolding natural_of
 returns c =
-    sym (natural_ends 10 (2 ^ 64) c.args.digits.now c.digits.rest.now c.digits.value (let h : length c.digits.rest.now ≡ 0 = c.in_default.ensures.cases in grind (arith, common_steps)) c.digits.invariant.filled c.digits.invariant.digits c.digits.invariant.number (omega (arith, c.digits.auto.value-fits)))
+    sym (natural_ends 10 (2 ^ 64) c.args.digits.now c.digits.rest.now c.digits.value
+    (let h : length c.digits.rest.now ≡ 0 = c.in_default.ensures.cases in grind (arith, common_steps)) c.digits.invariant.filled
+    c.digits.invariant.digits c.digits.invariant.number (omega (arith, c.digits.auto.value-fits)))

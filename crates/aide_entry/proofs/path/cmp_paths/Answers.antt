@@ -10,7 +10,10 @@ use Rattle.aide_entry.proofs.path.cmp_paths.Goals as goal
 pub returns : goal.returns
 returns c =
     let front = c.common_front-front in
-    path_behind c.args.x.now c.args.y.now front.result c.cmp_ranks.result front.ensures.left front.ensures.right front.ensures.same front.ensures.between
+    path_behind c.args.x.now c.args.y.now front.result c.cmp_ranks.result front.ensures.left front.ensures.right front.ensures.same
+    front.ensures.between
     (c.cmp_ranks.ensures
-    ∙ (ap (λ (t : List ℕ). slice_cmp nat_cmp (map rank_of t) (map rank_of (decoded_bytes c.percent_decode-2.result))) (c.percent_decode.ensures.bytes ∙ ap percent_decode c.split_at.ensures.back)
-    ∙ ap (λ (t : List ℕ). slice_cmp nat_cmp (map rank_of (percent_decode (drop front.result c.args.x.now))) (map rank_of t)) (c.percent_decode-2.ensures.bytes ∙ ap percent_decode c.split_at-2.ensures.back)))
+    ∙ (ap (λ (t : List ℕ). slice_cmp nat_cmp (map rank_of t) (map rank_of (decoded_bytes c.percent_decode-2.result)))
+    (c.percent_decode.ensures.bytes ∙ ap percent_decode c.split_at.ensures.back)
+    ∙ ap (λ (t : List ℕ). slice_cmp nat_cmp (map rank_of (percent_decode (drop front.result c.args.x.now))) (map rank_of t))
+    (c.percent_decode-2.ensures.bytes ∙ ap percent_decode c.split_at-2.ensures.back)))

@@ -7,7 +7,8 @@ use Rattle.aide_entry.proofs.path.cmp_ranks.Given as goal
 
 abbrev pub invariant-bytes : goal.invariant-bytes
 invariant-bytes l =
-    slice_cmp nat_cmp (map rank_of (decoded_bytes l.left)) (map rank_of (decoded_bytes l.right)) ≡ slice_cmp nat_cmp (map rank_of (decoded_bytes l.x)) (map rank_of (decoded_bytes l.y))
+    slice_cmp nat_cmp (map rank_of (decoded_bytes l.left)) (map rank_of (decoded_bytes l.right))
+    ≡ slice_cmp nat_cmp (map rank_of (decoded_bytes l.x)) (map rank_of (decoded_bytes l.y))
 
 abbrev pub decreases-bytes : goal.decreases-bytes
 decreases-bytes l = length (decoded_bytes l.left)

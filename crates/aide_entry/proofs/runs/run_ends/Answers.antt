@@ -6,13 +6,18 @@ use Rattle.aide_entry.proofs.runs.run_ends.Goals as goal
 
 pub returns-then-from-at-clause-found : goal.returns-then-from-at-clause-found
 returns-then-from-at-clause-found c =
-    ap (λ fs. fields_at c.args.line.now (take c.args.count c.args.spanned.now) ++ fs) (sym (ap (λ n. fields (drop n c.args.line.now)) c.if-from-at.true ∙ blank_passed c.args.line.now c.args.at c.requires.short c.requires.blank)) ∙ c.requires.found
+    ap (λ fs. fields_at c.args.line.now (take c.args.count c.args.spanned.now) ++ fs)
+    (sym (ap (λ n. fields (drop n c.args.line.now)) c.if-from-at.true
+    ∙ blank_passed c.args.line.now c.args.at c.requires.short c.requires.blank)) ∙ c.requires.found
 
 pub returns-in-Some-clause-found : goal.returns-in-Some-clause-found
 returns-in-Some-clause-found c =
-    rw c.in-Some.ensures.added.1 (run_field c.args.line.now (take c.args.count c.args.spanned.now) c.args.from c.args.at (omega (arith, c.requires.order, c.if-from-at.false)) c.requires.short c.requires.plain c.requires.blank c.requires.found).0
+    rw c.in-Some.ensures.added.1 (run_field c.args.line.now (take c.args.count c.args.spanned.now) c.args.from c.args.at
+    (omega (arith, c.requires.order, c.if-from-at.false)) c.requires.short c.requires.plain c.requires.blank c.requires.found).0
 
 pub returns-in-None-clause-many : goal.returns-in-None-clause-many
 returns-in-None-clause-many c =
-    let more = run_field c.args.line.now (take c.args.count c.args.spanned.now) c.args.from c.args.at (omega (arith, c.requires.order, c.if-from-at.false)) c.requires.short c.requires.plain c.requires.blank c.requires.found in
-    too_many c.args.line.now (drop c.args.from c.args.line.now) (take c.args.count c.args.spanned.now) _ _ c.requires.found more.1 c.in-None.ensures.full
+    let more = run_field c.args.line.now (take c.args.count c.args.spanned.now) c.args.from c.args.at
+    (omega (arith, c.requires.order, c.if-from-at.false)) c.requires.short c.requires.plain c.requires.blank c.requires.found in
+    too_many c.args.line.now (drop c.args.from c.args.line.now)
+    (take c.args.count c.args.spanned.now) _ _ c.requires.found more.1 c.in-None.ensures.full

@@ -17,4 +17,5 @@ returns-in-Time c = rw c.in-Time.is (sym (is_some-map number_value (time_of c.ar
 
 pub returns-in-Digest : goal.returns-in-Digest
 returns-in-Digest c =
-    rw (c.in-Digest.is, c.is_nought.ensures) (digest_there c.in-Digest.field-0 c.in-Digest.field-1 c.args.field.now (rw c.in-Digest.is at c.requires))
+    rw (c.in-Digest.is, c.is_nought.ensures)
+    (digest_there c.in-Digest.field-0 c.in-Digest.field-1 c.args.field.now (rw c.in-Digest.is at c.requires))

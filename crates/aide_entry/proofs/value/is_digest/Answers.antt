@@ -14,7 +14,8 @@ returns-then-not-are_symbols c =
 pub returns-in-Ok : goal.returns-in-Ok
 returns-in-Ok c =
     let text = take c.in-Ok.len c.decode_short.new.buffer in
-    let long : length text ≡ c.in-Ok.len = length-take-le c.in-Ok.len c.decode_short.new.buffer (omega (arith, c.in-Ok.ensures.ok.2, c.decode_short.array_long)) in
+    let long : length text ≡ c.in-Ok.len = length-take-le c.in-Ok.len c.decode_short.new.buffer
+    (omega (arith, c.in-Ok.ensures.ok.2, c.decode_short.array_long)) in
     c.is_count.ensures
     ∙ by_count c.args.field.now (c.saturating_sub-groups.result / 4) (λ i. let f = c.type_inv.field i in omega arith)
     (ap (λ n. n / 4) c.saturating_sub-groups.ensures) c.args.least c.args.most _ text

@@ -13,7 +13,8 @@ returns-in-Ok c =
     let field = c.args.field.now in
     let space = length c.args.buffer.now in
     let ok = sym (c.self.invariant.2 field space) ∙ sym c.in-Ok.ensures.value in
-    let written = subst (λ (bytes : List ℕ). IsWrittenOver bytes c.args.buffer.now c.decode_slice.new.output) (c.self.invariant.1 field) c.in-Ok.ensures.written in
+    let written = subst (λ (bytes : List ℕ). IsWrittenOver bytes c.args.buffer.now c.decode_slice.new.output)
+    (c.self.invariant.1 field) c.in-Ok.ensures.written in
     subst (λ (size : ℕ). IsDecoded (decoded_of standard field) size (Some c.in-Ok.len) c.decode_slice.new.output) c.told-buffer
     (decoded_ok field c.args.buffer.now c.decode_slice.new.output space c.in-Ok.len ok written)
 
