@@ -1,6 +1,7 @@
 //! Compares two entries.
 ghost use Rattle.std.specs.Prelude.{◌≡◌, is_some, true, false, None};
 ghost use Rattle.std.specs.List.{list_any};
+ghost use Rattle.std.specs.declared.cmp.Ordering.TheVariants.{Equal};
 ghost use Rattle.aide_entry.specs.Path.{path_cmp};
 ghost use Rattle.aide_entry.specs.Values.{value_of, is_field};
 ghost use Rattle.aide_entry.specs.View.{entry_in};
@@ -180,6 +181,8 @@ pub fn attrs_delta_of(old: &View<'_>, new: &View<'_>) -> Delta
         ≡ (sides_between (entry_in old.now).1 (entry_in new.now).1).in_new attr }
     ensures differs { (attr : Attr) → (sides_of result).differs attr
         ≡ (sides_between (entry_in old.now).1 (entry_in new.now).1).differs attr }
+    ensures size { result.size ≡ Equal }
+    ensures types { (result.old_type ≡ None) × (result.new_type ≡ None) }
 {
     let contrasts = contrasts_between(old, new);
     Delta {

@@ -1,14 +1,17 @@
 //! Reads what a field means, by its form.
 ghost use Rattle.std.specs.Prelude.{ℕ, true, false, not, ◌&&◌, ◌≡◌, ◌<◌, ◌≤◌, length, is_some};
-ghost use Rattle.std.specs.Prelude.{nat_le, Option};
+ghost use Rattle.std.specs.Prelude.{nat_le, option_map, Option};
+ghost use Rattle.std.specs.Option.{option_copied};
 ghost use Rattle.std.specs.Str.{bytes_eq};
+ghost use Rattle.base64.specs.Engines.{standard};
+ghost use Rattle.base64.specs.GeneralPurpose.{encode_of};
 ghost use Rattle.percent_encoding.specs.Iter.{decoded_bytes};
 ghost use Rattle.aide_attr.specs.Attr.{most_bytes};
 ghost use Rattle.aide_entry.specs.Numbers.{mode_of};
 ghost use Rattle.aide_entry.specs.Values.{is_nought, type_of_bits, type_of_mode, begins_number};
 ghost use Rattle.aide_entry.specs.Values.{time_of, digest_of, link_text};
 ghost use Rattle.aide_entry.specs.Values.{link_of, value_of, is_field};
-ghost use Rattle.aide_entry.specs.Attributes.{number_of_type, is_different};
+ghost use Rattle.aide_entry.specs.Attributes.{digest_in, number_of_type, is_different};
 ghost use Rattle.aide_entry.specs.Lent.{IsDigest, lent_link, differs_by, same_number};
 ghost use Rattle.aide_entry.specs.Lent.{same_mode, same_type, same_link_name};
 
@@ -153,6 +156,20 @@ pub fn is_digest(tables: &Base64Tables, least: u8, most: u8, field: &[u8]) -> bo
     match tables.decode_short(last, &mut buffer) {
         Ok(len) => is_count(least, most, 3 * groups + len),
         Err(_) => false,
+    }
+}
+
+/// Returns the text of a digest in base64, if the field has a digest: the field itself, since a digest has no other
+/// text.
+pub fn written_digest<'a>(form: Form, field: &'a [u8]) -> Option<&'a [u8]>
+    requires { is_field form field.now ≡ true }
+    ensures { option_copied result
+        ≡ option_map (encode_of standard) (digest_in (value_of form field.now)) }
+{
+    match form {
+        Form::Digest(_, _) if is_nought(field) => None,
+        Form::Digest(_, _) => Some(field),
+        _ => None,
     }
 }
 

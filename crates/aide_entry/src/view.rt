@@ -15,7 +15,9 @@ use crate::entry::{bits_of, field_under, is_on, name_of};
 use crate::held_entry::HeldEntry;
 use crate::number::{read_mode, read_number};
 use crate::spans::Spans;
-use crate::value::{has_value, is_nought, read_digest, read_link, read_time, read_type};
+use crate::value::{
+    has_value, is_nought, read_digest, read_link, read_time, read_type, written_digest,
+};
 use aide_attr::{Attr, AttrSet, FileType, Form};
 use percent_encoding::percent_decode;
 
@@ -67,6 +69,8 @@ impl<'a> HeldEntry<'a> {
 impl<'a> View<'a> {
     ghost use Rattle.std.specs.Prelude.{is_some, option_map, None};
     ghost use Rattle.std.specs.Option.{option_copied};
+    ghost use Rattle.base64.specs.Engines.{standard};
+    ghost use Rattle.base64.specs.GeneralPurpose.{encode_of};
     ghost use Rattle.percent_encoding.specs.Iter.{decoded_bytes};
     ghost use Rattle.aide_entry.specs.View.{entry_in, name_in};
     ghost use Rattle.aide_entry.specs.Attributes.{type_in, number_in, link_in, digest_in};
@@ -193,6 +197,18 @@ impl<'a> View<'a> {
                 buffer,
             ),
             _ => None,
+        }
+    }
+
+    /// Returns the text of a digest in base64 (RFC 4648 section 4), if the entry has it. It is the field as it is
+    /// written, since a digest has no other text.
+    pub fn digest_text(&self, attr: Attr) -> Option<&'a [u8]>
+        ensures { option_copied result
+            ≡ option_map (encode_of standard) (digest_in ((entry_in self.now).1 attr)) }
+    {
+        match self.field_of(attr) {
+            None => None,
+            Some(field) => written_digest(attr.form(), field),
         }
     }
 

@@ -11,8 +11,10 @@ returns-then-are_ten c =
 pub returns-in-Ok : goal.returns-in-Ok
 returns-in-Ok c =
     c.is_number-in-Ok.ensures ∙ ap (λ bytes. is_some (number_of bytes)) c.split_at.ensures.front
-    ∙ sym (ap is_some (time_decoded c.args.field.now _ (sym c.begins_number.ensures ∙ c.if-begins_number.false) (omega (arith, c.if-field-gt44.false)) c.in-Ok.ensures.ok.0))
+    ∙ sym (ap is_some (time_decoded c.args.field.now _ (sym c.begins_number.ensures ∙ c.if-begins_number.false)
+    (omega (arith, c.if-field-gt44.false)) c.in-Ok.ensures.ok.0))
 
 pub returns-in-Err : goal.returns-in-Err
 returns-in-Err c =
-    sym (ap is_some (time_undecoded c.args.field.now c.in-Err.field-0 (sym c.begins_number.ensures ∙ c.if-begins_number.false) c.in-Err.ensures.err))
+    sym (ap is_some (time_undecoded c.args.field.now c.in-Err.field-0
+    (sym c.begins_number.ensures ∙ c.if-begins_number.false) c.in-Err.ensures.err))

@@ -6,7 +6,8 @@ use Rattle.aide_entry.proofs.value.read_time.Goals as goal
 pub returns-in-Ok : goal.returns-in-Ok
 returns-in-Ok c =
     c.read_number-in-Ok.ensures ∙ ap number_of c.split_at.ensures.front
-    ∙ sym (time_decoded c.args.field.now _ (sym c.begins_number.ensures ∙ c.if-begins_number.false) (omega (arith, c.if-field-gt44.false)) c.in-Ok.ensures.ok.0)
+    ∙ sym (time_decoded c.args.field.now _ (sym c.begins_number.ensures ∙ c.if-begins_number.false)
+    (omega (arith, c.if-field-gt44.false)) c.in-Ok.ensures.ok.0)
 
 pub returns-in-Err : goal.returns-in-Err
 returns-in-Err c =

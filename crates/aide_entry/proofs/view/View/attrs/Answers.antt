@@ -9,11 +9,13 @@ use Rattle.aide_entry.proofs.view.View.attrs.Goals as goal
 pub attrs-init : goal.attrs-init
 attrs-init c =
     begins_filling _ _ (λ a. is_some ((entry_in c.args.self.now).1 a)) c.empty-set.ensures
-    (λ a none. ap is_some (unlisted c.attrs-rest.result.now (columns_in c.args.self.now.columns.now) c.args.self.now.line.now c.attrs-rest.ensures a none))
+    (λ a none. ap is_some (unlisted c.attrs-rest.result.now
+    (columns_in c.args.self.now.columns.now) c.args.self.now.line.now c.attrs-rest.ensures a none))
 
 pub attrs-preserved : goal.attrs-preserved
 attrs-preserved c =
-    steps c.attrs.set c.with_if-set.result c.in-Some.attr.now c.has.result c.attrs.rest.now c.in-Some.more.now (λ a. is_some ((entry_in c.args.self.now).1 a))
+    steps c.attrs.set c.with_if-set.result c.in-Some.attr.now c.has.result c.attrs.rest.now c.in-Some.more.now
+    (λ a. is_some ((entry_in c.args.self.now).1 a))
     c.in-Some.ensures.cases.0 (rw c.with_bits-read.ensures at c.has.ensures) c.with_if-set.ensures c.attrs.invariant
 
 pub returns : goal.returns

@@ -10,10 +10,12 @@ returns-in-None c =
 
 pub returns-then-is_on : goal.returns-then-is_on
 returns-then-is_on c =
-    field_on (columns_in c.args.self.now.view.now.columns.now) c.args.self.now.view.now.line.now c.args.attr c.holder.result c.bit.result c.args.self.now.bits (Some c.in-Some.field.now)
+    field_on (columns_in c.args.self.now.view.now.columns.now) c.args.self.now.view.now.line.now c.args.attr c.holder.result c.bit.result
+    c.args.self.now.bits (Some c.in-Some.field.now)
     c.holder.ensures c.bit.ensures.same c.args.self.now.read (sym c.is_on.ensures ∙ c.if-is_on.true) c.in-Some.ensures
 
 pub returns-else-is_on : goal.returns-else-is_on
 returns-else-is_on c =
-    field_off (columns_in c.args.self.now.view.now.columns.now) c.args.self.now.view.now.line.now c.args.attr c.bit.result c.args.self.now.bits
+    field_off (columns_in c.args.self.now.view.now.columns.now) c.args.self.now.view.now.line.now c.args.attr c.bit.result
+    c.args.self.now.bits
     c.bit.ensures.same c.args.self.now.read (sym c.is_on.ensures ∙ c.if-is_on.false)
