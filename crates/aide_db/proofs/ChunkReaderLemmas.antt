@@ -6,4 +6,5 @@ pub skipped : (start end count : ℕ) (chunk : List ℕ) → start + count ≤ e
     → take (end - (start + count)) (drop (start + count) chunk) ≡ drop count (take (end - start) (drop start chunk))
 skipped start end count chunk le =
     let n : end - start ≡ count + (end - (start + count)) = omega (arith, le) in
-    sym (ap (λ k. drop count (take k (drop start chunk))) n ∙ (drop-take count (end - (start + count)) (drop start chunk) ∙ ap (take (end - (start + count))) (drop-drop count start chunk)))
+    sym (ap (λ k. drop count (take k (drop start chunk))) n
+    ∙ (drop-take count (end - (start + count)) (drop start chunk) ∙ ap (take (end - (start + count))) (drop-drop count start chunk)))

@@ -34,10 +34,19 @@ walk : (limit : ℕ) (before rest : List (List ℕ)) → IsOpen limit before →
 walk limit before [] is_open = inl (subst (IsOpen limit) (sym (append-nil before)) is_open)
 walk limit before (l ∷ rest) is_open =
     elim (fault_of limit before l) as (λ o. fault_of limit before l ≡ o → Walked limit (before ++ l ∷ rest)) [
-      | Some kind ↦ λ e. inr (inr (record { front = before; line = l; after = rest; kind = kind; parts = refl; is_open = is_open; fault = e }))
+      | Some kind ↦ λ e. inr (inr (record {
+        front = before;
+        line = l;
+        after = rest;
+        kind = kind;
+        parts = refl;
+        is_open = is_open;
+        fault = e;
+      }))
       | None ↦ λ e. elim (is_end l) as (λ b. is_end l ≡ b → Walked limit (before ++ l ∷ rest)) [
         | true ↦ λ ends. inr (inl (open_end limit before l rest is_open e ends))
-        | false ↦ λ goes_on. subst (Walked limit) (append_assoc before (l ∷ []) rest) (walk limit (before ++ l ∷ []) rest (open_more limit before l is_open e goes_on))
+        | false ↦ λ goes_on. subst (Walked limit) (append_assoc before (l ∷ []) rest)
+            (walk limit (before ++ l ∷ []) rest (open_more limit before l is_open e goes_on))
       ] refl
     ] refl
 
@@ -47,10 +56,11 @@ AreLines-front (x ∷ xs) ys a = (a.0, AreLines-front xs ys a.1)
 
 whole_plain : (limits : Limits) (text : List ℕ) → AreLines (whole_lines limits text)
 unfolding whole_lines
-whole_plain limits text = elim (nat_le (length text) limits.bytes) as (λ b. nat_le (length text) limits.bytes ≡ b → AreLines (whole_lines limits text)) [
-  | true ↦ λ e. rw e (lines_plain text)
-  | false ↦ λ e. rw e (ended_plain (take limits.bytes text))
-] refl
+whole_plain limits text = elim (nat_le (length text) limits.bytes) as
+    (λ b. nat_le (length text) limits.bytes ≡ b → AreLines (whole_lines limits text)) [
+      | true ↦ λ e. rw e (lines_plain text)
+      | false ↦ λ e. rw e (ended_plain (take limits.bytes text))
+    ] refl
 
 whole_uncut : (limits : Limits) (text : List ℕ) → nat_le (length text) limits.bytes ≡ true
     → whole_lines limits text ≡ lines text
@@ -62,8 +72,11 @@ open_nil limit = record { no_end = refl; short = All-nil (IsShort limit); part =
 
 at_cut : (limits : Limits) (text : List ℕ) → nat_le (length text) limits.bytes ≡ false
     → IsFront limits.line (whole_lines limits text) → HasFirstFault limits text
-at_cut limits text e good =
-    (length (whole_lines limits text) + 1, cut_kind limits text, inr (inl (record { long = e; good = good; number_is = refl; kind_is = refl })))
+at_cut limits text e good = (
+  length (whole_lines limits text) + 1,
+  cut_kind limits text,
+  inr (inl (record { long = e; good = good; number_is = refl; kind_is = refl })),
+)
 
 at_open : (limits : Limits) (text : List ℕ) → 14 ≤ limits.line → IsOpen limits.line (whole_lines limits text)
     → HasFirstFault limits text
@@ -88,7 +101,8 @@ at_open limits text le is_open =
 at_database : (limits : Limits) (text : List ℕ) → IsDatabase limits.line (whole_lines limits text)
     → IsSound limits text ⊎ HasFirstFault limits text
 at_database limits text d =
-    elim (nat_le (length text) limits.bytes) as (λ b. nat_le (length text) limits.bytes ≡ b → IsSound limits text ⊎ HasFirstFault limits text) [
+    elim (nat_le (length text) limits.bytes) as
+    (λ b. nat_le (length text) limits.bytes ≡ b → IsSound limits text ⊎ HasFirstFault limits text) [
       | true ↦ λ e. inl (subst (IsDatabase limits.line) (whole_uncut limits text e) d, leb-true (length text) limits.bytes e)
       | false ↦ λ e. inr (at_cut limits text e (database_front limits.line (whole_lines limits text) (whole_plain limits text) d))
     ] refl

@@ -51,7 +51,8 @@ unfolding has_fault kind_of kind_of_field fields column_named attr_of_column row
 time_no_number = refl
 
 first_column_told : fault_of 65536 before (codes "/c 1x y") ≡ Some (BadTime 2)
-unfolding fault_of kind_of kind_of_field fields column_named attr_of_column row_of row is_path percent_encoding_on_literals path_cmp time_of number_of natural_of
+unfolding fault_of kind_of kind_of_field fields column_named attr_of_column row_of row is_path percent_encoding_on_literals path_cmp
+    time_of number_of natural_of
 first_column_told = refl
 
 -- an entry out of path order with a bad number, and with a field too few

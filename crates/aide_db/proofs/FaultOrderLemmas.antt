@@ -52,21 +52,29 @@ of_field number time digest n o =
     cond number (Some (BadNumber n)) (cond time (Some (BadTime n)) (cond digest (Some (BadDigest n)) o))
 
 by_form : (f : Form) (field : List ℕ) (n : ℕ) (o : Option DbFaultKind)
-    → of_field (is_number_form f && not (is_field f field)) (is_time_form f && not (is_field f field)) (is_digest_form f && not (is_field f field)) n o
+    → of_field (is_number_form f && not (is_field f field)) (is_time_form f && not (is_field f field))
+    (is_digest_form f && not (is_field f field)) n o
     ≡ cond (is_field f field) o (Some (fault_of_form f n))
-by_form forms.Kind field n o = elim (is_field forms.Kind field) as (λ b. of_field (not b) false false n o ≡ cond b o (Some (BadNumber n))) [ true ↦ refl | false ↦ refl ]
-by_form forms.Mode field n o = elim (is_field forms.Mode field) as (λ b. of_field (not b) false false n o ≡ cond b o (Some (BadNumber n))) [ true ↦ refl | false ↦ refl ]
-by_form forms.Number field n o = elim (is_field forms.Number field) as (λ b. of_field (not b) false false n o ≡ cond b o (Some (BadNumber n))) [ true ↦ refl | false ↦ refl ]
-by_form forms.Time field n o = elim (is_field forms.Time field) as (λ b. of_field false (not b) false n o ≡ cond b o (Some (BadTime n))) [ true ↦ refl | false ↦ refl ]
+by_form forms.Kind field n o = elim (is_field forms.Kind field) as (λ b. of_field (not b) false false n o ≡ cond b o (Some (BadNumber n)))
+    [ true ↦ refl | false ↦ refl ]
+by_form forms.Mode field n o = elim (is_field forms.Mode field) as (λ b. of_field (not b) false false n o ≡ cond b o (Some (BadNumber n)))
+    [ true ↦ refl | false ↦ refl ]
+by_form forms.Number field n o = elim (is_field forms.Number field) as
+    (λ b. of_field (not b) false false n o ≡ cond b o (Some (BadNumber n))) [ true ↦ refl | false ↦ refl ]
+by_form forms.Time field n o = elim (is_field forms.Time field) as (λ b. of_field false (not b) false n o ≡ cond b o (Some (BadTime n)))
+    [ true ↦ refl | false ↦ refl ]
 by_form forms.Link field n o = refl
-by_form (forms.Digest least most) field n o = elim (is_field (forms.Digest least most) field) as (λ b. of_field false false (not b) n o ≡ cond b o (Some (BadDigest n))) [ true ↦ refl | false ↦ refl ]
+by_form (forms.Digest least most) field n o = elim (is_field (forms.Digest least most) field) as
+    (λ b. of_field false false (not b) n o ≡ cond b o (Some (BadDigest n))) [ true ↦ refl | false ↦ refl ]
 by_form forms.Opaque field n o = refl
 
 by_column : (c : Column) (field : List ℕ) (n : ℕ) (o : Option DbFaultKind)
-    → of_field (is_of_numbers c && not (has_form c field)) (is_of_form is_time_form c && not (has_form c field)) (is_of_form is_digest_form c && not (has_form c field)) n o
+    → of_field (is_of_numbers c && not (has_form c field)) (is_of_form is_time_form c && not (has_form c field))
+    (is_of_form is_digest_form c && not (has_form c field)) n o
     ≡ cond (has_form c field) o (Some (fault_of_column c n))
 by_column Name field n o = refl
-by_column Bits field n o = elim (has_form Bits field) as (λ b. of_field (not b) false false n o ≡ cond b o (Some (BadNumber n))) [ true ↦ refl | false ↦ refl ]
+by_column Bits field n o = elim (has_form Bits field) as (λ b. of_field (not b) false false n o ≡ cond b o (Some (BadNumber n)))
+    [ true ↦ refl | false ↦ refl ]
 by_column (Of attr) field n o = by_form (form_of attr) field n o
 by_column Skipped field n o = refl
 
@@ -136,7 +144,8 @@ fields_of_line : (limit : ℕ) (before : List (List ℕ)) (l : List ℕ) (cs : L
     → find (is_wrong limit before l) field_faults ≡ first_bad cs (fields l)
 unfolding field_faults
 fields_of_line limit before l cs is named le =
-    same_found (is_wrong limit before l) (has_bad (enumerate_from 1 (zip cs (fields l)))) 1 most_columns (λ n at. rw (is, named) (refl, refl, refl))
+    same_found (is_wrong limit before l) (has_bad (enumerate_from 1 (zip cs (fields l)))) 1 most_columns
+    (λ n at. rw (is, named) (refl, refl, refl))
     ∙ fields_found most_columns 1 (zip cs (fields l)) le
 
 -- a line that is not to be an entry has no bad field
@@ -221,7 +230,8 @@ told_directive before (b ∷ []) l Directive h part is e = rw (is, h.begins, par
 told_directive before (b ∷ []) l End h part is e = rw (is, h.begins, h.specifies, part) refl
 told_directive before (b ∷ []) l Spec h part is e =
     rw (is, h.begins, h.specifies, part)
-    (elim (are_columns (columns_of l)) as (λ t. cond t None (Some BadSpec) ≡ cond (not t) (Some BadSpec) None) [ true ↦ refl | false ↦ refl ])
+    (elim (are_columns (columns_of l)) as (λ t. cond t None (Some BadSpec) ≡ cond (not t) (Some BadSpec) None)
+    [ true ↦ refl | false ↦ refl ])
 told_directive before (b ∷ s ∷ es) l Begin h part is e = rw (is, h.begins, part.begins) refl
 told_directive before (b ∷ s ∷ es) l Spec h part is e = rw (is, h.begins, h.specifies, part.begins, part.specifies) refl
 told_directive before (b ∷ s ∷ es) l End h part is e = rw (is, h.begins, h.specifies, part.begins, part.specifies) refl
@@ -235,7 +245,8 @@ none_late cs l [] each = refl
 none_late cs l (e ∷ es) each =
     let it = All-head (IsEntryLine cs) e es each in
     rw (it.0, none_late cs l es (All-tail (IsEntryLine cs) e es each))
-    (elim (is_before cs e l) as (λ b. (not b || not (list_all (λ x. is_before cs x l) es)) ≡ not (b && list_all (λ x. is_before cs x l) es)) [ true ↦ refl | false ↦ refl ])
+    (elim (is_before cs e l) as (λ b. (not b || not (list_all (λ x. is_before cs x l) es))
+    ≡ not (b && list_all (λ x. is_before cs x l) es)) [ true ↦ refl | false ↦ refl ])
 
 late_among : (before : List (List ℕ)) (cs : List Column) (l b s : List ℕ) (es : List (List ℕ)) → counted before ≡ b ∷ s ∷ es
     → kind_of b ≡ Begin → kind_of s ≡ Spec → All (IsEntryLine cs) es
@@ -303,7 +314,8 @@ pub first_of_open : (limit : ℕ) (before : List (List ℕ)) (l : List ℕ) → 
 unfolding fault_of
 first_of_open limit before l o =
     rw o.no_end
-    (ap (cond (is_too_long limit l) (Some LineTooLong)) (told_by_kind limit before l (kind_of l) o.part refl (is_kind Other (kind_of l)) refl)
+    (ap (cond (is_too_long limit l) (Some LineTooLong))
+    (told_by_kind limit before l (kind_of l) o.part refl (is_kind Other (kind_of l)) refl)
     ∙ (sym (wrong_first limit before l)
     ∙ sym (agree (has_fault limit before l) (is_wrong limit before l) (has_before_end limit before l o.no_end) fault_order)))
 

@@ -39,7 +39,8 @@ front_open limit before front none = open_along limit [] before front none (open
 first_of_front : (limit : ℕ) (before : List (List ℕ)) (l : List ℕ) → IsFront limit before
     → fault_of limit before l ≡ find (has_fault limit before l) fault_order
 first_of_front limit before l front =
-    elim (list_any is_end before) as (λ b. list_any is_end before ≡ b → fault_of limit before l ≡ find (has_fault limit before l) fault_order) [
+    elim (list_any is_end before) as (λ b. list_any is_end before ≡ b → fault_of limit before l
+    ≡ find (has_fault limit before l) fault_order) [
       | true ↦ λ e. none_after_end limit before l e
       | false ↦ λ e. first_of_open limit before l (front_open limit before front e)
     ] refl

@@ -27,28 +27,34 @@ plain_front : (xs : List ℕ) (n : ℕ) → n ≤ length xs → ((k : ℕ) → k
     → HasNoNewline (take n xs)
 plain_front xs n le none = λ k d lt.
     let small : k < n = omega (arith, length-take-le n xs le) in
-    subst (λ (x : ℕ). is_newline x ≡ false) (sym (get_or-take n xs k d small ∙ get_or_default xs k d 0 (omega arith))) (not_true (is_newline (get_or xs k 0)) (none k small))
+    subst (λ (x : ℕ). is_newline x ≡ false) (sym (get_or-take n xs k d small ∙ get_or_default xs k d 0 (omega arith)))
+    (not_true (is_newline (get_or xs k 0)) (none k small))
 
 pub piece_some : (ahead near piece : List ℕ) (most at : ℕ) → near ≡ take most ahead
     → IsFirstByte (is_byte 10) near (Some at) → piece ≡ take at near → IsPiece ahead most piece true
 piece_some ahead near piece most at e f g =
     let n : length near ≡ min most (length ahead) = ap length e ∙ length-take most ahead in
     let small : at < length near = f.0.high in
-    let here : get_or ahead at 0 ≡ 10 = sym (get_or-take most ahead at 0 (omega (arith, n, small))) ∙ (ap (λ xs. get_or xs at 0) (sym e) ∙ eqb-true (get_or near at 0) 10 f.1) in
+    let here : get_or ahead at 0 ≡ 10 = sym (get_or-take most ahead at 0 (omega (arith, n, small)))
+    ∙ (ap (λ xs. get_or xs at 0) (sym e) ∙ eqb-true (get_or near at 0) 10 f.1) in
     let whole : near ++ drop most ahead ≡ ahead = ap (λ xs. xs ++ drop most ahead) e ∙ take-append-drop most ahead in
     let front : piece ≡ take at ahead = g ∙ (sym (take-append-le at near (drop most ahead) (omega (arith, small))) ∙ ap (take at) whole) in
     let count : length piece ≡ at = ap length g ∙ length-take-le at near (omega (arith, small)) in
-    let more : drop at ahead ≡ 10 ∷ drop 1 (drop at ahead) = drop_more ahead at 0 (omega (arith, n, small)) ∙ (ap (λ b. b ∷ drop (at + 1) ahead) here ∙ ap (λ xs. 10 ∷ xs) (sym (drop-drop 1 at ahead))) in
+    let more : drop at ahead ≡ 10 ∷ drop 1 (drop at ahead) = drop_more ahead at 0 (omega (arith, n, small))
+    ∙ (ap (λ b. b ∷ drop (at + 1) ahead) here ∙ ap (λ xs. 10 ∷ xs) (sym (drop-drop 1 at ahead))) in
     record {
-      parts = sym (ap (λ p. p ++ drop (length piece) ahead) front ∙ (ap (λ k. take at ahead ++ drop k ahead) count ∙ take-append-drop at ahead));
-      none = subst (λ (p : List ℕ). HasNoNewline p) (sym g) (plain_front near at (omega (arith, small)) (λ k lt. f.0.before k (omega arith) lt));
+      parts = sym (ap (λ p. p ++ drop (length piece) ahead) front
+          ∙ (ap (λ k. take at ahead ++ drop k ahead) count ∙ take-append-drop at ahead));
+      none = subst (λ (p : List ℕ). HasNoNewline p) (sym g)
+          (plain_front near at (omega (arith, small)) (λ k lt. f.0.before k (omega arith) lt));
       short = omega (arith, count, n, small);
       newline = λ t. (subst (λ (k : ℕ). drop k ahead ≡ 10 ∷ drop 1 (drop k ahead)) (sym count) more, omega (arith, count, n, small));
       all = λ t. cc;
     }
 
 none_left : (xs : List ℕ) (n : ℕ) → is_filled (drop n xs) ≡ true → n < length xs
-none_left xs n e = elim (cases_lt n (length xs)) [ inl lt ↦ lt | inr ge ↦ let z : is_filled (drop n xs) ≡ false = ap is_filled (drop_all n xs ge) in cc ]
+none_left xs n e = elim (cases_lt n (length xs))
+    [ inl lt ↦ lt | inr ge ↦ let z : is_filled (drop n xs) ≡ false = ap is_filled (drop_all n xs ge) in cc ]
 
 -- the first bytes, so many at most, and the others
 pub near_parts : (ahead near : List ℕ) (most : ℕ) → near ≡ take most ahead → ahead ≡ near ++ drop (length near) ahead
@@ -57,7 +63,8 @@ near_parts ahead near most e =
     let front : take (length near) ahead ≡ near =
     elim (cases_lt most (length ahead)) [
       | inl lt ↦ ap (λ k. take k ahead) (let z : length near ≡ most = omega (arith, n, lt) in z) ∙ sym e
-      | inr ge ↦ ap (λ k. take k ahead) (let z : length near ≡ length ahead = omega (arith, n, ge) in z) ∙ (take_all (length ahead) ahead (omega arith) ∙ (sym (take_all most ahead ge) ∙ sym e))
+      | inr ge ↦ ap (λ k. take k ahead) (let z : length near ≡ length ahead = omega (arith, n, ge) in z)
+          ∙ (take_all (length ahead) ahead (omega arith) ∙ (sym (take_all most ahead ge) ∙ sym e))
     ] in
     sym (ap (λ p. p ++ drop (length near) ahead) (sym front) ∙ take-append-drop (length near) ahead)
 
@@ -67,7 +74,8 @@ piece_none ahead near most e f =
     let n : length near ≡ min most (length ahead) = ap length e ∙ length-take most ahead in
     record {
       parts = near_parts ahead near most e;
-      none = subst (λ (p : List ℕ). HasNoNewline p) (take_all (length near) near (omega arith)) (plain_front near (length near) (omega arith) (λ k lt. f k (omega arith) lt));
+      none = subst (λ (p : List ℕ). HasNoNewline p) (take_all (length near) near (omega arith))
+          (plain_front near (length near) (omega arith) (λ k lt. f k (omega arith) lt));
       short = omega (arith, n);
       newline = λ t. cc;
       all = λ t some. omega (arith, n, none_left ahead (length near) some);
@@ -85,14 +93,19 @@ gives_none bytes hash =
 
 pub gives_more : (a b c : List ℕ) (h i j : Sha256) → Gives a b h i → Gives b c i j → Gives a c h j
 gives_more a b c h i j x y =
-    record { given = x.given ++ y.given; parts = x.parts ∙ (ap (λ r. x.given ++ r) y.parts ∙ sym (append_assoc x.given y.given c)); hashed = λ m g. subst (Holds256 j) (append_assoc m x.given y.given) (y.hashed (m ++ x.given) (x.hashed m g)) }
+    record {
+      given = x.given ++ y.given;
+      parts = x.parts ∙ (ap (λ r. x.given ++ r) y.parts ∙ sym (append_assoc x.given y.given c));
+      hashed = λ m g. subst (Holds256 j) (append_assoc m x.given y.given) (y.hashed (m ++ x.given) (x.hashed m g));
+    }
 
 -- a piece more of a line, of the bytes ahead
 pub begun_more : (limits : Limits) (bytes line ahead rest left piece : List ℕ) (used used_now most : ℕ) (ends : Bool)
     → HaveBegun limits bytes used line left used_now → ahead ++ rest ≡ left → IsPiece ahead most piece ends
     → HaveBegun limits bytes used (line ++ piece) (drop (length piece) ahead ++ rest) (used_now + length piece)
 begun_more limits bytes line ahead rest left piece used used_now most ends h same p = record {
-  parts = h.parts ∙ (ap (λ r. line ++ r) (sym same ∙ (ap (λ r. r ++ rest) p.parts ∙ append_assoc piece (drop (length piece) ahead) rest)) ∙ sym (append_assoc line piece (drop (length piece) ahead ++ rest)));
+  parts = h.parts ∙ (ap (λ r. line ++ r) (sym same ∙ (ap (λ r. r ++ rest) p.parts ∙ append_assoc piece (drop (length piece) ahead) rest))
+      ∙ sym (append_assoc line piece (drop (length piece) ahead ++ rest)));
   none = All-append (λ b. is_newline b ≡ false) line piece h.none p.none;
   count = omega (arith, h.count, length-append line piece);
 }
@@ -109,7 +122,9 @@ begun_too_long limits bytes line ahead rest left piece used used_now most over e
     let none : HasNoNewline (take over piece) = plain_take piece over le p.none in (
       line ++ take over piece,
       record {
-        parts = h.parts ∙ (ap (λ r. line ++ r) (sym same ∙ (ap (λ r. r ++ rest) cut ∙ append_assoc (take over piece) (drop over ahead) rest)) ∙ sym (append_assoc line (take over piece) (drop over ahead ++ rest)));
+        parts = h.parts ∙ (ap (λ r. line ++ r) (sym same ∙
+            (ap (λ r. r ++ rest) cut ∙ append_assoc (take over piece) (drop over ahead) rest))
+            ∙ sym (append_assoc line (take over piece) (drop over ahead ++ rest)));
         none = All-append (λ b. is_newline b ≡ false) line (take over piece) h.none none;
         count = omega (arith, h.count, length-append line (take over piece), count);
       },
@@ -133,10 +148,16 @@ pub begun_too_many : (limits : Limits) (bytes line ahead rest left piece : List 
     → HaveBegun limits bytes used line left used_now → ahead ++ rest ≡ left → IsPiece ahead most piece false
     → is_filled (drop (length piece) ahead) ≡ true → length line + length piece ≤ limits.line
     → used_now + most ≡ limits.bytes
-    → HaveBegun limits bytes used (line ++ piece) (drop (length piece) ahead ++ rest) (used_now + length piece) × (is_filled (drop (length piece) ahead ++ rest) ≡ true) × (length (line ++ piece) ≤ limits.line) × (used_now + length piece ≡ limits.bytes)
+    → HaveBegun limits bytes used (line ++ piece) (drop (length piece) ahead ++ rest) (used_now + length piece)
+    × (is_filled (drop (length piece) ahead ++ rest) ≡ true) × (length (line ++ piece) ≤ limits.line)
+    × (used_now + length piece ≡ limits.bytes)
 begun_too_many limits bytes line ahead rest left piece used used_now most h same p some short sum =
-    let b = begun_more limits bytes line ahead rest left piece used used_now most false h same p in
-    (b, filled_more (drop (length piece) ahead) rest some, omega (arith, short, length-append line piece), omega (arith, p.all refl some, sum))
+    let b = begun_more limits bytes line ahead rest left piece used used_now most false h same p in (
+      b,
+      filled_more (drop (length piece) ahead) rest some,
+      omega (arith, short, length-append line piece),
+      omega (arith, p.all refl some, sum),
+    )
 
 -- a line that has begun stands at the front
 pub begun_begins : (limits : Limits) (bytes line left : List ℕ) (used used_now : ℕ)
