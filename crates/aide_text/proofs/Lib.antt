@@ -1,5 +1,7 @@
+pub mod Laying
 pub mod Sending
 pub mod Sheets
 pub mod Pieces
 pub mod Laws
 pub mod PlainLemmas
+pub mod DigestTexts

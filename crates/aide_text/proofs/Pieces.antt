@@ -77,19 +77,29 @@ pub first_line : (name a b : List ℕ)
 unfolding pair_lines
 first_line name a b = ap (λ n. pair_lines (heading name) n a b) (first_count a b)
 
+pub some_lines : (a b : List ℕ) → has_lines a b ≡ true
+    → later_lines a b ≡ pair_line margin (take 32 a) (take 32 b) ++ later_lines (drop 32 a) (drop 32 b)
+some_lines a b e = lines_some a b (grind (arith, e))
+
+pub no_lines : (a b : List ℕ) → has_lines a b ≡ false → later_lines a b ≡ []
+no_lines a b e = lines_none a b (no_length a (grind (arith, e))) (no_length b (grind (arith, e)))
+
 pub next_and_later : (a b : List ℕ) → later_lines a b ≡ next_line a b ++ later_lines (drop 32 a) (drop 32 b)
 unfolding next_line
 next_and_later a b = by_more (has_lines a b) refl
   where
     by_more : (m : Bool) → has_lines a b ≡ m
         → later_lines a b ≡ (if m then pair_line margin (take 32 a) (take 32 b) else []) ++ later_lines (drop 32 a) (drop 32 b)
-    by_more true e = lines_some a b (grind (arith, e))
-    by_more false e = lines_none a b (no_length a (grind (arith, e))) (no_length b (grind (arith, e)))
+    by_more true e = some_lines a b e
+    by_more false e = no_lines a b e
         ∙ sym (lines_none (drop 32 a) (drop 32 b) (drop_all 32 a (grind (arith, e))) (drop_all 32 b (grind (arith, e))))
 
 pub lines_ended : (a b : List ℕ) → has_lines a b ≡ false → later_lines (drop 32 a) (drop 32 b) ≡ []
 lines_ended a b e =
     lines_none (drop 32 a) (drop 32 b) (drop_all 32 a (grind (arith, e))) (drop_all 32 b (grind (arith, e)))
+
+pub short_piece : (text piece : List ℕ) → piece ≡ take 32 text → length piece ≤ 32
+short_piece text piece is = omega (arith, ap (λ (l : List ℕ). length l) is, length-take 32 text)
 
 -- while there are lines, the texts get shorter
 pub lines_fall : (a b : List ℕ) → has_lines a b ≡ true → length (drop 32 a) + length (drop 32 b) < length a + length b

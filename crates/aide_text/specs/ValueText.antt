@@ -8,9 +8,9 @@ use Rattle.hex.specs.Hex.{encode_lower}
 use Rattle.aide_attr.specs.Attr.{form_of}
 use Rattle.aide_attr.specs.declared.attr.Attr.{Attr}
 use Rattle.aide_attr.specs.declared.file_type.FileType.{FileType}
-use Rattle.aide_attr.specs.declared.file_type.FileType.TheVariants.{File, Directory}
-use Rattle.aide_attr.specs.declared.file_type.FileType.TheVariants.{Link as LinkFile, Char, Block}
-use Rattle.aide_attr.specs.declared.file_type.FileType.TheVariants.{Fifo, Socket, Other}
+use Rattle.aide_attr.specs.declared.file_type.FileType.TheVariants.{File, Directory, Char, Block}
+use Rattle.aide_attr.specs.declared.file_type.FileType.TheVariants.{Link as SymbolicLink, Fifo}
+use Rattle.aide_attr.specs.declared.file_type.FileType.TheVariants.{Socket, Other}
 use Rattle.aide_attr.specs.declared.form.Form.{Form}
 use Rattle.aide_attr.specs.declared.form.Form.TheVariants.{Kind, Mode, Number, Time, Link}
 use Rattle.aide_attr.specs.declared.form.Form.TheVariants.{Digest, Opaque}
@@ -22,7 +22,7 @@ use Rattle.aide_text.specs.Printed.{printed}
 abbrev pub type_text : FileType → List ℕ
 type_text File = codes "File"
 type_text Directory = codes "Directory"
-type_text LinkFile = codes "Link"
+type_text SymbolicLink = codes "Link"
 type_text Char = codes "Character device"
 type_text Block = codes "Block device"
 type_text Fifo = codes "FIFO"

@@ -1,3 +1,4 @@
 -- Definitions for steps inside the code. No clause of a public call cites them.
+pub mod Columns
 pub mod PieceText
 pub mod Plain

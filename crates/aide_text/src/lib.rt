@@ -1,6 +1,7 @@
 //! The texts of a report and their writers: the parts of a report that do not read a database.
 #![tactic(auto)]
 
+mod columns;
 mod counts;
 mod decoded;
 mod digest;
@@ -26,7 +27,7 @@ pub use digest::put_digest;
 pub use emitting::emit;
 pub use feed::{Feed, Printed};
 pub use feeding::put_feed;
-pub use lines::put_side_by_side;
+pub use lines::{put_side_by_side, put_texts_side_by_side};
 pub use memory_sink::MemorySink;
 pub use overview::put_overview;
 pub use pen::{Pen, emit_path, put, put_newline, put_number, put_path, put_path_end};

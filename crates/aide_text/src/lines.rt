@@ -1,12 +1,12 @@
 //! Writes lines of padded and cut text.
-ghost use Rattle.std.specs.Prelude.{◌≡◌, ◌≤◌, replicate, take, drop, if◌then◌else◌, []};
+ghost use Rattle.std.specs.Prelude.{◌≡◌, ◌≤◌, length, replicate, take, drop, if◌then◌else◌, []};
 ghost use Rattle.aide_text.specs.PenSheet.{on_sheet};
 ghost use Rattle.aide_text.specs.Sheet.{Wrote};
-ghost use Rattle.aide_text.specs.Layout.{padded, margin, indent, heading, single_line, alone, bar};
-ghost use Rattle.aide_text.specs.Layout.{left_part, pair_body, pair_line, next_line, has_lines};
-ghost use Rattle.aide_text.specs.Layout.{side_by_side};
+ghost use Rattle.aide_text.specs.Layout.{padded, margin, indent, heading, single_line, alone};
+ghost use Rattle.aide_text.specs.Layout.{pair_body, pair_line, next_line, has_lines, side_by_side};
 ghost use Rattle.aide_text.specs.code.PieceText.{piece_text};
 
+use crate::columns::{blank_line, lay_name, lay_pair};
 use crate::feed::Feed;
 use crate::pen::{Pen, put, put_colon_blank, put_ended};
 use crate::piece::Piece;
@@ -99,30 +99,19 @@ pub(crate) fn put_alone<W: Sink>(out: &mut W, pen: &mut Pen, name: &[u8], text: 
     }
 }
 
-#[tactic(auto, unfolding(crate::specs::Layout::bar))]
-fn put_bar<W: Sink>(out: &mut W, pen: &mut Pen)
-    ensures { Wrote bar (on_sheet W.Sink out.old pen.old) (on_sheet W.Sink out.new pen.new) }
-{
-    put(out, pen, b" | ");
-}
-
-/// Writes the old piece, aligned to the left in 32 columns, and the bar between it and the new piece.
-fn put_left<W: Sink>(out: &mut W, pen: &mut Pen, text: &[u8])
-    ensures { Wrote (left_part text.now) (on_sheet W.Sink out.old pen.old)
-        (on_sheet W.Sink out.new pen.new) }
-{
-    put_padded(out, pen, 32, text);
-    put_bar(out, pen);
-}
-
+/// Writes what follows the head of a line: a piece of each text.
 fn put_pair<W: Sink>(out: &mut W, pen: &mut Pen, old_piece: &[u8], new_piece: &[u8])
+    requires old_short { length old_piece.now ≤ 32 }
+    requires new_short { length new_piece.now ≤ 32 }
     ensures { Wrote (pair_body old_piece.now new_piece.now)
         (on_sheet W.Sink out.old pen.old) (on_sheet W.Sink out.new pen.new) }
 {
-    put_left(out, pen, old_piece);
-    put_ended(out, pen, new_piece);
+    let mut line = blank_line();
+    let len = lay_pair(&mut line, old_piece, new_piece);
+    put(out, pen, &line[14..len]);
 }
 
+/// Writes a line that begins with a name.
 fn put_first_line<W: Sink>(
     out: &mut W,
     pen: &mut Pen,
@@ -130,19 +119,32 @@ fn put_first_line<W: Sink>(
     old_piece: &[u8],
     new_piece: &[u8],
 )
+    requires old_short { length old_piece.now ≤ 32 }
+    requires new_short { length new_piece.now ≤ 32 }
     ensures { Wrote (pair_line (heading name.now) old_piece.now new_piece.now)
         (on_sheet W.Sink out.old pen.old) (on_sheet W.Sink out.new pen.new) }
 {
-    put_heading(out, pen, name);
-    put_pair(out, pen, old_piece, new_piece);
+    if name.len() > 10 {
+        put_heading(out, pen, name);
+        put_pair(out, pen, old_piece, new_piece);
+        return;
+    }
+    let mut line = blank_line();
+    lay_name(&mut line, name);
+    let len = lay_pair(&mut line, old_piece, new_piece);
+    put(out, pen, &line[..len]);
 }
 
+/// Writes a line that begins with blanks.
 fn put_more_line<W: Sink>(out: &mut W, pen: &mut Pen, old_piece: &[u8], new_piece: &[u8])
+    requires old_short { length old_piece.now ≤ 32 }
+    requires new_short { length new_piece.now ≤ 32 }
     ensures { Wrote (pair_line margin old_piece.now new_piece.now)
         (on_sheet W.Sink out.old pen.old) (on_sheet W.Sink out.new pen.new) }
 {
-    put_margin(out, pen);
-    put_pair(out, pen, old_piece, new_piece);
+    let mut line = blank_line();
+    let len = lay_pair(&mut line, old_piece, new_piece);
+    put(out, pen, &line[..len]);
 }
 
 /// Returns whether either piece has a byte.
@@ -220,5 +222,33 @@ pub fn put_side_by_side<W: Sink, B: Feed, C: Feed>(
         if !more {
             return;
         }
+    }
+}
+
+/// Returns whether either text has a byte left.
+fn has_rest(old_rest: &[u8], new_rest: &[u8]) -> bool
+    ensures { result ≡ has_lines old_rest.now new_rest.now }
+{
+    !old_rest.is_empty() || !new_rest.is_empty()
+}
+
+/// Writes two texts side by side, as `put_side_by_side` does, without handing out their bytes.
+pub fn put_texts_side_by_side<W: Sink>(
+    out: &mut W,
+    pen: &mut Pen,
+    name: &[u8],
+    old_text: &[u8],
+    new_text: &[u8],
+)
+    ensures { Wrote (side_by_side name.now old_text.now new_text.now)
+        (on_sheet W.Sink out.old pen.old) (on_sheet W.Sink out.new pen.new) }
+{
+    put_first_line(out, pen, name, piece(old_text), piece(new_text));
+    let mut old_rest = behind(old_text);
+    let mut new_rest = behind(new_text);
+    'lines: while has_rest(old_rest, new_rest) {
+        put_more_line(out, pen, piece(old_rest), piece(new_rest));
+        old_rest = behind(old_rest);
+        new_rest = behind(new_rest);
     }
 }

@@ -17,6 +17,13 @@ impl<'a> SliceFeed<'a> {
     {
         SliceFeed { bytes }
     }
+
+    /// Returns the bytes that were not handed out yet.
+    pub fn bytes(&self) -> &'a [u8]
+        ensures { result.now ≡ slice_rest self.now }
+    {
+        self.bytes
+    }
 }
 
 ghost use Rattle.aide_text.specs.SliceRest.{slice_rest};

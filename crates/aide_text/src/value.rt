@@ -22,6 +22,8 @@ use itoa::Buffer;
 pub enum ValueText<S, L, F> {
     /// A text that is kept in place.
     Short(S),
+    /// A field that is written as the database has it.
+    Lent(F),
     /// A link name.
     Link(Printed<L>),
     /// A field, with the bytes that the database has.
@@ -34,6 +36,7 @@ impl<S: Feed, L: Feed, F: Feed> Feed for ValueText<S, L, F> {
     fn next_byte(&mut self) -> Option<u8> {
         match self {
             ValueText::Short(ready) => ready.next_byte(),
+            ValueText::Lent(field) => field.next_byte(),
             ValueText::Link(printed) => printed.next_byte(),
             ValueText::Field(printed) => printed.next_byte(),
         }

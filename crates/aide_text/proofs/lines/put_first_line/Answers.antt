@@ -1,7 +1,17 @@
+use Rattle.std.proofs.Common.{◌∙◌, ap}
 use Rattle.aide_text.specs.Layout.{pair_line}
-use Rattle.aide_text.proofs.Sheets.{wrote_more}
+use Rattle.aide_text.proofs.Laying.{heading_blank, heading_head}
+use Rattle.aide_text.proofs.Sheets.{wrote_as, wrote_more}
 use Rattle.aide_text.proofs.lines.put_first_line.Goals as goal
 
-pub returns : goal.returns
+pub returns-then-name-gt10 : goal.returns-then-name-gt10
 unfolding pair_line
-returns g c = wrote_more c.put_heading.ensures c.put_pair.ensures
+returns-then-name-gt10 g c = wrote_more c.put_heading.ensures c.put_pair.ensures
+
+pub lay_pair-len-requires-clause-blank : goal.lay_pair-len-requires-clause-blank
+lay_pair-len-requires-clause-blank g c =
+    heading_blank c.lay_name.new.line c.args.name.now c.if-name-gt10.false c.lay_name.ensures
+
+pub returns : goal.returns
+returns g c =
+    wrote_as (c.lay_pair-len.ensures.laid ∙ ap (λ head. pair_line head c.args.old_piece.now c.args.new_piece.now) (heading_head c.lay_name.new.line c.args.name.now c.if-name-gt10.false c.lay_name.ensures)) c.put.ensures

@@ -1,7 +1,12 @@
+use Rattle.std.proofs.Common.{◌∙◌, ap}
 use Rattle.aide_text.specs.Layout.{pair_line}
-use Rattle.aide_text.proofs.Sheets.{wrote_more}
+use Rattle.aide_text.proofs.Laying.{margin_blank, margin_head}
+use Rattle.aide_text.proofs.Sheets.{wrote_as}
 use Rattle.aide_text.proofs.lines.put_more_line.Goals as goal
 
+pub lay_pair-len-requires-clause-blank : goal.lay_pair-len-requires-clause-blank
+lay_pair-len-requires-clause-blank g c = margin_blank c.blank_line-line.result c.blank_line-line.ensures
+
 pub returns : goal.returns
-unfolding pair_line
-returns g c = wrote_more c.put_margin.ensures c.put_pair.ensures
+returns g c =
+    wrote_as (c.lay_pair-len.ensures.laid ∙ ap (λ head. pair_line head c.args.old_piece.now c.args.new_piece.now) (margin_head c.blank_line-line.result c.blank_line-line.ensures)) c.put.ensures
