@@ -1,12 +1,14 @@
 -- A text that is UTF-8 is escaped byte by byte as it is character by character.
-use Rattle.std.proofs.Common.{◌≡◌, ℕ, ◌+◌, ◌-◌, ◌/◌, ◌<◌, ◌≤◌, Bool, true, false, ◌&&◌, ◌||◌, ◌==◌, if◌then◌else◌, nat_lt, nat_le, List, [], ◌∷◌, ◌++◌, inl, inr, arith, refl, sym, ap, ◌∙◌, IsUtf8, chars, lt-ltb, le-ltb, ne_eqb}
+use Rattle.std.proofs.Common.{◌≡◌, ℕ, ◌+◌, ◌-◌, ◌/◌, ◌<◌, ◌≤◌, Bool, true, false, ◌&&◌, ◌||◌, ◌==◌, if◌then◌else◌, nat_lt, nat_le, List, []}
+use Rattle.std.proofs.Common.{◌∷◌, ◌++◌, inl, inr, arith, refl, sym, ap, ◌∙◌, IsUtf8, chars, lt-ltb, le-ltb, ne_eqb}
 use Rattle.std.proofs.lemmas.Bool.{and_parts, cases_lt, cases_eq, cases_Bool}
 use Rattle.std.proofs.lemmas.Bool.Decides.{nat_tests}
 use Rattle.std.proofs.lemmas.Str.{encode_ascii, encodes-chars, scalars-chars}
 use Rattle.std.specs.List.{flat_map}
 use lib.Utf8.{scalar, scalars, encode, encodes, next, scalar_cases}
 use Rattle.aide_json.specs.Json.{u_escape, is_hidden, json_char, json_text}
-use Rattle.aide_json.specs.code.Escaping.{one_byte, after_c2, after_d8, after_e2_80, after_e2_81, text_after, Nothing, C2, D8, E2, E2_80, E2_81}
+use Rattle.aide_json.specs.code.Escaping.{one_byte, after_c2, after_d8, after_e2_80, after_e2_81, text_after, Nothing, C2, D8, E2, E2_80}
+use Rattle.aide_json.specs.code.Escaping.{E2_81}
 
 two : (c : ℕ) → 128 ≤ c → c < 2048 → encode c ≡ (192 + c / 64) ∷ next c ∷ []
 unfolding encode
@@ -37,10 +39,12 @@ hidden c h e = middle_of (c == 34 || c == 92) (is_hidden c) (92 ∷ c ∷ []) (u
 
 -- ---- bytes
 
-skip : (x : ℕ) (cs : List ℕ) → 128 ≤ x → (x ≡ 0xc2 → ⊥) → (x ≡ 0xd8 → ⊥) → (x ≡ 0xe2 → ⊥) → text_after Nothing (x ∷ cs) ≡ x ∷ text_after Nothing cs
+skip : (x : ℕ) (cs : List ℕ) → 128 ≤ x → (x ≡ 0xc2 → ⊥) → (x ≡ 0xd8 → ⊥) → (x ≡ 0xe2 → ⊥) → text_after Nothing (x ∷ cs)
+    ≡ x ∷ text_after Nothing cs
 skip x cs h a b d =
     rw (ne_eqb x 0xc2 a, ne_eqb x 0xd8 b, ne_eqb x 0xe2 d)
-    (ap (λ l. l ++ text_after Nothing cs) (last_of (x == 34 || x == 92) (nat_lt x 0x20 || x == 0x7f) (92 ∷ x ∷ []) (u_escape x) (x ∷ []) (no_quote x h) (grind (arith, nat_tests))))
+    (ap (λ l. l ++ text_after Nothing cs) (last_of (x == 34 || x == 92) (nat_lt x 0x20 || x == 0x7f) (92 ∷ x ∷ []) (u_escape x) (x ∷ [])
+    (no_quote x h) (grind (arith, nat_tests))))
 
 low : (c : ℕ) (cs : List ℕ) → c < 128 → text_after Nothing (c ∷ cs) ≡ one_byte c ++ text_after Nothing cs
 low c cs h = rw (ne_eqb c 0xc2 (omega arith), ne_eqb c 0xd8 (omega arith), ne_eqb c 0xe2 (omega arith))
@@ -59,7 +63,8 @@ from_c2 x cs e = ap (λ y. text_after Nothing (y ∷ cs)) e
 from_d8 : (x : ℕ) (cs : List ℕ) → x ≡ 0xd8 → text_after Nothing (x ∷ cs) ≡ text_after D8 cs
 from_d8 x cs e = ap (λ y. text_after Nothing (y ∷ cs)) e
 
-from_e2 : (x y : ℕ) (cs : List ℕ) → x ≡ 0xe2 → (y ≡ 0x80 → ⊥) → (y ≡ 0x81 → ⊥) → text_after Nothing (x ∷ y ∷ cs) ≡ 0xe2 ∷ y ∷ text_after Nothing cs
+from_e2 : (x y : ℕ) (cs : List ℕ) → x ≡ 0xe2 → (y ≡ 0x80 → ⊥) → (y ≡ 0x81 → ⊥) → text_after Nothing (x ∷ y ∷ cs)
+    ≡ 0xe2 ∷ y ∷ text_after Nothing cs
 from_e2 x y cs e a b = ap (λ z. text_after Nothing (z ∷ y ∷ cs)) e ∙ rw (ne_eqb y 0x80 a, ne_eqb y 0x81 b)
 
 from_e2_80 : (x y : ℕ) (cs : List ℕ) → x ≡ 0xe2 → y ≡ 0x80 → text_after Nothing (x ∷ y ∷ cs) ≡ text_after E2_80 cs
@@ -75,7 +80,8 @@ c2_char c l h =
     let same : next c ≡ c = omega arith in
     let lead : 192 + c / 64 ≡ 0xc2 = omega arith in
     elim (cases_lt c 160) [
-      | inl a ↦ ap after_c2 same ∙ ap (λ (b : Bool). if b then u_escape c else (0xc2 ∷ c ∷ [])) (lt-ltb c 0xa0 a) ∙ sym (hidden c l (grind (arith, nat_tests)))
+      | inl a ↦ ap after_c2 same ∙ ap (λ (b : Bool). if b then u_escape c else (0xc2 ∷ c ∷ [])) (lt-ltb c 0xa0 a)
+          ∙ sym (hidden c l (grind (arith, nat_tests)))
       | inr a ↦ ap after_c2 same ∙ ap (λ (b : Bool). if b then u_escape c else (0xc2 ∷ c ∷ [])) (le-ltb c 0xa0 a)
           ∙ sym (plain c l (grind (arith, nat_tests)) ∙ two c l (omega arith) ∙ (λ k. lead k ∷ same k ∷ []))
     ]
@@ -96,12 +102,14 @@ e2_80_char c l h =
     let second : next (c / 64) ≡ 0x80 = omega arith in
     let same : 0x1f80 + next c ≡ c = omega arith in
     elim (cases_Bool (is_hidden c)) [
-      | inl e ↦ ap (λ (b : Bool). if b then u_escape (0x1f80 + next c) else (0xe2 ∷ 0x80 ∷ next c ∷ [])) (e2_80_hidden c l h ∙ e) ∙ ap u_escape same ∙ sym (hidden c (omega arith) e)
+      | inl e ↦ ap (λ (b : Bool). if b then u_escape (0x1f80 + next c) else (0xe2 ∷ 0x80 ∷ next c ∷ [])) (e2_80_hidden c l h ∙ e)
+          ∙ ap u_escape same ∙ sym (hidden c (omega arith) e)
       | inr e ↦ ap (λ (b : Bool). if b then u_escape (0x1f80 + next c) else (0xe2 ∷ 0x80 ∷ next c ∷ [])) (e2_80_hidden c l h ∙ e)
           ∙ sym (plain c (omega arith) e ∙ three c (omega arith) (omega arith) ∙ (λ k. lead k ∷ second k ∷ next c ∷ []))
     ]
   where
-    e2_80_hidden : (c : ℕ) → 8192 ≤ c → c < 8256 → ((nat_le 0x8e (next c) && nat_le (next c) 0x8f) || (nat_le 0xa8 (next c) && nat_le (next c) 0xae)) ≡ is_hidden c
+    e2_80_hidden : (c : ℕ) → 8192 ≤ c → c < 8256 →
+        ((nat_le 0x8e (next c) && nat_le (next c) 0x8f) || (nat_le 0xa8 (next c) && nat_le (next c) 0xae)) ≡ is_hidden c
     e2_80_hidden c l h = let same : next c ≡ c - 8064 = omega arith in rw same (grind (arith, nat_tests, l, h))
 
 -- U+2040 to U+207F
@@ -111,7 +119,8 @@ e2_81_char c l h =
     let second : next (c / 64) ≡ 0x81 = omega arith in
     let same : 0x1fc0 + next c ≡ c = omega arith in
     elim (cases_Bool (is_hidden c)) [
-      | inl e ↦ ap (λ (b : Bool). if b then u_escape (0x1fc0 + next c) else (0xe2 ∷ 0x81 ∷ next c ∷ [])) (e2_81_hidden c l h ∙ e) ∙ ap u_escape same ∙ sym (hidden c (omega arith) e)
+      | inl e ↦ ap (λ (b : Bool). if b then u_escape (0x1fc0 + next c) else (0xe2 ∷ 0x81 ∷ next c ∷ [])) (e2_81_hidden c l h ∙ e)
+          ∙ ap u_escape same ∙ sym (hidden c (omega arith) e)
       | inr e ↦ ap (λ (b : Bool). if b then u_escape (0x1fc0 + next c) else (0xe2 ∷ 0x81 ∷ next c ∷ [])) (e2_81_hidden c l h ∙ e)
           ∙ sym (plain c (omega arith) e ∙ three c (omega arith) (omega arith) ∙ (λ k. lead k ∷ second k ∷ next c ∷ []))
     ]
@@ -131,28 +140,34 @@ one_char c bs ok = elim (cases_lt c 128) [
   ]
 ]
   where
-    two_bytes : (c : ℕ) (bs : List ℕ) → 128 ≤ c → c < 2048 → text_after Nothing ((192 + c / 64) ∷ next c ∷ bs) ≡ json_char c ++ text_after Nothing bs
+    two_bytes : (c : ℕ) (bs : List ℕ) → 128 ≤ c → c < 2048 → text_after Nothing ((192 + c / 64) ∷ next c ∷ bs)
+        ≡ json_char c ++ text_after Nothing bs
     two_bytes c bs l h = elim (cases_lt c 192) [
       | inl a ↦ from_c2 (192 + c / 64) (next c ∷ bs) (omega arith) ∙ ap (λ g. g ++ text_after Nothing bs) (c2_char c l a)
       | inr a ↦ elim (cases_eq (c / 64) 24) [
-        | inl e ↦ from_d8 (192 + c / 64) (next c ∷ bs) (omega arith) ∙ ap (λ g. g ++ text_after Nothing bs) (d8_char c (omega arith) (omega arith))
+        | inl e ↦ from_d8 (192 + c / 64) (next c ∷ bs) (omega arith)
+            ∙ ap (λ g. g ++ text_after Nothing bs) (d8_char c (omega arith) (omega arith))
         | inr n ↦ skip (192 + c / 64) (next c ∷ bs) (omega arith) (omega arith) (omega arith) (omega arith)
             ∙ ap (λ l. (192 + c / 64) ∷ l) (skip (next c) bs (omega arith) (omega arith) (omega arith) (omega arith))
             ∙ ap (λ g. g ++ text_after Nothing bs) (sym (plain c l (grind (arith, nat_tests, n, a, h)) ∙ two c l h))
       ]
     ]
 
-    three_bytes : (c : ℕ) (bs : List ℕ) → 2048 ≤ c → c < 65536 → text_after Nothing ((224 + c / 4096) ∷ next (c / 64) ∷ next c ∷ bs) ≡ json_char c ++ text_after Nothing bs
+    three_bytes : (c : ℕ) (bs : List ℕ) → 2048 ≤ c → c < 65536 → text_after Nothing ((224 + c / 4096) ∷ next (c / 64) ∷ next c ∷ bs)
+        ≡ json_char c ++ text_after Nothing bs
     three_bytes c bs l h = elim (cases_eq (c / 4096) 2) [
       | inl e ↦ elim (cases_eq (c / 64) 128) [
-        | inl f ↦ from_e2_80 (224 + c / 4096) (next (c / 64)) (next c ∷ bs) (omega arith) (omega arith) ∙ ap (λ g. g ++ text_after Nothing bs) (e2_80_char c (omega arith) (omega arith))
+        | inl f ↦ from_e2_80 (224 + c / 4096) (next (c / 64)) (next c ∷ bs) (omega arith) (omega arith)
+            ∙ ap (λ g. g ++ text_after Nothing bs) (e2_80_char c (omega arith) (omega arith))
         | inr m ↦ elim (cases_eq (c / 64) 129) [
-          | inl f ↦ from_e2_81 (224 + c / 4096) (next (c / 64)) (next c ∷ bs) (omega arith) (omega arith) ∙ ap (λ g. g ++ text_after Nothing bs) (e2_81_char c (omega arith) (omega arith))
+          | inl f ↦ from_e2_81 (224 + c / 4096) (next (c / 64)) (next c ∷ bs) (omega arith) (omega arith)
+              ∙ ap (λ g. g ++ text_after Nothing bs) (e2_81_char c (omega arith) (omega arith))
           | inr k ↦
               let lead : 224 + c / 4096 ≡ 0xe2 = omega arith in
               from_e2 (224 + c / 4096) (next (c / 64)) (next c ∷ bs) lead (omega (arith, m, k, e)) (omega (arith, m, k, e))
               ∙ ap (λ l. 0xe2 ∷ next (c / 64) ∷ l) (skip (next c) bs (omega arith) (omega arith) (omega arith) (omega arith))
-              ∙ ap (λ g. g ++ text_after Nothing bs) (sym (plain c (omega arith) (grind (arith, nat_tests, e, m, k)) ∙ three c l h ∙ (λ i. lead i ∷ next (c / 64) ∷ next c ∷ [])))
+              ∙ ap (λ g. g ++ text_after Nothing bs) (sym
+              (plain c (omega arith) (grind (arith, nat_tests, e, m, k)) ∙ three c l h ∙ (λ i. lead i ∷ next (c / 64) ∷ next c ∷ [])))
         ]
       ]
       | inr n ↦ skip (224 + c / 4096) (next (c / 64) ∷ next c ∷ bs) (omega arith) (omega arith) (omega arith) (omega (arith, n))
@@ -162,10 +177,12 @@ one_char c bs ok = elim (cases_lt c 128) [
           ∙ ap (λ g. g ++ text_after Nothing bs) (sym (plain c (omega arith) (grind (arith, nat_tests, n, l)) ∙ three c l h))
     ]
 
-    four_bytes : (c : ℕ) (bs : List ℕ) → scalar c ≡ true → 65536 ≤ c → text_after Nothing ((240 + c / 262144) ∷ next (c / 4096) ∷ next (c / 64) ∷ next c ∷ bs) ≡ json_char c ++ text_after Nothing bs
+    four_bytes : (c : ℕ) (bs : List ℕ) → scalar c ≡ true → 65536 ≤ c
+        → text_after Nothing ((240 + c / 262144) ∷ next (c / 4096) ∷ next (c / 64) ∷ next c ∷ bs) ≡ json_char c ++ text_after Nothing bs
     four_bytes c bs ok l =
         let range = scalar_cases c ok in
-        skip (240 + c / 262144) (next (c / 4096) ∷ next (c / 64) ∷ next c ∷ bs) (omega arith) (omega (arith, range)) (omega (arith, range)) (omega (arith, range))
+        skip (240 + c / 262144) (next (c / 4096) ∷ next (c / 64) ∷ next c ∷ bs) (omega arith) (omega (arith, range)) (omega (arith, range))
+        (omega (arith, range))
         ∙ ap (λ l. (240 + c / 262144) ∷ l)
         (skip (next (c / 4096)) (next (c / 64) ∷ next c ∷ bs) (omega arith) (omega arith) (omega arith) (omega arith)
         ∙ ap (λ l. next (c / 4096) ∷ l)

@@ -53,5 +53,6 @@ by_answer cs false e = (λ t. absurd (true_false (sym t)), λ u. absurd (true_fa
 pub at_end : (cs rest : List ℕ) (x y z : ℕ) → accepts 0 0 0 cs ≡ accepts x y z rest → rest ≡ [] → accepts 0 0 0 cs ≡ is_closed x y z
 at_end cs rest x y z e none = e ∙ ap (accepts x y z) none
 
-pub at_fault : (cs before after : List ℕ) (x y z c : ℕ) → accepts 0 0 0 cs ≡ accepts x y z before → before ≡ c ∷ after → may_follow x y z c ≡ false → accepts 0 0 0 cs ≡ false
+pub at_fault : (cs before after : List ℕ) (x y z c : ℕ) → accepts 0 0 0 cs ≡ accepts x y z before → before ≡ c ∷ after → may_follow x y z c
+    ≡ false → accepts 0 0 0 cs ≡ false
 at_fault cs before after x y z c e is bad = e ∙ ap (accepts x y z) is ∙ ap (λ b. b && accepts y z c after) bad

@@ -1,5 +1,6 @@
 -- Texts with commas between them, one after another.
-use Rattle.std.proofs.Common.{◌≡◌, ◌∙◌, ℕ, Bool, true, false, ◌&&◌, not, cond, if◌then◌else◌, List, [], ◌∷◌, ◌++◌, map, refl, sym, ap, append_assoc}
+use Rattle.std.proofs.Common.{◌≡◌, ◌∙◌, ℕ, Bool, true, false, ◌&&◌, not, cond, if◌then◌else◌, List, [], ◌∷◌, ◌++◌, map, refl, sym, ap}
+use Rattle.std.proofs.Common.{append_assoc}
 use Rattle.std.proofs.lemmas.List.{append-nil}
 use Rattle.std.specs.List.{filter}
 use Rattle.aide_json.specs.Object.{behind, comma, joined}
@@ -29,7 +30,8 @@ module _ {X : Type 0} (wants : X → Bool) (text : X → List ℕ) where
   items_first first x rest = by_wanted first (wants x) x rest
 
   -- the first one of some, and what comes behind it
-  pub items_more : (first wanted later : Bool) (xs : List X) (x : X) (rest : List X) → xs ≡ x ∷ rest → wanted ≡ wants x → later ≡ (first && not wanted)
+  pub items_more : (first wanted later : Bool) (xs : List X) (x : X) (rest : List X) → xs ≡ x ∷ rest → wanted ≡ wants x → later
+      ≡ (first && not wanted)
       → items_from first wants text xs ≡ next_item wanted first (text x) ++ items_from later wants text rest
   items_more first wanted later xs x rest is e f =
       ap (items_from first wants text) is ∙ items_first first x rest
