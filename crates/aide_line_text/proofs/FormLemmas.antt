@@ -47,15 +47,17 @@ then_passes : (a b : Bool) → (not a || b) ≡ true → a ≡ true → b ≡ tr
 then_passes true b h e = h
 then_passes false b h e = cc
 
-kind_alone : (a : Attr) → form_of a ≡ Kind → a ≡ Ftype
+pub kind_alone : (a : Attr) → form_of a ≡ Kind → a ≡ Ftype
 unfolding row_of row is_kind
 kind_alone a e =
-    attr_is a Ftype (then_passes (is_kind (form_of a)) (is_attr a Ftype) (every_attr (λ x. not (is_kind (form_of x)) || is_attr x Ftype) refl a) (ap is_kind e))
+    attr_is a Ftype (then_passes (is_kind (form_of a)) (is_attr a Ftype)
+    (every_attr (λ x. not (is_kind (form_of x)) || is_attr x Ftype) refl a) (ap is_kind e))
 
-link_alone : (a : Attr) → form_of a ≡ Link → a ≡ Lname
+pub link_alone : (a : Attr) → form_of a ≡ Link → a ≡ Lname
 unfolding row_of row is_link
 link_alone a e =
-    attr_is a Lname (then_passes (is_link (form_of a)) (is_attr a Lname) (every_attr (λ x. not (is_link (form_of x)) || is_attr x Lname) refl a) (ap is_link e))
+    attr_is a Lname (then_passes (is_link (form_of a)) (is_attr a Lname)
+    (every_attr (λ x. not (is_link (form_of x)) || is_attr x Lname) refl a) (ap is_link e))
 
 -- the member of an attribute of such a form is that of the attribute that alone has it
 pub kind_at : (name : List ℕ) (a : Attr) (values : Attributes) → name ≡ detail_name_of a → form_of a ≡ Kind

@@ -1,5 +1,5 @@
 -- The first and the last line: what is said of both databases at once.
-use Rattle.std.specs.Prelude.{ℕ, zero, suc, ◌+◌, ◌-◌, ◌==◌, Bool, if◌then◌else◌, List, [], ◌∷◌}
+use Rattle.std.specs.Prelude.{ℕ, zero, suc, ◌+◌, ◌-◌, ◌==◌, Bool, true, false, List, [], ◌∷◌}
 use Rattle.std.specs.Prelude.{◌++◌, map, codes}
 use Rattle.std.specs.Int.{bit_at}
 use Rattle.std.specs.List.{filter}
@@ -7,24 +7,19 @@ use Rattle.aide_json.specs.Json.{hex_string}
 use Rattle.aide_json.specs.Member.{member, text_member}
 use Rattle.aide_json.specs.Number.{json_count}
 use Rattle.aide_json.specs.Object.{array, line, object}
-use Rattle.aide_text.specs.Overview.{differs}
-use Rattle.aide_text.specs.declared.counts.Counts.{Counts}
+use Rattle.aide_line_text.specs.declared.counts.LineCounts.{LineCounts}
 
 -- a member whose value is a count
 abbrev pub count_member : List ℕ → ℕ → List ℕ
 count_member name n = member name (json_count n)
 
 -- the numbers of entries: all of the new database, and those that were added, removed or changed
-abbrev pub count_members : Counts → List (List ℕ)
+abbrev pub count_members : LineCounts → List (List ℕ)
 count_members counts =
     count_member (codes "total") counts.total
     ∷ count_member (codes "added") counts.added
     ∷ count_member (codes "removed") counts.removed
     ∷ count_member (codes "changed") counts.changed ∷ []
-
--- the word for a truth value
-abbrev pub truth : Bool → List ℕ
-truth value = if value then codes "true" else codes "false"
 
 -- this many numbers, counted from a first one
 unfoldable pub numbers : (first count : ℕ) → List ℕ
@@ -53,24 +48,41 @@ facts_object facts =
     ∷ member (codes "sha256") (hex_string facts.digest)
     ∷ member (codes "skipped") (skipped_array facts.skipped) ∷ [])
 
--- how many lines of entries there are
-abbrev pub entry_count : Counts → ℕ
-entry_count counts = counts.added + (counts.removed + counts.changed)
-
--- the first line: the format's number, whether the databases differ, the numbers of entries and of
--- the lines that follow before the last one, and both databases
-unfoldable pub first_line : (old_facts new_facts : DatabaseFacts) → Counts → List ℕ
-first_line old_facts new_facts counts =
-    line (count_member (codes "format") 2
-    ∷ member (codes "differences") (truth (differs counts))
-    ∷ (count_members counts
-    ++ (count_member (codes "entries") (entry_count counts)
+-- the first line: the format's number, and both databases
+unfoldable pub first_line : (old_facts new_facts : DatabaseFacts) → List ℕ
+first_line old_facts new_facts =
+    line (count_member (codes "format") 3
     ∷ member (codes "old") (facts_object old_facts)
-    ∷ member (codes "new") (facts_object new_facts) ∷ [])))
+    ∷ member (codes "new") (facts_object new_facts) ∷ [])
 
--- the last line, without which the lines were cut: the numbers of entries again, and the exit
--- status
-unfoldable pub last_line : Counts → ℕ → List ℕ
-last_line counts status =
+-- the same where they are compared beside a trusted pair: the format's number, and all four databases
+unfoldable pub first_line_beside : (old_facts new_facts : DatabaseFacts)
+    → (trusted_old_facts trusted_new_facts : DatabaseFacts)
+    → List ℕ
+first_line_beside old_facts new_facts trusted_old_facts trusted_new_facts =
+    line (count_member (codes "format") 3
+    ∷ member (codes "old") (facts_object old_facts)
+    ∷ member (codes "new") (facts_object new_facts)
+    ∷ member (codes "trusted_old") (facts_object trusted_old_facts)
+    ∷ member (codes "trusted_new") (facts_object trusted_new_facts) ∷ [])
+
+-- for how many lines a trusted machine accounts, if there is one
+abbrev pub trusted_members : (has_trusted : Bool) → LineCounts → List (List ℕ)
+trusted_members false counts = []
+trusted_members true counts =
+    count_member (codes "same_as_trusted") counts.same_as_trusted ∷ []
+
+-- for how many lines the old entries account, for how many a trusted machine, and for how many
+-- nothing
+abbrev pub account_members : (has_trusted : Bool) → LineCounts → List (List ℕ)
+account_members has_trusted counts =
+    count_member (codes "same_as_old") counts.same_as_old
+    ∷ (trusted_members has_trusted counts ++ count_member (codes "others") counts.others ∷ [])
+
+-- the last line, without which the lines were cut: the numbers of entries and of what accounts for
+-- them, and the exit status
+unfoldable pub last_line : (has_trusted : Bool) → LineCounts → ℕ → List ℕ
+last_line has_trusted counts status =
     line (member (codes "end") (codes "true")
-    ∷ (count_members counts ++ count_member (codes "status") status ∷ []))
+    ∷ (count_members counts
+    ++ (account_members has_trusted counts ++ count_member (codes "status") status ∷ [])))

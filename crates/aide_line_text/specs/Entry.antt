@@ -1,5 +1,8 @@
 -- The line of one path at which the databases differ.
 use Rattle.std.specs.Prelude.{ℕ, Bool, List, [], ◌∷◌, ◌++◌, Option, Some, None, codes}
+use Rattle.aide_agreement.specs.Account.{Pair}
+use Rattle.aide_agreement.specs.declared.account.SameAs.{SameAs}
+use Rattle.aide_agreement.specs.declared.account.SameAs.TheVariants.{Old, Trusted}
 use Rattle.aide_attr.specs.Summary.{first_type}
 use Rattle.aide_attr.specs.declared.attr.Attr.{Attr}
 use Rattle.aide_attr.specs.declared.attr.Attr.TheVariants.{Ftype}
@@ -10,12 +13,8 @@ use Rattle.aide_json.specs.Member.{member, text_member}
 use Rattle.aide_json.specs.Object.{line}
 use Rattle.aide_line_text.specs.Attribute.{type_string, entry_object}
 
--- what the old and the new database have at one path
-abbrev pub Found : Type 0
-Found = Option Attributes × Option Attributes
-
 -- the word for what became of the path
-abbrev pub kind_word : Found → List ℕ
+abbrev pub kind_word : Pair → List ℕ
 kind_word (None, None) = []
 kind_word (None, Some new_entry) = codes "added"
 kind_word (Some old_entry, None) = codes "removed"
@@ -27,7 +26,7 @@ type_on None = None
 type_on (Some values) = type_in (values Ftype)
 
 -- the type at the path: the new entry's if it has one, otherwise the old entry's
-abbrev pub type_at : Found → Option FileType
+abbrev pub type_at : Pair → Option FileType
 type_at found = first_type (type_on found.1) (type_on found.0)
 
 -- the member of a type, if there is one
@@ -35,17 +34,29 @@ abbrev pub type_members : Option FileType → List (List ℕ)
 type_members None = []
 type_members (Some kind) = member (codes "type") (type_string kind) ∷ []
 
+-- the word for what accounts for a change
+abbrev pub account_word : SameAs → List ℕ
+account_word Old = codes "old"
+account_word Trusted = codes "trusted"
+
+-- the member that says what accounts for a change, if anything does
+abbrev pub account_members : Option SameAs → List (List ℕ)
+account_members None = []
+account_members (Some account) = member (codes "same_as") (quoted (account_word account)) ∷ []
+
 -- the member of one database's entry, if there is one: its attributes that pass
 abbrev pub entry_members : List ℕ → (Attr → Bool) → Option Attributes → List (List ℕ)
 entry_members name shows None = []
 entry_members name shows (Some values) = member name (entry_object shows values) ∷ []
 
--- The line of a path: what became of it, the path, the summary string, the type, and the attributes
--- that pass on either side.
-unfoldable pub entry_line : (path letters : List ℕ) → (Attr → Bool) → Found → List ℕ
-entry_line path letters shows found =
+-- The line of a path: what became of it, the path, the summary string, what accounts for the change,
+-- the type, and the attributes that pass on either side.
+unfoldable pub entry_line : (path letters : List ℕ) → Option SameAs → (Attr → Bool) → Pair → List ℕ
+entry_line path letters account shows found =
     line (member (codes "kind") (quoted (kind_word found))
     ∷ text_member (codes "path") path
     ∷ member (codes "summary") (quoted letters)
-    ∷ (type_members (type_at found)
-    ++ (entry_members (codes "old") shows found.0 ++ entry_members (codes "new") shows found.1)))
+    ∷ (account_members account
+    ++ (type_members (type_at found)
+    ++ (entry_members (codes "old") shows found.0
+    ++ entry_members (codes "new") shows found.1))))

@@ -1,18 +1,20 @@
 //! Writes the first and the last line.
 ghost use Rattle.std.specs.Prelude.{◌≡◌, ◌≤◌, ◌∷◌, ◌++◌, [], length, codes};
+ghost use Rattle.aide_json.specs.Member.{member};
 ghost use Rattle.aide_json.specs.Object.{behind, joined};
-ghost use Rattle.aide_line_text.specs.Ends.{count_members, entry_count, facts_object, first_line};
-ghost use Rattle.aide_line_text.specs.Ends.{last_line, truth};
+ghost use Rattle.aide_line_text.specs.Ends.{account_members, count_members, facts_object};
+ghost use Rattle.aide_line_text.specs.Ends.{first_line, first_line_beside, last_line};
+ghost use Rattle.aide_line_text.specs.Ends.{trusted_members};
 ghost use Rattle.aide_line_text.specs.SourceView.{facts_in};
-ghost use Rattle.aide_text.specs.Overview.{differs};
 ghost use Rattle.aide_text.specs.PenSheet.{on_sheet};
 ghost use Rattle.aide_text.specs.Sheet.{Wrote};
 
+use crate::counts::LineCounts;
 use crate::skipped::put_skipped;
 use aide_json::{
     put_count_member, put_digest_member, put_literal_member, put_name, put_text_member,
 };
-use aide_text::{Counts, Pen, Sink, SliceFeed, put};
+use aide_text::{Pen, Sink, SliceFeed, put};
 
 /// What the first line says of one database.
 #[derive(Clone, Copy)]
@@ -25,15 +27,8 @@ pub struct Source<'a> {
     pub skipped: u64,
 }
 
-/// Returns a word for a truth value.
-fn truth(value: bool) -> &'static [u8]
-    ensures { result.now ≡ truth value }
-{
-    if value { b"true" } else { b"false" }
-}
-
 /// Writes the numbers of entries.
-fn put_counts<W: Sink>(out: &mut W, pen: &mut Pen, counts: &Counts)
+fn put_counts<W: Sink>(out: &mut W, pen: &mut Pen, counts: &LineCounts)
     ensures { Wrote (joined (count_members counts.now))
         (on_sheet W.Sink out.old pen.old) (on_sheet W.Sink out.new pen.new) }
 {
@@ -64,24 +59,12 @@ fn put_source<W: Sink>(out: &mut W, pen: &mut Pen, source: &Source<'_>)
 }
 
 /// Writes the first line.
-pub fn put_first_line<W: Sink>(
-    out: &mut W,
-    pen: &mut Pen,
-    old: &Source<'_>,
-    new: &Source<'_>,
-    counts: &Counts,
-)
-    ensures { Wrote (first_line (facts_in old.now) (facts_in new.now) counts.now)
+pub fn put_first_line<W: Sink>(out: &mut W, pen: &mut Pen, old: &Source<'_>, new: &Source<'_>)
+    ensures { Wrote (first_line (facts_in old.now) (facts_in new.now))
         (on_sheet W.Sink out.old pen.old) (on_sheet W.Sink out.new pen.new) }
 {
     put(out, pen, b"{");
-    put_count_member(out, pen, b"format", 2);
-    put(out, pen, b",");
-    put_literal_member(out, pen, b"differences", truth(counts.databases_differ()));
-    put(out, pen, b",");
-    put_counts(out, pen, counts);
-    put(out, pen, b",");
-    put_count_member(out, pen, b"entries", entry_count(counts));
+    put_count_member(out, pen, b"format", 3);
     put(out, pen, b",");
     put_name(out, pen, b"old");
     put_source(out, pen, old);
@@ -91,22 +74,77 @@ pub fn put_first_line<W: Sink>(
     put(out, pen, b"}\n");
 }
 
-/// Returns how many lines of entries there are.
-fn entry_count(counts: &Counts) -> u128
-    ensures { result ≡ entry_count counts.now }
+/// Writes what is said of a database with this name, behind another member.
+fn put_source_behind<W: Sink>(out: &mut W, pen: &mut Pen, name: &[u8], source: &Source<'_>)
+    ensures { Wrote (44 ∷ member name.now (facts_object (facts_in source.now)))
+        (on_sheet W.Sink out.old pen.old) (on_sheet W.Sink out.new pen.new) }
 {
-    counts.added as u128 + (counts.removed as u128 + counts.changed as u128)
+    put(out, pen, b",");
+    put_name(out, pen, name);
+    put_source(out, pen, source);
 }
 
-/// Writes the last line.
-pub fn put_last_line<W: Sink>(out: &mut W, pen: &mut Pen, counts: &Counts, status: u8)
-    ensures { Wrote (last_line counts.now status)
+/// Writes the first line where two databases are compared beside a trusted pair.
+pub fn put_first_line_beside<W: Sink>(
+    out: &mut W,
+    pen: &mut Pen,
+    old: &Source<'_>,
+    new: &Source<'_>,
+    trusted_old: &Source<'_>,
+    trusted_new: &Source<'_>,
+)
+    ensures { Wrote (first_line_beside (facts_in old.now) (facts_in new.now)
+        (facts_in trusted_old.now) (facts_in trusted_new.now))
+        (on_sheet W.Sink out.old pen.old) (on_sheet W.Sink out.new pen.new) }
+{
+    put(out, pen, b"{");
+    put_count_member(out, pen, b"format", 3);
+    put_source_behind(out, pen, b"old", old);
+    put_source_behind(out, pen, b"new", new);
+    put_source_behind(out, pen, b"trusted_old", trusted_old);
+    put_source_behind(out, pen, b"trusted_new", trusted_new);
+    put(out, pen, b"}\n");
+}
+
+/// Writes how many lines a trusted machine accounts for, if there is one.
+fn put_trusted<W: Sink>(out: &mut W, pen: &mut Pen, counts: &LineCounts, has_trusted: bool)
+    ensures { Wrote (behind (trusted_members has_trusted counts.now))
+        (on_sheet W.Sink out.old pen.old) (on_sheet W.Sink out.new pen.new) }
+{
+    if has_trusted {
+        put(out, pen, b",");
+        put_count_member(out, pen, b"same_as_trusted", counts.same_as_trusted as u128);
+    }
+}
+
+/// Writes for how many lines the old entries account, for how many a trusted machine, and for how many nothing.
+fn put_accounts<W: Sink>(out: &mut W, pen: &mut Pen, counts: &LineCounts, has_trusted: bool)
+    ensures { Wrote (joined (account_members has_trusted counts.now))
+        (on_sheet W.Sink out.old pen.old) (on_sheet W.Sink out.new pen.new) }
+{
+    put_count_member(out, pen, b"same_as_old", counts.same_as_old as u128);
+    put_trusted(out, pen, counts, has_trusted);
+    put(out, pen, b",");
+    put_count_member(out, pen, b"others", counts.others as u128);
+}
+
+/// Writes the last line. Without a trusted machine it has no number for it.
+pub fn put_last_line<W: Sink>(
+    out: &mut W,
+    pen: &mut Pen,
+    counts: &LineCounts,
+    has_trusted: bool,
+    status: u8,
+)
+    ensures { Wrote (last_line has_trusted counts.now status)
         (on_sheet W.Sink out.old pen.old) (on_sheet W.Sink out.new pen.new) }
 {
     put(out, pen, b"{");
     put_literal_member(out, pen, b"end", b"true");
     put(out, pen, b",");
     put_counts(out, pen, counts);
+    put(out, pen, b",");
+    put_accounts(out, pen, counts, has_trusted);
     put(out, pen, b",");
     put_count_member(out, pen, b"status", status as u128);
     put(out, pen, b"}\n");

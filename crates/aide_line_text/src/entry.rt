@@ -3,8 +3,8 @@ ghost use Rattle.std.specs.Prelude.{◌≡◌, ◌∷◌, ◌++◌, [], Some, co
 ghost use Rattle.aide_attr.specs.Set.{has};
 ghost use Rattle.aide_entry.specs.View.{entry_in};
 ghost use Rattle.aide_json.specs.Object.{behind};
-ghost use Rattle.aide_line_text.specs.Entry.{entry_line, entry_members, kind_word, type_at};
-ghost use Rattle.aide_line_text.specs.Entry.{type_members};
+ghost use Rattle.aide_line_text.specs.Entry.{account_members, account_word, entry_line};
+ghost use Rattle.aide_line_text.specs.Entry.{entry_members, kind_word, type_at, type_members};
 ghost use Rattle.aide_line_text.specs.code.Parts.{entries_behind, entry_head};
 ghost use Rattle.aide_line_text.specs.SidesView.{found_in};
 ghost use Rattle.aide_text.specs.PenSheet.{on_sheet};
@@ -13,13 +13,14 @@ ghost use Rattle.aide_text.specs.Sheet.{Wrote};
 use crate::attribute::put_type;
 use crate::side::put_entry;
 use crate::sides::Sides;
+use aide_agreement::SameAs;
 use aide_attr::{AttrSet, FileType};
 use aide_db::View;
 use aide_json::{put_name, put_text_member, put_word_member};
 use aide_text::{Feed, Pen, Sink, put};
 
 /// Returns the word for what became of the path.
-fn kind_word(sides: Sides<'_>) -> &'static [u8]
+pub fn kind_word(sides: Sides<'_>) -> &'static [u8]
     ensures { result.now ≡ kind_word (found_in sides.entry) }
 {
     match sides {
@@ -30,7 +31,7 @@ fn kind_word(sides: Sides<'_>) -> &'static [u8]
 }
 
 /// Returns the type at the path: the new entry's if it has one, otherwise the old entry's.
-fn type_at(sides: Sides<'_>) -> Option<FileType>
+pub fn type_at(sides: Sides<'_>) -> Option<FileType>
     ensures { result ≡ type_at (found_in sides.entry) }
 {
     match sides {
@@ -60,6 +61,26 @@ fn put_head<W: Sink, B: Feed + Copy>(
     put_text_member(out, pen, b"path", path);
     put(out, pen, b",");
     put_word_member(out, pen, b"summary", letters);
+}
+
+/// Returns the word for what accounts for the change.
+fn account_word(account: SameAs) -> &'static [u8]
+    ensures { result.now ≡ account_word account }
+{
+    match account {
+        SameAs::Old => b"old",
+        SameAs::Trusted => b"trusted",
+    }
+}
+
+fn put_account_behind<W: Sink>(out: &mut W, pen: &mut Pen, account: Option<SameAs>)
+    ensures { Wrote (behind (account_members account))
+        (on_sheet W.Sink out.old pen.old) (on_sheet W.Sink out.new pen.new) }
+{
+    if let Some(account) = account {
+        put(out, pen, b",");
+        put_word_member(out, pen, b"same_as", account_word(account));
+    }
 }
 
 fn put_type_behind<W: Sink>(out: &mut W, pen: &mut Pen, kind: Option<FileType>)
@@ -101,20 +122,32 @@ fn put_sides<W: Sink>(out: &mut W, pen: &mut Pen, sides: Sides<'_>, shown: AttrS
     }
 }
 
-/// Writes the line of a path, with the attributes that are shown.
+/// What a line says of its path besides what the databases have there.
+#[derive(Clone, Copy)]
+pub struct Remark<'a> {
+    /// The summary string.
+    pub letters: &'a [u8],
+    /// What accounts for the change, if anything does.
+    pub account: Option<SameAs>,
+    /// The attributes that are shown.
+    pub shown: AttrSet,
+}
+
+/// Writes the line of a path.
 pub fn put_entry_line<W: Sink, B: Feed + Copy>(
     out: &mut W,
     pen: &mut Pen,
     path: B,
-    letters: &[u8],
-    shown: AttrSet,
+    remark: Remark<'_>,
     sides: Sides<'_>,
 )
-    ensures { Wrote (entry_line (B.rest path) letters.now (has shown) (found_in sides.entry))
+    ensures { Wrote (entry_line (B.rest path) remark.entry.letters.now remark.entry.account
+        (has remark.entry.shown) (found_in sides.entry))
         (on_sheet W.Sink out.old pen.old) (on_sheet W.Sink out.new pen.new) }
 {
-    put_head(out, pen, kind_word(sides), path, letters);
+    put_head(out, pen, kind_word(sides), path, remark.letters);
+    put_account_behind(out, pen, remark.account);
     put_type_behind(out, pen, type_at(sides));
-    put_sides(out, pen, sides, shown);
+    put_sides(out, pen, sides, remark.shown);
     put(out, pen, b"}\n");
 }

@@ -2,12 +2,14 @@
 #![tactic(auto)]
 
 mod attribute;
+mod counts;
 mod ends;
 mod entry;
 mod side;
 mod sides;
 mod skipped;
 
-pub use ends::{Source, put_first_line, put_last_line};
-pub use entry::put_entry_line;
+pub use counts::LineCounts;
+pub use ends::{Source, put_first_line, put_first_line_beside, put_last_line};
+pub use entry::{Remark, kind_word, put_entry_line, type_at};
 pub use sides::Sides;

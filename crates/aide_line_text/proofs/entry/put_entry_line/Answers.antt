@@ -11,7 +11,10 @@ use Rattle.aide_line_text.proofs.entry.put_entry_line.Goals as goal
 pub returns : goal.returns
 unfolding entry_parts
 returns g c =
-    wrote_as (parts_line (g.B.Feed.rest c.args.path) c.args.letters.now (has c.args.shown) (found_in c.args.sides))
-    (wrote_more (wrote_as (ap (λ w. entry_head w (g.B.Feed.rest c.args.path) c.args.letters.now) c.kind_word.ensures) c.put_head.ensures)
+    wrote_as (parts_line (g.B.Feed.rest c.args.path) c.args.remark.letters.now c.args.remark.account (has c.args.remark.shown)
+    (found_in c.args.sides))
+    (wrote_more (wrote_as (ap (λ w. entry_head w (g.B.Feed.rest c.args.path) c.args.remark.letters.now)
+    c.kind_word.ensures) c.put_head.ensures)
+    (wrote_more c.put_account_behind.ensures
     (wrote_more (wrote_as (ap (λ k. behind (type_members k)) c.type_at.ensures) c.put_type_behind.ensures)
-    (wrote_more c.put_sides.ensures c.put.ensures)))
+    (wrote_more c.put_sides.ensures c.put.ensures))))
