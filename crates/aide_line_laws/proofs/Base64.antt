@@ -1,10 +1,13 @@
 -- What base 64 decodes to is of bytes.
-use Rattle.std.proofs.Common.{◌≡◌, ℕ, zero, suc, ◌+◌, ◌*◌, ◌<◌, List, [], ◌∷◌, ◌++◌, take, drop, slice_index, length, Option, Some, None, inl, inr, refl, arith}
+use Rattle.std.proofs.Common.{◌≡◌, ℕ, zero, suc, ◌+◌, ◌*◌, ◌<◌, List, [], ◌∷◌, ◌++◌, take, drop, slice_index, length, Option, Some, None}
+use Rattle.std.proofs.Common.{inl, inr, refl, arith}
 use Rattle.std.specs.Prelude.{IfOk}
 use Rattle.std.specs.declared.result.Result.{Result}
 use Rattle.std.specs.declared.result.Result.TheVariants.{Ok, Err}
 use Rattle.std.specs.Result.{result_ok}
-use Rattle.base64.specs.Decode.{decode_group, or_else, symbol_error, group_error, group_bytes, groups_error, groups_bytes, groups_before_last, no_leftover, push_leftover, scan_steps, scan_bytes, suffix_bytes, decode_outcome, decoded_bytes, IsDecodeTable}
+use Rattle.base64.specs.Decode.{decode_group, or_else, symbol_error, group_error, group_bytes, groups_error, groups_bytes}
+use Rattle.base64.specs.Decode.{groups_before_last, no_leftover, push_leftover, scan_steps, scan_bytes, suffix_bytes, decode_outcome}
+use Rattle.base64.specs.Decode.{decoded_bytes, IsDecodeTable}
 use Rattle.base64.specs.Engines.{standard}
 use Rattle.base64.specs.GeneralPurpose.{decoded_of}
 use Rattle.base64.specs.declared.decode.DecodeError.{DecodeError}
@@ -26,7 +29,7 @@ take_bytes zero xs h = tt
 take_bytes (suc n) [] h = tt
 take_bytes (suc n) (x ∷ xs) h = (h.0, take_bytes n xs h.1)
 
-byte_at : (xs : List ℕ) (i : ℕ) → AreBytes xs → slice_index xs i < 256
+pub byte_at : (xs : List ℕ) (i : ℕ) → AreBytes xs → slice_index xs i < 256
 byte_at [] i h = omega arith
 byte_at (x ∷ xs) zero h = h.0
 byte_at (x ∷ xs) (suc i) h = byte_at xs i h.1
@@ -72,7 +75,8 @@ module _ (dec : List ℕ) (table : IsDecodeTable dec) where
   scan_small pad at i (Ok st) [] h k = take_bytes _ _ (group_of _ _ _ _ (k.3 0) (k.3 1) (k.3 2) (k.3 3))
   scan_small pad at i (Ok st) (b ∷ bs) h k =
       let next = push_leftover dec pad at st i b in
-      scan_small pad at (i + 1) next bs h.1 (ok_from next (λ kept. IsLeftover kept (i + 1)) (λ kept e. IsLeftover_next dec pad at st i b kept table k h.0 e))
+      scan_small pad at (i + 1) next bs h.1
+      (ok_from next (λ kept. IsLeftover kept (i + 1)) (λ kept e. IsLeftover_next dec pad at st i b kept table k h.0 e))
 
   zeros : (k : ℕ) → slice_index (0 ∷ 0 ∷ 0 ∷ 0 ∷ []) k < 64
   zeros zero = omega arith
@@ -82,9 +86,11 @@ module _ (dec : List ℕ) (table : IsDecodeTable dec) where
   zeros (suc (suc (suc (suc k)))) = omega arith
 
   suffix_small : (pad at : ℕ) (s : List ℕ) → AreBytes s → AreBytes (suffix_bytes dec pad at s)
-  suffix_small pad at s h = scan_small pad at 0 (Ok no_leftover) (drop at s) (drop_bytes at s h) (omega arith, omega arith, omega arith, zeros)
+  suffix_small pad at s h =
+      scan_small pad at 0 (Ok no_leftover) (drop at s) (drop_bytes at s h) (omega arith, omega arith, omega arith, zeros)
 
-  outcome_bytes : (error : Option DecodeError) (bytes : List ℕ) → (error ≡ None → AreBytes bytes) → AreBytesIfAny (result_ok (decode_outcome error bytes))
+  outcome_bytes : (error : Option DecodeError) (bytes : List ℕ) → (error ≡ None → AreBytes bytes)
+      → AreBytesIfAny (result_ok (decode_outcome error bytes))
   outcome_bytes None bytes h = h refl
   outcome_bytes (Some e) bytes h = tt
 
@@ -92,7 +98,9 @@ pub base64_bytes : (s : List ℕ) → AreBytes s → AreBytesIfAny (decoded_of s
 unfolding decoded_of
 base64_bytes s h =
     let dec = standard.decode_table in
-    let table = IsDecodeTable_from standard.encode_table dec (are_tables_inverse standard.encode_table dec standard.padding.value standard.tables) in
+    let table =
+    IsDecodeTable_from standard.encode_table dec
+    (are_tables_inverse standard.encode_table dec standard.padding.value standard.tables) in
     outcome_bytes dec table _ (decoded_bytes dec standard.padding.value s) (λ e.
     let late = none_of_both _ _ (none_of_both _ _ e).1 in
     both_bytes (groups_bytes dec s (groups_before_last (length s))) _ (groups_small dec table s (groups_before_last (length s)) h late.0)

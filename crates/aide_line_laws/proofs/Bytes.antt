@@ -1,5 +1,6 @@
 -- What is read of a line of bytes is of bytes: its path, and each value by the form of its attribute.
-use Rattle.std.proofs.Common.{◌≡◌, ℕ, ℤ, ◌+◌, ◌*◌, ◌%◌, ◌<◌, Bool, true, false, cond, ◌&&◌, if◌then◌else◌, nat_lt, nat_le, length, List, [], ◌∷◌, Option, Some, None, inl, inr, arith}
+use Rattle.std.proofs.Common.{◌≡◌, ℕ, ℤ, ◌+◌, ◌*◌, ◌%◌, ◌<◌, Bool, true, false, cond, ◌&&◌, if◌then◌else◌, nat_lt, nat_le, length, List, []}
+use Rattle.std.proofs.Common.{◌∷◌, Option, Some, None, inl, inr, arith}
 use Rattle.std.specs.Prelude.{codes, drop, option_map, nat_eq, unwrap_or}
 use Rattle.std.proofs.lemmas.Bool.{cases_Bool, and_parts}
 use Rattle.std.proofs.lemmas.Bool.Decides.{nat_tests}
@@ -57,7 +58,8 @@ fields_bytes : (line : List ℕ) → AreBytes line → AreAllBytes (fields line)
 unfolding fields
 fields_bytes line h = filter_keeps AreBytes is_filled (slice_split is_blank line) (split_bytes is_blank line h)
 
-under_bytes : (test : Column → Bool) (columns : List Column) (all : List (List ℕ)) → AreAllBytes all → AreBytesIfAny (field_under test columns all)
+under_bytes : (test : Column → Bool) (columns : List Column) (all : List (List ℕ)) → AreAllBytes all
+    → AreBytesIfAny (field_under test columns all)
 under_bytes test [] all h = tt
 under_bytes test (column ∷ columns) [] h = tt
 under_bytes test (column ∷ columns) (field ∷ all) h =
@@ -110,13 +112,17 @@ link_text_bytes field h = elim (starts_with nat_eq field (codes "00")) as (λ b.
 
 link_bytes : (field : List ℕ) → AreBytes field → AreBytesIfAny (link_of field)
 unfolding link_of
-link_bytes field h = elim (is_nought field) as (λ b. AreBytesIfAny (if b then None else (if bytes_eq field (codes "0-") then Some [] else Some (percent_decode (link_text field))))) [
-  | true ↦ tt
-  | false ↦ elim (bytes_eq field (codes "0-")) as (λ b. AreBytesIfAny (if b then Some [] else Some (percent_decode (link_text field)))) [
-    | true ↦ tt
-    | false ↦ decoded_bytes (link_text field) (link_text_bytes field h)
-  ]
-]
+link_bytes field h =
+    elim (is_nought field) as
+    (λ b. AreBytesIfAny (if b then None else
+    (if bytes_eq field (codes "0-") then Some [] else Some (percent_decode (link_text field))))) [
+      | true ↦ tt
+      | false ↦ elim (bytes_eq field (codes "0-")) as
+          (λ b. AreBytesIfAny (if b then Some [] else Some (percent_decode (link_text field)))) [
+            | true ↦ tt
+            | false ↦ decoded_bytes (link_text field) (link_text_bytes field h)
+          ]
+    ]
 
 kind_form : (o : Option FileType) → IsOfFormIfAny Kind (option_map type_value o)
 kind_form None = tt
@@ -144,10 +150,11 @@ digest_bytes least most field h = of_length_bytes (decoded_of standard field) (b
   where
     of_length_bytes : (o : Option (List ℕ)) → AreBytesIfAny o → AreBytesIfAny (of_length least most o)
     of_length_bytes None k = tt
-    of_length_bytes (Some bytes) k = elim (nat_le least (length bytes) && nat_le (length bytes) most) as (λ b. AreBytesIfAny (if b then Some bytes else None)) [
-      | true ↦ k
-      | false ↦ tt
-    ]
+    of_length_bytes (Some bytes) k =
+        elim (nat_le least (length bytes) && nat_le (length bytes) most) as (λ b. AreBytesIfAny (if b then Some bytes else None)) [
+          | true ↦ k
+          | false ↦ tt
+        ]
 
 value_form : (form : Form) (field : List ℕ) → AreBytes field → IsOfFormIfAny form (value_of form field)
 value_form Kind field h = kind_form (type_of_mode (mode_of field))

@@ -1,5 +1,6 @@
 -- Texts in UTF-8 that have no byte below 32.
-use Rattle.std.proofs.Common.{◌≡◌, ℕ, suc, ◌/◌, ◌%◌, ◌<◌, ◌≤◌, true, nat_lt, nat_le, List, [], ◌∷◌, ◌++◌, length, get_or, inl, inr, refl, sym, subst, arith, IsUtf8, chars}
+use Rattle.std.proofs.Common.{◌≡◌, ℕ, suc, ◌/◌, ◌%◌, ◌<◌, ◌≤◌, true, nat_lt, nat_le, List, [], ◌∷◌, ◌++◌, length, get_or, inl, inr, refl}
+use Rattle.std.proofs.Common.{sym, subst, arith, IsUtf8, chars}
 use Rattle.std.proofs.lemmas.Bool.{cases_eq, cases_lt, cases_Bool, and_parts, and_from}
 use Rattle.std.proofs.lemmas.Bool.Decides.{nat_tests}
 use Rattle.std.proofs.lemmas.Str.{IsUtf8-append, IsUtf8-nil, IsUtf8-encode, encode_ascii, scalars-chars}
@@ -43,8 +44,11 @@ clean_plain (x ∷ t) e =
 clean_number : (c : ℕ) → IsClean (u_escape c)
 unfolding u_escape
 clean_number c =
-    clean_then 92 _ (omega arith) (omega arith) (clean_plain (117 ∷ hex_digit (c / 4096 % 16) ∷ hex_digit (c / 256 % 16) ∷ hex_digit (c / 16 % 16) ∷ hex_digit (c % 16) ∷ [])
-    (and_from _ _ refl (and_from _ _ (hex_digit_plain (c / 4096)) (and_from _ _ (hex_digit_plain (c / 256)) (and_from _ _ (hex_digit_plain (c / 16)) (and_from _ _ (hex_digit_plain c) refl))))))
+    clean_then 92 _ (omega arith) (omega arith)
+    (clean_plain (117 ∷ hex_digit (c / 4096 % 16) ∷ hex_digit (c / 256 % 16) ∷ hex_digit (c / 16 % 16) ∷ hex_digit (c % 16) ∷ [])
+    (and_from _ _ refl
+    (and_from _ _ (hex_digit_plain (c / 4096))
+    (and_from _ _ (hex_digit_plain (c / 256)) (and_from _ _ (hex_digit_plain (c / 16)) (and_from _ _ (hex_digit_plain c) refl))))))
 
 visible_high : (xs : List ℕ) → ((k : ℕ) → k < length xs → 128 ≤ get_or xs k 0) → AreVisible xs
 visible_high [] h = tt

@@ -5,6 +5,7 @@ use Rattle.std.specs.List.{list_any}
 use Rattle.std.specs.declared.cmp.Ordering.{Ordering}
 use Rattle.std.specs.declared.cmp.Ordering.TheVariants.{Less, Equal, Greater}
 use Rattle.std.proofs.lemmas.Bool.{and_parts, and_from}
+use Rattle.aide_agreement.specs.Account.{Pair}
 use Rattle.aide_attr.specs.Attr.{attrs_at}
 use Rattle.aide_attr.specs.Byte.{letter}
 use Rattle.aide_attr.specs.Difference.{Sides, is_changed, counts_changed, counts_added, counts_removed, is_affected, is_same}
@@ -17,14 +18,15 @@ use Rattle.aide_attr.specs.declared.file_type.FileType.TheVariants as kind
 use Rattle.aide_attr.specs.declared.summary_string.Alone.{Alone}
 use Rattle.aide_attr.specs.declared.summary_string.Alone.TheVariants.{Added, Removed}
 use Rattle.aide_entry.specs.Attributes.{sides_between, type_in}
-use Rattle.aide_report.specs.Entries.{Pair, letters_of}
+use Rattle.aide_report.specs.Entries.{letters_of}
 use Rattle.aide_line_laws.proofs.Strings.{is_plain, are_plain}
 
 either_plain : (test : Bool) (x y : ℕ) → is_plain x ≡ true → is_plain y ≡ true → is_plain (if test then x else y) ≡ true
 either_plain true x y e f = e
 either_plain false x y e f = f
 
-plain_slot : (s : Sides) (i : Ignore) (attrs : List Attr) (own same : ℕ) → is_plain own ≡ true → is_plain same ≡ true → is_plain (slot_letter s i attrs own same) ≡ true
+plain_slot : (s : Sides) (i : Ignore) (attrs : List Attr) (own same : ℕ) → is_plain own ≡ true → is_plain same ≡ true
+    → is_plain (slot_letter s i attrs own same) ≡ true
 unfolding slot_letter
 plain_slot s i attrs own same e f =
     either_plain (list_any (counts_changed s i) attrs) _ _ e
@@ -54,7 +56,8 @@ unfolding letter_at
 plain_letter s i slot e =
     either_plain (slot == letter (codes "Y")) _ _
     (either_plain (is_changed s Ftype) _ _ refl (plain_type_letter (first_type s.new_type s.old_type)))
-    (either_plain (slot == letter (codes "Z")) _ _ (plain_slot s i (attrs_at slot) (size_letter s.size) (letter (codes "=")) (plain_size s.size) refl)
+    (either_plain (slot == letter (codes "Z")) _ _
+    (plain_slot s i (attrs_at slot) (size_letter s.size) (letter (codes "=")) (plain_size s.size) refl)
     (plain_slot s i (attrs_at slot) slot (letter (codes ".")) e refl))
 
 plain_letters_at : (s : Sides) (i : Ignore) (slots : List ℕ) → are_plain slots ≡ true → are_plain (map (letter_at s i) slots) ≡ true

@@ -3,8 +3,14 @@ pub mod Clean
 pub mod Pieces
 pub mod Values
 pub mod Objects
+pub mod Members
+pub mod EndLaws
+pub mod EntryLaws
+pub mod SettingsLaws
 pub mod Letters
 pub mod Base64
 pub mod Bytes
 pub mod Laws
-pub mod Texts
+pub mod ReadingLaws
+pub mod NameLaws
+pub mod TextLaws

@@ -1,5 +1,7 @@
 -- What stands between the quotes of a string is read back.
-use Rattle.std.proofs.Common.{◌≡◌, ℕ, zero, suc, ◌+◌, ◌*◌, ◌/◌, ◌%◌, ◌<◌, ◌≤◌, Bool, true, false, cond, ◌&&◌, ◌==◌, nat_lt, nat_le, not, List, length, get_or, append-nil, [], ◌∷◌, ◌++◌, Option, Some, None, option_and_then, inl, inr, refl, sym, ap, ◌∙◌, subst, arith, append_assoc, IsUtf8, chars}
+use Rattle.std.proofs.Common.{◌≡◌, ℕ, zero, suc, ◌+◌, ◌*◌, ◌/◌, ◌%◌, ◌<◌, ◌≤◌, Bool, true, false, cond, ◌&&◌, ◌==◌, nat_lt, nat_le, not}
+use Rattle.std.proofs.Common.{List, length, get_or, append-nil, [], ◌∷◌, ◌++◌, Option, Some, None, option_and_then, inl, inr, refl, sym, ap}
+use Rattle.std.proofs.Common.{◌∙◌, subst, arith, append_assoc, IsUtf8, chars}
 use Rattle.std.proofs.lemmas.Bool.{cases_eq, cases_lt, cases_Bool, ne_eqb, le-ltb, lt-leb, eqb-true, and_parts}
 use Rattle.std.proofs.lemmas.Bool.Decides.{nat_tests}
 use Rattle.std.proofs.lemmas.Str.{encode_ascii, encodes-chars, inside_one}
@@ -35,7 +37,8 @@ spells_both t s u v h k = record {
 
 -- ---- bytes that stand for themselves
 
-stays_inside : (o s : Bool) (x : ℕ) (r : List ℕ) (k : Mode → List Lexeme) → lex_byte in_string (cond o operator (cond s space other)) x r k ≡ k in_string
+stays_inside : (o s : Bool) (x : ℕ) (r : List ℕ) (k : Mode → List Lexeme)
+    → lex_byte in_string (cond o operator (cond s space other)) x r k ≡ k in_string
 stays_inside true s x r k = refl
 stays_inside false true x r k = refl
 stays_inside false false x r k = refl
@@ -98,12 +101,14 @@ hex_digit_read n =
     let p = and_parts _ _ (and_parts (is_plain (hex_digit d)) _ (below 16 sixteen_digits d (omega arith))).1 in
     (p.0, eqb-true (digit_value (hex_digit d)) d p.1)
 
-unit_of : (a b c d w x y z : ℕ) → (is_digit a 16 ≡ true) × (digit_value a ≡ w) → (is_digit b 16 ≡ true) × (digit_value b ≡ x) → (is_digit c 16 ≡ true) × (digit_value c ≡ y) → (is_digit d 16 ≡ true) × (digit_value d ≡ z)
+unit_of : (a b c d w x y z : ℕ) → (is_digit a 16 ≡ true) × (digit_value a ≡ w) → (is_digit b 16 ≡ true) × (digit_value b ≡ x)
+    → (is_digit c 16 ≡ true) × (digit_value c ≡ y) → (is_digit d 16 ≡ true) × (digit_value d ≡ z)
     → code_unit a b c d ≡ Some (w * 4096 + x * 256 + y * 16 + z)
 unfolding code_unit
 unit_of a b c d w x y z e f g h = λ i. cond (e.0 i && f.0 i && g.0 i && h.0 i) (Some (e.1 i * 4096 + f.1 i * 256 + g.1 i * 16 + h.1 i)) None
 
-escaped_unit : (c : ℕ) → c < 65536 → code_unit (hex_digit (c / 4096 % 16)) (hex_digit (c / 256 % 16)) (hex_digit (c / 16 % 16)) (hex_digit (c % 16)) ≡ Some c
+escaped_unit : (c : ℕ) → c < 65536
+    → code_unit (hex_digit (c / 4096 % 16)) (hex_digit (c / 256 % 16)) (hex_digit (c / 16 % 16)) (hex_digit (c % 16)) ≡ Some c
 escaped_unit c l =
     unit_of _ _ _ _ _ _ _ _ (hex_digit_read (c / 4096)) (hex_digit_read (c / 256)) (hex_digit_read (c / 16)) (hex_digit_read c)
     ∙ ap Some (omega arith)
@@ -113,7 +118,9 @@ spells_number : (c : ℕ) → c < 0xd800 → Spells (u_escape c) (encode c)
 unfolding u_escape content lex
 spells_number c l = record {
   read = λ r.
-      ap (option_and_then (λ u. cond (is_high_surrogate u) (content (after_high u) r) (cond (is_low_surrogate u) None (prepend (encode_utf8 u) (content plain r))))) (escaped_unit c (omega arith))
+      ap (option_and_then
+      (λ u. cond (is_high_surrogate u) (content (after_high u) r)
+      (cond (is_low_surrogate u) None (prepend (encode_utf8 u) (content plain r))))) (escaped_unit c (omega arith))
       ∙ rw (lt-leb 0xd800 c l, lt-leb 0xdc00 c (omega arith));
   lexed = λ r.
       (digit (c / 4096)).lexed _ ∙ (digit (c / 256)).lexed _ ∙ (digit (c / 16)).lexed _ ∙ (digit c).lexed r;
@@ -157,7 +164,8 @@ spells_high : (xs : List ℕ) → ((k : ℕ) → k < length xs → 128 ≤ get_o
 spells_high [] h = spells_nothing
 spells_high (x ∷ xs) h =
     let high : 128 ≤ x = h 0 (omega arith) in
-    spells_both (x ∷ []) (x ∷ []) xs xs (spells_itself x (λ e. omega arith) (λ e. omega arith) (omega arith)) (spells_high xs (λ k below. h (suc k) (omega arith)))
+    spells_both (x ∷ []) (x ∷ []) xs xs (spells_itself x (λ e. omega arith) (λ e. omega arith) (omega arith))
+    (spells_high xs (λ k below. h (suc k) (omega arith)))
 
 pub high_bytes : (c : ℕ) → 128 ≤ c → (k : ℕ) → k < length (encode c) → 128 ≤ get_or (encode c) k 0
 high_bytes c big k l = elim (cases_lt (get_or (encode c) k 0) 128) [

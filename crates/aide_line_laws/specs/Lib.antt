@@ -1,2 +1,7 @@
+pub mod Field
 pub mod JsonLine
 pub mod ByteValues
+pub mod Fields
+pub mod SettingsFields
+pub mod TextFields
+pub mod Reading

@@ -1,10 +1,11 @@
 -- The lines over two sound texts of bytes are lines of JSON.
-use Rattle.std.proofs.Common.{◌≡◌, ℕ, zero, suc, ◌/◌, ◌%◌, ◌^◌, ◌<◌, true, false, if◌then◌else◌, List, [], ◌∷◌, ◌++◌, map, Some, None, slice_index, sym, ap, ◌∙◌, subst, arith, append_assoc, append-nil}
+use Rattle.std.proofs.Common.{ℕ, zero, suc, ◌/◌, ◌%◌, ◌^◌, ◌<◌, Bool, true, false, if◌then◌else◌, List, [], ◌∷◌, ◌++◌, map, Some, None}
+use Rattle.std.proofs.Common.{slice_index, refl, sym, subst, arith, append_assoc, append-nil}
 use Rattle.std.specs.Prelude.{drop}
 use Rattle.std.specs.declared.cmp.Ordering.TheVariants.{Less, Equal, Greater}
 use Rattle.std.specs.FinMap.{entries}
 use Rattle.std.specs.Int.{w32, to_be_bytes, bytes_high_first, byte_at}
-use Rattle.std.specs.List.{AllByRecursion, flat_map, slice_split}
+use Rattle.std.specs.List.{AllByRecursion, filter, flat_map, slice_split}
 use Rattle.sha2.specs.Sha256.{sha256, digest_bytes, final_hash, initial_hash_256}
 use Rattle.aide_conf.specs.declared.options.Options.{Options}
 use Rattle.aide_db.specs.Database.{IsSound}
@@ -20,21 +21,26 @@ use Rattle.aide_entry.specs.Text.{lines, is_newline, is_filled, without_empty_la
 use Rattle.aide_entry.specs.declared.column.Column.{Column}
 use Rattle.aide_entry.proofs.PathLaws.{path_cmp_total, path_cmp-IsAntisymmetric}
 use Rattle.aide_report.specs.Asked.{Asked}
-use Rattle.aide_report.specs.ChangeLines.{change_line, change_lines, listed_changes}
+use Rattle.aide_report.specs.ChangeLines.{Accounts, by_old, change_line, change_lines}
 use Rattle.aide_report.specs.Compare.{changes}
 use Rattle.aide_report.specs.Entries.{PathChange}
 use Rattle.aide_report.specs.LineRuns.{facts_of, lines_over}
-use Rattle.aide_report.specs.Lines.{all_lines, status_by}
-use Rattle.aide_report.specs.Report.{counts_of}
+use Rattle.aide_report.specs.LineCounts.{line_counts, status_by}
+use Rattle.aide_report.specs.Lines.{all_lines}
 use Rattle.aide_report.specs.Sections.{all_listed, is_in}
 use Rattle.aide_report.specs.code.Merged.{merged, weave}
 use Rattle.aide_report.proofs.MergeLemmas.{changes-merged}
-use Rattle.aide_line_text.specs.Ends.{first_line, last_line}
+use Rattle.aide_line_text.specs.Ends.{last_line}
+use Rattle.aide_line_text.specs.declared.counts.LineCounts.{LineCounts}
 use Rattle.aide_line_laws.specs.ByteValues.{AreBytes, AreOfForms, AreOfFormsIfAny}
+use Rattle.aide_line_laws.specs.Field.{Field}
+use Rattle.aide_line_laws.specs.Fields.{last_fields}
 use Rattle.aide_line_laws.specs.JsonLine.{IsJsonLine, AreJsonLines}
+use Rattle.aide_line_laws.specs.TextFields.{change_fields, fields_of_lines, fields_over}
 use Rattle.aide_line_laws.proofs.Base64.{both_bytes}
 use Rattle.aide_line_laws.proofs.Bytes.{AreAllBytes, split_bytes, filter_keeps, path_bytes, forms_of_attributes}
-use Rattle.aide_line_laws.proofs.Laws.{first_line_is_json, last_line_is_json, change_line_is_json}
+use Rattle.aide_line_laws.proofs.EndLaws.{first_line_is_json, last_line_is_json}
+use Rattle.aide_line_laws.proofs.Laws.{change_line_is_json}
 
 -- ---- digests
 
@@ -52,7 +58,9 @@ high_first_bytes (suc k) n = (byte_of k n, high_first_bytes k n)
 hash_bytes : (h : List ℕ) (n : ℕ) → AreBytes (digest_bytes h n)
 unfolding digest_bytes
 hash_bytes h zero = tt
-hash_bytes h (suc n) = both_bytes (digest_bytes h n) (to_be_bytes w32 (slice_index h n)) (hash_bytes h n) (high_first_bytes 4 (slice_index h n))
+hash_bytes h (suc n) =
+    both_bytes (digest_bytes h n) (to_be_bytes w32 (slice_index h n)) (hash_bytes h n)
+    (high_first_bytes 4 (slice_index h n))
 
 sha256_bytes : (text : List ℕ) → AreBytes (sha256 text)
 unfolding sha256
@@ -96,22 +104,27 @@ IsOfBytes entry = AreBytes entry.0 × AreOfForms entry.1
 
 entries_bytes : (columns : List Column) (all : List (List ℕ)) → AreAllBytes all → AllByRecursion IsOfBytes (map (entry_of columns) all)
 entries_bytes columns [] h = tt
-entries_bytes columns (line ∷ all) h = ((path_bytes columns line h.0, forms_of_attributes columns line h.0), entries_bytes columns all h.1)
+entries_bytes columns (line ∷ all) h =
+    ((path_bytes columns line h.0, forms_of_attributes columns line h.0), entries_bytes columns all h.1)
 
-database_bytes : (limits : Limits) (text : List ℕ) → IsSound limits text → AreBytes text → AllByRecursion IsOfBytes (entries (database_of text))
+database_bytes : (limits : Limits) (text : List ℕ) → IsSound limits text → AreBytes text
+    → AllByRecursion IsOfBytes (entries (database_of text))
 database_bytes limits text sound h =
-    subst (AllByRecursion IsOfBytes) (sym (entries-database_of limits text sound)) (entries_bytes (columns_of_text text) (entry_lines text) (entry_lines_bytes text h))
+    subst (AllByRecursion IsOfBytes) (sym (entries-database_of limits text sound))
+    (entries_bytes (columns_of_text text) (entry_lines text) (entry_lines_bytes text h))
 
 -- ---- changes
 
 abbrev IsChangeOfBytes : PathChange → Type 0
 IsChangeOfBytes change = AreBytes change.0 × (AreOfFormsIfAny change.1.0 × AreOfFormsIfAny change.1.1)
 
-new_bytes : (news : List Entry) → AllByRecursion IsOfBytes news → AllByRecursion IsChangeOfBytes (map (λ y. (y.0, (None, Some y.1))) news)
+new_bytes : (news : List Entry) → AllByRecursion IsOfBytes news
+    → AllByRecursion IsChangeOfBytes (map (λ y. (y.0, (None, Some y.1))) news)
 new_bytes [] h = tt
 new_bytes (y ∷ news) h = ((h.0.0, (tt, h.0.1)), new_bytes news h.1)
 
-weave_bytes : (x : Entry) (rest : List Entry → List PathChange) → IsOfBytes x → ((ys : List Entry) → AllByRecursion IsOfBytes ys → AllByRecursion IsChangeOfBytes (rest ys))
+weave_bytes : (x : Entry) (rest : List Entry → List PathChange) → IsOfBytes x
+    → ((ys : List Entry) → AllByRecursion IsOfBytes ys → AllByRecursion IsChangeOfBytes (rest ys))
     → (ys : List Entry) → AllByRecursion IsOfBytes ys → AllByRecursion IsChangeOfBytes (weave path_cmp x rest ys)
 weave_bytes x rest good more [] h = ((good.0, (good.1, tt)), more [] tt)
 weave_bytes x rest good more (y ∷ ys) h =
@@ -126,49 +139,65 @@ weave_bytes x rest good more (y ∷ ys) h =
       | Greater ↦ ((h.0.0, (tt, h.0.1)), woven)
     ]
 
-merged_bytes : (olds news : List Entry) → AllByRecursion IsOfBytes olds → AllByRecursion IsOfBytes news → AllByRecursion IsChangeOfBytes (merged path_cmp olds news)
+merged_bytes : (olds news : List Entry) → AllByRecursion IsOfBytes olds → AllByRecursion IsOfBytes news
+    → AllByRecursion IsChangeOfBytes (merged path_cmp olds news)
 merged_bytes [] news h k = new_bytes news k
 merged_bytes (x ∷ olds) news h k = weave_bytes x (merged path_cmp olds) h.0 (λ ys m. merged_bytes olds ys h.1 m) news k
 
-changes_bytes : (limits : Limits) (old new : List ℕ) → IsSound limits old → IsSound limits new → AreBytes old → AreBytes new
-    → AllByRecursion IsChangeOfBytes (changes (database_of old) (database_of new))
+changes_bytes : (limits : Limits) (old new : List ℕ) → IsSound limits old → IsSound limits new → AreBytes old
+    → AreBytes new → AllByRecursion IsChangeOfBytes (changes (database_of old) (database_of new))
 changes_bytes limits old new old_sound new_sound h k =
-    subst (AllByRecursion IsChangeOfBytes) (sym (changes-merged path_cmp path_cmp_total path_cmp-IsAntisymmetric (database_of old) (database_of new)))
-    (merged_bytes (entries (database_of old)) (entries (database_of new)) (database_bytes limits old old_sound h) (database_bytes limits new new_sound k))
+    subst (AllByRecursion IsChangeOfBytes)
+    (sym (changes-merged path_cmp path_cmp_total path_cmp-IsAntisymmetric (database_of old) (database_of new)))
+    (merged_bytes (entries (database_of old)) (entries (database_of new))
+    (database_bytes limits old old_sound h) (database_bytes limits new new_sound k))
 
 -- ---- lines
 
-each_line : (options : Options) (all : List PathChange) → AllByRecursion IsChangeOfBytes all → AllByRecursion IsJsonLine (map (change_line options) all)
-each_line options [] h = tt
-each_line options (change ∷ all) h = (change_line_is_json options change h.0.0 h.0.1.0 h.0.1.1, each_line options all h.1)
+-- lines of changes, and a last line behind them
+lines_then : (options : Options) (account : Accounts) (all : List PathChange) (last : List ℕ) (told : List Field)
+    → AllByRecursion IsChangeOfBytes all → IsJsonLine last told
+    → AreJsonLines (flat_map (change_line options account) all ++ last)
+    (map (change_fields options account) all ++ told ∷ [])
+lines_then options account [] last told h k =
+    ([], record { line = last; is_line = k; parts = sym (append-nil last) }, refl)
+lines_then options account (change ∷ all) last told h k =
+    let rest = flat_map (change_line options account) all ++ last in (
+      rest,
+      record {
+        line = change_line options account change;
+        is_line = change_line_is_json options account change h.0.0 h.0.1.0 h.0.1.1;
+        parts = append_assoc (change_line options account change) (flat_map (change_line options account) all) last;
+      },
+      lines_then options account all last told h.1 k,
+    )
 
-then_last : (ls : List (List ℕ)) (last : List ℕ) → AllByRecursion IsJsonLine ls → IsJsonLine last → AllByRecursion IsJsonLine (ls ++ last ∷ [])
-then_last [] last h k = (k, tt)
-then_last (l ∷ ls) last h k = (h.0, then_last ls last h.1 k)
+-- a first line, those of the changes that have one, and the last line
+pub all_lines_are_json : (options : Options) (account : Accounts) (all : List PathChange) (first : List ℕ)
+    (told : List Field) (has_trusted : Bool) (counts : LineCounts) (status : ℕ)
+    → AllByRecursion IsChangeOfBytes all → IsJsonLine first told
+    → AreJsonLines (first ++ (change_lines options account all ++ last_line has_trusted counts status))
+    (fields_of_lines options account told (last_fields has_trusted counts status) all)
+unfolding change_lines
+all_lines_are_json options account all first told has_trusted counts status h k =
+    let last = last_line has_trusted counts status in
+    let listed = filter (is_in options all_listed) all in
+    let rest = flat_map (change_line options account) listed ++ last in (
+      rest,
+      record { line = first; is_line = k; parts = refl },
+      lines_then options account listed last (last_fields has_trusted counts status)
+          (filter_keeps IsChangeOfBytes (is_in options all_listed) all h) (last_line_is_json has_trusted counts status),
+    )
 
-joined_up : (options : Options) (all : List PathChange) (last : List ℕ)
-    → flat_map (change_line options) all ++ last ≡ flat_map (λ line. line) (map (change_line options) all ++ last ∷ [])
-joined_up options [] last = sym (append-nil last)
-joined_up options (change ∷ all) last =
-    append_assoc (change_line options change) (flat_map (change_line options) all) last
-    ∙ ap (λ l. change_line options change ++ l) (joined_up options all last)
-
--- The lines over two sound texts of bytes are lines of JSON, whatever is asked.
+-- The lines over two sound texts of bytes are lines of JSON, whatever is asked: each has the members that belong to the
+-- changes of the two databases, in their order.
 pub lines_over_are_json : (limits : Limits) (wish : Asked) (old new : List ℕ) → IsSound limits old → IsSound limits new
     → AreBytes old → AreBytes new → AreBytes wish.old_path → AreBytes wish.new_path
-    → AreJsonLines (lines_over wish old new).text
-unfolding lines_over all_lines change_lines
+    → AreJsonLines (lines_over wish old new).text (fields_over wish old new)
+unfolding lines_over all_lines
 lines_over_are_json limits wish old new old_sound new_sound old_bytes new_bytes old_path new_path =
-    let found = counts_of wish.options (database_of old) (database_of new) in
-    let listed = listed_changes wish.options (changes (database_of old) (database_of new)) in
-    let first = first_line (facts_of wish.old_path old) (facts_of wish.new_path new) found in
-    let last = last_line found (status_by found) in
-    let good = filter_keeps IsChangeOfBytes (is_in wish.options all_listed) _ (changes_bytes limits old new old_sound new_sound old_bytes new_bytes) in
-    record {
-      lines = first ∷ (map (change_line wish.options) listed ++ last ∷ []);
-      each = (
-        first_line_is_json (facts_of wish.old_path old) (facts_of wish.new_path new) found old_path (sha256_bytes old) new_path (sha256_bytes new),
-        then_last (map (change_line wish.options) listed) last (each_line wish.options listed good) (last_line_is_json found (status_by found)),
-      );
-      parts = ap (λ l. first ++ l) (joined_up wish.options listed last);
-    }
+    let found = line_counts wish.options by_old (database_of old) (database_of new) in
+    all_lines_are_json wish.options by_old (changes (database_of old) (database_of new)) _ _ false found (status_by found)
+    (changes_bytes limits old new old_sound new_sound old_bytes new_bytes)
+    (first_line_is_json (facts_of wish.old_path old) (facts_of wish.new_path new)
+    (old_path, sha256_bytes old) (new_path, sha256_bytes new))

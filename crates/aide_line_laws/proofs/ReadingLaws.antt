@@ -1,0 +1,167 @@
+-- What a reader gets back from the line of a change is the change: its path, its kind, what accounts for it, and both entries.
+use Rattle.std.proofs.Common.{◌≡◌, ℕ, Bool, true, false, List, ◌∷◌, ◌++◌, Option, Some, None, inl, inr, refl, ap, ◌∙◌}
+use Rattle.std.specs.Prelude.{codes, option_map, option_and_then}
+use Rattle.std.specs.Result.{result_ok}
+use Rattle.std.specs.Str.{bytes_eq, is_utf8}
+use Rattle.std.proofs.lemmas.Bool.{cases_Bool}
+use Rattle.hex.specs.Hex.{encode_lower}
+use Rattle.hex.proofs.HexLemmas.{decode_of-encode_lower}
+use Rattle.json.specs.Json.{Json, object, string}
+use Rattle.aide_agreement.specs.Account.{Pair}
+use Rattle.aide_agreement.specs.declared.account.SameAs.{SameAs}
+use Rattle.aide_attr.specs.declared.attr.Attr.{Attr}
+use Rattle.aide_attr.specs.declared.file_type.FileType.{FileType}
+use Rattle.aide_conf.specs.declared.options.Options.{Options}
+use Rattle.aide_entry.specs.Attributes.{Attributes}
+use Rattle.aide_line_text.specs.Entry.{account_word, kind_word, type_at}
+use Rattle.aide_report.specs.ChangeLines.{Accounts, widest}
+use Rattle.aide_report.specs.Entries.{PathChange, letters_of, shows_at}
+use Rattle.aide_text.specs.ValueText.{type_text}
+use Rattle.aide_line_laws.specs.ByteValues.{AreBytes}
+use Rattle.aide_line_laws.specs.Field.{Field, members_of, text_field}
+use Rattle.aide_line_laws.specs.Fields.{entry_fields, field_if_any, object_field}
+use Rattle.aide_line_laws.specs.TextFields.{change_fields}
+use Rattle.aide_line_laws.specs.Reading.{bytes_of, text_of, text_under, value_under}
+use Rattle.aide_line_laws.proofs.Base64.{byte_at}
+
+-- behind a path, whatever its text is, the rest is read
+past_path : (name path : List ℕ) (fields : List Field) → bytes_eq (codes "path") name ≡ false
+    → bytes_eq (codes "path_hex") name ≡ false
+    → value_under name (text_field (codes "path") path ∷ fields) ≡ value_under name fields
+past_path name path fields e f = elim (cases_Bool (is_utf8 path)) [
+  | inl u ↦ rw (u, e) refl
+  | inr u ↦ rw (u, f) refl
+]
+
+-- behind what may not be there the rest is read
+past_any : {X : Type 0} (name : List ℕ) (own : X → Field) (found : Option X) (fields : List Field)
+    → ((x : X) → bytes_eq (own x).0 name ≡ false)
+    → value_under name (field_if_any own found ++ fields) ≡ value_under name fields
+past_any name own None fields e = refl
+past_any name own (Some x) fields e = rw (e x) refl
+
+nothing_any : {X : Type 0} (name : List ℕ) (own : X → Field) (found : Option X) → ((x : X) → bytes_eq (own x).0 name ≡ false)
+    → value_under name (field_if_any own found) ≡ None
+nothing_any name own None e = refl
+nothing_any name own (Some x) e = rw (e x) refl
+
+under_any : {X : Type 0} (name : List ℕ) (json : X → Json) (found : Option X) (fields : List Field)
+    → bytes_eq name name ≡ true → value_under name fields ≡ None
+    → value_under name (field_if_any (λ x. (name, json x)) found ++ fields) ≡ option_map json found
+under_any name json None fields same e = e
+under_any name json (Some x) fields same e = rw same refl
+
+last_any : {X : Type 0} (name : List ℕ) (json : X → Json) (found : Option X) → bytes_eq name name ≡ true
+    → value_under name (field_if_any (λ x. (name, json x)) found) ≡ option_map json found
+last_any name json None same = refl
+last_any name json (Some x) same = rw same refl
+
+-- ---- the parts behind the summary string
+
+module _ (account : Option SameAs) (shows : Attr → Bool) (found : Pair) where
+  abbrev same : SameAs → Field
+  same account = (codes "same_as", string (account_word account))
+
+  abbrev type : FileType → Field
+  type kind = (codes "type", string (type_text kind))
+
+  abbrev side : List ℕ → Attributes → Field
+  side name entry = object_field name (entry_fields shows entry)
+
+  abbrev sides : List Field
+  sides = field_if_any (side (codes "old")) found.0 ++ field_if_any (side (codes "new")) found.1
+
+  abbrev parts : List Field
+  parts = field_if_any same account ++ (field_if_any type (type_at found) ++ sides)
+
+  nothing_in_sides : (name : List ℕ) → bytes_eq (codes "old") name ≡ false → bytes_eq (codes "new") name ≡ false
+      → value_under name sides ≡ None
+  nothing_in_sides name e f =
+      past_any name (side (codes "old")) found.0 (field_if_any (side (codes "new")) found.1) (λ x. e)
+      ∙ nothing_any name (side (codes "new")) found.1 (λ x. f)
+
+  nothing_in_parts : (name : List ℕ) → bytes_eq (codes "same_as") name ≡ false → bytes_eq (codes "type") name ≡ false
+      → bytes_eq (codes "old") name ≡ false → bytes_eq (codes "new") name ≡ false → value_under name parts ≡ None
+  nothing_in_parts name e f g h =
+      past_any name same account (field_if_any type (type_at found) ++ sides) (λ x. e)
+      ∙ past_any name type (type_at found) sides (λ x. f) ∙ nothing_in_sides name g h
+
+  same_in_parts : value_under (codes "same_as") parts ≡ option_map (λ account. string (account_word account)) account
+  same_in_parts =
+      under_any (codes "same_as") (λ account. string (account_word account)) account (field_if_any type (type_at found) ++ sides)
+      refl
+      (past_any (codes "same_as") type (type_at found) sides (λ x. refl) ∙ nothing_in_sides (codes "same_as") refl refl)
+
+  old_in_parts : value_under (codes "old") parts ≡ option_map (λ entry. object (members_of (entry_fields shows entry))) found.0
+  old_in_parts =
+      past_any (codes "old") same account (field_if_any type (type_at found) ++ sides) (λ x. refl)
+      ∙ past_any (codes "old") type (type_at found) sides (λ x. refl)
+      ∙ under_any (codes "old") (λ entry. object (members_of (entry_fields shows entry))) found.0
+      (field_if_any (side (codes "new")) found.1) refl
+      (nothing_any (codes "old") (side (codes "new")) found.1 (λ x. refl))
+
+  new_in_parts : value_under (codes "new") parts ≡ option_map (λ entry. object (members_of (entry_fields shows entry))) found.1
+  new_in_parts =
+      past_any (codes "new") same account (field_if_any type (type_at found) ++ sides) (λ x. refl)
+      ∙ past_any (codes "new") type (type_at found) sides (λ x. refl)
+      ∙ past_any (codes "new") (side (codes "old")) found.0 (field_if_any (side (codes "new")) found.1) (λ x. refl)
+      ∙ last_any (codes "new") (λ entry. object (members_of (entry_fields shows entry))) found.1 refl
+
+-- ---- the laws
+
+read_in_base_16 : (path : List ℕ) → AreBytes path → bytes_of (string (encode_lower path)) ≡ Some path
+read_in_base_16 path h = ap result_ok (decode_of-encode_lower path (λ i. byte_at path i h))
+
+-- the text of a string, or else the bytes of the other one
+abbrev chosen : Option Json → Option Json → Option (List ℕ)
+chosen text hex = elim text [ Some json ↦ text_of json | None ↦ option_and_then bytes_of hex ]
+
+-- What is under "path" is the path of the change, in base 16 if it is not UTF-8.
+pub path_is_read_back : (options : Options) (account : Accounts) (change : PathChange) → AreBytes change.0
+    → text_under (codes "path") (change_fields options account change) ≡ Some change.0
+path_is_read_back options account change bytes =
+    let shows = shows_at (widest options) change.1 in
+    elim (cases_Bool (is_utf8 change.0)) [
+      | inl u ↦ rw u refl
+      | inr u ↦
+          rw u (ap (λ o. chosen o (Some (string (encode_lower change.0))))
+          (nothing_in_parts (account change) shows change.1 (codes "path") refl refl refl refl)
+          ∙ read_in_base_16 change.0 bytes)
+    ]
+
+-- What is under "kind" is the word for what became of it.
+pub kind_is_read_back : (options : Options) (account : Accounts) (change : PathChange)
+    → text_under (codes "kind") (change_fields options account change) ≡ Some (kind_word change.1)
+kind_is_read_back options account change = refl
+
+-- What is under "summary" is its summary string.
+pub summary_is_read_back : (options : Options) (account : Accounts) (change : PathChange)
+    → text_under (codes "summary") (change_fields options account change) ≡ Some (letters_of options.ignore change.1)
+summary_is_read_back options account change =
+    ap (λ o. chosen o (value_under (codes "summary_hex") (change_fields options account change)))
+    (past_path (codes "summary") change.0 ((codes "summary", string (letters_of options.ignore change.1))
+    ∷ parts (account change) (shows_at (widest options) change.1) change.1) refl refl)
+
+-- Under "same_as" is what accounts for it, and nothing if nothing does.
+pub account_is_read_back : (options : Options) (account : Accounts) (change : PathChange)
+    → value_under (codes "same_as") (change_fields options account change)
+    ≡ option_map (λ same. string (account_word same)) (account change)
+account_is_read_back options account change =
+    past_path (codes "same_as") change.0 (parts (account change) (shows_at (widest options) change.1) change.1) refl refl
+    ∙ same_in_parts (account change) (shows_at (widest options) change.1) change.1
+
+-- Under "old" are the attributes of the old entry that pass, and nothing if there is none.
+pub old_is_read_back : (options : Options) (account : Accounts) (change : PathChange)
+    → value_under (codes "old") (change_fields options account change)
+    ≡ option_map (λ entry. object (members_of (entry_fields (shows_at (widest options) change.1) entry))) change.1.0
+old_is_read_back options account change =
+    past_path (codes "old") change.0 (parts (account change) (shows_at (widest options) change.1) change.1) refl refl
+    ∙ old_in_parts (account change) (shows_at (widest options) change.1) change.1
+
+-- Under "new" are those of the new entry.
+pub new_is_read_back : (options : Options) (account : Accounts) (change : PathChange)
+    → value_under (codes "new") (change_fields options account change)
+    ≡ option_map (λ entry. object (members_of (entry_fields (shows_at (widest options) change.1) entry))) change.1.1
+new_is_read_back options account change =
+    past_path (codes "new") change.0 (parts (account change) (shows_at (widest options) change.1) change.1) refl refl
+    ∙ new_in_parts (account change) (shows_at (widest options) change.1) change.1
