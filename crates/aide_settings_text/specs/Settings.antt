@@ -52,7 +52,7 @@ set_members ignore =
 -- the sets of attributes.
 unfoldable pub settings_line : Options → (old_path new_path : Option (List ℕ)) → List ℕ
 settings_line options old_path new_path =
-    line (member (codes "format") (json_count 2)
+    line (member (codes "format") (json_count 3)
     ∷ path_member (codes "database_in") old_path
     ∷ path_member (codes "database_new") new_path
     ∷ member (codes "report_level") (quoted (level_name options.level))

@@ -67,7 +67,7 @@ pub fn put_settings_line<W: Sink>(
         (on_sheet W.Sink out.old pen.old) (on_sheet W.Sink out.new pen.new) }
 {
     put(out, pen, b"{");
-    put_count_member(out, pen, b"format", 2);
+    put_count_member(out, pen, b"format", 3);
     put(out, pen, b",");
     put_path(out, pen, b"database_in", old_path);
     put(out, pen, b",");

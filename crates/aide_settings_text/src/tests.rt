@@ -23,7 +23,7 @@ fn writes(
 
 #[test]
 fn nothing_is_set(rt: HostRuntime) -> Result<(), Fail> {
-    let line = b"{\"format\":2,\"database_in\":null,\"database_new\":null,\
+    let line = b"{\"format\":3,\"database_in\":null,\"database_new\":null,\
 \"report_level\":\"changed_attributes\",\"report_grouped\":true,\
 \"report_summarize_changes\":true,\"report_base16\":false,\"report_quiet\":false,\
 \"report_ignore_added_attrs\":[],\"report_ignore_removed_attrs\":[],\
@@ -47,7 +47,7 @@ fn all_is_set(rt: HostRuntime) -> Result<(), Fail> {
             force: AttrSet::of(Attr::Lname),
         },
     };
-    let line = b"{\"format\":2,\"database_in\":\"/o%20\\\"\",\"database_new_hex\":\"2fff\",\
+    let line = b"{\"format\":3,\"database_in\":\"/o%20\\\"\",\"database_new_hex\":\"2fff\",\
 \"report_level\":\"minimal\",\"report_grouped\":false,\
 \"report_summarize_changes\":false,\"report_base16\":true,\"report_quiet\":true,\
 \"report_ignore_added_attrs\":[\"s\",\"p\"],\"report_ignore_removed_attrs\":[\"sha512_256\"],\

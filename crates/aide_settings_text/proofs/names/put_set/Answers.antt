@@ -10,4 +10,5 @@ use Rattle.aide_settings_text.proofs.names.put_set.Goals as goal
 pub returns : goal.returns
 unfolding attrs_array array
 returns g c =
-    wrote_more c.put.ensures (wrote_more (wrote_as (items_as (has c.args.set) attr_string (has c.args.set) all_attrs (λ a. refl)) c.put_names.ensures) c.put-2.ensures)
+    wrote_more c.put.ensures (wrote_more (wrote_as (items_as (has c.args.set) attr_string (has c.args.set) all_attrs (λ a. refl))
+    c.put_names.ensures) c.put-2.ensures)
