@@ -1,15 +1,30 @@
 -- From what the matches hold to the job of the words.
 use Rattle.std.proofs.Common.{◌≡◌, ◌∙◌, List, [], ap, refl, sym, Bool, true, false, Option, Some, None, codes}
 use Rattle.std.proofs.Common.{if◌then◌else◌, Ok, Err}
+use Rattle.std.proofs.Math.Path.{subst}
 use Rattle.std.specs.Prelude.{IfOk, Result, option_and_then}
 use Rattle.clap.specs.Walk.{Row, Text, first_of, is_empty}
-use Rattle.clap.specs.Simple.{matches_of}
+use Rattle.clap.specs.Simple.{App, is_simple, matches_of}
 use Rattle.clap.specs.Kinds.{Kinds}
-use Rattle.clap.specs.Faults.{fault_of}
+use Rattle.clap.specs.Faults.{fault_of, is_simple_and_free}
+use Rattle.clap.proofs.OnLiterals.{clap_on_literals}
 use Rattle.aide_words.specs.Job.{JobText, aide_command, exactly_one, flag_of, job_for, job_of, job_of_rows, text_of}
 use Rattle.aide_words.specs.Job.{text_of_job}
 use Rattle.aide_words.specs.declared.job.Job.{Job}
 use Rattle.aide_words.specs.declared.job.WordsFault.{WordsFault}
+
+pub aide_is_free : is_simple_and_free aide_command ≡ true
+unfolding aide_command clap_on_literals
+aide_is_free = refl
+
+pub aide_is_simple : is_simple aide_command ≡ true
+unfolding aide_command clap_on_literals
+aide_is_simple = refl
+
+-- what was matched against a command was matched against one that is the same
+pub matched_by : (a b : App) (v : List Text) (rows : List Row) → a ≡ b → (fault_of a v ≡ []) × (rows ≡ matches_of a v)
+    → (fault_of b v ≡ []) × (rows ≡ matches_of b v)
+matched_by a b v rows is matched = subst (λ (x : App). (fault_of x v ≡ []) × (rows ≡ matches_of x v)) is matched
 
 -- where the parse succeeds, the job is that of the rows
 pub job-rows : (v words : List Text) (rows : List Row) → v ≡ words

@@ -1,8 +1,10 @@
 //! What a command line asks for.
-ghost use Rattle.std.specs.Prelude.{◌≡◌, ◌≢◌, [], false, Some, None, IfOk, IsErrOf};
+ghost use Rattle.std.specs.Prelude.{◌≡◌, ◌≢◌, [], true, false, Some, None, IfOk, IsErrOf};
 ghost use Rattle.aide_words.specs.Job.{aide_command, flag_of, option_rule, job_of, job_of_rows};
 ghost use Rattle.aide_words.specs.Job.{code_of_refusal, text_of, text_of_job, with_flags};
 ghost use Rattle.aide_words.specs.Job.{with_texts};
+ghost use Rattle.clap.specs.Faults.{is_simple_and_free};
+ghost use Rattle.clap.specs.Simple.{is_simple};
 ghost use Rattle.clap.specs.Words.{app_of, fault_of, found_of, matches_of, rows_of, rule_of};
 
 use crate::words::{Memory, Word, Words};
@@ -56,7 +58,7 @@ impl From<Memory> for WordsFault {
 }
 
 /// Makes the option `--id`, with a letter.
-fn option<'a>(alloc: Global, id: &'a str, letter: char, action: ArgAction) -> Arg<'a>
+pub(crate) fn option<'a>(alloc: Global, id: &'a str, letter: char, action: ArgAction) -> Arg<'a>
     ensures rule { rule_of result ≡ option_rule id.now letter action }
     ensures local { result.global ≡ false }
 {
@@ -73,7 +75,7 @@ fn add_flags<'a>(alloc: Global, command: Command<'a>) -> Result<Command<'a>, All
 }
 
 /// Adds the options that take a text.
-fn add_texts<'a>(alloc: Global, command: Command<'a>) -> Result<Command<'a>, AllocError>
+pub(crate) fn add_texts<'a>(alloc: Global, command: Command<'a>) -> Result<Command<'a>, AllocError>
     ensures { IfOk result (λ c. app_of c ≡ with_texts (app_of command.entry)) }
 {
     command
@@ -90,15 +92,18 @@ fn command<'a>(alloc: Global) -> Result<Command<'a>, AllocError>
     add_texts(alloc, command)
 }
 
-/// Matches the arguments against the command.
-fn matches<'a>(alloc: Global, words: &'a [Word]) -> Result<ArgMatches<'a>, WordsFault>
-    ensures ok { IfOk result (λ m. (fault_of aide_command words.now ≡ [])
-        × (rows_of (found_of m) ≡ matches_of aide_command words.now)) }
-    ensures usage { IsErrOf result WordsFault.Usage → fault_of aide_command words.now ≢ [] }
+/// Matches the arguments against a command.
+pub(crate) fn matches<'a>(
+    command: Command<'a>,
+    words: &'a [Word],
+) -> Result<ArgMatches<'a>, WordsFault>
+    requires simple { is_simple (app_of command) ≡ true }
+    requires free { is_simple_and_free (app_of command) ≡ true }
+    ensures ok { IfOk result (λ m. (fault_of (app_of command.entry) words.now ≡ [])
+        × (rows_of (found_of m) ≡ matches_of (app_of command.entry) words.now)) }
+    ensures usage { IsErrOf result WordsFault.Usage
+        → fault_of (app_of command.entry) words.now ≢ [] }
 {
-    let Ok(command) = command(alloc) else {
-        return Err(WordsFault::Memory);
-    };
     match command.try_get_matches_from(words) {
         Ok(matches) => Ok(matches),
         Err(error) => match error.kind() {
@@ -119,7 +124,7 @@ fn is_set(matches: &ArgMatches<'_>, id: &str) -> bool
 }
 
 /// Returns the text of an option, or the empty text if the option was not given.
-fn text<'a>(matches: &ArgMatches<'a>, id: &str) -> &'a str
+pub(crate) fn text<'a>(matches: &ArgMatches<'a>, id: &str) -> &'a str
     ensures { result.now ≡ text_of id.now (rows_of (found_of matches.now)) }
 {
     matches.get_str(id).unwrap_or("")
@@ -158,6 +163,9 @@ pub fn read_words(alloc: Global, words: &Words) -> Result<Job, WordsFault>
     ensures ok { IfOk result (λ job. job_of words.now ≡ Some (text_of_job job)) }
     ensures usage { IsErrOf result WordsFault.Usage → job_of words.now ≡ None }
 {
-    let found = matches(alloc, words.as_slice())?;
+    let Ok(command) = command(alloc) else {
+        return Err(WordsFault::Memory);
+    };
+    let found = matches(command, words.as_slice())?;
     job_from(alloc, &found)
 }

@@ -7,4 +7,5 @@ use Rattle.aide_words.proofs.job.add_flags.Goals as goal
 pub returns : goal.returns
 returns c =
     let one = c.in_ok-arg.ensures.shape c.option.ensures.local ∙ ap (with_rule (app_of c.args.command)) c.option.ensures.rule in
-    IfOk-weaker c.arg-2.result _ _ (λ r h. h.shape c.option-2.ensures.local ∙ ap₂ with_rule one c.option-2.ensures.rule) c.arg-2.ensures
+    IfOk-weaker c.arg-2.result _ _ (λ r h. h.shape c.option-2.ensures.local ∙ ap₂ with_rule one c.option-2.ensures.rule)
+    c.arg-2.ensures

@@ -13,4 +13,5 @@ returns c =
     ap rule_of c.required.ensures ∙ ap (λ (r : Rule). record r { required = true }) c.option.ensures.rule in
     let one = c.in_ok-arg.ensures.shape (search rules) ∙ ap (with_rule (app_of c.args.command)) config_is in
     let two = c.in_ok-arg-2.ensures.shape c.option-2.ensures.local ∙ ap₂ with_rule one c.option-2.ensures.rule in
-    IfOk-weaker c.arg-3.result _ _ (λ r h. h.shape c.option-3.ensures.local ∙ ap₂ with_rule two c.option-3.ensures.rule) c.arg-3.ensures
+    IfOk-weaker c.arg-3.result _ _ (λ r h. h.shape c.option-3.ensures.local ∙ ap₂ with_rule two c.option-3.ensures.rule)
+    c.arg-3.ensures

@@ -6,4 +6,5 @@ use Rattle.aide_words.proofs.job.command.Goals as goal
 pub returns : goal.returns
 unfolding aide_command
 returns c =
-    IfOk-weaker c.add_texts.result _ _ (λ r is. is ∙ ap with_texts (c.in_ok-command.ensures ∙ ap with_flags c.new.ensures.app)) c.add_texts.ensures
+    IfOk-weaker c.add_texts.result _ _ (λ r is. is ∙ ap with_texts (c.in_ok-command.ensures ∙ ap with_flags c.new.ensures.app))
+    c.add_texts.ensures

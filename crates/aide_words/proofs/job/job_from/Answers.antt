@@ -22,7 +22,9 @@ other false false e = sym e
 pub returns-then-compare-check-clause-usage : goal.returns-then-compare-check-clause-usage
 returns-then-compare-check-clause-usage c = λ _.
     let rows = rows_of (found_of c.args.found.now) in
-    choose_none rows (first_of (codes "config") rows) (sym (ap₂ exactly_one c.is_set-compare.ensures c.is_set-check.ensures) ∙ same c.is_set-compare.result c.is_set-check.result c.if-compare-check.true)
+    choose_none rows (first_of (codes "config") rows)
+    (sym (ap₂ exactly_one c.is_set-compare.ensures c.is_set-check.ensures)
+    ∙ same c.is_set-compare.result c.is_set-check.result c.if-compare-check.true)
 
 pub returns-in_default-clause-usage : goal.returns-in_default-clause-usage
 returns-in_default-clause-usage c = λ _.
@@ -34,6 +36,8 @@ returns-clause-ok c =
     let found = found_of c.args.found.now in
     let rows = rows_of found in
     let t = c.in-Some.config.now in
-    job-some rows t (sym (ap₂ exactly_one c.is_set-compare.ensures c.is_set-check.ensures) ∙ other c.is_set-compare.result c.is_set-check.result c.if-compare-check.false)
+    job-some rows t (sym (ap₂ exactly_one c.is_set-compare.ensures c.is_set-check.ensures)
+    ∙ other c.is_set-compare.result c.is_set-check.result c.if-compare-check.false)
     (sym (first_value-rows found (codes "config")) ∙ sym c.in-Some.ensures)
-    ∙ job-made rows c.is_set-compare.result c.in_ok-new.field-0 c.in_ok-new-2.field-0 c.in_ok-new-3.field-0 t c.is_set-compare.ensures c.in_ok-new.ensures (c.in_ok-new-2.ensures ∙ c.text.ensures) (c.in_ok-new-3.ensures ∙ c.text-2.ensures)
+    ∙ job-made rows c.is_set-compare.result c.in_ok-new.field-0 c.in_ok-new-2.field-0 c.in_ok-new-3.field-0 t c.is_set-compare.ensures
+    c.in_ok-new.ensures (c.in_ok-new-2.ensures ∙ c.text.ensures) (c.in_ok-new-3.ensures ∙ c.text-2.ensures)

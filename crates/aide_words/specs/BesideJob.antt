@@ -1,0 +1,62 @@
+-- The comparison beside a trusted pair that a list of arguments asks for, by the matches that `clap` states.
+use Rattle.std.specs.Prelude.{true, List, Option, Some, None, codes, if◌then◌else◌}
+use Rattle.clap.specs.Walk.{Row, Rule, Text, is_empty}
+use Rattle.clap.specs.Simple.{App, matches_of, new_app, new_rule, with_rule}
+use Rattle.clap.specs.Faults.{fault_of}
+use Rattle.clap.specs.declared.builder.action.ArgAction.TheVariants.{Set, SetTrue}
+use Rattle.aide_words.specs.Job.{option_rule, text_of, with_texts}
+use Rattle.aide_words.specs.declared.beside_job.BesideJob.{BesideJob}
+
+-- an option without a letter that has to be given; its long name is its id
+abbrev pub trusted_rule : Text → Rule
+trusted_rule id = record (new_rule id) { long = Some id; action = Some Set; required = true }
+
+-- a command with the flag of a comparison, which has to be given
+abbrev pub with_compare : App → App
+with_compare app =
+    with_rule app (record (option_rule (codes "compare") 69 SetTrue) { required = true })
+
+-- a command with the options that name a trusted pair
+abbrev pub with_trusted : App → App
+with_trusted app = with_rule (with_rule app
+    (trusted_rule (codes "trusted-old")))
+    (trusted_rule (codes "trusted-new"))
+
+-- The command of a comparison beside a trusted pair. It has the options of `aide` but the one that
+-- only checks the configuration.
+unfoldable pub beside_command : App
+beside_command = with_trusted (with_texts (with_compare (new_app (codes "aide_lines"))))
+
+-- what the program is to do
+pub record BesideText : Type 0 where
+  pub config : Text
+  pub before : Text
+  pub after : Text
+  pub trusted_old : Text
+  pub trusted_new : Text
+
+-- the texts of the options
+abbrev pub beside_text : List Row → BesideText
+beside_text rows = record {
+  config = text_of (codes "config") rows;
+  before = text_of (codes "before") rows;
+  after = text_of (codes "after") rows;
+  trusted_old = text_of (codes "trusted-old") rows;
+  trusted_new = text_of (codes "trusted-new") rows;
+}
+
+-- the comparison beside a trusted pair that the arguments ask for, if there is one
+abbrev pub beside_job_of : List Text → Option BesideText
+beside_job_of words =
+    if is_empty (fault_of beside_command words)
+    then Some (beside_text (matches_of beside_command words)) else None
+
+-- the texts of a job
+abbrev pub text_of_beside : BesideJob → BesideText
+text_of_beside j = record {
+  config = j.config;
+  before = j.before;
+  after = j.after;
+  trusted_old = j.trusted_old;
+  trusted_new = j.trusted_new;
+}

@@ -1,0 +1,98 @@
+//! What a command line asks for that names a trusted pair of databases.
+ghost use Rattle.std.specs.Prelude.{◌≡◌, false, Some, None, IfOk, IsErrOf};
+ghost use Rattle.aide_words.specs.BesideJob.{beside_command, beside_job_of, beside_text};
+ghost use Rattle.aide_words.specs.BesideJob.{text_of_beside, trusted_rule, with_compare};
+ghost use Rattle.aide_words.specs.BesideJob.{with_trusted};
+ghost use Rattle.clap.specs.Words.{app_of, found_of, rows_of, rule_of};
+
+use crate::job::{WordsFault, add_texts, matches, option, text};
+use crate::words::{Memory, Word, Words};
+use clap::{Arg, ArgAction, ArgMatches, Command};
+use std::alloc::{AllocError, Global};
+
+/// A comparison that the command line asks for, and the two databases of a trusted machine that
+/// stand beside it.
+#[derive(Drop)]
+pub struct BesideJob {
+    /// The path of the configuration.
+    pub config: Word,
+    /// Lines of configuration to read before those of the file. Empty if none were given.
+    pub before: Word,
+    /// Lines of configuration to read after those of the file. Empty if none were given.
+    pub after: Word,
+    /// The path of the old database of the trusted machine.
+    pub trusted_old: Word,
+    /// The path of the new database of the trusted machine.
+    pub trusted_new: Word,
+}
+
+/// Makes the option `--id`, which has no letter and has to be given.
+fn trusted_option<'a>(alloc: Global, id: &'a str) -> Arg<'a>
+    ensures rule { rule_of result ≡ trusted_rule id.now }
+    ensures local { result.global ≡ false }
+{
+    Arg::new(alloc, id)
+        .long(id)
+        .action(ArgAction::Set)
+        .required(true)
+}
+
+/// Adds the flag of a comparison, which has to be given.
+fn add_compare<'a>(alloc: Global, command: Command<'a>) -> Result<Command<'a>, AllocError>
+    ensures { IfOk result (λ c. app_of c ≡ with_compare (app_of command.entry)) }
+{
+    command.arg(option(alloc, "compare", 'E', ArgAction::SetTrue).required(true))
+}
+
+/// Adds the options that name the trusted pair.
+fn add_trusted<'a>(alloc: Global, command: Command<'a>) -> Result<Command<'a>, AllocError>
+    ensures { IfOk result (λ c. app_of c ≡ with_trusted (app_of command.entry)) }
+{
+    command
+        .arg(trusted_option(alloc, "trusted-old"))?
+        .arg(trusted_option(alloc, "trusted-new"))
+}
+
+/// Makes the command of a comparison beside a trusted pair.
+fn command<'a>(alloc: Global) -> Result<Command<'a>, AllocError>
+    ensures { IfOk result (λ c. app_of c ≡ beside_command) }
+{
+    let command = add_compare(alloc, Command::new(alloc, "aide_lines"))?;
+    let command = add_texts(alloc, command)?;
+    add_trusted(alloc, command)
+}
+
+/// Copies the texts of the options.
+fn beside_job_from(alloc: Global, found: &ArgMatches<'_>) -> Result<BesideJob, Memory>
+    ensures { IfOk result (λ job. text_of_beside job ≡ beside_text (rows_of (found_of found.now))) }
+{
+    Ok(BesideJob {
+        config: Word::new(alloc, text(found, "config"))?,
+        before: Word::new(alloc, text(found, "before"))?,
+        after: Word::new(alloc, text(found, "after"))?,
+        trusted_old: Word::new(alloc, text(found, "trusted-old"))?,
+        trusted_new: Word::new(alloc, text(found, "trusted-new"))?,
+    })
+}
+
+/// Reads the arguments of a comparison beside a trusted pair. The first one is the program's name:
+/// `aide_lines (-E | --compare) (-c | --config) FILE --trusted-old FILE --trusted-new FILE
+/// [-B | --before TEXT] [-A | --after TEXT]`.
+///
+/// All but `-B` and `-A` have to be given, and each option at most once. Everything else is `Usage`,
+/// including a request for help, and arguments that name no trusted pair. Out of memory is
+/// `WordsFault::Memory`.
+#[inline(never)]
+pub fn read_beside_words(alloc: Global, words: &Words) -> Result<BesideJob, WordsFault>
+    ensures ok { IfOk result (λ job. beside_job_of words.now ≡ Some (text_of_beside job)) }
+    ensures usage { IsErrOf result WordsFault.Usage → beside_job_of words.now ≡ None }
+{
+    let Ok(command) = command(alloc) else {
+        return Err(WordsFault::Memory);
+    };
+    let found = matches(command, words.as_slice())?;
+    match beside_job_from(alloc, &found) {
+        Ok(job) => Ok(job),
+        Err(Memory) => Err(WordsFault::Memory),
+    }
+}
