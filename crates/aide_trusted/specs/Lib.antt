@@ -1,0 +1,4 @@
+pub mod BesideLines
+pub mod BesideRuns
+pub mod Pairs
+pub mod code

@@ -1,0 +1,5 @@
+-- Definitions for steps inside the code. No clause of a public call cites them.
+pub mod Sought
+pub mod Calls
+pub mod PairPasses
+pub mod Written
