@@ -66,10 +66,12 @@ first_then {text} {last} {a} {b} {c} {d} wants_more none p q r = record {
 
 first_by : (options : Options) (total added removed changed : ℕ) (wants_more silent : Bool) (a b : Sheet)
     → is_silent options (databases_differ added removed changed) ≡ silent
-    → WritesFirst (if silent then [] else overview_of options.level total added removed changed) (not silent && reaches options.level DatabaseAttributes) a b
+    → WritesFirst (if silent then [] else overview_of options.level total added removed changed)
+    (not silent && reaches options.level DatabaseAttributes) a b
     → WritesFirst (beginning_of options total added removed changed) (goes_on options added removed changed) a b
 first_by options total added removed changed wants_more silent a b is p =
-    subst (λ x. WritesFirst (if x then [] else overview_of options.level total added removed changed) (not x && reaches options.level DatabaseAttributes) a b) (sym is) p
+    subst (λ x. WritesFirst (if x then [] else overview_of options.level total added removed changed)
+    (not x && reaches options.level DatabaseAttributes) a b) (sym is) p
 
 pub first_silent : (options : Options) (total added removed changed : ℕ) (a : Sheet)
     → is_silent options (databases_differ added removed changed) ≡ true

@@ -43,9 +43,11 @@ cursor_then {r = r} {c = c} {n = n} {d = d} {e = e} {f = f} p q = record {
 }
 
 -- the side has another name
-pub advanced_at : {R : Type 0} {r : Reels R} {side other : Side} {c n : CursorView R} {d e : DeskView} {before after : NextEntry} → side ≡ other
+pub advanced_at : {R : Type 0} {r : Reels R} {side other : Side} {c n : CursorView R} {d e : DeskView} {before after : NextEntry} → side
+    ≡ other
     → IsAdvanced r side c n d e before after → IsAdvanced r other c n d e before after
-advanced_at {r = r} {c = c} {n = n} {d = d} {e = e} {before = before} {after = after} is p = subst (λ (s : Side). IsAdvanced r s c n d e before after) is p
+advanced_at {r = r} {c = c} {n = n} {d = d} {e = e} {before = before} {after = after} is p = subst
+    (λ (s : Side). IsAdvanced r s c n d e before after) is p
 
 -- ---- a merge
 
@@ -72,7 +74,8 @@ merge_then {r = r} {m = m} {n = n} {d = d} {e = e} {f = f} p q = record {
 pub merge_fault : {R : Type 0} {r : Reels R} {m n k : Merge R} {d e : DeskView} {fault : DbFault} → KeepsMerge r m n d e
     → IsMergeFault r n k e fault → IsMergeFault r m k d fault
 merge_fault {m = m} {n = n} {d = d} {e = e} {fault = fault} p is = record {
-  first = λ text s. subst (λ (limits : Limits). IsFaultOf limits text fault) (p.limits fault.side) (is.first text (p.stands fault.side text s));
+  first = λ text s. subst (λ (limits : Limits). IsFaultOf limits text fault) (p.limits fault.side)
+      (is.first text (p.stands fault.side text s));
   read = is.read;
   memory = λ le. is.memory (λ side. still_fits (limits_at m side) (limits_at n side) d.room e.room (p.limits side) p.room (le side));
 }
@@ -128,7 +131,8 @@ new_fault r m n d middle fault is_new kept room is =
     let at : fault.side ≡ New = is.of_side ∙ is_new in
     record {
       first = λ text s. subst (λ (side : Side). IsFaultOf (limits_at m side) text fault) (sym at)
-          (is.first text (stands_across r.to_come m.new_cursor New d middle text is_new kept (subst (λ (side : Side). StandsAt r.to_come m d side text) at s)));
+          (is.first text (stands_across r.to_come m.new_cursor New d middle text is_new kept
+          (subst (λ (side : Side). StandsAt r.to_come m d side text) at s)));
       read = λ read. omega (arith, is.read read);
       memory = λ le. is.memory (still_fits m.new_cursor.limits m.new_cursor.limits d.room middle.room refl room (le New));
     }

@@ -1,14 +1,15 @@
 -- What a section says of changes, one after another.
-use Rattle.std.proofs.Common.{◌≡◌, ◌∙◌, ◌&&◌, ℕ, Bool, true, false, if◌then◌else◌, cond, List, [], ◌∷◌, ◌++◌, refl, sym, ap, ◌+◌, Some, None}
-use Rattle.std.proofs.Common.{◌<◌, ◌≤◌, length, drop, get_or}
+use Rattle.std.proofs.Common.{◌≡◌, ◌∙◌, ◌&&◌, ℕ, Bool, true, false, if◌then◌else◌, cond, List, [], ◌∷◌, ◌++◌, refl, sym, ap, ◌+◌, Some}
+use Rattle.std.proofs.Common.{None, ◌<◌, ◌≤◌, length, drop, get_or}
 use Rattle.std.specs.List.{flat_map, filter}
 use Rattle.std.proofs.lemmas.List.{drop_more, drop_all}
+use Rattle.aide_agreement.specs.Account.{Pair}
 use Rattle.aide_attr.specs.declared.attr.Attr.{Attr}
 use Rattle.aide_conf.specs.declared.options.Options.{Options}
 use Rattle.aide_entry.specs.Attributes.{Entry}
 use Rattle.aide_report.specs.code.ChangeView.{alike_of}
 use Rattle.aide_report.specs.Changed.{differ_by}
-use Rattle.aide_report.specs.Entries.{PathChange, Pair, attribute_text, attributes_text, shown_text}
+use Rattle.aide_report.specs.Entries.{PathChange, attribute_text, attributes_text, shown_text}
 use Rattle.aide_report.specs.Sections.{all_listed, is_in, lists, entry_text, one_text, entries_text}
 use Rattle.aide_report.proofs.SameEntries.{and_no, in_none, nowhere}
 use Rattle.aide_report.proofs.WriterLemmas.{all_passing}
@@ -83,7 +84,8 @@ shown_first base16 pair shows a rest = by_shown (shows a)
 
 pub shown_drop : (base16 : Bool) (pair : Pair) (shows : Attr → Bool) (attrs : List Attr) (i : ℕ) (d : Attr)
     → i < length attrs
-    → attributes_text base16 pair shows (drop i attrs) ≡ shown_text base16 pair shows (get_or attrs i d) ++ attributes_text base16 pair shows (drop (i + 1) attrs)
+    → attributes_text base16 pair shows (drop i attrs) ≡ shown_text base16 pair shows (get_or attrs i d)
+    ++ attributes_text base16 pair shows (drop (i + 1) attrs)
 shown_drop base16 pair shows attrs i d h =
     ap (attributes_text base16 pair shows) (drop_more attrs i d h) ∙ shown_first base16 pair shows (get_or attrs i d) (drop (i + 1) attrs)
 

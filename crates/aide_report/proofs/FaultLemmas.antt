@@ -52,7 +52,8 @@ pub right_later : (limits : Limits) (before after : Side → Option (List ℕ)) 
     → (fault : RunFault) → IsLater limits after fault → IsRight limits before fault
 right_later limits before after same sound (Open side) later = tt
 right_later limits before after same sound (Database fault) later = λ text told inside. absurd (true_false (sym later ∙ inside))
-right_later limits before after same sound (Changed side) later = λ text told. later text (ap (λ bytes. bytes side) same ∙ told) (sound side text told)
+right_later limits before after same sound (Changed side) later = λ text told. later text (ap (λ bytes. bytes side) same ∙ told)
+    (sound side text told)
 right_later limits before after same sound (Write written) later = tt
 
 causes_of : (rose first : Type 0) (kind : DbFaultKind) → (kind ≡ Read → rose) → (is_outside kind ≡ false → first)
@@ -62,22 +63,26 @@ causes_of rose first Read read inside = read refl
 causes_of rose first kind read inside = inside refl
 
 -- why a run fails, whatever it is to write
-pub cause_by : (limits : Limits) (task : Asked) (over : List ℕ → List ℕ → Report) (bytes_of : Side → Option (List ℕ)) (sources sink : Type 0) (fault : RunFault)
+pub cause_by : (limits : Limits) (task : Asked) (over : List ℕ → List ℕ → Report) (bytes_of : Side → Option (List ℕ))
+    (sources sink : Type 0) (fault : RunFault)
     → IsCaused sources sink fault → IsRunFault limits task bytes_of fault → IsRight limits bytes_of fault
     → HasCause fault sources sink
-    (λ first. (old new : List ℕ) → bytes_of Old ≡ Some old → bytes_of New ≡ Some new → (r : Result Report DbFault) → RunsBy limits over old new r → r ≡ Err first)
+    (λ first. (old new : List ℕ) → bytes_of Old ≡ Some old → bytes_of New ≡ Some new → (r : Result Report DbFault)
+    → RunsBy limits over old new r → r ≡ Err first)
     (λ side. (text : List ℕ) → bytes_of side ≡ Some text → ⊥)
 cause_by limits task over bytes_of sources sink (Open side) caused answer right = caused
 cause_by limits task over bytes_of sources sink (Database fault) caused answer right =
     causes_of sources _ fault.kind caused
-    (λ inside old new told_old told_new r runs. RunsBy-unique limits over old new r (Err fault) runs (answer old new told_old told_new inside))
+    (λ inside old new told_old told_new r runs. RunsBy-unique limits over old new r (Err fault) runs
+    (answer old new told_old told_new inside))
 cause_by limits task over bytes_of sources sink (Changed side) caused answer right = right
 cause_by limits task over bytes_of sources sink (Write written) caused answer right = caused
 
 pub has_cause : (limits : Limits) (task : Asked) (bytes_of : Side → Option (List ℕ)) (sources sink : Type 0) (fault : RunFault)
     → IsCaused sources sink fault → IsRunFault limits task bytes_of fault → IsRight limits bytes_of fault
     → HasCause fault sources sink
-    (λ first. (old new : List ℕ) → bytes_of Old ≡ Some old → bytes_of New ≡ Some new → (r : Result Report DbFault) → Runs limits task old new r → r ≡ Err first)
+    (λ first. (old new : List ℕ) → bytes_of Old ≡ Some old → bytes_of New ≡ Some new → (r : Result Report DbFault)
+    → Runs limits task old new r → r ≡ Err first)
     (λ side. (text : List ℕ) → bytes_of side ≡ Some text → ⊥)
 has_cause limits task = cause_by limits task (report_over task)
 
@@ -132,7 +137,8 @@ pub answer_new : (limits : Limits) (task : Asked) (bytes_of : Side → Option (L
     → ((text : List ℕ) → bytes_of Old ≡ Some text → IsSound limits text) → IsFirst limits bytes_of New fault
     → IsRunFault limits task bytes_of fault
 answer_new limits task bytes_of (Open opened) sound first = tt
-answer_new limits task bytes_of (Database fault) sound first = λ old new told_old told_new inside. inr (sound old told_old, (first.0, first.1 new told_new inside))
+answer_new limits task bytes_of (Database fault) sound first = λ old new told_old told_new inside. inr
+    (sound old told_old, (first.0, first.1 new told_new inside))
 answer_new limits task bytes_of (Changed changed) sound first = absurd first
 answer_new limits task bytes_of (Write written) sound first = absurd first
 
@@ -148,7 +154,8 @@ opens_first limits bytes_of side before after (Write written) opens first = tt
 pub answer_later : (limits : Limits) (task : Asked) (bytes_of : Side → Option (List ℕ)) (given : Side → Option (List ℕ)) (fault : RunFault)
     → IsLater limits given fault → IsRunFault limits task bytes_of fault
 answer_later limits task bytes_of given (Open side) later = tt
-answer_later limits task bytes_of given (Database fault) later = λ old new told_old told_new inside. absurd (true_false (sym later ∙ inside))
+answer_later limits task bytes_of given (Database fault) later = λ old new told_old told_new inside. absurd
+    (true_false (sym later ∙ inside))
 answer_later limits task bytes_of given (Changed side) later = tt
 answer_later limits task bytes_of given (Write written) later = tt
 

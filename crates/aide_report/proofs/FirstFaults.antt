@@ -84,7 +84,8 @@ line_line limits text m j n k f g = elim (cuts f.before f.line f.after g.before 
 no_line : (limits : Limits) (text : List ℕ) (m : ℕ) (j : DbFaultKind) → IsAtLine limits text m j
     → IsFront limits.line (whole_lines limits text) → ⊥
 no_line limits text m j f good =
-    f.bad (front_of limits.line (f.before ++ f.line ∷ []) f.after (whole_lines limits text) (f.parts ∙ sym (append_assoc f.before (f.line ∷ []) f.after)) good)
+    f.bad (front_of limits.line (f.before ++ f.line ∷ []) f.after (whole_lines limits text)
+    (f.parts ∙ sym (append_assoc f.before (f.line ∷ []) f.after)) good)
 
 whole_is : (limits : Limits) (text : List ℕ) → nat_le (length text) limits.bytes ≡ true
     → whole_lines limits text ≡ lines text

@@ -1,67 +1,22 @@
--- The forms that one attribute alone has.
-use Rattle.std.proofs.Common.{◌≡◌, ◌∙◌, ◌<◌, ℕ, suc, zero, Bool, true, false, List, [], ◌∷◌, length, get_or, refl, sym}
-use Rattle.std.proofs.Common.{ap, arith}
-use Rattle.std.specs.Prelude.{◌&&◌, ◌||◌, not}
-use Rattle.std.specs.List.{list_all}
-use Rattle.aide_attr.specs.Attr.{form_of, row_of, row, index, all_attrs, count}
-use Rattle.aide_attr.specs.Set.{is_attr}
+-- The texts of the forms that one attribute alone has.
+use Rattle.std.proofs.Common.{◌≡◌, ◌∙◌, Bool, sym, ap}
+use Rattle.aide_attr.specs.Attr.{form_of}
 use Rattle.aide_attr.specs.declared.attr.Attr.{Attr}
 use Rattle.aide_attr.specs.declared.attr.Attr.TheVariants.{Ftype, Lname}
-use Rattle.aide_attr.specs.declared.form.Form.{Form}
 use Rattle.aide_attr.specs.declared.form.Form.TheVariants.{Kind, Link}
-use Rattle.aide_attr.proofs.AttrLemmas.{at_index, index_small}
-use Rattle.aide_attr.proofs.DifferenceLemmas.{attr_is}
 use Rattle.aide_entry.specs.Attributes.{Attributes, type_in, link_in}
+use Rattle.aide_line_text.proofs.FormLemmas.{kind_alone, link_alone}
 use Rattle.aide_text.specs.ValueText.{option_text, type_text, printed_link, text_at, value_in}
-
-and_left : (a b : Bool) → (a && b) ≡ true → a ≡ true
-and_left true b h = refl
-and_left false b h = cc
-
-and_right : (a b : Bool) → (a && b) ≡ true → b ≡ true
-and_right true b h = h
-and_right false b h = cc
-
-all_at : (p : Attr → Bool) (xs : List Attr) (k : ℕ) (d : Attr) → list_all p xs ≡ true → k < length xs
-    → p (get_or xs k d) ≡ true
-all_at p [] k d h l = absurd (omega arith)
-all_at p (x ∷ xs) zero d h l = and_left (p x) (list_all p xs) h
-all_at p (x ∷ xs) (suc k) d h l = all_at p xs k d (and_right (p x) (list_all p xs) h) (omega arith)
-
--- what passes for each of the table's attributes passes for any
-every_attr : (p : Attr → Bool) → list_all p all_attrs ≡ true → (a : Attr) → p a ≡ true
-unfolding count
-every_attr p h a = ap p (sym (at_index a a)) ∙ all_at p all_attrs (index a) a h (index_small a)
-
-is_kind : Form → Bool
-is_kind Kind = true
-is_kind _ = false
-
-is_link : Form → Bool
-is_link Link = true
-is_link _ = false
-
-then_passes : (a b : Bool) → (not a || b) ≡ true → a ≡ true → b ≡ true
-then_passes true b h e = h
-then_passes false b h e = cc
-
-kind_alone : (a : Attr) → form_of a ≡ Kind → a ≡ Ftype
-unfolding row_of row is_kind
-kind_alone a e =
-    attr_is a Ftype (then_passes (is_kind (form_of a)) (is_attr a Ftype) (every_attr (λ x. not (is_kind (form_of x)) || is_attr x Ftype) refl a) (ap is_kind e))
-
-link_alone : (a : Attr) → form_of a ≡ Link → a ≡ Lname
-unfolding row_of row is_link
-link_alone a e =
-    attr_is a Lname (then_passes (is_link (form_of a)) (is_attr a Lname) (every_attr (λ x. not (is_link (form_of x)) || is_attr x Lname) refl a) (ap is_link e))
 
 -- the text of an attribute of such a form is that of the attribute that alone has it
 pub kind_at : (base16 : Bool) (a : Attr) (attributes : Attributes) → form_of a ≡ Kind
     → option_text type_text (type_in (attributes Ftype)) ≡ text_at base16 a (attributes a)
 kind_at base16 a attributes e =
-    ap (λ x. option_text type_text (type_in (attributes x))) (sym (kind_alone a e)) ∙ ap (λ form. value_in base16 form (attributes a)) (sym e)
+    ap (λ x. option_text type_text (type_in (attributes x))) (sym (kind_alone a e)) ∙ ap (λ form. value_in base16 form (attributes a))
+    (sym e)
 
 pub link_at : (base16 : Bool) (a : Attr) (attributes : Attributes) → form_of a ≡ Link
     → option_text printed_link (link_in (attributes Lname)) ≡ text_at base16 a (attributes a)
 link_at base16 a attributes e =
-    ap (λ x. option_text printed_link (link_in (attributes x))) (sym (link_alone a e)) ∙ ap (λ form. value_in base16 form (attributes a)) (sym e)
+    ap (λ x. option_text printed_link (link_in (attributes x))) (sym (link_alone a e)) ∙ ap (λ form. value_in base16 form (attributes a))
+    (sym e)

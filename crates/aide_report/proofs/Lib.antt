@@ -3,11 +3,14 @@ pub mod FormLemmas
 pub mod WriterLemmas
 pub mod EntriesLemmas
 pub mod LineLemmas
+pub mod TallyLemmas
+pub mod PassLines
 pub mod SectionsLemmas
 pub mod SectionLaws
 pub mod LineLaws
 pub mod ReportLemmas
 pub mod MergeLemmas
+pub mod UpcomingLemmas
 pub mod Laws
 pub mod RunLaws
 pub mod Steps
@@ -20,6 +23,8 @@ pub mod BoundLemmas
 pub mod CountLemmas
 pub mod FirstFaults
 pub mod RunLemmas
+pub mod RunByLemmas
+pub mod FlushLemmas
 pub mod LineRunLemmas
 pub mod FaultLemmas
 pub mod OpeningLemmas

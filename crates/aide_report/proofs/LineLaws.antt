@@ -1,4 +1,4 @@
--- What ties the lines to the report of the same task, and that there are as many lines of changes as are announced.
+-- What ties the lines to the report of the same task, and that there are as many lines of changes as are counted.
 use Rattle.std.proofs.Common.{◌≡◌, ◌≤◌, ◌∙◌, ℕ, ◌+◌, Bool, true, false, cond, List, [], ◌∷◌, refl, sym, ap, arith, length}
 use Rattle.std.specs.Prelude.{count_by, Option, Some, None, Result, Ok, Err, ◌||◌}
 use Rattle.std.proofs.lemmas.List.Sums.{length-filter}
@@ -8,16 +8,16 @@ use Rattle.aide_db.specs.declared.fault.DbFault.{DbFault}
 use Rattle.aide_db.specs.declared.limits.Limits.{Limits}
 use Rattle.aide_entry.specs.Path.{path_cmp}
 use Rattle.aide_entry.proofs.PathLaws.{path_cmp_total, path_cmp-IsAntisymmetric}
-use Rattle.aide_line_text.specs.Ends.{entry_count}
 use Rattle.aide_report.specs.Asked.{Asked}
-use Rattle.aide_report.specs.ChangeLines.{listed_changes, widest}
+use Rattle.aide_report.specs.ChangeLines.{Accounts, listed_changes, widest}
 use Rattle.aide_report.specs.Changed.{differ_by}
 use Rattle.aide_report.specs.Changes.{is_added, is_removed, is_changed}
 use Rattle.aide_report.specs.Compare.{changes}
 use Rattle.aide_report.specs.Entries.{PathChange}
+use Rattle.aide_report.specs.LineCounts.{account_count, entry_count, is_line_with, is_old, is_other, is_trusted}
+use Rattle.aide_report.specs.LineCounts.{line_counts}
 use Rattle.aide_report.specs.LineRuns.{lines_over}
 use Rattle.aide_report.specs.Missing.{RunsOverBy, run_answer}
-use Rattle.aide_report.specs.Report.{counts_of}
 use Rattle.aide_report.specs.Runs.{Report, RunsBy, report_over}
 use Rattle.aide_report.specs.Sections.{all_listed, is_in}
 use Rattle.aide_text.specs.Section.{contents_of, row, row_of}
@@ -25,46 +25,36 @@ use Rattle.aide_text.specs.declared.section.Section.TheVariants.{AddedEntries, R
 use Rattle.aide_report.specs.declared.run_fault.RunFault.{RunFault}
 use Rattle.aide_report.proofs.FirstFaults.{RunsBy-unique}
 use Rattle.aide_report.proofs.MissingLemmas.{RunsOver-exists, RunsOver-unique}
-use Rattle.aide_report.proofs.Laws.{added_count, removed_count, changed_count}
-use Rattle.aide_report.proofs.SectionLaws.{first_counted}
+use Rattle.aide_report.proofs.Laws.{added_count, removed_count, changed_count, total_count}
+use Rattle.aide_report.proofs.TallyLemmas.{all_kinds, tally_accounted}
+use Rattle.aide_report.specs.code.LineTally.{tally}
 
-module _ (options : Options) where
-  abbrev differs : PathChange → Bool
-  differs = is_changed (differ_by options.ignore)
+-- ---- the numbers of the last line are those of the maps
 
-  -- a change that is listed is of one kind
-  one_kind : (change : PathChange) → cond (is_in options all_listed change) 1 0
-      ≡ cond (is_added change) 1 0 + (cond (is_removed change) 1 0 + cond (differs change) 1 0)
-  one_kind (path, (None, None)) = refl
-  one_kind (path, (None, Some new)) = refl
-  one_kind (path, (Some old, None)) = refl
-  one_kind (path, (Some old, Some new)) = by_differ (differ_by options.ignore old new)
-    where
-      by_differ : (b : Bool) → cond (false || (false || b)) 1 0 ≡ 0 + (0 + cond b 1 0)
-      by_differ true = refl
-      by_differ false = refl
+module _ (options : Options) (account : Accounts) (old new : Database) where
+  pub tally_is : tally options account (changes old new) ≡ line_counts options account old new
+  tally_is = λ i. record {
+    total = total_count path_cmp path_cmp_total path_cmp-IsAntisymmetric old new i;
+    added = added_count path_cmp path_cmp_total path_cmp-IsAntisymmetric old new i;
+    removed = removed_count path_cmp path_cmp_total path_cmp-IsAntisymmetric old new i;
+    changed = changed_count path_cmp path_cmp_total (differ_by options.ignore) path_cmp-IsAntisymmetric old new i;
+    same_as_old = sym (length-filter (is_line_with options account is_old) (changes old new)) i;
+    same_as_trusted = sym (length-filter (is_line_with options account is_trusted) (changes old new)) i;
+    others = sym (length-filter (is_line_with options account is_other) (changes old new)) i;
+  }
 
-  all_kinds : (entries : List PathChange) → count_by (is_in options all_listed) entries
-      ≡ count_by is_added entries + (count_by is_removed entries + count_by differs entries)
-  all_kinds [] = refl
-  all_kinds (entry ∷ more) = omega (
-    arith,
-    one_kind entry,
-    all_kinds more,
-    first_counted (is_in options all_listed) entry more,
-    first_counted is_added entry more,
-    first_counted is_removed entry more,
-    first_counted differs entry more,
-  )
+  -- there are as many lines as the last line counts
+  pub as_many_lines_as_counted : length (listed_changes options (changes old new))
+      ≡ entry_count (line_counts options account old new)
+  as_many_lines_as_counted =
+      length-filter (is_in options all_listed) (changes old new) ∙ all_kinds options account (changes old new)
+      ∙ ap entry_count tally_is
 
-  -- the number that the first line announces is the number of lines
-  pub as_many_lines_as_counted : (old new : Database)
-      → length (listed_changes options (changes old new)) ≡ entry_count (counts_of options old new)
-  as_many_lines_as_counted old new =
-      length-filter (is_in options all_listed) (changes old new) ∙ all_kinds (changes old new)
-      ∙ (λ i. added_count path_cmp path_cmp_total path_cmp-IsAntisymmetric old new i
-      + (removed_count path_cmp path_cmp_total path_cmp-IsAntisymmetric old new i
-      + changed_count path_cmp path_cmp_total (differ_by options.ignore) path_cmp-IsAntisymmetric old new i))
+  -- each line is counted once more, by what accounts for its change
+  pub each_line_is_accounted : account_count (line_counts options account old new)
+      ≡ entry_count (line_counts options account old new)
+  each_line_is_accounted =
+      sym (ap account_count tally_is) ∙ tally_accounted options account (changes old new) ∙ ap entry_count tally_is
 
 -- the task, with the level at which a report shows most
 abbrev pub at_widest : Asked → Asked

@@ -1,130 +1,108 @@
 -- From the pass over two texts to the lines over their maps.
-use Rattle.std.proofs.Common.{◌≡◌, ◌∙◌, ℕ, ◌+◌, ◌≤◌, Bool, true, false, cond, if◌then◌else◌, List, [], ◌∷◌, ◌++◌}
-use Rattle.std.proofs.Common.{Option, refl, sym, ap, subst, arith}
-use Rattle.std.specs.Prelude.{◌||◌, Some, None, Result, Ok, Err}
-use Rattle.std.specs.List.{filter, flat_map, list_any}
+use Rattle.std.proofs.Common.{◌≡◌, ◌∙◌, ℕ, List, Option, sym, ap, refl, subst, false}
+use Rattle.std.specs.Prelude.{Some, None, Result, Ok, Err}
 use Rattle.std.specs.Io.KnownBytes.{Appends, Keeps}
+use Rattle.sha2.specs.Sha256.{sha256}
 use Rattle.aide_conf.specs.declared.options.Options.{Options}
 use Rattle.aide_conf.specs.declared.task.Task.{Task}
 use Rattle.aide_db.specs.Database.{IsSound}
-use Rattle.aide_db.specs.Map.{Database, database_of}
+use Rattle.aide_db.specs.Giving.{columns_of_text}
+use Rattle.aide_db.specs.Map.{database_of}
 use Rattle.aide_db.specs.declared.fault.DbFault.{DbFault}
 use Rattle.aide_db.specs.declared.limits.Limits.{Limits}
-use Rattle.aide_line_text.specs.Ends.{DatabaseFacts, first_line, last_line}
+use Rattle.aide_entry.specs.Skipped.{skipped_in}
+use Rattle.aide_line_text.specs.declared.counts.LineCounts.{LineCounts}
 use Rattle.aide_report.specs.Asked.{Asked, asked}
-use Rattle.aide_report.specs.Compare.{changes}
-use Rattle.aide_report.specs.LineRuns.{Frames, facts_told, line_openings, line_passes, lines_over}
-use Rattle.aide_report.specs.ChangeLines.{change_line, change_lines}
-use Rattle.aide_report.specs.Lines.{all_lines, status_by}
+use Rattle.aide_report.specs.ChangeLines.{by_old}
+use Rattle.aide_report.specs.LineCounts.{line_counts}
+use Rattle.aide_report.specs.LineRuns.{Frames, facts_told, line_outcome, lines_over}
+use Rattle.aide_report.specs.Lines.{all_lines}
 use Rattle.aide_report.specs.Missing.{RunsOverBy, StopsFor, run_answer}
-use Rattle.aide_report.specs.Report.{counts_of, outcome_by}
-use Rattle.aide_report.specs.Runs.{Report, RunsBy, EndsEarly, EndsWell}
-use Rattle.aide_report.specs.Sections.{all_listed, is_in}
-use Rattle.aide_report.specs.code.Finding.{IsFinding, pass_of}
-use Rattle.aide_report.specs.code.WrittenLines.{WritesFrame, differing_lines, new_facts, old_facts, written_lines}
-use Rattle.aide_report.specs.declared.finding.Finding.{Finding}
+use Rattle.aide_report.specs.Runs.{Report, RunsBy, EndsEarly, EndsWell, report_over}
+use Rattle.aide_report.specs.code.Finding.{pass_of}
+use Rattle.aide_report.specs.code.LineTally.{tally}
+use Rattle.aide_db.specs.declared.side.Side.TheVariants.{Old, New}
+use Rattle.aide_report.specs.code.Readings.{AreRead}
+use Rattle.aide_report.specs.Seen.{Seen}
+use Rattle.aide_report.specs.code.WrittenLines.{WritesFrame, new_facts, old_facts, written_lines}
+use Rattle.aide_report.specs.declared.finding.Readings.{Readings}
 use Rattle.aide_report.specs.declared.run_fault.RunFault.{RunFault}
-use Rattle.aide_text.specs.Overview.{differs, when}
 use Rattle.aide_text.specs.Sent.{SendsPart}
 use Rattle.aide_text.specs.Sheet.{Sheet}
-use Rattle.aide_text.specs.declared.counts.Counts.{Counts}
-use Rattle.aide_report.proofs.SectionLaws.{has_entry_law}
+use Rattle.aide_report.proofs.LineLaws.{tally_is}
 use Rattle.aide_report.proofs.ReportLemmas.{flushed_whole}
-use Rattle.aide_report.proofs.RunLemmas.{HasDigests, outcome_is, pass_is_changes, well_by, early_by}
-
--- ---- no entry has a line if the databases do not differ
-
-or_left : (a b : Bool) → a || b ≡ false → a ≡ false
-or_left true b e = cc
-or_left false b e = refl
-
-or_right : (a b : Bool) → a || b ≡ false → b ≡ false
-or_right true b e = cc
-or_right false b e = e
-
-none_pass : {X : Type 0} (p : X → Bool) (xs : List X) → list_any p xs ≡ false → filter p xs ≡ []
-none_pass p [] e = refl
-none_pass p (x ∷ xs) e =
-    ap (λ b. cond b (x ∷ filter p xs) (filter p xs)) (or_left (p x) (list_any p xs) e) ∙ none_pass p xs (or_right (p x) (list_any p xs) e)
-
-no_lines : (options : Options) (old new : Database) → differs (counts_of options old new) ≡ false
-    → change_lines options (changes old new) ≡ []
-unfolding change_lines
-no_lines options old new same =
-    ap (flat_map (change_line options)) (none_pass (is_in options all_listed) (changes old new) (sym (has_entry_law options old new all_listed) ∙ same))
-
-when_any : (b : Bool) (text : List ℕ) → (b ≡ false → text ≡ []) → when b text ≡ text
-when_any true text none = refl
-when_any false text none = sym (none refl)
+use Rattle.aide_report.proofs.RunLemmas.{pass_is_changes, well_by, early_by}
 
 -- ---- the lines that are written are those of the maps
 
-whole_lines : (options : Options) (f g : DatabaseFacts) (old new : Database)
-    → written_lines options f g (counts_of options old new) (changes old new)
-    ≡ all_lines options f g (counts_of options old new) (changes old new)
-unfolding written_lines differing_lines all_lines
-whole_lines options f g old new =
-    let counts = counts_of options old new in
-    ap (λ text. first_line f g counts ++ (text ++ last_line counts (status_by counts)))
-    (when_any (differs counts) (change_lines options (changes old new)) (no_lines options old new))
+-- what was read is of the two texts
+pub record AreOfTexts (readings : Readings) (old new : List ℕ) : Type 0 where
+  pub digest_old : readings.digests.of_old ≡ sha256 old
+  pub digest_new : readings.digests.of_new ≡ sha256 new
+  pub skipped_old : readings.skipped_old ≡ skipped_in (columns_of_text old)
+  pub skipped_new : readings.skipped_new ≡ skipped_in (columns_of_text new)
 
-lines_are : (limits : Limits) (task : Task) (finding : Finding) (old new : List ℕ) → IsSound limits old
-    → IsSound limits new
-    → IsFinding task.options finding old new → HasDigests finding old new
-    → written_lines task.options (old_facts task finding) (new_facts task finding) finding.counts (pass_of old new) ≡ (lines_over (asked task) old new).text
-unfolding lines_over
-lines_are limits task finding old new sound_old sound_new is digests =
+pub texts_read : {limits : Limits} {a : Seen} {readings : Readings} (old new : List ℕ) → AreRead limits a readings
+    → a.bytes_of Old ≡ Some old → a.bytes_of New ≡ Some new → AreOfTexts readings old new
+texts_read old new read told_old told_new = record {
+  digest_old = read.digests Old old told_old;
+  digest_new = read.digests New new told_new;
+  skipped_old = read.skipped_old old told_old;
+  skipped_new = read.skipped_new new told_new;
+}
+
+counts_of_pass : (limits : Limits) (options : Options) (old new : List ℕ) → IsSound limits old → IsSound limits new
+    → tally options by_old (pass_of old new) ≡ line_counts options by_old (database_of old) (database_of new)
+counts_of_pass limits options old new sound_old sound_new =
+    ap (tally options by_old) (sym (pass_is_changes limits old new sound_old sound_new))
+    ∙ tally_is options by_old (database_of old) (database_of new)
+
+lines_are : (limits : Limits) (task : Task) (readings : Readings) (old new : List ℕ) → IsSound limits old
+    → IsSound limits new → AreOfTexts readings old new
+    → written_lines task.options (old_facts task readings) (new_facts task readings) (pass_of old new)
+    ≡ (lines_over (asked task) old new).text
+unfolding lines_over written_lines
+lines_are limits task readings old new sound_old sound_new is =
     let pass = sym (pass_is_changes limits old new sound_old sound_new) in
-    (λ i. written_lines task.options (facts_told task.old_path.now (digests.of_old i) (is.skipped_old i)) (facts_told task.new_path.now (digests.of_new i) (is.skipped_new i)) (is.counts i) (pass i))
-    ∙ whole_lines task.options _ _ (database_of old) (database_of new)
+    let counts = counts_of_pass limits task.options old new sound_old sound_new in
+    λ i. all_lines task.options (facts_told task.old_path.now (is.digest_old i) (is.skipped_old i))
+    (facts_told task.new_path.now (is.digest_new i) (is.skipped_new i)) (counts i) (pass i)
 
-lines_outcome : (task : Task) (finding : Finding) (old new : List ℕ) → IsFinding task.options finding old new
-    → (lines_over (asked task) old new).outcome ≡ outcome_by finding.counts finding.skipped_old finding.skipped_new
-unfolding lines_over
-lines_outcome task finding old new is = outcome_is task finding old new is
+lines_outcome : (limits : Limits) (task : Task) (readings : Readings) (counts : LineCounts) (old new : List ℕ)
+    → IsSound limits old → IsSound limits new → AreOfTexts readings old new
+    → counts ≡ tally task.options by_old (pass_of old new)
+    → (lines_over (asked task) old new).outcome ≡ line_outcome counts readings.skipped_old readings.skipped_new
+unfolding lines_over report_over
+lines_outcome limits task readings counts old new sound_old sound_new is counted =
+    let counts = counted ∙ counts_of_pass limits task.options old new sound_old sound_new in
+    sym (λ i. line_outcome (counts i) (is.skipped_old i) (is.skipped_new i))
 
--- they are opened as often
-pub passes_are : (task : Task) (finding : Finding) (old new : List ℕ) → IsFinding task.options finding old new
-    → line_openings (asked task) old new ≡ 2 + line_passes finding.counts
-unfolding line_openings
-passes_are task finding old new is = ap (λ counts. 2 + line_passes counts) (sym is.counts)
-
-pub two_openings : (wish : Asked) (old new : List ℕ) → 2 ≤ line_openings wish old new
-unfolding line_openings
-two_openings wish old new = omega arith
-
-passes_few : (differ : Bool) → 2 + (if differ then 1 else 0) ≤ 3
-passes_few true = omega arith
-passes_few false = omega arith
-
-pub few_openings : (counts : Counts) → 2 + line_passes counts ≤ 3
-few_openings counts = passes_few (differs counts)
-
-pub lines_end_well : (limits : Limits) (task : Task) (finding : Finding) (old new : List ℕ) (before after : Option (List ℕ))
-    → IsSound limits old → IsSound limits new
-    → IsFinding task.options finding old new → HasDigests finding old new
-    → Appends before after (written_lines task.options (old_facts task finding) (new_facts task finding) finding.counts (pass_of old new))
+pub lines_end_well : (limits : Limits) (task : Task) (readings : Readings) (counts : LineCounts) (old new : List ℕ)
+    (before after : Option (List ℕ)) → IsSound limits old → IsSound limits new → AreOfTexts readings old new
+    → counts ≡ tally task.options by_old (pass_of old new)
+    → Appends before after
+    (written_lines task.options (old_facts task readings) (new_facts task readings) (pass_of old new))
     → (r : Result Report DbFault) → RunsBy limits (lines_over (asked task)) old new r
-    → EndsWell r (outcome_by finding.counts finding.skipped_old finding.skipped_new) before after
-lines_end_well limits task finding old new before after sound_old sound_new is digests =
-    well_by limits (lines_over (asked task)) old new before after _ _ sound_old sound_new (lines_outcome task finding old new is)
-    (lines_are limits task finding old new sound_old sound_new is digests)
+    → EndsWell r (line_outcome counts readings.skipped_old readings.skipped_new) before after
+lines_end_well limits task readings counts old new before after sound_old sound_new is counted =
+    well_by limits (lines_over (asked task)) old new before after _ _ sound_old sound_new
+    (lines_outcome limits task readings counts old new sound_old sound_new is counted)
+    (lines_are limits task readings old new sound_old sound_new is)
 
-pub lines_end_early : (limits : Limits) (task : Task) (finding : Finding) (old new : List ℕ) (before after : Option (List ℕ))
-    → IsSound limits old → IsSound limits new
-    → IsFinding task.options finding old new → HasDigests finding old new
-    → SendsPart (written_lines task.options (old_facts task finding) (new_facts task finding) finding.counts (pass_of old new)) before after
+pub lines_end_early : (limits : Limits) (task : Task) (readings : Readings) (old new : List ℕ)
+    (before after : Option (List ℕ)) → IsSound limits old → IsSound limits new → AreOfTexts readings old new
+    → SendsPart
+    (written_lines task.options (old_facts task readings) (new_facts task readings) (pass_of old new)) before after
     → (r : Result Report DbFault) → RunsBy limits (lines_over (asked task)) old new r → EndsEarly r before after
-lines_end_early limits task finding old new before after sound_old sound_new is digests =
+lines_end_early limits task readings old new before after sound_old sound_new is =
     early_by limits (lines_over (asked task)) old new before after _ sound_old sound_new
-    (lines_are limits task finding old new sound_old sound_new is digests)
+    (lines_are limits task readings old new sound_old sound_new is)
 
 -- ---- a frame, after a flush
 
-pub framed : {first last : List ℕ} {wants_more : Bool} {a b : Sheet} (c : Option (List ℕ)) → a.failed ≡ false
-    → b.failed ≡ false → WritesFrame first last wants_more a b → Keeps b.bytes c
-    → Frames first last wants_more a.bytes c
-framed {first} {last} {wants_more} {a} {b} c fresh on p kept =
+pub framed : {first last : List ℕ} {lines : ℕ} {a b : Sheet} (c : Option (List ℕ)) → a.failed ≡ false
+    → b.failed ≡ false → WritesFrame first last lines a b → Keeps b.bytes c → Frames first last lines a.bytes c
+framed {first} {last} {lines} {a} {b} c fresh on p kept =
     record { between = p.between; bytes = flushed_whole c fresh on p.wrote kept; alone = p.alone }
 
 -- ---- a fault is the answer whatever is to be written of two sound texts

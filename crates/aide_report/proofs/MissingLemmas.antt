@@ -122,7 +122,8 @@ there_at old new Old = refl
 there_at old new New = refl
 
 -- the first reading of the old side
-pub first_over : (limits : Limits) (wish : Asked) (bytes_of : Side → Option (List ℕ)) (is_missing : Side → Bool) (old new : Option (List ℕ)) (sources : Type 0) (fault : RunFault)
+pub first_over : (limits : Limits) (wish : Asked) (bytes_of : Side → Option (List ℕ)) (is_missing : Side → Bool) (old new : Option (List ℕ))
+    (sources : Type 0) (fault : RunFault)
     → TellsSide (bytes_of Old) (is_missing Old) old → IsFirst limits bytes_of Old fault → IsCaused sources ⊥ fault
     → (is_missing Old ≡ true → fault ≡ Open Old)
     → (r : Result Report RunFault) → RunsOver limits wish old new r → StopsFor r (IsHindered old new sources ⊥) fault
@@ -132,9 +133,11 @@ first_over limits wish bytes_of is_missing (Some old) new sources (Open side) to
     subst (λ (s : Side). StopsFor r (IsHindered (Some old) new sources ⊥) (Open s)) (sym first)
     (stops_hindered r (IsHindered (Some old) new sources ⊥) (Open Old) (refl, caused))
 first_over limits wish bytes_of is_missing (Some old) new sources (Database fault) told first caused gone r runs =
-    elim (of_text_or_hindered fault.kind sources (IsFirstFaultOf limits Old old fault) caused (λ inside. (first.0, first.1 old told inside))) [
+    elim (of_text_or_hindered fault.kind sources (IsFirstFaultOf limits Old old fault) caused
+    (λ inside. (first.0, first.1 old told inside))) [
       | inl bad ↦ stops_right r (IsHindered (Some old) new sources ⊥) (Database fault) (old_fault limits wish old new fault r bad runs)
-      | inr hinders ↦ stops_hindered r (IsHindered (Some old) new sources ⊥) (Database fault) (subst (λ (s : Side). IsSome (by_side (Some old) new s)) (sym first.0) refl, hinders)
+      | inr hinders ↦ stops_hindered r (IsHindered (Some old) new sources ⊥) (Database fault)
+          (subst (λ (s : Side). IsSome (by_side (Some old) new s)) (sym first.0) refl, hinders)
     ]
 first_over limits wish bytes_of is_missing (Some old) new sources (Changed side) told first caused gone r runs =
     absurd first
@@ -142,7 +145,8 @@ first_over limits wish bytes_of is_missing (Some old) new sources (Write written
     absurd first
 
 -- the first reading of the new side, behind an old one that is sound
-pub second_over : (limits : Limits) (wish : Asked) (bytes_of : Side → Option (List ℕ)) (is_missing : Side → Bool) (old new : Option (List ℕ)) (sources : Type 0) (fault : RunFault)
+pub second_over : (limits : Limits) (wish : Asked) (bytes_of : Side → Option (List ℕ)) (is_missing : Side → Bool)
+    (old new : Option (List ℕ)) (sources : Type 0) (fault : RunFault)
     → TellsSide (bytes_of Old) (is_missing Old) old → TellsSide (bytes_of New) (is_missing New) new
     → is_missing Old ≡ false
     → ((text : List ℕ) → bytes_of Old ≡ Some text → IsSound limits text)
@@ -151,22 +155,29 @@ pub second_over : (limits : Limits) (wish : Asked) (bytes_of : Side → Option (
 second_over limits wish bytes_of is_missing None new sources fault told told_new there sound first caused gone r runs =
     absurd (true_false (sym told ∙ there))
 second_over limits wish bytes_of is_missing (Some old) None sources fault told told_new there sound first caused gone r runs =
-    stops_right r (IsHindered (Some old) None sources ⊥) fault (new_refused limits wish old r (sound old told) runs ∙ ap (λ (f : RunFault). Err f) (sym (gone told_new)))
+    stops_right r (IsHindered (Some old) None sources ⊥) fault
+    (new_refused limits wish old r (sound old told) runs ∙ ap (λ (f : RunFault). Err f) (sym (gone told_new)))
 second_over limits wish bytes_of is_missing (Some old) (Some new) sources (Open side) told told_new there sound first caused gone r runs =
     subst (λ (s : Side). StopsFor r (IsHindered (Some old) (Some new) sources ⊥) (Open s)) (sym first)
     (stops_hindered r (IsHindered (Some old) (Some new) sources ⊥) (Open New) (refl, caused))
-second_over limits wish bytes_of is_missing (Some old) (Some new) sources (Database fault) told told_new there sound first caused gone r runs =
-    elim (of_text_or_hindered fault.kind sources (IsFirstFaultOf limits New new fault) caused (λ inside. (first.0, first.1 new told_new inside))) [
-      | inl bad ↦ stops_right r (IsHindered (Some old) (Some new) sources ⊥) (Database fault) (new_fault limits wish old new fault r (sound old told) bad runs)
+second_over limits wish bytes_of is_missing (Some old) (Some new) sources
+    (Database fault) told told_new there sound first caused gone r runs =
+    elim (of_text_or_hindered fault.kind sources (IsFirstFaultOf limits New new fault) caused
+    (λ inside. (first.0, first.1 new told_new inside))) [
+      | inl bad ↦ stops_right r (IsHindered (Some old) (Some new) sources ⊥) (Database fault)
+          (new_fault limits wish old new fault r (sound old told) bad runs)
       | inr hinders ↦ stops_hindered r (IsHindered (Some old) (Some new) sources ⊥) (Database fault) (there_at old new fault.side, hinders)
     ]
-second_over limits wish bytes_of is_missing (Some old) (Some new) sources (Changed side) told told_new there sound first caused gone r runs =
+second_over limits wish bytes_of is_missing (Some old) (Some new) sources
+    (Changed side) told told_new there sound first caused gone r runs =
     absurd first
-second_over limits wish bytes_of is_missing (Some old) (Some new) sources (Write written) told told_new there sound first caused gone r runs =
+second_over limits wish bytes_of is_missing (Some old) (Some new) sources
+    (Write written) told told_new there sound first caused gone r runs =
     absurd first
 
 -- any reading behind those, where both sides are there and sound
-pub later_over : (limits : Limits) (bytes_of : Side → Option (List ℕ)) (is_missing : Side → Bool) (old new : Option (List ℕ)) (sources sink : Type 0) (fault : RunFault)
+pub later_over : (limits : Limits) (bytes_of : Side → Option (List ℕ)) (is_missing : Side → Bool) (old new : Option (List ℕ))
+    (sources sink : Type 0) (fault : RunFault)
     → TellsSide (bytes_of Old) (is_missing Old) old → TellsSide (bytes_of New) (is_missing New) new
     → ((side : Side) → is_missing side ≡ false)
     → ((side : Side) (text : List ℕ) → bytes_of side ≡ Some text → IsSound limits text)
@@ -207,7 +218,8 @@ front_given (Ok report) before after early = early
 front_given (Err fault) before after early = early
 
 -- what is so of the right answer over both texts is so of that over what stands at both sides, where both are there
-over_texts : (limits : Limits) (over : List ℕ → List ℕ → Report) (bytes_of : Side → Option (List ℕ)) (is_missing : Side → Bool) (old new : Option (List ℕ)) (P : Result Report RunFault → Type 0)
+pub over_texts : (limits : Limits) (over : List ℕ → List ℕ → Report) (bytes_of : Side → Option (List ℕ)) (is_missing : Side → Bool)
+    (old new : Option (List ℕ)) (P : Result Report RunFault → Type 0)
     → TellsSide (bytes_of Old) (is_missing Old) old → TellsSide (bytes_of New) (is_missing New) new
     → ((side : Side) → is_missing side ≡ false)
     → ((old_text new_text : List ℕ) → bytes_of Old ≡ Some old_text → bytes_of New ≡ Some new_text
@@ -220,7 +232,8 @@ over_texts limits over bytes_of is_missing (Some old) None P told told_new there
 over_texts limits over bytes_of is_missing (Some old) (Some new) P told told_new there all r runs =
     subst P (sym runs.2) (all old new told told_new runs.0 runs.1)
 
-pub whole_by : (limits : Limits) (over : List ℕ → List ℕ → Report) (bytes_of : Side → Option (List ℕ)) (is_missing : Side → Bool) (old new : Option (List ℕ)) (outcome : Outcome) (before after : Option (List ℕ))
+pub whole_by : (limits : Limits) (over : List ℕ → List ℕ → Report) (bytes_of : Side → Option (List ℕ)) (is_missing : Side → Bool)
+    (old new : Option (List ℕ)) (outcome : Outcome) (before after : Option (List ℕ))
     → TellsSide (bytes_of Old) (is_missing Old) old → TellsSide (bytes_of New) (is_missing New) new
     → ((side : Side) → is_missing side ≡ false)
     → ((old_text new_text : List ℕ) → bytes_of Old ≡ Some old_text → bytes_of New ≡ Some new_text
@@ -230,7 +243,8 @@ whole_by limits over bytes_of is_missing old new outcome before after told told_
     over_texts limits over bytes_of is_missing old new (λ r. SendsWhole r outcome before after) told told_new there
     (λ old_text new_text is_old is_new run runs. whole_given run outcome before after (all old_text new_text is_old is_new run runs))
 
-pub whole_over : (limits : Limits) (wish : Asked) (bytes_of : Side → Option (List ℕ)) (is_missing : Side → Bool) (old new : Option (List ℕ)) (outcome : Outcome) (before after : Option (List ℕ))
+pub whole_over : (limits : Limits) (wish : Asked) (bytes_of : Side → Option (List ℕ)) (is_missing : Side → Bool) (old new : Option (List ℕ))
+    (outcome : Outcome) (before after : Option (List ℕ))
     → TellsSide (bytes_of Old) (is_missing Old) old → TellsSide (bytes_of New) (is_missing New) new
     → ((side : Side) → is_missing side ≡ false)
     → ((old_text new_text : List ℕ) → bytes_of Old ≡ Some old_text → bytes_of New ≡ Some new_text
@@ -238,7 +252,8 @@ pub whole_over : (limits : Limits) (wish : Asked) (bytes_of : Side → Option (L
     → (r : Result Report RunFault) → RunsOver limits wish old new r → SendsWhole r outcome before after
 whole_over limits wish = whole_by limits (report_over wish)
 
-pub front_by : (limits : Limits) (over : List ℕ → List ℕ → Report) (bytes_of : Side → Option (List ℕ)) (is_missing : Side → Bool) (old new : Option (List ℕ)) (before after : Option (List ℕ))
+pub front_by : (limits : Limits) (over : List ℕ → List ℕ → Report) (bytes_of : Side → Option (List ℕ)) (is_missing : Side → Bool)
+    (old new : Option (List ℕ)) (before after : Option (List ℕ))
     → TellsSide (bytes_of Old) (is_missing Old) old → TellsSide (bytes_of New) (is_missing New) new
     → ((side : Side) → is_missing side ≡ false)
     → ((old_text new_text : List ℕ) → bytes_of Old ≡ Some old_text → bytes_of New ≡ Some new_text
@@ -248,7 +263,8 @@ front_by limits over bytes_of is_missing old new before after told told_new ther
     over_texts limits over bytes_of is_missing old new (λ r. SendsFront r before after) told told_new there
     (λ old_text new_text is_old is_new run runs. front_given run before after (all old_text new_text is_old is_new run runs))
 
-pub front_over : (limits : Limits) (wish : Asked) (bytes_of : Side → Option (List ℕ)) (is_missing : Side → Bool) (old new : Option (List ℕ)) (before after : Option (List ℕ))
+pub front_over : (limits : Limits) (wish : Asked) (bytes_of : Side → Option (List ℕ)) (is_missing : Side → Bool) (old new : Option (List ℕ))
+    (before after : Option (List ℕ))
     → TellsSide (bytes_of Old) (is_missing Old) old → TellsSide (bytes_of New) (is_missing New) new
     → ((side : Side) → is_missing side ≡ false)
     → ((old_text new_text : List ℕ) → bytes_of Old ≡ Some old_text → bytes_of New ≡ Some new_text

@@ -75,27 +75,30 @@ comes_later before middle after n (Changed side) is opened = was_opened before m
 comes_later before middle after n (Write written) is opened = tt
 
 -- where nothing has gone out
-pub unsent_nothing : (opened_old opened_new : ℕ) (bytes : Option (List ℕ)) (fault : RunFault)
-    → HasSentNothing opened_old opened_new bytes bytes fault
-unsent_nothing opened_old opened_new bytes (Open side) = λ below twice. Appends-nothing bytes
-unsent_nothing opened_old opened_new bytes (Database fault) = λ below twice. Appends-nothing bytes
-unsent_nothing opened_old opened_new bytes (Changed side) = λ below twice. Appends-nothing bytes
-unsent_nothing opened_old opened_new bytes (Write written) = tt
+pub unsent_nothing : (before_it opened_old opened_new : ℕ) (bytes : Option (List ℕ)) (fault : RunFault)
+    → HasSentNothing before_it opened_old opened_new bytes bytes fault
+unsent_nothing before_it opened_old opened_new bytes (Open side) = λ below few. Appends-nothing bytes
+unsent_nothing before_it opened_old opened_new bytes (Database fault) = λ below few. Appends-nothing bytes
+unsent_nothing before_it opened_old opened_new bytes (Changed side) = λ below few. Appends-nothing bytes
+unsent_nothing before_it opened_old opened_new bytes (Write written) = tt
 
-unsent_opened : (before middle after : ℕ) (old new : Option (List ℕ)) → middle ≡ sum_of before 2
+unsent_opened : (before_it before middle after : ℕ) (old new : Option (List ℕ)) → middle ≡ sum_of before before_it
     → WasOpened middle after
-    → after < 2 ^ 64 - 1 → after ≤ before + 2 → Appends old new []
-unsent_opened before middle after old new is opened below twice =
-    absurd (omega (arith, is, opened.of_old, below, twice))
+    → after < 2 ^ 64 - 1 → after ≤ before + before_it → Appends old new []
+unsent_opened before_it before middle after old new is opened below few =
+    absurd (omega (arith, is, opened.of_old, below, few))
 
--- once the old side is opened a third time, what has gone out is left open
-pub unsent_begun : (before middle after : ℕ) (old new : Option (List ℕ)) (fault : RunFault) → middle ≡ sum_of before 2
-    → ComesOpened middle after fault → HasSentNothing before after old new fault
-unsent_begun before middle after old new (Open side) is opened = unsent_opened before middle after old new is opened
-unsent_begun before middle after old new (Database fault) is opened =
-    unsent_opened before middle after old new is opened
-unsent_begun before middle after old new (Changed side) is opened = unsent_opened before middle after old new is opened
-unsent_begun before middle after old new (Write written) is opened = tt
+-- once the old side is opened again, what has gone out is left open
+pub unsent_begun : (before_it before middle after : ℕ) (old new : Option (List ℕ)) (fault : RunFault)
+    → middle ≡ sum_of before before_it
+    → ComesOpened middle after fault → HasSentNothing before_it before after old new fault
+unsent_begun before_it before middle after old new (Open side) is opened =
+    unsent_opened before_it before middle after old new is opened
+unsent_begun before_it before middle after old new (Database fault) is opened =
+    unsent_opened before_it before middle after old new is opened
+unsent_begun before_it before middle after old new (Changed side) is opened =
+    unsent_opened before_it before middle after old new is opened
+unsent_begun before_it before middle after old new (Write written) is opened = tt
 
 -- a fault of a reading is not that of an opening
 pub not_given_by : (was_given : Side → Bool) (fault : DbFault) (cause : Cause)

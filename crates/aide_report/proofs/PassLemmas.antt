@@ -20,7 +20,7 @@ use Rattle.aide_report.specs.Openings.{OpensExactly}
 use Rattle.aide_report.specs.code.MergeCalls.{IsOpened, KeepsMerge, IsMergeFault, IsStopOf}
 use Rattle.aide_report.specs.code.PassFaults.{Writes, pass_fault_of}
 use Rattle.aide_report.specs.code.Passes.{KeepsDesk, KeepsPen, IsPassFault, Passes}
-use Rattle.aide_report.specs.code.Seen.{Seen, KeepsSources}
+use Rattle.aide_report.specs.Seen.{Seen, KeepsSources}
 use Rattle.aide_report.specs.RunFaults.{HasPenWritten, IsCaused, IsLater}
 use Rattle.aide_report.specs.Standing.{IsFaultOf}
 use Rattle.aide_report.specs.declared.change_writer.PassFault.{PassFault}
@@ -231,7 +231,8 @@ pub pass_failed : {U : Type 0} {R : Type 0} {r : Reels R} {limits : Limits} {a b
     → KeepsMerge r m n e f → KeepsSources b c → c.openings ≡ b.openings
     → (0 < reels_failed r.failures n → Rose b.failures c.failures) → (b.is_reliable ≡ true → reels_failed r.failures n ≡ 0)
     → IsMergeFault r m n e fault → Passes {T = U} limits 1 a c d f next (Err (later_of fault))
-pass_failed {r = r} {limits = limits} {a = a} {b = b} {c = c} {d = d} {e = e} {next = next} {m = m} {n = n} {fault = fault} p opened keeps closes same rose unfailed is =
+pass_failed {r = r} {limits = limits} {a = a} {b = b} {c = c} {d = d} {e = e} {next = next} {m = m} {n = n}
+    {fault = fault} p opened keeps closes same rose unfailed is =
     let opens = opens_kept same p.opens in
     pass_ends p opened keeps closes same (record {
       begun = comes_opened (a.openings Old) (c.openings Old) (later_of fault) opens.of_old;
@@ -242,8 +243,10 @@ pass_failed {r = r} {limits = limits} {a = a} {b = b} {c = c} {d = d} {e = e} {n
       caused = caused_at (Rose a.failures c.failures) next fault
           (λ read. rose_since a.failures b.failures c.failures p.sources.never_falls (rose (is.read read))) (cause_of fault.kind);
       reliable = λ reliable. reliable_at a.bytes_of fault
-          (λ read. none_failed (reels_failed r.failures n) (unfailed (p.sources.reliable_same ∙ reliable)) (is.read read)) (cause_of fault.kind);
-      memory = λ le. later_room fault (is.memory (λ side. still_fits limits (limits_at m side) d.room e.room (opened.limits_of side) p.desk.room le));
+          (λ read. none_failed (reels_failed r.failures n) (unfailed (p.sources.reliable_same ∙ reliable)) (is.read read))
+          (cause_of fault.kind);
+      memory = λ le. later_room fault (is.memory (λ side. still_fits limits (limits_at m side) d.room e.room
+          (opened.limits_of side) p.desk.room le));
     })
 
 -- the same, or a write has failed
@@ -281,7 +284,8 @@ pen_then some p = record { some = some_more some p.some; writes_on = p.writes_on
 -- ---- what is written
 
 -- behind other text
-pub writes_behind : {T E : Type 0} {text : List ℕ} {a b : Sheet} (more : List ℕ) (e : Sheet) → Wrote text a b → (result : Result T E) → Writes result more b e
+pub writes_behind : {T E : Type 0} {text : List ℕ} {a b : Sheet} (more : List ℕ) (e : Sheet) → Wrote text a b → (result : Result T E)
+    → Writes result more b e
     → Writes result (text ++ more) a e
 writes_behind more e wrote (Ok answer) writes = wrote_more wrote writes
 writes_behind more e wrote (Err fault) writes = part_after wrote writes

@@ -45,13 +45,17 @@ pub counts_are : (limits : Limits) (options : Options) (counts : Counts) (old ne
 counts_are limits options counts old new sound_old sound_new done =
     let pass = pass_is_changes limits old new sound_old sound_new in
     let a : length (added (database_of old) (database_of new)) ≡ counts.added =
-    sym (added_count path_cmp path_cmp_total path_cmp-IsAntisymmetric (database_of old) (database_of new)) ∙ ap (count_by is_added) pass ∙ omega (arith, done.added) in
+    sym (added_count path_cmp path_cmp_total path_cmp-IsAntisymmetric (database_of old) (database_of new)) ∙ ap (count_by is_added) pass
+    ∙ omega (arith, done.added) in
     let r : length (removed (database_of old) (database_of new)) ≡ counts.removed =
-    sym (removed_count path_cmp path_cmp_total path_cmp-IsAntisymmetric (database_of old) (database_of new)) ∙ ap (count_by is_removed) pass ∙ omega (arith, done.removed) in
+    sym (removed_count path_cmp path_cmp_total path_cmp-IsAntisymmetric (database_of old) (database_of new)) ∙ ap (count_by is_removed) pass
+    ∙ omega (arith, done.removed) in
     let c : length (changed (differ_by options.ignore) (database_of old) (database_of new)) ≡ counts.changed =
-    sym (changed_count path_cmp path_cmp_total (differ_by options.ignore) path_cmp-IsAntisymmetric (database_of old) (database_of new)) ∙ ap (count_by (is_changed (differ_by options.ignore))) pass ∙ omega (arith, done.changed) in
+    sym (changed_count path_cmp path_cmp_total (differ_by options.ignore) path_cmp-IsAntisymmetric (database_of old) (database_of new))
+    ∙ ap (count_by (is_changed (differ_by options.ignore))) pass ∙ omega (arith, done.changed) in
     let t : len (database_of new) ≡ counts.total =
-    sym (total_count path_cmp path_cmp_total path_cmp-IsAntisymmetric (database_of old) (database_of new)) ∙ ap (count_by is_of_new) pass ∙ omega (arith, done.total) in
+    sym (total_count path_cmp path_cmp_total path_cmp-IsAntisymmetric (database_of old) (database_of new)) ∙ ap (count_by is_of_new) pass
+    ∙ omega (arith, done.total) in
     let s : count_by (is_shown_entry options) (changes (database_of old) (database_of new)) ≡ counts.shown =
     ap (count_by (is_shown_entry options)) pass ∙ omega (arith, done.shown) in
     λ i. record { added = sym a i; removed = sym r i; changed = sym c i; total = sym t i; shown = sym s i }
@@ -65,11 +69,13 @@ pub record HasDigests (finding : Finding) (old new : List ℕ) : Type 0 where
 pub text_is : (limits : Limits) (task : Task) (finding : Finding) (old new : List ℕ) → IsSound limits old
     → IsSound limits new
     → IsFinding task.options finding old new → HasDigests finding old new
-    → text_of task.options (old_origin task finding) (new_origin task finding) finding.counts (pass_of old new) ≡ (report_over (asked task) old new).text
+    → text_of task.options (old_origin task finding) (new_origin task finding) finding.counts (pass_of old new)
+    ≡ (report_over (asked task) old new).text
 unfolding report_over
 text_is limits task finding old new sound_old sound_new is digests =
     let pass = sym (pass_is_changes limits old new sound_old sound_new) in
-    λ i. text_of task.options (record { path = task.old_path.now; digest = digests.of_old i }) (record { path = task.new_path.now; digest = digests.of_new i }) (is.counts i) (pass i)
+    λ i. text_of task.options (record { path = task.old_path.now; digest = digests.of_old i })
+    (record { path = task.new_path.now; digest = digests.of_new i }) (is.counts i) (pass i)
 
 -- its outcome is the one that is told
 pub outcome_is : (task : Task) (finding : Finding) (old new : List ℕ) → IsFinding task.options finding old new
@@ -89,7 +95,8 @@ right_report limits over old new sound_old sound_new r runs =
     RunsBy-unique limits over old new (Ok (over old new)) r (sound_old, sound_new, refl) runs
 
 -- what is written of two sound texts, and the outcome, are those of the right answer
-pub well_by : (limits : Limits) (over : List ℕ → List ℕ → Report) (old new : List ℕ) (before after : Option (List ℕ)) (text : List ℕ) (outcome : Outcome)
+pub well_by : (limits : Limits) (over : List ℕ → List ℕ → Report) (old new : List ℕ) (before after : Option (List ℕ)) (text : List ℕ)
+    (outcome : Outcome)
     → IsSound limits old → IsSound limits new → (over old new).outcome ≡ outcome → text ≡ (over old new).text
     → Appends before after text → (r : Result Report DbFault) → RunsBy limits over old new r
     → EndsWell r outcome before after

@@ -25,7 +25,8 @@ none_bool d false i j k e = rw e refl
 
 none_reported : (i : Ignore) (old : Attributes) (a : Attr) → is_reported (sides_between old old) i a ≡ false
 none_reported i old a =
-    none_bool (is_different (old a) (old a)) (is_some (old a)) (not (has i.changed a)) (not (has i.added a)) (not (has i.removed a)) (never_different (old a))
+    none_bool (is_different (old a) (old a)) (is_some (old a)) (not (has i.changed a)) (not (has i.added a)) (not (has i.removed a))
+    (never_different (old a))
 
 none_any : (p : Attr → Bool) (xs : List Attr) → ((a : Attr) → p a ≡ false) → list_any p xs ≡ false
 none_any p [] h = refl
@@ -43,7 +44,8 @@ never_shown i level a old new e = ap (λ b. b && shown_at (sides_between old new
 -- so no contents have it
 pub shows_nothing : (options : Options) (old : Attributes) → shows_any options (Some old, Some old) ≡ false
 unfolding shows_any
-shows_nothing options old = none_any (shows_at options (Some old, Some old)) all_attrs (λ a. never_shown options.ignore options.level a old old refl)
+shows_nothing options old = none_any (shows_at options (Some old, Some old)) all_attrs
+    (λ a. never_shown options.ignore options.level a old old refl)
 
 pub and_no : (b : Bool) → b && false ≡ false
 and_no true = refl

@@ -62,13 +62,17 @@ any_kind false p xs = any_none xs
 
 module _ (options : Options) (old new : Database) where
   some_added : not (length (added old new) == 0) ≡ list_any is_added (changes old new)
-  some_added = ap (λ n. not (n == 0)) (sym (added_count path_cmp path_cmp_total path_cmp-IsAntisymmetric old new)) ∙ some_counted is_added (changes old new)
+  some_added = ap (λ n. not (n == 0)) (sym (added_count path_cmp path_cmp_total path_cmp-IsAntisymmetric old new))
+      ∙ some_counted is_added (changes old new)
 
   some_removed : not (length (removed old new) == 0) ≡ list_any is_removed (changes old new)
-  some_removed = ap (λ n. not (n == 0)) (sym (removed_count path_cmp path_cmp_total path_cmp-IsAntisymmetric old new)) ∙ some_counted is_removed (changes old new)
+  some_removed = ap (λ n. not (n == 0)) (sym (removed_count path_cmp path_cmp_total path_cmp-IsAntisymmetric old new))
+      ∙ some_counted is_removed (changes old new)
 
-  some_changed : not (length (changed (differ_by options.ignore) old new) == 0) ≡ list_any (is_changed (differ_by options.ignore)) (changes old new)
-  some_changed = ap (λ n. not (n == 0)) (sym (changed_count path_cmp path_cmp_total (differ_by options.ignore) path_cmp-IsAntisymmetric old new))
+  some_changed : not (length (changed (differ_by options.ignore) old new) == 0)
+      ≡ list_any (is_changed (differ_by options.ignore)) (changes old new)
+  some_changed = ap (λ n. not (n == 0)) (sym (changed_count path_cmp path_cmp_total
+      (differ_by options.ignore) path_cmp-IsAntisymmetric old new))
       ∙ some_counted (is_changed (differ_by options.ignore)) (changes old new)
 
   listed_law : (added removed changed : Bool)
@@ -79,7 +83,8 @@ module _ (options : Options) (old new : Database) where
       let differs = is_changed (differ_by options.ignore) in
       (λ i. (added && some_added i) || ((removed && some_removed i) || (changed && some_changed i)))
       ∙ (λ i. any_kind added is_added all i || (any_kind removed is_removed all i || any_kind changed differs all i))
-      ∙ ap (λ b. list_any (λ x. added && is_added x) all || b) (sym (any_either (λ x. removed && is_removed x) (λ x. changed && differs x) all))
+      ∙ ap (λ b. list_any (λ x. added && is_added x) all || b)
+      (sym (any_either (λ x. removed && is_removed x) (λ x. changed && differs x) all))
       ∙ sym (any_either (λ x. added && is_added x) (λ x. (removed && is_removed x) || (changed && differs x)) all)
 
   -- contents have an entry exactly where some change is in them

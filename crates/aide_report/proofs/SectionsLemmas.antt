@@ -25,12 +25,14 @@ module _ {X : Type 0} (h : X → Bool) where
   -- the next one passes
   pub rest_yes : (f : X → List ℕ) (xs : List X) (i : ℕ) (d : X) → i < length xs → h (get_or xs i d) ≡ true
       → flat_map f (filter h (drop i xs)) ≡ f (get_or xs i d) ++ flat_map f (filter h (drop (i + 1) xs))
-  rest_yes f xs i d less e = ap (λ ys. flat_map f (filter h ys)) (drop_more xs i d less) ∙ ap (flat_map f) (filter_yes (get_or xs i d) (drop (i + 1) xs) e)
+  rest_yes f xs i d less e = ap (λ ys. flat_map f (filter h ys)) (drop_more xs i d less)
+      ∙ ap (flat_map f) (filter_yes (get_or xs i d) (drop (i + 1) xs) e)
 
   -- the next one does not pass
   pub rest_no : (f : X → List ℕ) (xs : List X) (i : ℕ) (d : X) → i < length xs → h (get_or xs i d) ≡ false
       → flat_map f (filter h (drop i xs)) ≡ flat_map f (filter h (drop (i + 1) xs))
-  rest_no f xs i d less e = ap (λ ys. flat_map f (filter h ys)) (drop_more xs i d less) ∙ ap (flat_map f) (filter_no (get_or xs i d) (drop (i + 1) xs) e)
+  rest_no f xs i d less e = ap (λ ys. flat_map f (filter h ys)) (drop_more xs i d less)
+      ∙ ap (flat_map f) (filter_no (get_or xs i d) (drop (i + 1) xs) e)
 
   pub rest_end : (f : X → List ℕ) (xs : List X) (i : ℕ) → length xs ≤ i → flat_map f (filter h (drop i xs)) ≡ []
   rest_end f xs i past = ap (λ ys. flat_map f (filter h ys)) (drop_all i xs past)
@@ -43,14 +45,18 @@ module _ {X : Type 0} (h : X → Bool) where
       → passed xs (i + 1) ≡ passed xs i + 1
   unfolding passed
   passed_yes xs i d less e =
-      ap (λ ys. length (filter h ys)) (take_more xs i d less) ∙ ap length (filter-append h (take i xs) (get_or xs i d ∷ []) ∙ ap (λ ys. filter h (take i xs) ++ ys) (filter_yes (get_or xs i d) [] e))
+      ap (λ ys. length (filter h ys)) (take_more xs i d less)
+      ∙ ap length (filter-append h (take i xs) (get_or xs i d ∷ [])
+      ∙ ap (λ ys. filter h (take i xs) ++ ys) (filter_yes (get_or xs i d) [] e))
       ∙ length-append (filter h (take i xs)) (get_or xs i d ∷ [])
 
   pub passed_no : (xs : List X) (i : ℕ) (d : X) → i < length xs → h (get_or xs i d) ≡ false
       → passed xs (i + 1) ≡ passed xs i
   unfolding passed
   passed_no xs i d less e =
-      ap (λ ys. length (filter h ys)) (take_more xs i d less) ∙ ap length (filter-append h (take i xs) (get_or xs i d ∷ []) ∙ ap (λ ys. filter h (take i xs) ++ ys) (filter_no (get_or xs i d) [] e))
+      ap (λ ys. length (filter h ys)) (take_more xs i d less)
+      ∙ ap length (filter-append h (take i xs) (get_or xs i d ∷ [])
+      ∙ ap (λ ys. filter h (take i xs) ++ ys) (filter_no (get_or xs i d) [] e))
       ∙ ap length (append-nil (filter h (take i xs)))
 
   pub passed_none : (xs : List X) → passed xs 0 ≡ 0
@@ -66,7 +72,8 @@ module _ {X : Type 0} (h : X → Bool) where
   unfolding passed
   passed_some xs i =
       let e : length (filter h xs) ≡ length (filter h (take i xs)) + length (filter h (drop i xs)) =
-      ap (λ ys. length (filter h ys)) (sym (take-append-drop i xs)) ∙ ap length (filter-append h (take i xs) (drop i xs)) ∙ length-append (filter h (take i xs)) (filter h (drop i xs)) in
+      ap (λ ys. length (filter h ys)) (sym (take-append-drop i xs)) ∙ ap length (filter-append h (take i xs) (drop i xs))
+      ∙ length-append (filter h (take i xs)) (filter h (drop i xs)) in
       omega arith
 
 -- ---- openings, one call after another
@@ -125,7 +132,8 @@ there_fits : (options : Options) (counts : Counts) → length (sections_of optio
 unfolding fitting
 there_fits options counts =
     wider (is_there options counts) (λ section. fits (grouped_of section) options.grouped)
-    (λ section. middle (reaches options.level (level_of section)) (fits (grouped_of section) options.grouped) (has_entry counts (contents_of section)))
+    (λ section. middle (reaches options.level (level_of section)) (fits (grouped_of section) options.grouped)
+    (has_entry counts (contents_of section)))
     all_sections
 
 by_silent : (options : Options) (counts : Counts) (silent : Bool)

@@ -16,7 +16,8 @@ pass-init g c = record {
   ready = c.requires.ready;
   writes_on = c.requires.writes_on;
   keeps = merge_none g.R.Reel c.args.merge.now c.args.desk.now;
-  writes = λ old new s t. writing_start (flat_map (g.T.ChangeWriter.text_of c.args.writer.now) (remaining c.args.merge.now c.args.desk.now old new))
+  writes = λ old new s t. writing_start (flat_map (g.T.ChangeWriter.text_of c.args.writer.now)
+      (remaining c.args.merge.now c.args.desk.now old new))
       (on_sheet g.W.Sink c.args.out.now c.args.pen.now);
   some = some_nothing (on_sheet g.W.Sink c.args.out.now c.args.pen.now);
 }
@@ -66,7 +67,8 @@ returns-then-pen g c =
     record {
       keeps = merge_then c.pass.invariant.keeps (merge_then c.read_due.ensures.keeps c.next.ensures.keeps);
       writes = λ old new s t. writing_so_far (writing_more
-          (more_written (g.T.ChangeWriter.text_of c.args.writer.now) (change_of c.in-Differs.change) (remaining c.pass.merge c.pass.desk old new)
+          (more_written (g.T.ChangeWriter.text_of c.args.writer.now) (change_of c.in-Differs.change)
+          (remaining c.pass.merge c.pass.desk old new)
           step.changes (remaining c.next.new.self c.read_due.new.desk old new)
           (read.same old new (stands Old old s) (stands New new t) ∙ step.gives old new) step.shows)
           (c.pass.invariant.writes old new s t) c.put.ensures);
@@ -86,7 +88,8 @@ pass-preserved-else-pen g c =
       writes_on = c.if-pen.false;
       keeps = merge_then c.pass.invariant.keeps (merge_then c.read_due.ensures.keeps c.next.ensures.keeps);
       writes = λ old new s t. writing_more
-          (more_written (g.T.ChangeWriter.text_of c.args.writer.now) (change_of c.in-Differs.change) (remaining c.pass.merge c.pass.desk old new)
+          (more_written (g.T.ChangeWriter.text_of c.args.writer.now) (change_of c.in-Differs.change)
+          (remaining c.pass.merge c.pass.desk old new)
           step.changes (remaining c.next.new.self c.read_due.new.desk old new)
           (read.same old new (stands Old old s) (stands New new t) ∙ step.gives old new) step.shows)
           (c.pass.invariant.writes old new s t) c.put.ensures;
@@ -102,11 +105,13 @@ pass-preserved g c =
       ready = step.ready;
       writes_on = c.pass.invariant.writes_on;
       keeps = merge_then c.pass.invariant.keeps (merge_then c.read_due.ensures.keeps c.next.ensures.keeps);
-      writes = λ old new s t. subst (λ rest. Writing (flat_map (g.T.ChangeWriter.text_of c.args.writer.now) (remaining c.args.merge.now c.args.desk.now old new)) rest
+      writes = λ old new s t. subst (λ rest. Writing
+          (flat_map (g.T.ChangeWriter.text_of c.args.writer.now) (remaining c.args.merge.now c.args.desk.now old new)) rest
           (on_sheet g.W.Sink c.args.out.now c.args.pen.now) (on_sheet g.W.Sink c.pass.out c.pass.pen))
           (alike_written (g.T.ChangeWriter.text_of c.args.writer.now) step.shows.entry (remaining c.pass.merge c.pass.desk old new)
           step.changes (remaining c.next.new.self c.read_due.new.desk old new)
-          (c.skips_alike.ensures step.shows.entry) (read.same old new (stands Old old s) (stands New new t) ∙ step.gives old new) step.shows.only)
+          (c.skips_alike.ensures step.shows.entry)
+          (read.same old new (stands Old old s) (stands New new t) ∙ step.gives old new) step.shows.only)
           (c.pass.invariant.writes old new s t);
       some = c.pass.invariant.some;
     }

@@ -15,7 +15,8 @@ invariant-pass g l = record {
   keeps : KeepsMerge g.R.Reel l.fn.merge l.merge l.fn.desk l.desk;
   writes : (old new : List ℕ) → StandsAt g.R.Reel.to_come l.fn.merge l.fn.desk Old old
       → StandsAt g.R.Reel.to_come l.fn.merge l.fn.desk New new
-      → Writing (flat_map (g.T.ChangeWriter.text_of l.writer) (remaining l.fn.merge l.fn.desk old new)) (flat_map (g.T.ChangeWriter.text_of l.writer) (remaining l.merge l.desk old new))
+      → Writing (flat_map (g.T.ChangeWriter.text_of l.writer) (remaining l.fn.merge l.fn.desk old new))
+      (flat_map (g.T.ChangeWriter.text_of l.writer) (remaining l.merge l.desk old new))
       (on_sheet g.W.Sink l.fn.out l.fn.pen) (on_sheet g.W.Sink l.out l.pen);
   some : WritesSome (on_sheet g.W.Sink l.fn.out l.fn.pen) (on_sheet g.W.Sink l.out l.pen);
 }

@@ -37,12 +37,15 @@ pass-preserved-in-Differs g c =
     let stands = c.pass.invariant.keeps.stands in
     record {
       ready = step.ready;
-      small = small_more c.args.options.now c.pass.counts c.add.new.counts (change_of c.in-Differs.change) (2 ^ 62) (total_work c.pass.merge) (total_work c.next.new.self)
-          fewer c.add.ensures.added c.add.ensures.removed c.add.ensures.changed c.add.ensures.total c.add.ensures.shown c.pass.invariant.small;
+      small = small_more c.args.options.now c.pass.counts c.add.new.counts (change_of c.in-Differs.change) (2 ^ 62)
+          (total_work c.pass.merge) (total_work c.next.new.self)
+          fewer c.add.ensures.added c.add.ensures.removed c.add.ensures.changed c.add.ensures.total c.add.ensures.shown
+          c.pass.invariant.small;
       keeps = merge_then c.pass.invariant.keeps (merge_then c.read_due.ensures.keeps c.next.ensures.keeps);
       counts = λ old new s t. counts_more c.args.options.now c.pass.counts c.add.new.counts (change_of c.in-Differs.change) _ _ _ _
           (read.same old new (stands Old old s) (stands New new t) ∙ step.gives old new) step.shows
-          c.add.ensures.added c.add.ensures.removed c.add.ensures.changed c.add.ensures.total c.add.ensures.shown (c.pass.invariant.counts old new s t);
+          c.add.ensures.added c.add.ensures.removed c.add.ensures.changed c.add.ensures.total c.add.ensures.shown
+          (c.pass.invariant.counts old new s t);
     }
 
 pub pass-preserved : goal.pass-preserved
@@ -56,5 +59,6 @@ pass-preserved g c =
       small = small_alike c.pass.counts _ (2 ^ 62) (total_work c.pass.merge) (total_work c.next.new.self) fewer refl c.pass.invariant.small;
       keeps = merge_then c.pass.invariant.keeps (merge_then c.read_due.ensures.keeps c.next.ensures.keeps);
       counts = λ old new s t. counts_alike c.args.options.now c.pass.counts _ step.shows.entry _ _ _ _
-          (read.same old new (stands Old old s) (stands New new t) ∙ step.gives old new) step.shows.only refl (c.pass.invariant.counts old new s t);
+          (read.same old new (stands Old old s) (stands New new t) ∙ step.gives old new) step.shows.only refl
+          (c.pass.invariant.counts old new s t);
     }

@@ -8,5 +8,6 @@ use Rattle.aide_report.proofs.details.put_attributes.Given as goal
 
 abbrev pub invariant-loop-attr : goal.invariant-loop-attr
 invariant-loop-attr g l =
-    Writing (attributes_text l.base16 (change_of l.change).1 (has l.shown) l.attrs) (attributes_text l.base16 (change_of l.change).1 (has l.shown) (drop l.attr-index l.attrs))
+    Writing (attributes_text l.base16 (change_of l.change).1 (has l.shown) l.attrs)
+    (attributes_text l.base16 (change_of l.change).1 (has l.shown) (drop l.attr-index l.attrs))
     (on_sheet g.W.Sink l.fn.out l.fn.pen) (on_sheet g.W.Sink l.out l.pen)

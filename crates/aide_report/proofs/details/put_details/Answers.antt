@@ -16,13 +16,17 @@ pub returns-then-not-is_empty : goal.returns-then-not-is_empty
 unfolding entry_details shows_any
 returns-then-not-is_empty g c =
     wrote_as (text_of_one c.args.options.now Detailed (change_of c.args.change)
-    (sym (any_in c.said_of.result.0 (shows_at c.args.options.now (change_of c.args.change).1) c.is_empty.result c.said_of.ensures.shown c.is_empty.ensures) ∙ ap not c.if-not-is_empty.true))
-    (wrote_more c.put_newline.ensures (wrote_more (wrote_as (λ i. path_line (c.title.ensures i) (c.name_of.ensures i)) c.put_encoded_path_line.ensures)
-    (wrote_as (shown_as c.args.options.now.base16 (change_of c.args.change).1 (has c.said_of.result.0) (shows_at c.args.options.now (change_of c.args.change).1) all_attrs c.said_of.ensures.shown) c.put_attributes.ensures)))
+    (sym (any_in c.said_of.result.0 (shows_at c.args.options.now (change_of c.args.change).1) c.is_empty.result c.said_of.ensures.shown
+    c.is_empty.ensures) ∙ ap not c.if-not-is_empty.true))
+    (wrote_more c.put_newline.ensures (wrote_more (wrote_as
+    (λ i. path_line (c.title.ensures i) (c.name_of.ensures i)) c.put_encoded_path_line.ensures)
+    (wrote_as (shown_as c.args.options.now.base16 (change_of c.args.change).1 (has c.said_of.result.0)
+    (shows_at c.args.options.now (change_of c.args.change).1) all_attrs c.said_of.ensures.shown) c.put_attributes.ensures)))
 
 pub returns-else-not-is_empty : goal.returns-else-not-is_empty
 unfolding shows_any
 returns-else-not-is_empty g c =
     wrote_as (text_of_none c.args.options.now Detailed (change_of c.args.change)
-    (sym (any_in c.said_of.result.0 (shows_at c.args.options.now (change_of c.args.change).1) c.is_empty.result c.said_of.ensures.shown c.is_empty.ensures) ∙ ap not c.if-not-is_empty.false))
+    (sym (any_in c.said_of.result.0 (shows_at c.args.options.now (change_of c.args.change).1) c.is_empty.result c.said_of.ensures.shown
+    c.is_empty.ensures) ∙ ap not c.if-not-is_empty.false))
     (wrote_nothing (on_sheet g.W.Sink c.args.out.now c.args.pen.now))

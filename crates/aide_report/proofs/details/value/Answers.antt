@@ -6,7 +6,8 @@ use Rattle.aide_report.proofs.details.value.Goals as goal
 
 pub returns-in-Kind : goal.returns-in-Kind
 returns-in-Kind c =
-    c.kind_text.ensures ∙ ap (option_text type_text) c.kind.ensures ∙ kind_at c.args.base16 c.args.attr (entry_in c.args.view.now).1 (sym c.form.ensures.same ∙ c.in-Kind.is)
+    c.kind_text.ensures ∙ ap (option_text type_text) c.kind.ensures
+    ∙ kind_at c.args.base16 c.args.attr (entry_in c.args.view.now).1 (sym c.form.ensures.same ∙ c.in-Kind.is)
 
 pub returns-in-Link : goal.returns-in-Link
 returns-in-Link c =

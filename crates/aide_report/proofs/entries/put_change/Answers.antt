@@ -7,9 +7,11 @@ use Rattle.aide_report.proofs.entries.put_change.Goals as goal
 
 pub returns-then-lists : goal.returns-then-lists
 returns-then-lists g c =
-    wrote_as (listed_text c.args.options.now c.args.contents (change_of c.args.change) (sym c.lists.ensures ∙ c.if-lists.true)) c.put_listed.ensures
+    wrote_as (listed_text c.args.options.now c.args.contents (change_of c.args.change) (sym c.lists.ensures ∙ c.if-lists.true))
+    c.put_listed.ensures
 
 pub returns-else-lists : goal.returns-else-lists
 returns-else-lists g c =
-    wrote_as (unlisted_text c.args.options.now c.args.contents (change_of c.args.change) c.in_default.not-Detailed (sym c.lists.ensures ∙ c.if-lists.false))
+    wrote_as (unlisted_text c.args.options.now c.args.contents (change_of c.args.change) c.in_default.not-Detailed
+    (sym c.lists.ensures ∙ c.if-lists.false))
     (wrote_nothing (on_sheet g.W.Sink c.args.out.now c.args.pen.now))

@@ -1,0 +1,113 @@
+-- What the flush at the end makes of what was written before it.
+use Rattle.std.proofs.Common.{◌≡◌, ◌∙◌, ◌≤◌, ℕ, List, Option, Bool, true, false, ap, le_refl, refl, subst, sym}
+use Rattle.std.specs.Prelude.{Result, Ok, Err, IfOk, OnOk}
+use Rattle.aide_db.specs.DeskView.{DeskView}
+use Rattle.aide_db.specs.declared.limits.Limits.{Limits}
+use Rattle.aide_text.specs.Failures.{Rose, one_more}
+use Rattle.aide_text.specs.PenSheet.{on_sheet}
+use Rattle.aide_text.specs.Sent.{Sends}
+use Rattle.aide_text.specs.Sheet.{WritesFirst}
+use Rattle.aide_text.specs.declared.pen.Pen.{Pen}
+use Rattle.aide_text.specs.declared.sink.Sink.{Ghosts as Sinks}
+use Rattle.aide_text.proofs.Sheets.{wrote_part}
+use Rattle.aide_report.specs.Agreement.{BeginsWith}
+use Rattle.aide_report.specs.LineRuns.{Frames}
+use Rattle.aide_report.specs.code.Flushes.{EndsFlushed}
+use Rattle.aide_report.specs.code.PassFaults.{Writes}
+use Rattle.aide_report.specs.code.Passes.{FlushesOnce, KeepsPen, Passes}
+use Rattle.aide_report.specs.Seen.{Seen}
+use Rattle.aide_report.specs.code.WrittenLines.{WritesFrame}
+use Rattle.aide_report.specs.declared.run_fault.RunFault.{RunFault}
+use Rattle.aide_report.specs.declared.run_fault.RunFault.TheVariants.{Write}
+use Rattle.aide_report.proofs.AgreementLemmas.{begins, unflushed}
+use Rattle.aide_report.proofs.LineRunLemmas.{framed}
+use Rattle.aide_report.proofs.PassLemmas.{passes_broken, passes_err, passes_same}
+use Rattle.aide_report.proofs.ReportLemmas.{count_of_pen, counts_of_pen, flushed_count, flushed_part, flushed_whole, never_falls}
+use Rattle.aide_report.proofs.ReportLemmas.{rises_by_one, rose_by_one, rose_of_pen, unfailed, written_of_pen}
+
+-- from `start`, where the pen is fresh, to `a`, where the writing ends, and to `b`, after the flush
+module _ {W : Type 0} (s : Sinks W) (start a b : W) (first pen : Pen) (is_new : first ≡ record { sent = 0; failed = false }) where
+  fresh : first.failed ≡ false
+  fresh = ap (λ (pen : Pen). pen.failed) is_new
+
+  pub flushed_passes : {T : Type 0} {limits : Limits} {n : ℕ} {x y : Seen} {d e : DeskView} (written result : Result T RunFault)
+      → EndsFlushed s a b pen.sent written result → KeepsPen (on_sheet s start first) (on_sheet s a pen) pen written
+      → Passes limits n x y d e (pen.failed ≡ true) written
+      → Passes limits n x y d e (Rose (s.failures start) (s.failures b)) result
+  flushed_passes (Ok answer) (Ok done) ends kept passes = passes_same _ _ refl passes
+  flushed_passes {T} {limits} {n} {x} {y} {d} {e} (Ok answer) (Err fault) ends kept passes =
+      subst (λ broken. Passes {T = T} limits n x y d e (Rose (s.failures start) (s.failures b)) (Err broken)) (sym ends.breaks)
+      (passes_broken _ _ pen.sent (le_refl _) passes (rose_by_one _ _ _ (never_falls fresh kept.some) ends.fails))
+  flushed_passes {T} {limits} {n} {x} {y} {d} {e} (Err fault) result ends kept passes =
+      subst (λ sink. Passes limits n x y d e (Rose (s.failures start) (s.failures sink)) result) (sym ends.1)
+      (subst (Passes {T = T} limits n x y d e (Rose (s.failures start) (s.failures a))) (sym ends.0)
+      (passes_err (rose_of_pen fresh kept.some) passes))
+
+  pub flushed_sends : {T : Type 0} (text : List ℕ) (written result : Result T RunFault)
+      → EndsFlushed s a b pen.sent written result → KeepsPen (on_sheet s start first) (on_sheet s a pen) pen written
+      → Writes written text (on_sheet s start first) (on_sheet s a pen)
+      → Sends result text (s.delivered start) (s.delivered b)
+  flushed_sends text (Ok answer) (Ok done) ends kept writes = flushed_whole (s.delivered b) fresh kept.writes_on writes ends.bytes
+  flushed_sends text (Ok answer) (Err fault) ends kept writes = flushed_part (s.delivered b) fresh kept.writes_on writes ends.bytes
+  flushed_sends {T} text (Err fault) result ends kept writes =
+      subst (λ sink. Sends result text (s.delivered start) (s.delivered sink)) (sym ends.1)
+      (subst (λ (r : Result T RunFault). Sends r text (s.delivered start) (s.delivered a)) (sym ends.0) (wrote_part fresh writes))
+
+  pub flushed_once : {T : Type 0} (written result : Result T RunFault)
+      → EndsFlushed s a b pen.sent written result → KeepsPen (on_sheet s start first) (on_sheet s a pen) pen written
+      → FlushesOnce s start b result
+  flushed_once (Ok answer) (Ok done) ends kept =
+      let rises = never_falls fresh kept.some in
+      record {
+        flushed = ends.flushed;
+        flushes = ends.flushes ∙ ap one_more (unflushed kept.some);
+        written = tt;
+        never_falls = subst (λ n. s.failures start ≤ n) (sym ends.fails) rises;
+        fails = ends.fails ∙ unfailed fresh kept.writes_on kept.some;
+      }
+  flushed_once {T} (Ok answer) (Err fault) ends kept =
+      let rises = never_falls fresh kept.some in
+      subst (λ broken. FlushesOnce {T = T} s start b (Err broken)) (sym ends.breaks) (record {
+        flushed = tt;
+        flushes = ends.flushes ∙ unflushed kept.some;
+        written = flushed_count (s.delivered b) fresh (ap (λ (pen : Pen). pen.sent) is_new) kept.some ends.bytes;
+        never_falls = rises_by_one _ _ _ rises ends.fails;
+        fails = ends.fails ∙ ap one_more (unfailed fresh kept.writes_on kept.some);
+      })
+  flushed_once {T} (Err fault) result ends kept =
+      subst (λ sink. FlushesOnce s start sink result) (sym ends.1) (subst (FlushesOnce {T = T} s start a) (sym ends.0) (record {
+        flushed = tt;
+        flushes = unflushed kept.some;
+        written = written_of_pen pen (s.delivered start) (s.delivered a) fault
+            (count_of_pen fresh (ap (λ (pen : Pen). pen.sent) is_new) kept.some) kept.written;
+        never_falls = never_falls fresh kept.some;
+        fails = counts_of_pen pen fault refl fresh kept.some kept.written;
+      }))
+
+  pub flushed_begins : {T : Type 0} (text : List ℕ) (more : Bool) (written result : Result T RunFault)
+      → EndsFlushed s a b pen.sent written result → KeepsPen (on_sheet s start first) (on_sheet s a pen) pen written
+      → OnOk written (WritesFirst text more (on_sheet s start first) (on_sheet s a pen))
+      → OnOk result (BeginsWith text more (s.delivered start) (s.delivered b))
+  flushed_begins text more (Ok answer) (Ok done) ends kept begun = begins (s.delivered b) fresh kept.writes_on begun ends.bytes
+  flushed_begins text more (Ok answer) (Err fault) ends kept begun = tt
+  flushed_begins {T} text more (Err fault) result ends kept begun =
+      subst (λ (r : Result T RunFault). OnOk r (BeginsWith text more (s.delivered start) (s.delivered b))) (sym ends.0) tt
+
+  pub flushed_answer : {T : Type 0} (P : T → Type 0) (written result : Result T RunFault)
+      → EndsFlushed s a b pen.sent written result → IfOk written P → IfOk result P
+  flushed_answer P (Ok answer) (Ok done) ends holds = subst P (sym ends.answers) holds
+  flushed_answer P (Ok answer) (Err fault) ends holds = tt
+  flushed_answer {T} P (Err fault) result ends holds = subst (λ (r : Result T RunFault). IfOk r P) (sym ends.0) tt
+
+  pub flushed_frames : {T : Type 0} (first_line last_line : T → List ℕ) (lines : T → ℕ) (written result : Result T RunFault)
+      → EndsFlushed s a b pen.sent written result → KeepsPen (on_sheet s start first) (on_sheet s a pen) pen written
+      → IfOk written (λ counts. WritesFrame (first_line counts) (last_line counts) (lines counts)
+      (on_sheet s start first) (on_sheet s a pen))
+      → IfOk result (λ counts. Frames (first_line counts) (last_line counts) (lines counts) (s.delivered start) (s.delivered b))
+  flushed_frames first_line last_line lines (Ok answer) (Ok done) ends kept frame =
+      subst (λ counts. Frames (first_line counts) (last_line counts) (lines counts) (s.delivered start) (s.delivered b))
+      (sym ends.answers) (framed (s.delivered b) fresh kept.writes_on frame ends.bytes)
+  flushed_frames first_line last_line lines (Ok answer) (Err fault) ends kept frame = tt
+  flushed_frames {T} first_line last_line lines (Err fault) result ends kept frame =
+      subst (λ (r : Result T RunFault). IfOk r (λ counts. Frames (first_line counts) (last_line counts) (lines counts)
+      (s.delivered start) (s.delivered b))) (sym ends.0) tt

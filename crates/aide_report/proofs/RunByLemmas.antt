@@ -1,0 +1,219 @@
+-- How a run comes to its promise, whatever it writes: by the first readings, and by the writing that follows them.
+use Rattle.std.proofs.Common.{◌≡◌, ◌∙◌, ◌≤◌, ◌+◌, ℕ, List, Option, ap, refl, subst, sym, arith}
+use Rattle.std.specs.Prelude.{true, false, Some, Result, Ok, Err}
+use Rattle.aide_db.specs.Database.{IsSound}
+use Rattle.aide_db.specs.DeskView.{DeskView}
+use Rattle.aide_db.specs.declared.fault.DbFault.{DbFault}
+use Rattle.aide_db.specs.declared.limits.Limits.{Limits}
+use Rattle.aide_db.specs.declared.side.Side.{Side}
+use Rattle.aide_db.specs.declared.side.Side.TheVariants.{Old, New}
+use Rattle.aide_text.specs.Failures.{Rose}
+use Rattle.aide_text.specs.declared.sink.Sink.{Ghosts as AnySink}
+use Rattle.aide_text.proofs.Sending.{Appends-nothing}
+use Rattle.aide_report.specs.Asked.{Asked}
+use Rattle.aide_report.specs.Missing.{IsHindered, IsOfReliable, RunsOver, StopsFor, TellsSide}
+use Rattle.aide_report.specs.Openings.{OpensAtMost, OpensExactly}
+use Rattle.aide_report.specs.RunBy.{IsRunBy}
+use Rattle.aide_report.specs.RunFaults.{HasSentNothing, HasWrittenIfAny, IsCaused, IsLater}
+use Rattle.aide_report.specs.Runs.{EndsEarly, EndsWell, Report, RunsBy, report_over}
+use Rattle.aide_report.specs.Seen.{KeepsSources, Seen, SinkSeen, sink_seen}
+use Rattle.aide_report.specs.Written.{Written}
+use Rattle.aide_report.specs.code.Passes.{FlushesOnce, Passes}
+use Rattle.aide_report.specs.code.Readings.{ClearsDesk, IsFindingFault}
+use Rattle.aide_report.specs.declared.outcome.Outcome.{Outcome}
+use Rattle.aide_report.specs.declared.run_fault.RunFault.{RunFault}
+use Rattle.aide_report.specs.declared.run_fault.RunFault.TheVariants.{Open, Database, Changed, Write}
+use Rattle.aide_report.proofs.BoundLemmas.{fits_limit, fits_within}
+use Rattle.aide_report.proofs.FaultLemmas.{answer_later, cause_by, first_later, right_later, rose_later, rose_since}
+use Rattle.aide_report.proofs.LineRunLemmas.{stops_for_other}
+use Rattle.aide_report.proofs.MissingLemmas.{front_by, hindered_by, later_over, nothing_front, stops_by, stops_hindered}
+use Rattle.aide_report.proofs.MissingLemmas.{whole_by}
+use Rattle.aide_report.proofs.OpeningLemmas.{refused_later, unsent_begun, unsent_nothing}
+use Rattle.aide_report.proofs.PassLemmas.{sources_then}
+use Rattle.aide_report.proofs.ReadingLemmas.{clears_then}
+use Rattle.aide_report.proofs.ReportLemmas.{caused_as, counts_nothing}
+use Rattle.aide_report.proofs.SectionsLemmas.{opens_more, opens_then, opens_within}
+
+at_most : (k n : ℕ) → k ≡ n → n ≤ k
+at_most k n is = omega (arith, is)
+
+-- ---- a fault before anything is written
+
+nothing_written : (sources : Type 0) (bytes : Option (List ℕ)) (fault : RunFault) → IsCaused sources ⊥ fault
+    → HasWrittenIfAny bytes bytes fault
+nothing_written sources bytes (Open side) caused = tt
+nothing_written sources bytes (Database first) caused = tt
+nothing_written sources bytes (Changed side) caused = tt
+nothing_written sources bytes (Write written) caused = absurd caused
+
+-- what a fault of the readings says of the answer, at whatever is to be written
+abbrev pub StopsFirst : Limits → (a b : Seen) → RunFault → Type 0
+StopsFirst limits a b fault = (wish : Asked) (old new : Option (List ℕ)) → TellsSide (a.bytes_of Old) (a.is_missing Old) old
+    → TellsSide (a.bytes_of New) (a.is_missing New) new
+    → (r : Result Report RunFault) → RunsOver limits wish old new r
+    → StopsFor r (IsHindered old new (Rose a.failures b.failures) ⊥) fault
+
+pub run_stops : (w : Written) (limits : Limits) (wish : Asked) (n : ℕ) {a b : Seen} {d e : DeskView} (o : SinkSeen) {fault : RunFault}
+    → n ≤ w.most_openings → ((old new : List ℕ) → n ≤ w.openings wish old new)
+    → KeepsSources a b → OpensAtMost a.openings b.openings n → IsFindingFault limits a b d.room fault
+    → StopsFirst limits a b fault → ClearsDesk limits a.bytes_of d e
+    → IsRunBy w limits wish a b d e o o (Err fault)
+run_stops w limits wish n {a} {b} {d} {e} o {fault} most within kept few is stops cleared =
+    let sources = Rose a.failures b.failures in
+    let sink = Rose o.failures o.failures in
+    let peaks = fits_limit a.bytes_of limits d e cleared.fits in
+    record {
+      over = λ old new told_old told_new r runs. (
+        stops_by r (IsHindered old new sources ⊥) (IsHindered old new sources sink) fault (hindered_by old new sources sink fault)
+            (stops_for_other limits (report_over wish) (w.over wish) (IsHindered old new sources ⊥) fault old new r
+            (λ s answers. stops wish old new told_old told_new s answers) runs),
+        nothing_front r o.delivered,
+      );
+      reliable = is.reliable;
+      sound = tt;
+      nothing = λ side text told unsound. Appends-nothing o.delivered;
+      written = nothing_written sources o.delivered fault is.caused;
+      consistent = tt;
+      flushed = tt;
+      flushes = refl;
+      unsent = unsent_nothing w.openings_before (a.openings Old) (b.openings Old) o.delivered fault;
+      cause = cause_by limits wish (w.over wish) a.bytes_of sources sink fault
+          (caused_as sources ⊥ sink fault (λ none. absurd none) is.caused) (is.first wish) is.right;
+      right = is.right;
+      refused = is.refused;
+      not_given = is.not_given;
+      sources_never_fall = kept.never_falls;
+      sink_fails = counts_nothing sources o.failures fault is.caused;
+      opens = tt;
+      opens_told = tt;
+      opens_within = λ old new told_old told_new sound_old sound_new. opens_within _ _ n _ (within old new) few;
+      opens_some = opens_within _ _ n _ most few;
+      opens_first = is.opens_first;
+      peak = peaks.0;
+      below = peaks.1;
+      bound = fits_within a.bytes_of limits d e cleared.fits;
+      room = cleared.room;
+      memory = is.memory;
+      lookups = kept.lookups;
+    }
+
+-- ---- the writing, after both databases were read
+
+-- What was read before anything is written.
+pub record ReadsFirst (limits : Limits) (n : ℕ) (a b : Seen) (d e : DeskView) : Type 0 where
+  -- the sources are as they were, but for openings and failures
+  pub kept : KeepsSources a b
+  -- each side was opened this often
+  pub opened : OpensExactly a.openings b.openings n
+  -- the desk was cleared first
+  pub cleared : ClearsDesk limits a.bytes_of d e
+  -- both texts are sound, and no side is missing
+  pub sound : (side : Side) (text : List ℕ) → a.bytes_of side ≡ Some text → IsSound limits text
+  pub there : (side : Side) → a.is_missing side ≡ false
+
+module _ (w : Written) (limits : Limits) (wish : Asked) (n m : ℕ) {a b c : Seen} {d e f : DeskView} {W : Type 0} (s : AnySink W)
+    (out sent : W) (read : ReadsFirst limits n a b d e) where
+  -- what is written is the whole of the answer
+  pub run_ends : {T : Type 0} {answer : T} {sink : Type 0} (outcome : Outcome)
+      → Passes limits m b c e f sink (Ok answer) → FlushesOnce {T = T} s out sent (Ok answer)
+      → n + m ≤ w.most_openings
+      → ((old new : List ℕ) → a.bytes_of Old ≡ Some old → a.bytes_of New ≡ Some new → w.openings wish old new ≡ n + m)
+      → w.IsOf wish outcome (s.delivered out) (s.delivered sent)
+      → w.OpensBy wish.options outcome a.openings c.openings
+      → ((old new : List ℕ) → a.bytes_of Old ≡ Some old → a.bytes_of New ≡ Some new
+      → (r : Result Report DbFault) → RunsBy limits (w.over wish) old new r → EndsWell r outcome (s.delivered out) (s.delivered sent))
+      → IsRunBy w limits wish a c d f (sink_seen s out) (sink_seen s sent) (Ok outcome)
+  run_ends outcome passes flush most are is_of told well =
+      let kept = sources_then read.kept passes.sources in
+      let cleared = clears_then read.kept.same read.cleared passes.desk in
+      let peaks = fits_limit a.bytes_of limits d f cleared.fits in
+      record {
+        over = λ old new told_old told_new r runs. whole_by limits (w.over wish) a.bytes_of a.is_missing old new outcome
+            (s.delivered out) (s.delivered sent) told_old told_new read.there well r runs;
+        reliable = λ is. tt;
+        sound = read.sound;
+        nothing = λ side text told unsound. absurd (unsound (read.sound side text told));
+        written = tt;
+        consistent = is_of;
+        flushed = flush.flushed;
+        flushes = flush.flushes;
+        unsent = tt;
+        cause = tt;
+        right = tt;
+        refused = tt;
+        not_given = tt;
+        sources_never_fall = kept.never_falls;
+        sink_fails = flush.fails;
+        opens = λ old new told_old told_new. opens_more _ _ _ n m _ (are old new told_old told_new) read.opened passes.opens;
+        opens_told = told;
+        opens_within = λ old new told_old told_new sound_old sound_new.
+            opens_then _ _ _ n m _ (at_most _ _ (are old new told_old told_new)) read.opened passes.opens_some;
+        opens_some = opens_then _ _ _ n m _ most read.opened passes.opens_some;
+        opens_first = tt;
+        peak = peaks.0;
+        below = peaks.1;
+        bound = fits_within a.bytes_of limits d f cleared.fits;
+        room = cleared.room;
+        memory = λ fits. tt;
+        lookups = kept.lookups;
+      }
+
+  -- the writing ends early
+  pub run_breaks : {T : Type 0} {fault : RunFault}
+      → Passes {T = T} limits m b c e f (Rose (s.failures out) (s.failures sent)) (Err fault)
+      → FlushesOnce {T = T} s out sent (Err fault)
+      → n + m ≤ w.most_openings
+      → ((old new : List ℕ) → a.bytes_of Old ≡ Some old → a.bytes_of New ≡ Some new → w.openings wish old new ≡ n + m)
+      → w.openings_before ≡ n
+      → ((old new : List ℕ) → a.bytes_of Old ≡ Some old → a.bytes_of New ≡ Some new
+      → (r : Result Report DbFault) → RunsBy limits (w.over wish) old new r → EndsEarly r (s.delivered out) (s.delivered sent))
+      → IsRunBy w limits wish a c d f (sink_seen s out) (sink_seen s sent) (Err fault)
+  run_breaks {fault = fault} passes flush most are before early =
+      let kept = sources_then read.kept passes.sources in
+      let cleared = clears_then read.kept.same read.cleared passes.desk in
+      let peaks = fits_limit a.bytes_of limits d f cleared.fits in
+      let sources = Rose a.failures c.failures in
+      let sink = Rose (s.failures out) (s.failures sent) in
+      let is = passes.fault in
+      let later = subst (λ bytes. IsLater limits bytes fault) read.kept.same is.later in
+      let right = right_later limits a.bytes_of b.bytes_of read.kept.same read.sound fault is.later in
+      let caused = rose_later (Rose b.failures c.failures) sources sink fault
+      (rose_since a.failures b.failures c.failures read.kept.never_falls) is.caused in
+      record {
+        over = λ old new told_old told_new r runs. (
+          stops_hindered r (IsHindered old new sources sink) fault
+              (later_over limits a.bytes_of a.is_missing old new sources sink fault told_old told_new read.there read.sound later caused),
+          front_by limits (w.over wish) a.bytes_of a.is_missing old new (s.delivered out) (s.delivered sent) told_old told_new read.there
+              early r runs,
+        );
+        reliable = λ are_reliable. subst (λ bytes. IsOfReliable bytes fault) read.kept.same
+            (is.reliable (read.kept.reliable_same ∙ are_reliable));
+        sound = tt;
+        nothing = λ side text told unsound. absurd (unsound (read.sound side text told));
+        written = flush.written;
+        consistent = tt;
+        flushed = tt;
+        flushes = flush.flushes;
+        unsent = subst (λ n. HasSentNothing n (a.openings Old) (c.openings Old) (s.delivered out) (s.delivered sent) fault) (sym before)
+            (unsent_begun n (a.openings Old) (b.openings Old) (c.openings Old) (s.delivered out) (s.delivered sent) fault
+            read.opened.of_old is.begun);
+        cause = cause_by limits wish (w.over wish) a.bytes_of sources sink fault caused
+            (answer_later limits wish a.bytes_of b.bytes_of fault is.later) right;
+        right = right;
+        refused = refused_later a.openings b.openings c.openings n fault read.opened is.refused;
+        not_given = is.not_given;
+        sources_never_fall = kept.never_falls;
+        sink_fails = flush.fails;
+        opens = tt;
+        opens_told = tt;
+        opens_within = λ old new told_old told_new sound_old sound_new.
+            opens_then _ _ _ n m _ (at_most _ _ (are old new told_old told_new)) read.opened passes.opens_some;
+        opens_some = opens_then _ _ _ n m _ most read.opened passes.opens_some;
+        opens_first = first_later limits b.bytes_of a.openings c.openings fault is.later;
+        peak = peaks.0;
+        below = peaks.1;
+        bound = fits_within a.bytes_of limits d f cleared.fits;
+        room = cleared.room;
+        memory = λ fits. is.memory (subst (λ room. limits.line ≤ room) (sym read.cleared.room) fits);
+        lookups = kept.lookups;
+      }
