@@ -4,25 +4,24 @@ use Rattle.std.specs.Prelude.{Some, None, is_some, codes}
 use Rattle.std.specs.List.{flat_map, filter, list_any}
 use Rattle.aide_attr.specs.Attr.{all_attrs, detail_name_of}
 use Rattle.aide_attr.specs.Difference.{is_shown}
-use Rattle.aide_attr.specs.Summary.{summary_letters, alone_letters, first_type}
+use Rattle.aide_agreement.specs.Account.{Pair}
+use Rattle.aide_attr.specs.Summary.{summary_letters, alone_letters}
 use Rattle.aide_attr.specs.declared.attr.Attr.{Attr}
 use Rattle.aide_attr.specs.declared.attr.Attr.TheVariants.{Ftype}
 use Rattle.aide_attr.specs.declared.delta.Ignore.{Ignore}
 use Rattle.aide_attr.specs.declared.file_type.FileType.{FileType}
-use Rattle.aide_attr.specs.declared.file_type.FileType.TheVariants.{File, Directory, Link, Char}
-use Rattle.aide_attr.specs.declared.file_type.FileType.TheVariants.{Block, Fifo, Socket, Other}
+use Rattle.aide_attr.specs.declared.file_type.FileType.TheVariants.{File, Directory, Char, Block}
+use Rattle.aide_attr.specs.declared.file_type.FileType.TheVariants.{Link as SymbolicLink, Fifo}
+use Rattle.aide_attr.specs.declared.file_type.FileType.TheVariants.{Socket, Other}
 use Rattle.aide_attr.specs.declared.level.Level.{Level}
 use Rattle.aide_attr.specs.declared.level.Level.TheVariants.{AddedRemovedEntries}
 use Rattle.aide_attr.specs.declared.summary_string.Alone.TheVariants.{Added, Removed}
 use Rattle.aide_conf.specs.declared.options.Options.{Options}
 use Rattle.aide_entry.specs.Attributes.{Attributes, sides_between, type_in}
-use Rattle.aide_report.specs.Compare.{Change, Found}
+use Rattle.aide_line_text.specs.Entry.{kind_word, type_at}
+use Rattle.aide_report.specs.Compare.{Change}
 use Rattle.aide_text.specs.Layout.{empty_line, path_line, side_by_side}
 use Rattle.aide_text.specs.ValueText.{side_text}
-
--- what the old and the new database have at one path
-abbrev pub Pair : Type 0
-Pair = Found Attributes
 
 -- a path, and what both databases have there
 abbrev pub PathChange : Type 0
@@ -37,17 +36,10 @@ letters_of ignore (None, Some new) = alone_letters (type_in (new Ftype)) Added
 letters_of ignore (Some old, None) = alone_letters (type_in (old Ftype)) Removed
 letters_of ignore (Some old, Some new) = summary_letters (sides_between old new) ignore
 
--- the word in place of the summary string
-abbrev pub change_word : Pair → List ℕ
-change_word (None, None) = []
-change_word (None, Some new) = codes "added"
-change_word (Some old, None) = codes "removed"
-change_word (Some old, Some new) = codes "changed"
-
--- what precedes the path in a line: the summary string, or a word
+-- what precedes the path in a line: the summary string, or the word for what became of the path
 abbrev pub label_of : Options → Pair → List ℕ
 label_of options pair =
-    if options.summarize then letters_of options.ignore pair else change_word pair
+    if options.summarize then letters_of options.ignore pair else kind_word pair
 
 -- the line of a change in a list: its summary string or a word, and its path
 abbrev pub list_line : Options → PathChange → List ℕ
@@ -81,21 +73,16 @@ abbrev pub title_word : Option FileType → List ℕ
 title_word None = codes "Entry"
 title_word (Some File) = codes "File"
 title_word (Some Directory) = codes "Directory"
-title_word (Some Link) = codes "Link"
+title_word (Some SymbolicLink) = codes "Link"
 title_word (Some Char) = codes "Character device"
 title_word (Some Block) = codes "Block device"
 title_word (Some Fifo) = codes "FIFO"
 title_word (Some Socket) = codes "Socket"
 title_word (Some (Other bits)) = codes "Entry"
 
--- the type of a side's entry, if the side has an entry and this has a type
-abbrev pub type_on : Option Attributes → Option FileType
-type_on None = None
-type_on (Some attributes) = type_in (attributes Ftype)
-
 -- the word for an entry: by the new entry's type if it has one, otherwise by the old entry's type
 abbrev pub title_of : Pair → List ℕ
-title_of (old, new) = title_word (first_type (type_on new) (type_on old))
+title_of pair = title_word (type_at pair)
 
 -- an attribute: the old value beside the new one
 unfoldable pub attribute_text : Bool → Pair → Attr → List ℕ

@@ -20,14 +20,14 @@ abbrev pub HasWrittenIfAny : Option (List ℕ) → Option (List ℕ) → RunFaul
 HasWrittenIfAny old new (Write written) = IsCounted old new 0 written
 HasWrittenIfAny old new _ = ⊤
 
--- If no write failed and the old side was opened at most twice, nothing has gone out: the report is begun later.
+-- If no write failed and the old side was opened at most this often, nothing has gone out: what is written is begun
+-- later.
 -- This is said only of runs in which the count of openings stays below its last value.
-abbrev pub HasSentNothing : (opened_old opened_new : ℕ) → Option (List ℕ) → Option (List ℕ)
-    → RunFault
-    → Type 0
-HasSentNothing opened_old opened_new old new (Write written) = ⊤
-HasSentNothing opened_old opened_new old new _ = opened_new < 2 ^ 64 - 1
-    → opened_new ≤ opened_old + 2 → Appends old new []
+abbrev pub HasSentNothing : (before_it opened_old opened_new : ℕ) → Option (List ℕ)
+    → Option (List ℕ) → RunFault → Type 0
+HasSentNothing before_it opened_old opened_new old new (Write written) = ⊤
+HasSentNothing before_it opened_old opened_new old new _ = opened_new < 2 ^ 64 - 1
+    → opened_new ≤ opened_old + before_it → Appends old new []
 
 -- If a side could not be opened or read, the sources have failed. If a write failed, the sink has failed.
 abbrev pub IsCaused : Type 0 → Type 0 → RunFault → Type 0

@@ -3,14 +3,16 @@ pub mod Merged
 pub mod NextEntry
 pub mod NextPath
 pub mod Merging
+pub mod Upcoming
 pub mod ChangeView
 pub mod Counts
 pub mod PassFaults
 pub mod Digests
 pub mod Finding
 pub mod LaterFault
-pub mod Seen
 pub mod Passes
+pub mod Flushes
 pub mod Readings
 pub mod MergeCalls
+pub mod LineTally
 pub mod WrittenLines

@@ -1,28 +1,26 @@
 //! The lines of JSON about the changes, in one pass over both databases.
-ghost use Rattle.std.specs.Prelude.{◌≡◌, ℕ, List, [], false, true};
-ghost use Rattle.aide_attr.specs.Set.{has};
-ghost use Rattle.aide_db.specs.Count.{one_more};
-ghost use Rattle.aide_line_text.specs.SidesView.{found_in};
-ghost use Rattle.aide_report.specs.ChangeLines.{change_line, change_lines, widest};
-ghost use Rattle.aide_report.specs.code.ChangeView.{change_of};
-ghost use Rattle.aide_report.specs.code.Digests.{AreDigests};
-ghost use Rattle.aide_report.specs.code.Finding.{pass_of};
-ghost use Rattle.aide_report.specs.code.Passes.{KeepsPen, Passes, WritesOver};
+ghost use Rattle.std.specs.Prelude.{◌≡◌, ◌<◌, ◌^◌, ℕ, List, [], ◌∷◌, IfErr, IfOk, OnOk, false};
+ghost use Rattle.aide_report.specs.ChangeLines.{by_old, change_line, change_lines, listed_line};
+ghost use Rattle.aide_report.specs.ChangeLines.{widest};
 ghost use Rattle.aide_report.specs.Entries.{letters_of};
-ghost use Rattle.aide_report.specs.code.Seen.{AreLimits, seen};
+ghost use Rattle.aide_report.specs.code.ChangeView.{change_of};
+ghost use Rattle.aide_report.specs.code.LineTally.{AreLinesBelow, HasWritten, sum_of_counts, tally};
+ghost use Rattle.aide_report.specs.code.MergeCalls.{IsStopOf, KeepsMerge};
+ghost use Rattle.aide_report.specs.code.Merging.{remaining, IsReady, IsEnded, StandsAt, total_work};
+ghost use Rattle.aide_report.specs.code.PassFaults.{Writes};
 ghost use Rattle.aide_text.specs.PenSheet.{on_sheet};
-ghost use Rattle.aide_text.specs.Sheet.{Wrote};
+ghost use Rattle.aide_text.specs.Sheet.{Wrote, WritesSome};
 
-use crate::change::{Change, path_of};
-use crate::change_writer::ChangeWriter;
+use crate::change::{AtPath, Change, path_of, sides_of};
+use crate::change_writer::PassFault;
 use crate::difference::{letters, said_of};
-use crate::pass::entries_pass;
-use crate::plan::Plan;
-use crate::run_fault::RunFault;
+use crate::line_counts::{add_account, add_entry, add_kind, no_counts};
+use crate::merge::Merge;
+use aide_agreement::{SameAs, same_as};
 use aide_attr::Level;
 use aide_conf::Options;
-use aide_db::{Desk, Side, Sources};
-use aide_line_text::{Sides, put_entry_line};
+use aide_db::{Desk, Reel, Side};
+use aide_line_text::{LineCounts, Remark, put_entry_line};
 use aide_text::{Pen, Sink};
 use std::alloc::Allocator;
 
@@ -35,14 +33,14 @@ fn widest(options: &Options) -> Options
     widest
 }
 
-/// Returns what a line has to say of a change.
-fn sides_of<'a>(change: Change<'a>) -> Sides<'a>
-    ensures { found_in result ≡ (change_of change.entry).1 }
+/// Returns what accounts for a change where no machine is trusted.
+fn account_of(change: Change<'_>) -> Option<SameAs>
+    ensures { result ≡ by_old (change_of change.entry) }
 {
     match change {
-        Change::Added(new) => Sides::Added(new),
-        Change::Removed(old) => Sides::Removed(old),
-        Change::Common(old, new) => Sides::Common(old, new),
+        Change::Added(new) => same_as(None, Some(new), None, None),
+        Change::Removed(old) => same_as(Some(old), None, None, None),
+        Change::Common(old, new) => same_as(Some(old), Some(new), None, None),
     }
 }
 
@@ -53,59 +51,86 @@ fn put_change_line<W: Sink>(
     options: &Options,
     change: Change<'_>,
     letters: &[u8; 18],
+    account: Option<SameAs>,
 )
     requires { letters.now ≡ letters_of options.now.ignore (change_of change).1 }
-    ensures { Wrote (change_line options.now (change_of change.entry))
+    ensures { Wrote (change_line options.now (λ any. account) (change_of change.entry))
         (on_sheet W.Sink out.old pen.old) (on_sheet W.Sink out.new pen.new) }
 {
     let (shown, _) = said_of(change, &widest(options));
-    put_entry_line(out, pen, path_of(change), letters, shown, sides_of(change));
+    let remark = Remark {
+        letters,
+        account,
+        shown,
+    };
+    put_entry_line(out, pen, path_of(change), remark, sides_of(change));
 }
 
-/// Writes the line of each added, removed or changed entry.
-#[derive(Clone, Copy)]
-pub(crate) struct LineWriter<'a> {
-    options: &'a Options,
-}
-
-impl<'a> ChangeWriter for LineWriter<'a> {
-    ghost use Rattle.aide_report.specs.ChangeLines.{listed_line};
-
-    ghost text_of = { λ writer. listed_line writer.options.now };
-
-    fn put<W: Sink>(&self, out: &mut W, pen: &mut Pen, change: Change<'_>) {
-        if let Some(letters) = letters(change, self.options) {
-            put_change_line(out, pen, self.options, change, &letters);
-        }
+/// Writes the line of a change for which this accounts if it is an added, removed or changed entry, and counts it.
+pub fn put_counted<W: Sink>(
+    out: &mut W,
+    pen: &mut Pen,
+    counts: &mut LineCounts,
+    options: &Options,
+    change: Change<'_>,
+    account: Option<SameAs>,
+)
+    requires { AreLinesBelow counts.old (2 ^ 62) }
+    ensures counted { counts.new ≡ sum_of_counts counts.old
+        (tally options.now (λ any. account) (change_of change.entry ∷ [])) }
+    ensures wrote { Wrote (listed_line options.now (λ any. account) (change_of change.entry))
+        (on_sheet W.Sink out.old pen.old) (on_sheet W.Sink out.new pen.new) }
+{
+    add_entry(counts, change);
+    if let Some(letters) = letters(change, options) {
+        put_change_line(out, pen, options, change, &letters, account);
+        add_kind(counts, change);
+        add_account(counts, account);
     }
-
-    fn skips_alike(&self) {}
 }
 
-/// The pass of the lines: over both databases, which are opened once.
-pub(crate) fn lines_pass<S: Sources, W: Sink, A: Allocator + Copy>(
-    plan: &Plan<'_>,
-    sources: &mut S,
+/// Writes the lines of all changes, and counts them: over both databases, to their ends.
+pub(crate) fn put_change_lines<R: Reel, W: Sink, A: Allocator + Copy>(
+    merge: &mut Merge<R>,
     desk: &mut Desk<A>,
     out: &mut W,
     pen: &mut Pen,
-) -> Result<(), RunFault>
-    requires limits { AreLimits plan.now.limits }
-    requires digests { AreDigests (S.bytes_of sources.old) plan.now.finding.now.digests }
+    options: &Options,
+) -> Result<LineCounts, PassFault>
+    requires ready { IsReady merge.old desk.old }
+    requires short { total_work merge.old < 2 ^ 62 }
     requires writes_on { pen.old.failed ≡ false }
-    ensures passes { Passes plan.now.limits 1
-        (seen S.Sources sources.old) (seen S.Sources sources.new)
-        desk.old desk.new (pen.new.failed ≡ true) result }
-    ensures writes { WritesOver (S.bytes_of sources.old)
-        (λ old new. change_lines plan.now.task.now.options (pass_of old new))
-        result (on_sheet W.Sink out.old pen.old) (on_sheet W.Sink out.new pen.new) }
-    ensures pen { KeepsPen (on_sheet W.Sink out.old pen.old) (on_sheet W.Sink out.new pen.new)
-        pen.new result }
-    ensures old_opened { S.openings sources.new Side.Old
-        ≡ one_more (S.openings sources.old Side.Old) }
+    ensures keeps { KeepsMerge R.Reel merge.old merge.new desk.old desk.new }
+    ensures writes { (old new : List ℕ) → StandsAt R.to_come merge.old desk.old Side.Old old
+        → StandsAt R.to_come merge.old desk.old Side.New new
+        → Writes result
+        (change_lines options.now by_old (remaining merge.old desk.old old new))
+        (on_sheet W.Sink out.old pen.old) (on_sheet W.Sink out.new pen.new) }
+    ensures lines { IfOk result (λ counts. HasWritten options.now counts
+        (λ done. (old new : List ℕ) → StandsAt R.to_come merge.old desk.old Side.Old old
+        → StandsAt R.to_come merge.old desk.old Side.New new
+        → remaining merge.old desk.old old new ≡ done)
+        (on_sheet W.Sink out.old pen.old) (on_sheet W.Sink out.new pen.new)) }
+    ensures some { WritesSome (on_sheet W.Sink out.old pen.old) (on_sheet W.Sink out.new pen.new) }
+    ensures writes_on { OnOk result (pen.new.failed ≡ false) }
+    ensures ended { OnOk result (IsEnded merge.new) }
+    ensures fault { IfErr result (IsStopOf R.Reel merge.old merge.new desk.old pen.new) }
 {
-    let writer = LineWriter {
-        options: &plan.task.options,
-    };
-    entries_pass(plan, sources, desk, out, pen, &writer)
+    let mut counts = no_counts();
+    'pass: loop {
+        if let Err(fault) = merge.read_due(desk) {
+            return Err(PassFault::Database(fault));
+        }
+        match merge.next(desk) {
+            AtPath::Differs(change) => {
+                let account = account_of(change);
+                put_counted(out, pen, &mut counts, options, change, account);
+                if pen.failed {
+                    return Err(PassFault::Write);
+                }
+            }
+            AtPath::Alike => counts.total += 1,
+            AtPath::End => return Ok(counts),
+        }
+    }
 }

@@ -1,5 +1,5 @@
 //! The details of an entry.
-ghost use Rattle.std.specs.Prelude.{◌≡◌, Option, None, Some};
+ghost use Rattle.std.specs.Prelude.{◌≡◌, true, IfSome, Option, None, Some};
 ghost use Rattle.aide_attr.specs.Set.{has};
 ghost use Rattle.aide_attr.specs.declared.attr.Attr.{Attr as AnyAttr};
 ghost use Rattle.aide_entry.specs.Attributes.{link_in, digest_in, opaque_in};
@@ -18,14 +18,16 @@ ghost use Rattle.aide_text.specs.TextRest.{text_rest};
 ghost use Rattle.aide_text.specs.ValueText.{text_at, side_text, option_text, printed_link};
 ghost use Rattle.aide_text.specs.ValueText.{digest_text};
 
-use crate::change::{Change, name_of};
+use crate::change::{Change, name_of, sides_of};
 use crate::difference::said_of;
 use aide_attr::{Attr, AttrSet, FileType, Form};
 use aide_conf::Options;
 use aide_db::View;
+use aide_line_text::type_at;
 use aide_text::{
     Contents, DecodedFeed, Pen, Printed, Ready, Sink, SliceFeed, ValueText, digest_text, kind_text,
     mode_text, number_text, put_encoded_path_line, put_newline, put_side_by_side,
+    put_texts_side_by_side,
 };
 
 fn link_value<'a>(view: &View<'a>) -> ValueText<Ready, DecodedFeed<'a>, SliceFeed<'a>>
@@ -49,14 +51,32 @@ fn field_value<'a>(view: &View<'a>, attr: Attr) -> ValueText<Ready, DecodedFeed<
     }
 }
 
-fn digest_value(view: &View<'_>, attr: Attr, base16: bool) -> Ready
+fn digest_in_base16(view: &View<'_>, attr: Attr) -> Ready
     ensures { ready_rest result
-        ≡ option_text (digest_text base16) (digest_in ((entry_in view.now).1 attr)) }
+        ≡ option_text (digest_text true) (digest_in ((entry_in view.now).1 attr)) }
 {
     let mut buffer = [0; 64];
     match view.digest(attr, &mut buffer) {
         None => Ready::of(b""),
-        Some(len) => digest_text(base16, &buffer[..len]),
+        Some(len) => digest_text(true, &buffer[..len]),
+    }
+}
+
+/// The text of a digest. In base 64 it is the field as it is written.
+fn digest_value<'a>(
+    view: &View<'a>,
+    attr: Attr,
+    base16: bool,
+) -> ValueText<Ready, DecodedFeed<'a>, SliceFeed<'a>>
+    ensures { text_rest ready_rest decoded_rest slice_rest result
+        ≡ option_text (digest_text base16) (digest_in ((entry_in view.now).1 attr)) }
+{
+    if base16 {
+        return ValueText::Short(digest_in_base16(view, attr));
+    }
+    match view.digest_text(attr) {
+        None => ValueText::Short(Ready::of(b"")),
+        Some(text) => ValueText::Lent(SliceFeed::of(text)),
     }
 }
 
@@ -75,7 +95,7 @@ fn value<'a>(
         Form::Number => ValueText::Short(number_text(view.number(attr))),
         Form::Time => ValueText::Short(number_text(view.number(attr))),
         Form::Link => link_value(view),
-        Form::Digest(_, _) => ValueText::Short(digest_value(view, attr, base16)),
+        Form::Digest(_, _) => digest_value(view, attr, base16),
         Form::Opaque => field_value(view, attr),
     }
 }
@@ -112,18 +132,34 @@ fn new_value<'a>(
     }
 }
 
+/// The bytes of a text, if they are kept or lent as they are written.
+fn bytes_of<'x>(text: &'x ValueText<Ready, DecodedFeed<'_>, SliceFeed<'_>>) -> Option<&'x [u8]>
+    ensures { IfSome result (λ bytes.
+        text_rest ready_rest decoded_rest slice_rest text.now ≡ bytes.now) }
+{
+    match text {
+        ValueText::Short(ready) => Some(ready.bytes()),
+        ValueText::Lent(field) => Some(field.bytes()),
+        ValueText::Link(_) => None,
+        ValueText::Field(_) => None,
+    }
+}
+
 /// An attribute: the old value beside the new one.
 fn put_attribute<W: Sink>(out: &mut W, pen: &mut Pen, change: Change<'_>, attr: Attr, base16: bool)
     ensures { Wrote (attribute_text base16 (change_of change.entry).1 attr)
         (on_sheet W.Sink out.old pen.old) (on_sheet W.Sink out.new pen.new) }
 {
-    put_side_by_side(
-        out,
-        pen,
-        attr.detail_name(),
-        old_value(change, attr, base16),
-        new_value(change, attr, base16),
-    );
+    let name = attr.detail_name();
+    let old = old_value(change, attr, base16);
+    let new = new_value(change, attr, base16);
+    if let Some(old_text) = bytes_of(&old) {
+        if let Some(new_text) = bytes_of(&new) {
+            put_texts_side_by_side(out, pen, name, old_text, new_text);
+            return;
+        }
+    }
+    put_side_by_side(out, pen, name, old, new);
 }
 
 #[tactic(auto, unfolding(crate::specs::Entries::shown_text))]
@@ -181,14 +217,7 @@ fn title_word(kind: Option<FileType>) -> &'static [u8]
 fn title(change: Change<'_>) -> &'static [u8]
     ensures { result.now ≡ title_of (change_of change.entry).1 }
 {
-    match change {
-        Change::Added(new) => title_word(new.kind()),
-        Change::Removed(old) => title_word(old.kind()),
-        Change::Common(old, new) => match new.kind() {
-            None => title_word(old.kind()),
-            Some(kind) => title_word(Some(kind)),
-        },
-    }
+    title_word(type_at(sides_of(change)))
 }
 
 /// Writes the details of a change, and nothing if no attribute is shown.

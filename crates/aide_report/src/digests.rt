@@ -12,9 +12,11 @@ use aide_db::{Cursor, Reel, Side};
 
 /// The SHA-256 of each database, as it was first read.
 #[derive(Clone, Copy)]
-pub(crate) struct Digests {
-    pub(crate) of_old: [u8; 32],
-    pub(crate) of_new: [u8; 32],
+pub struct Digests {
+    /// That of the old database.
+    pub of_old: [u8; 32],
+    /// That of the new database.
+    pub of_new: [u8; 32],
 }
 
 /// What the reading of a whole database found.
@@ -37,7 +39,7 @@ pub(crate) fn digest_of<R: Reel>(cursor: &Cursor<R>) -> [u8; 32]
 }
 
 /// The first side, the old one before the new one, whose digest at the end of a pass is not the one that it had before.
-pub(crate) fn changed_side<R: Reel>(merge: &Merge<R>, digests: &Digests) -> Option<Side>
+pub fn changed_side<R: Reel>(merge: &Merge<R>, digests: &Digests) -> Option<Side>
     requires { IsEnded merge.now }
     ensures changed { IfSome result (λ side. (list : List ℕ) (under : List Column) (text : List ℕ)
         → StandsFor R.to_come (cursor_at merge.now side) list under text

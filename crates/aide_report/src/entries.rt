@@ -1,28 +1,18 @@
 //! What a section writes of each change.
 ghost use Rattle.std.specs.Prelude.{◌≡◌, ℕ, List, []};
 ghost use Rattle.aide_report.specs.code.ChangeView.{change_of};
-ghost use Rattle.aide_report.specs.Entries.{list_line, label_of, letters_of, change_word};
+ghost use Rattle.aide_report.specs.Entries.{list_line, label_of, letters_of};
 ghost use Rattle.aide_report.specs.Sections.{all_listed, lists, one_text};
 ghost use Rattle.aide_text.specs.PenSheet.{on_sheet};
 ghost use Rattle.aide_text.specs.Sheet.{Wrote};
 
-use crate::change::{Change, name_of};
+use crate::change::{Change, name_of, sides_of};
 use crate::change_writer::ChangeWriter;
 use crate::details::put_details;
 use crate::difference::letters;
 use aide_conf::Options;
+use aide_line_text::kind_word;
 use aide_text::{Contents, Pen, Sink, put, put_encoded_path_end};
-
-/// The word that a list has for a change.
-fn change_word(change: Change<'_>) -> &'static [u8]
-    ensures { result.now ≡ change_word (change_of change.entry).1 }
-{
-    match change {
-        Change::Added(_) => b"added",
-        Change::Removed(_) => b"removed",
-        Change::Common(_, _) => b"changed",
-    }
-}
 
 /// Writes what comes before the path: the summary string, or a word.
 fn put_label<W: Sink>(
@@ -39,7 +29,7 @@ fn put_label<W: Sink>(
     if options.summarize {
         put(out, pen, letters);
     } else {
-        put(out, pen, change_word(change));
+        put(out, pen, kind_word(sides_of(change)));
     }
 }
 

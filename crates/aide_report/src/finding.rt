@@ -1,4 +1,4 @@
-//! What was found of both databases before the report is written.
+//! What was found of both databases before the report or the lines are written.
 ghost use Rattle.std.specs.Prelude.{◌≡◌};
 ghost use Rattle.aide_report.specs.Report.{outcome_by};
 
@@ -13,6 +13,17 @@ pub(crate) struct Finding {
     pub(crate) digests: Digests,
     pub(crate) skipped_old: u64,
     pub(crate) skipped_new: u64,
+}
+
+/// What the readings of both databases have found.
+#[derive(Clone, Copy)]
+pub struct Readings {
+    /// The SHA-256 of each database.
+    pub digests: Digests,
+    /// Bit c - 1 for each unknown column c of the old database, counted from 1, which was skipped.
+    pub skipped_old: u64,
+    /// The same for the new database.
+    pub skipped_new: u64,
 }
 
 impl Finding {

@@ -1,5 +1,5 @@
 //! Two databases read in lock step: one path after another, in path order.
-ghost use Rattle.std.specs.Prelude.{◌≡◌, ℕ, IfOk, IfErr, List, OnOk, Option};
+ghost use Rattle.std.specs.Prelude.{◌≡◌, ◌∷◌, [], ℕ, IfOk, IfErr, List, OnOk, Option};
 ghost use Rattle.aide_entry.specs.Attributes.{Attributes};
 ghost use Rattle.aide_entry.specs.Path.{path_cmp};
 ghost use Rattle.aide_entry.specs.View.{Shows, entry_in};
@@ -12,11 +12,12 @@ ghost use Rattle.aide_report.specs.code.MergeCalls.{HasRead, IsAdvanced, IsCurso
 ghost use Rattle.aide_report.specs.code.MergeCalls.{IsMergeFault, IsOpened, IsStep};
 ghost use Rattle.aide_report.specs.code.MergeCalls.{KeepsCursor, KeepsMerge};
 ghost use Rattle.aide_report.specs.code.Merging.{IsNotDue, IsReady};
+ghost use Rattle.aide_report.specs.code.Upcoming.{IsPassedOn, ShowsNext, upcoming};
 ghost use Rattle.aide_report.specs.code.NextEntry.{next_entry};
 ghost use Rattle.aide_report.specs.code.NextPath.{change_by, next_change, old_after, new_after};
 ghost use Rattle.aide_report.specs.code.Passes.{KeepsDesk};
 ghost use Rattle.aide_report.specs.code.Readings.{ClearsSide, GivesBoth, GivesSide, IsStarted};
-ghost use Rattle.aide_report.specs.code.Seen.{AreLimits};
+ghost use Rattle.aide_report.specs.Seen.{AreLimits};
 ghost use Rattle.aide_report.specs.Standing.{IsUnfailed};
 
 use crate::change::{AtPath, Change};
@@ -33,7 +34,7 @@ pub(crate) enum NextEntry {
 }
 
 /// Two cursors, and how far each side has come.
-pub(crate) struct Merge<R: Reel> {
+pub struct Merge<R: Reel> {
     pub(crate) old_cursor: Cursor<R>,
     pub(crate) new_cursor: Cursor<R>,
     old_next: NextEntry,
@@ -58,7 +59,7 @@ pub(crate) fn start_cursor<R: Reel, A: Allocator + Copy>(
 impl<R: Reel> Merge<R> {
     /// Begins to read both sides from their reels.
     #[inline(never)]
-    pub(crate) fn start<A: Allocator + Copy>(
+    pub fn start<A: Allocator + Copy>(
         old_reel: R,
         new_reel: R,
         limits: Limits,
@@ -167,10 +168,7 @@ fn at_path<A: Allocator + Copy>(
 
 impl<R: Reel> Merge<R> {
     /// Reads the next entry of each side if it is due.
-    pub(crate) fn read_due<A: Allocator + Copy>(
-        &mut self,
-        desk: &mut Desk<A>,
-    ) -> Result<(), DbFault>
+    pub fn read_due<A: Allocator + Copy>(&mut self, desk: &mut Desk<A>) -> Result<(), DbFault>
         requires { IsReady self.old desk.old }
         ensures keeps { KeepsMerge R.Reel self.old self.new desk.old desk.new }
         ensures read { OnOk result (HasRead R.Reel self.old self.new desk.old desk.new) }
@@ -182,7 +180,7 @@ impl<R: Reel> Merge<R> {
     }
 
     /// Passes on the next path, once the entries that were due have been read.
-    pub(crate) fn next<'d, A: Allocator + Copy>(&mut self, desk: &'d Desk<A>) -> AtPath<'d>
+    pub fn next<'d, A: Allocator + Copy>(&mut self, desk: &'d Desk<A>) -> AtPath<'d>
         requires ready { IsReady self.old desk.now }
         requires not_due { IsNotDue self.old }
         ensures keeps { KeepsMerge R.Reel self.old self.new desk.now desk.now }
@@ -191,6 +189,31 @@ impl<R: Reel> Merge<R> {
         let path = at_path(self.old_next, self.new_next, desk);
         self.release(path);
         path
+    }
+
+    /// What both sides have at the next path, once the entries that were due have been read. Nothing is passed on.
+    pub fn peek<'d, A: Allocator + Copy>(&self, desk: &'d Desk<A>) -> Option<Change<'d>>
+        ensures { ShowsNext result (upcoming self.now desk.now) }
+    {
+        let old = next_view(self.old_next, desk, Side::Old);
+        let new = next_view(self.new_next, desk, Side::New);
+        match (old, new) {
+            (Some(old), Some(new)) => Some(first_change(old, new)),
+            (Some(old), None) => Some(Change::Removed(old)),
+            (None, Some(new)) => Some(Change::Added(new)),
+            (None, None) => None,
+        }
+    }
+
+    /// Passes on the change at the next path, at which a peek was taken.
+    pub fn pass_on<A: Allocator + Copy>(&mut self, change: Change<'_>, desk: &Desk<A>)
+        requires ready { IsReady self.old desk.now }
+        requires not_due { IsNotDue self.old }
+        requires shown { upcoming self.old desk.now ≡ change_of change ∷ [] }
+        ensures keeps { KeepsMerge R.Reel self.old self.new desk.now desk.now }
+        ensures passed { IsPassedOn self.old self.new desk.now (change_of change.entry) }
+    {
+        self.release(AtPath::Differs(change));
     }
 
     /// Lets go of the entries at a path that is passed on.

@@ -21,7 +21,7 @@ ghost use Rattle.aide_report.specs.code.Merging.{reels_failed};
 ghost use Rattle.aide_report.specs.code.PassFaults.{pass_fault_of};
 ghost use Rattle.aide_report.specs.code.Passes.{KeepsPen, Passes, WritesOver, on_sheet};
 ghost use Rattle.aide_report.specs.code.Readings.{GivesBoth, IsReadingFault, IsWholeReading};
-ghost use Rattle.aide_report.specs.code.Seen.{AreLimits, KeepsSources, OpensOnce, seen};
+ghost use Rattle.aide_report.specs.Seen.{AreLimits, KeepsSources, OpensOnce, seen};
 ghost use Rattle.aide_report.specs.Standing.{IsUnfailed};
 ghost use Rattle.aide_text.specs.Failures.{Rose};
 
@@ -51,7 +51,7 @@ pub(crate) fn clear<A: Allocator + Copy>(limits: Limits, desk: &mut Desk<A>)
 }
 
 /// Opens both sides, old then new. If the new one is refused, the old one is closed.
-fn open_both<S: Sources>(sources: &mut S) -> Result<(S::R, S::R), RunFault>
+pub fn open_both<S: Sources>(sources: &mut S) -> Result<(S::R, S::R), RunFault>
     ensures passes { (limits : Limits) (desk : DeskView) → Passes limits 1
         (seen S.Sources sources.old) (seen S.Sources sources.new) desk desk ⊥ result }
     ensures gives { IfOk result (λ reels.
@@ -73,7 +73,7 @@ fn open_both<S: Sources>(sources: &mut S) -> Result<(S::R, S::R), RunFault>
 }
 
 /// Closes both reels, the old one first.
-fn close_both<S: Sources>(sources: &mut S, merge: Merge<S::R>)
+pub fn close_both<S: Sources>(sources: &mut S, merge: Merge<S::R>)
     ensures keeps { KeepsSources (seen S.Sources sources.old) (seen S.Sources sources.new) }
     ensures openings { S.openings sources.new ≡ S.openings sources.old }
     ensures rose { 0 < reels_failed S.R.failures merge
@@ -86,7 +86,7 @@ fn close_both<S: Sources>(sources: &mut S, merge: Merge<S::R>)
 }
 
 /// What a fault after the first readings means: a fault of the text shows that the side changed.
-fn later_fault(fault: DbFault) -> RunFault
+pub fn later_fault(fault: DbFault) -> RunFault
     ensures { result ≡ later_of fault }
 {
     match fault.kind {
@@ -97,7 +97,7 @@ fn later_fault(fault: DbFault) -> RunFault
 }
 
 /// What the end of a pass means, with the number of bytes that have gone out.
-fn pass_fault(fault: PassFault, sent: u64) -> RunFault
+pub(crate) fn pass_fault(fault: PassFault, sent: u64) -> RunFault
     ensures { result ≡ pass_fault_of fault sent }
 {
     match fault {

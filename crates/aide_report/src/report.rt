@@ -9,7 +9,7 @@ ghost use Rattle.aide_report.specs.code.Passes.{FlushesOnce, KeepsPen, Passes, W
 ghost use Rattle.aide_report.specs.code.Passes.{on_sheet};
 ghost use Rattle.aide_report.specs.Report.{is_silent, parts_of, text_of, section_count};
 ghost use Rattle.aide_report.specs.Sections.{sections_of};
-ghost use Rattle.aide_report.specs.code.Seen.{AreLimits, seen};
+ghost use Rattle.aide_report.specs.Seen.{AreLimits, seen};
 ghost use Rattle.aide_text.specs.Failures.{Rose};
 ghost use Rattle.aide_text.specs.Overview.{differs, overview_by};
 ghost use Rattle.aide_text.specs.Sent.{Sends};
@@ -17,11 +17,12 @@ ghost use Rattle.aide_text.specs.Sheet.{WritesFirst};
 
 use crate::databases::put_databases;
 use crate::finding::Finding;
+use crate::flush::flush_written;
 use crate::plan::Plan;
 use crate::run_fault::RunFault;
 use crate::sections::put_sections;
 use aide_conf::{Options, Task};
-use aide_db::{Desk, DeviceFault, Limits, Side, Sources};
+use aide_db::{Desk, Limits, Side, Sources};
 use aide_text::{Counts, Pen, Sink, put_overview};
 use std::alloc::Allocator;
 
@@ -139,12 +140,6 @@ pub(crate) fn write_report<S: Sources, W: Sink, A: Allocator + Copy>(
         finding,
     };
     let mut pen = Pen::new();
-    match put_report(&plan, sources, desk, out, &mut pen) {
-        Ok(()) => {}
-        Err(fault) => return Err(fault),
-    }
-    if let Err(DeviceFault) = out.flush() {
-        return Err(RunFault::Write { written: pen.sent });
-    }
-    Ok(())
+    let written = put_report(&plan, sources, desk, out, &mut pen);
+    flush_written(out, &pen, written)
 }

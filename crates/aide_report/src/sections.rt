@@ -7,7 +7,7 @@ ghost use Rattle.aide_report.specs.code.Finding.{pass_of};
 ghost use Rattle.aide_report.specs.code.Passes.{KeepsPen, Passes, WritesOver, on_sheet};
 ghost use Rattle.aide_report.specs.Report.{sections_text};
 ghost use Rattle.aide_report.specs.Sections.{has_entry, is_there, sections_of, section_text};
-ghost use Rattle.aide_report.specs.code.Seen.{AreLimits, seen};
+ghost use Rattle.aide_report.specs.Seen.{AreLimits, seen};
 ghost use Rattle.aide_text.specs.Sheet.{WritesFirst};
 
 use crate::entries::SectionWriter;

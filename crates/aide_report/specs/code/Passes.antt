@@ -17,7 +17,7 @@ use Rattle.aide_report.specs.code.PassFaults.{Writes}
 use Rattle.aide_report.specs.Room.{IsNotOfMemory}
 use Rattle.aide_report.specs.RunFaults.{CountsWrites, HasPenWritten, HasWrittenIfAny, IsCaused}
 use Rattle.aide_report.specs.RunFaults.{IsLater}
-use Rattle.aide_report.specs.code.Seen.{Seen, KeepsSources}
+use Rattle.aide_report.specs.Seen.{Seen, KeepsSources}
 use Rattle.aide_report.specs.declared.run_fault.RunFault.{RunFault}
 
 -- What a pass leaves of the desk.

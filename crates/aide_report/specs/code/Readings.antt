@@ -25,10 +25,11 @@ use Rattle.aide_report.specs.Openings.{OpensFirst, IsRefusedThere, IsNotGiven}
 use Rattle.aide_report.specs.Room.{IsNotOfMemory}
 use Rattle.aide_report.specs.RunFaults.{IsCaused, IsFirst, IsRight}
 use Rattle.aide_report.specs.Runs.{IsRunFault}
-use Rattle.aide_report.specs.code.Seen.{Seen}
+use Rattle.aide_report.specs.Seen.{Seen}
 use Rattle.aide_report.specs.Standing.{rest_of, IsUnfailed}
 use Rattle.aide_report.specs.declared.digests.WholeReading.{WholeReading}
 use Rattle.aide_report.specs.declared.finding.Finding.{Finding}
+use Rattle.aide_report.specs.declared.finding.Readings.{Readings}
 use Rattle.aide_report.specs.declared.run_fault.RunFault.{RunFault}
 use Rattle.aide_report.specs.declared.run_fault.RunFault.TheVariants.{Open}
 
@@ -97,6 +98,20 @@ pub record IsReadingFault (limits : Limits) (a b : Seen) (side : Side) (room : �
   pub memory : limits.line ≤ room → IsNotOfMemory fault
 
 -- ---- both sides, and the counting pass
+
+-- What was read of both sides.
+pub record AreRead (limits : Limits) (a : Seen) (readings : Readings) : Type 0 where
+  -- both texts are sound
+  pub sound : (side : Side) (text : List ℕ) → a.bytes_of side ≡ Some text → IsSound limits text
+  -- no side is missing
+  pub there : (side : Side) → a.is_missing side ≡ false
+  -- the skipped columns are those of the two texts
+  pub skipped_old : (text : List ℕ) → a.bytes_of Old ≡ Some text
+      → readings.skipped_old ≡ skipped_in (columns_of_text text)
+  pub skipped_new : (text : List ℕ) → a.bytes_of New ≡ Some text
+      → readings.skipped_new ≡ skipped_in (columns_of_text text)
+  -- the digests are those of the two texts
+  pub digests : AreDigests a.bytes_of readings.digests
 
 -- What was found of both sides, before a report is begun.
 pub record IsFound (options : Options) (limits : Limits) (a : Seen)

@@ -6,7 +6,8 @@ use Rattle.aide_report.proofs.merge.at_path.Goals as goal
 pub returns-then-is_alike : goal.returns-then-is_alike
 returns-then-is_alike g c =
     next_of_alike c.args.desk.now c.args.old_next c.args.new_next (entry_in c.in-Some-Some.old) (entry_in c.in-Some-Some.new)
-    (c.is_alike.ensures.only c.if-is_alike.true) (rw c.in-Some-Some.is-0 at c.next_view-old.ensures) (rw c.in-Some-Some.is-1 at c.next_view-new.ensures)
+    (c.is_alike.ensures.only c.if-is_alike.true) (rw c.in-Some-Some.is-0 at c.next_view-old.ensures)
+    (rw c.in-Some-Some.is-1 at c.next_view-new.ensures)
 
 pub returns-else-is_alike : goal.returns-else-is_alike
 returns-else-is_alike g c =

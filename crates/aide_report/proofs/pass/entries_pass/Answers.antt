@@ -16,16 +16,20 @@ use Rattle.aide_report.proofs.pass.entries_pass.Goals as goal
 
 pub returns-in_err-old_reel-clause-passes : goal.returns-in_err-old_reel-clause-passes
 returns-in_err-old_reel-clause-passes g c =
-    let p = err_from_is_err_and c.from_residual.result c.from_residual.ensures.1 in rw (p.1, p.2) (passes_err (λ none. absurd none) (c.in_err-old_reel.ensures.passes c.args.plan.now.limits c.args.desk.now))
+    let p = err_from_is_err_and c.from_residual.result c.from_residual.ensures.1 in rw (p.1, p.2)
+    (passes_err (λ none. absurd none) (c.in_err-old_reel.ensures.passes c.args.plan.now.limits c.args.desk.now))
 
 pub returns-in_err-old_reel-clause-writes : goal.returns-in_err-old_reel-clause-writes
 returns-in_err-old_reel-clause-writes g c old new told_old told_new =
-    let p = err_from_is_err_and c.from_residual.result c.from_residual.ensures.1 in rw p.1 (part_nothing (flat_map (g.T.ChangeWriter.text_of c.args.writer.now) (merged path_cmp (entries_of old) (entries_of new))) (on_sheet g.W.Sink c.args.out.now c.args.pen.now))
+    let p = err_from_is_err_and c.from_residual.result c.from_residual.ensures.1 in rw p.1
+    (part_nothing (flat_map (g.T.ChangeWriter.text_of c.args.writer.now) (merged path_cmp (entries_of old) (entries_of new)))
+    (on_sheet g.W.Sink c.args.out.now c.args.pen.now))
 
 pub returns-in-None-clause-passes : goal.returns-in-None-clause-passes
 returns-in-None-clause-passes g c =
     let bytes_of = g.S.Sources.bytes_of c.args.sources.now in
-    let begun = passes_begun (c.in_ok-old_reel.ensures.passes c.args.plan.now.limits c.args.desk.now) (c.start-merge.ensures.desk bytes_of) in
+    let begun = passes_begun (c.in_ok-old_reel.ensures.passes c.args.plan.now.limits c.args.desk.now)
+    (c.start-merge.ensures.desk bytes_of) in
     let opened = c.start-merge.ensures.opened bytes_of c.in_ok-old_reel.ensures.gives in
     pass_done begun opened c.put_entries.ensures.keeps c.close_both.ensures.keeps c.close_both.ensures.openings
 
@@ -33,17 +37,20 @@ pub returns-in-None-clause-writes : goal.returns-in-None-clause-writes
 returns-in-None-clause-writes g c old new told_old told_new =
     let bytes_of = g.S.Sources.bytes_of c.args.sources.now in
     let opened = c.start-merge.ensures.opened bytes_of c.in_ok-old_reel.ensures.gives in
-    subst (λ all. Wrote (flat_map (g.T.ChangeWriter.text_of c.args.writer.now) all) (on_sheet g.W.Sink c.args.out.now c.args.pen.now) (on_sheet g.W.Sink c.put_entries.new.out c.put_entries.new.pen)) (opened.rest old new)
+    subst (λ all. Wrote (flat_map (g.T.ChangeWriter.text_of c.args.writer.now) all) (on_sheet g.W.Sink c.args.out.now c.args.pen.now)
+    (on_sheet g.W.Sink c.put_entries.new.out c.put_entries.new.pen)) (opened.rest old new)
     (c.in-Ok.ensures.writes old new (opened.stands Old old told_old) (opened.stands New new told_new))
 
 pub returns-in-Some-clause-passes : goal.returns-in-Some-clause-passes
 returns-in-Some-clause-passes g c =
     let bytes_of = g.S.Sources.bytes_of c.args.sources.now in
-    let begun = passes_begun (c.in_ok-old_reel.ensures.passes c.args.plan.now.limits c.args.desk.now) (c.start-merge.ensures.desk bytes_of) in
+    let begun = passes_begun (c.in_ok-old_reel.ensures.passes c.args.plan.now.limits c.args.desk.now)
+    (c.start-merge.ensures.desk bytes_of) in
     let opened = c.start-merge.ensures.opened bytes_of c.in_ok-old_reel.ensures.gives in
     let cursor = cursor_at c.put_entries.new.merge c.in-Some.side in
     pass_changed begun opened c.put_entries.ensures.keeps c.close_both.ensures.keeps c.close_both.ensures.openings
-    (λ text told sound. c.in-Some.ensures.changed (list_of cursor.side c.put_entries.new.desk) (columns_of_side cursor.side c.put_entries.new.desk) text
+    (λ text told sound. c.in-Some.ensures.changed (list_of cursor.side c.put_entries.new.desk)
+    (columns_of_side cursor.side c.put_entries.new.desk) text
     (c.put_entries.ensures.keeps.stands c.in-Some.side text (opened.stands c.in-Some.side text told))
     (c.requires.digests c.in-Some.side text told))
 
@@ -51,30 +58,35 @@ pub returns-in-Some-clause-writes : goal.returns-in-Some-clause-writes
 returns-in-Some-clause-writes g c old new told_old told_new =
     let bytes_of = g.S.Sources.bytes_of c.args.sources.now in
     let opened = c.start-merge.ensures.opened bytes_of c.in_ok-old_reel.ensures.gives in
-    part_whole (subst (λ all. Wrote (flat_map (g.T.ChangeWriter.text_of c.args.writer.now) all) (on_sheet g.W.Sink c.args.out.now c.args.pen.now) (on_sheet g.W.Sink c.put_entries.new.out c.put_entries.new.pen)) (opened.rest old new)
+    part_whole (subst (λ all. Wrote (flat_map (g.T.ChangeWriter.text_of c.args.writer.now) all)
+    (on_sheet g.W.Sink c.args.out.now c.args.pen.now) (on_sheet g.W.Sink c.put_entries.new.out c.put_entries.new.pen)) (opened.rest old new)
     (c.in-Ok.ensures.writes old new (opened.stands Old old told_old) (opened.stands New new told_new)))
 
 pub returns-in-Err-clause-passes : goal.returns-in-Err-clause-passes
 returns-in-Err-clause-passes g c =
     let bytes_of = g.S.Sources.bytes_of c.args.sources.now in
-    let begun = passes_begun (c.in_ok-old_reel.ensures.passes c.args.plan.now.limits c.args.desk.now) (c.start-merge.ensures.desk bytes_of) in
+    let begun = passes_begun (c.in_ok-old_reel.ensures.passes c.args.plan.now.limits c.args.desk.now)
+    (c.start-merge.ensures.desk bytes_of) in
     let opened = c.start-merge.ensures.opened bytes_of c.in_ok-old_reel.ensures.gives in
     let closed = c.close_both-in-Err.ensures in
-    rw c.pass_fault.ensures (pass_stopped c.in-Err.fault c.put_entries.new.pen.sent c.put_entries.new.pen begun opened c.put_entries.ensures.keeps
+    rw c.pass_fault.ensures (pass_stopped c.in-Err.fault c.put_entries.new.pen.sent c.put_entries.new.pen begun opened
+    c.put_entries.ensures.keeps
     closed.keeps closed.openings closed.rose closed.unfailed c.in-Err.ensures.fault)
 
 pub returns-in-Err-clause-writes : goal.returns-in-Err-clause-writes
 returns-in-Err-clause-writes g c old new told_old told_new =
     let bytes_of = g.S.Sources.bytes_of c.args.sources.now in
     let opened = c.start-merge.ensures.opened bytes_of c.in_ok-old_reel.ensures.gives in
-    subst (λ all. WritesPart (flat_map (g.T.ChangeWriter.text_of c.args.writer.now) all) (on_sheet g.W.Sink c.args.out.now c.args.pen.now) (on_sheet g.W.Sink c.put_entries.new.out c.put_entries.new.pen)) (opened.rest old new)
+    subst (λ all. WritesPart (flat_map (g.T.ChangeWriter.text_of c.args.writer.now) all) (on_sheet g.W.Sink c.args.out.now c.args.pen.now)
+    (on_sheet g.W.Sink c.put_entries.new.out c.put_entries.new.pen)) (opened.rest old new)
     (c.in-Err.ensures.writes old new (opened.stands Old old told_old) (opened.stands New new told_new))
 
 pub returns-in-Err-clause-pen : goal.returns-in-Err-clause-pen
 returns-in-Err-clause-pen g c = record {
   some = c.put_entries.ensures.some;
   writes_on = tt;
-  written = rw c.pass_fault.ensures (stop_written g.S.R.Reel c.start-merge.result c.put_entries.new.merge c.start-merge.new.desk c.put_entries.new.pen c.in-Err.fault c.in-Err.ensures.fault);
+  written = rw c.pass_fault.ensures (stop_written g.S.R.Reel c.start-merge.result c.put_entries.new.merge c.start-merge.new.desk
+      c.put_entries.new.pen c.in-Err.fault c.in-Err.ensures.fault);
 }
 
 pub put_entries-requires-clause-ready : goal.put_entries-requires-clause-ready
@@ -88,7 +100,9 @@ returns-in_err-old_reel-clause-pen g c =
     let p = err_from_is_err_and c.from_residual.result c.from_residual.ensures.1 in rw (p.1, p.2) (record {
       some = some_nothing (on_sheet g.W.Sink c.args.out.now c.args.pen.now);
       writes_on = tt;
-      written = unwritten (Rose (g.S.Sources.failures c.args.sources.now) (g.S.Sources.failures c.open_both.new.sources)) c.args.pen.now c.in_err-old_reel.field-0.0 c.requires.writes_on (c.in_err-old_reel.ensures.passes c.args.plan.now.limits c.args.desk.now).fault.caused;
+      written = unwritten (Rose (g.S.Sources.failures c.args.sources.now) (g.S.Sources.failures c.open_both.new.sources)) c.args.pen.now
+          c.in_err-old_reel.field-0.0 c.requires.writes_on
+          (c.in_err-old_reel.ensures.passes c.args.plan.now.limits c.args.desk.now).fault.caused;
     })
 
 pub returns-in-None-clause-pen : goal.returns-in-None-clause-pen

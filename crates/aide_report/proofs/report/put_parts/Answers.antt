@@ -3,7 +3,7 @@ use Rattle.aide_report.specs.code.Finding.{pass_of, old_origin, new_origin}
 use Rattle.aide_report.specs.Report.{parts_of, sections_text, databases_text}
 use Rattle.aide_attr.specs.declared.level.Level.TheVariants.{DatabaseAttributes}
 use Rattle.aide_attr.specs.Level.{reaches}
-use Rattle.aide_report.specs.code.Seen.{seen}
+use Rattle.aide_report.specs.Seen.{seen}
 use Rattle.aide_report.proofs.PassLemmas.{passes_broken, passes_none, passes_same, pen_then}
 use Rattle.aide_report.proofs.AgreementLemmas.{first_then, no_databases}
 use Rattle.aide_text.proofs.Sheets.{wrote_more, part_of_wrote, part_after, part_first, part_whole, some_more, some_of}
@@ -12,7 +12,8 @@ use Rattle.aide_report.proofs.report.put_parts.Goals as goal
 pub returns-then-pen-clause-passes : goal.returns-then-pen-clause-passes
 returns-then-pen-clause-passes g c =
     passes_broken 0 _ c.put_overview.new.pen.sent (omega arith)
-    (passes_none {T = ℕ} {answer = 0} {sink = ⊥} c.args.plan.now.limits 0 (seen g.S.Sources c.args.sources.now) c.args.desk.now refl) c.if-pen.true
+    (passes_none {T = ℕ} {answer = 0} {sink = ⊥} c.args.plan.now.limits 0 (seen g.S.Sources c.args.sources.now) c.args.desk.now refl)
+    c.if-pen.true
 
 pub returns-then-pen-2-clause-passes : goal.returns-then-pen-2-clause-passes
 returns-then-pen-2-clause-passes g c =
@@ -22,12 +23,14 @@ pub returns-then-pen-clause-writes : goal.returns-then-pen-clause-writes
 unfolding parts_of
 returns-then-pen-clause-writes g c old new told_old told_new =
     part_of_wrote (sections_text c.args.plan.now.task.now.options c.args.plan.now.finding.now.counts (pass_of old new)
-    ++ databases_text c.args.plan.now.task.now.options (old_origin c.args.plan.now.task.now c.args.plan.now.finding.now) (new_origin c.args.plan.now.task.now c.args.plan.now.finding.now)) c.put_overview.ensures
+    ++ databases_text c.args.plan.now.task.now.options (old_origin c.args.plan.now.task.now c.args.plan.now.finding.now)
+    (new_origin c.args.plan.now.task.now c.args.plan.now.finding.now)) c.put_overview.ensures
 
 pub returns-in-Err-clause-writes : goal.returns-in-Err-clause-writes
 unfolding parts_of
 returns-in-Err-clause-writes g c old new told_old told_new =
-    part_after c.put_overview.ensures (part_first (databases_text c.args.plan.now.task.now.options (old_origin c.args.plan.now.task.now c.args.plan.now.finding.now) (new_origin c.args.plan.now.task.now c.args.plan.now.finding.now))
+    part_after c.put_overview.ensures (part_first (databases_text c.args.plan.now.task.now.options
+    (old_origin c.args.plan.now.task.now c.args.plan.now.finding.now) (new_origin c.args.plan.now.task.now c.args.plan.now.finding.now))
     (c.in-Err.ensures.writes old new told_old told_new))
 
 pub returns-in-Err-clause-pen : goal.returns-in-Err-clause-pen
@@ -60,7 +63,8 @@ returns-clause-pen g c = record {
 pub returns-clause-first : goal.returns-clause-first
 returns-clause-first g c =
     first_then (reaches c.args.plan.now.task.now.options.level DatabaseAttributes)
-    (no_databases c.args.plan.now.task.now.options (old_origin c.args.plan.now.task.now c.args.plan.now.finding.now) (new_origin c.args.plan.now.task.now c.args.plan.now.finding.now))
+    (no_databases c.args.plan.now.task.now.options (old_origin c.args.plan.now.task.now c.args.plan.now.finding.now)
+    (new_origin c.args.plan.now.task.now c.args.plan.now.finding.now))
     c.put_overview.ensures c.in-Ok.ensures.first c.put_databases.ensures
 
 pub returns-clause-passes : goal.returns-clause-passes

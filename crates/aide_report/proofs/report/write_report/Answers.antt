@@ -1,85 +1,39 @@
-use Rattle.std.proofs.Common.{◌∙◌, ◌≤◌, ap, le_refl, refl, subst, sym}
-use Rattle.aide_text.specs.Failures.{one_more}
-use Rattle.aide_report.proofs.AgreementLemmas.{begins, unflushed}
-use Rattle.aide_report.proofs.PassLemmas.{passes_broken, passes_err, passes_same}
-use Rattle.aide_report.proofs.ReportLemmas.{flushed_whole, flushed_part, flushed_count, never_falls, count_of_pen}
-use Rattle.aide_report.proofs.ReportLemmas.{written_of_pen, rises_by_one, rose_by_one, rose_of_pen, unfailed, counts_of_pen}
-use Rattle.aide_text.proofs.Sheets.{wrote_part}
+use Rattle.std.proofs.Common.{ap}
+use Rattle.aide_report.specs.Agreement.{beginning_by, goes_on_by}
+use Rattle.aide_report.specs.Report.{text_of}
+use Rattle.aide_report.specs.code.Finding.{new_origin, old_origin, pass_of}
+use Rattle.aide_report.proofs.FlushLemmas.{flushed_begins, flushed_once, flushed_passes, flushed_sends}
 use Rattle.aide_report.proofs.report.write_report.Goals as goal
 
+pub put_report-written-requires-clause-writes_on : goal.put_report-written-requires-clause-writes_on
+put_report-written-requires-clause-writes_on g c = ap (λ pen. pen.failed) c.new-pen.ensures
+
 pub returns-clause-passes : goal.returns-clause-passes
-returns-clause-passes g c = passes_same _ _ refl c.in-Ok.ensures.passes
+returns-clause-passes g c =
+    let put = c.put_report-written in
+    flushed_passes g.W.Sink c.args.out.now put.new.out c.flush_written.new.out c.new-pen.result put.new.pen c.new-pen.ensures
+    put.result c.flush_written.result c.flush_written.ensures put.ensures.pen put.ensures.passes
 
 pub returns-clause-sends : goal.returns-clause-sends
 returns-clause-sends g c old new told_old told_new =
-    let fresh = ap (λ pen. pen.failed) c.new-pen.ensures in
-    flushed_whole (g.W.Sink.delivered c.flush.new.self) fresh c.in-Ok.ensures.pen.writes_on (c.in-Ok.ensures.writes old new told_old told_new) c.flush.ensures.bytes
+    let put = c.put_report-written in
+    let task = c.args.task.now in
+    let finding = c.args.finding.now in
+    flushed_sends g.W.Sink c.args.out.now put.new.out c.flush_written.new.out c.new-pen.result put.new.pen c.new-pen.ensures
+    (text_of task.options (old_origin task finding) (new_origin task finding) finding.counts (pass_of old new))
+    put.result c.flush_written.result c.flush_written.ensures put.ensures.pen (put.ensures.writes old new told_old told_new)
 
 pub returns-clause-first : goal.returns-clause-first
 returns-clause-first g c =
-    let fresh = ap (λ pen. pen.failed) c.new-pen.ensures in
-    begins (g.W.Sink.delivered c.flush.new.self) fresh c.in-Ok.ensures.pen.writes_on c.in-Ok.ensures.first c.flush.ensures.bytes
+    let put = c.put_report-written in
+    let options = c.args.task.now.options in
+    let counts = c.args.finding.now.counts in
+    flushed_begins g.W.Sink c.args.out.now put.new.out c.flush_written.new.out c.new-pen.result put.new.pen c.new-pen.ensures
+    (beginning_by options counts) (goes_on_by options counts)
+    put.result c.flush_written.result c.flush_written.ensures put.ensures.pen put.ensures.first
 
 pub returns-clause-sink : goal.returns-clause-sink
 returns-clause-sink g c =
-    let fresh = ap (λ pen. pen.failed) c.new-pen.ensures in
-    let pen = c.in-Ok.ensures.pen in
-    let e = never_falls fresh pen.some in
-    record {
-      flushed = c.in_default.ensures.flushed;
-      flushes = c.in_default.ensures.flushes ∙ ap one_more (unflushed pen.some);
-      written = tt;
-      never_falls = subst (λ n. g.W.Sink.failures c.args.out.now ≤ n) (sym c.in_default.ensures.fault) e;
-      fails = c.in_default.ensures.fault ∙ unfailed fresh pen.writes_on pen.some;
-    }
-
-pub returns-in-Err-flush-clause-passes : goal.returns-in-Err-flush-clause-passes
-returns-in-Err-flush-clause-passes g c =
-    let fresh = ap (λ pen. pen.failed) c.new-pen.ensures in
-    let e = never_falls fresh c.in-Ok.ensures.pen.some in
-    passes_broken _ _ c.put_report.new.pen.sent (le_refl _) c.in-Ok.ensures.passes (rose_by_one _ _ _ e c.in-Err-flush.ensures.fault)
-
-pub returns-in-Err-flush-clause-sends : goal.returns-in-Err-flush-clause-sends
-returns-in-Err-flush-clause-sends g c old new told_old told_new =
-    let fresh = ap (λ pen. pen.failed) c.new-pen.ensures in
-    flushed_part (g.W.Sink.delivered c.flush.new.self) fresh c.in-Ok.ensures.pen.writes_on (c.in-Ok.ensures.writes old new told_old told_new) c.flush.ensures.bytes
-
-pub returns-in-Err-flush-clause-sink : goal.returns-in-Err-flush-clause-sink
-returns-in-Err-flush-clause-sink g c =
-    let fresh = ap (λ pen. pen.failed) c.new-pen.ensures in
-    let start = ap (λ pen. pen.sent) c.new-pen.ensures in
-    let pen = c.in-Ok.ensures.pen in
-    let e = never_falls fresh pen.some in
-    record {
-      flushed = tt;
-      flushes = c.in-Err-flush.ensures.flushes ∙ unflushed pen.some;
-      written = flushed_count (g.W.Sink.delivered c.flush.new.self) fresh start pen.some c.flush.ensures.bytes;
-      never_falls = rises_by_one _ _ _ e c.in-Err-flush.ensures.fault;
-      fails = c.in-Err-flush.ensures.fault ∙ ap one_more (unfailed fresh pen.writes_on pen.some);
-    }
-
-pub returns-in-Err-clause-passes : goal.returns-in-Err-clause-passes
-returns-in-Err-clause-passes g c =
-    let fresh = ap (λ pen. pen.failed) c.new-pen.ensures in
-    passes_err (rose_of_pen fresh c.in-Err.ensures.pen.some) c.in-Err.ensures.passes
-
-pub returns-in-Err-clause-sends : goal.returns-in-Err-clause-sends
-returns-in-Err-clause-sends g c old new told_old told_new =
-    let fresh = ap (λ pen. pen.failed) c.new-pen.ensures in
-    wrote_part fresh (c.in-Err.ensures.writes old new told_old told_new)
-
-pub returns-in-Err-clause-sink : goal.returns-in-Err-clause-sink
-returns-in-Err-clause-sink g c =
-    let fresh = ap (λ pen. pen.failed) c.new-pen.ensures in
-    let start = ap (λ pen. pen.sent) c.new-pen.ensures in
-    let pen = c.in-Err.ensures.pen in
-    record {
-      flushed = tt;
-      flushes = unflushed pen.some;
-      written = written_of_pen c.put_report.new.pen (g.W.Sink.delivered c.args.out.now) (g.W.Sink.delivered c.put_report.new.out) c.in-Err.fault (count_of_pen fresh start pen.some) pen.written;
-      never_falls = never_falls fresh pen.some;
-      fails = counts_of_pen c.put_report.new.pen c.in-Err.fault refl fresh pen.some pen.written;
-    }
-
-pub put_report-requires-clause-writes_on : goal.put_report-requires-clause-writes_on
-put_report-requires-clause-writes_on g c = ap (λ pen. pen.failed) c.new-pen.ensures
+    let put = c.put_report-written in
+    flushed_once g.W.Sink c.args.out.now put.new.out c.flush_written.new.out c.new-pen.result put.new.pen c.new-pen.ensures
+    put.result c.flush_written.result c.flush_written.ensures put.ensures.pen

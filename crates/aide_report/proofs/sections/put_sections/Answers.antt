@@ -4,7 +4,7 @@ use Rattle.aide_db.specs.declared.side.Side.TheVariants.{Old, New}
 use Rattle.aide_report.specs.code.Digests.{AreDigests}
 use Rattle.aide_report.specs.code.Finding.{pass_of}
 use Rattle.aide_report.specs.code.Passes.{on_sheet}
-use Rattle.aide_report.specs.code.Seen.{seen}
+use Rattle.aide_report.specs.Seen.{seen}
 use Rattle.aide_report.specs.Report.{sections_text}
 use Rattle.aide_report.specs.Sections.{is_there, section_text}
 use Rattle.aide_text.specs.Section.{all_sections}
@@ -24,9 +24,11 @@ loop-section-init g c =
     let h = is_there c.args.plan.now.task.now.options c.args.plan.now.finding.now.counts in
     let start = on_sheet g.W.Sink c.args.out.now c.args.pen.now in
     record {
-      passes = passes_none c.args.plan.now.limits (passed h all_sections 0) (seen g.S.Sources c.args.sources.now) c.args.desk.now (passed_none h all_sections);
+      passes = passes_none c.args.plan.now.limits (passed h all_sections 0) (seen g.S.Sources c.args.sources.now) c.args.desk.now
+          (passed_none h all_sections);
       writes_on = c.requires.writes_on;
-      writes = λ old new told_old told_new. writing_start (flat_map (section_text c.args.plan.now.task.now.options (pass_of old new)) (filter h all_sections)) start;
+      writes = λ old new told_old told_new. writing_start
+          (flat_map (section_text c.args.plan.now.task.now.options (pass_of old new)) (filter h all_sections)) start;
       some = some_nothing start;
       first = first_nothing (reaches c.args.plan.now.task.now.options.level DatabaseAttributes) start;
     }
@@ -46,7 +48,8 @@ returns-in-Err-clause-writes g c old new told_old told_new =
     let i = c.loop-section.section-index in
     let same = c.loop-section.invariant.passes.sources.same in
     let f = section_text c.args.plan.now.task.now.options (pass_of old new) in
-    writing_part (flat_map f (filter h (drop (i + 1) all_sections))) (rest_yes h f all_sections i AddedEntries (omega arith) (sym c.if-not-is_there.ensures))
+    writing_part (flat_map f (filter h (drop (i + 1) all_sections)))
+    (rest_yes h f all_sections i AddedEntries (omega arith) (sym c.if-not-is_there.ensures))
     (c.loop-section.invariant.writes old new told_old told_new)
     (c.in-Err.ensures.writes old new (ap (λ bytes. bytes Old) same ∙ told_old) (ap (λ bytes. bytes New) same ∙ told_new))
 
@@ -79,14 +82,17 @@ loop-section-preserved g c =
     let is = sym c.if-not-is_there.ensures in
     let some = some_more c.loop-section.invariant.some c.in-Ok.ensures.pen.some in
     record {
-      passes = passes_then (passed h all_sections i) 1 _ (passed_yes h all_sections i AddedEntries (omega arith) is) c.loop-section.invariant.passes c.in-Ok.ensures.passes;
+      passes = passes_then (passed h all_sections i) 1 _
+          (passed_yes h all_sections i AddedEntries (omega arith) is) c.loop-section.invariant.passes c.in-Ok.ensures.passes;
       writes_on = c.in-Ok.ensures.pen.writes_on;
-      writes = λ old new told_old told_new. writing_more (rest_yes h (section_text c.args.plan.now.task.now.options (pass_of old new)) all_sections i AddedEntries (omega arith) is)
+      writes = λ old new told_old told_new. writing_more
+          (rest_yes h (section_text c.args.plan.now.task.now.options (pass_of old new)) all_sections i AddedEntries (omega arith) is)
           (c.loop-section.invariant.writes old new told_old told_new)
           (c.in-Ok.ensures.writes old new (ap (λ bytes. bytes Old) same ∙ told_old) (ap (λ bytes. bytes New) same ∙ told_new));
       some = some;
       first = first_some (reaches c.args.plan.now.task.now.options.level DatabaseAttributes)
-          (λ below. let there = sym is ∙ none_there c.args.plan.now.task.now.options c.args.plan.now.finding.now.counts (get_or all_sections i AddedEntries) below in cc)
+          (λ below. let there = sym is ∙ none_there c.args.plan.now.task.now.options c.args.plan.now.finding.now.counts
+          (get_or all_sections i AddedEntries) below in cc)
           some;
     }
 
@@ -99,11 +105,14 @@ loop-section-preserved-then-not-is_there g c =
     record {
       passes = passes_same (passed h all_sections i) _ (passed_no h all_sections i AddedEntries (omega arith) is) before.passes;
       writes_on = before.writes_on;
-      writes = λ old new told_old told_new. writing_as (rest_no h (section_text c.args.plan.now.task.now.options (pass_of old new)) all_sections i AddedEntries (omega arith) is) (before.writes old new told_old told_new);
+      writes = λ old new told_old told_new. writing_as
+          (rest_no h (section_text c.args.plan.now.task.now.options (pass_of old new)) all_sections i AddedEntries (omega arith) is)
+          (before.writes old new told_old told_new);
       some = before.some;
       first = before.first;
     }
 
 pub section_pass-requires-clause-digests : goal.section_pass-requires-clause-digests
 section_pass-requires-clause-digests g c =
-    subst (λ bytes. AreDigests bytes c.args.plan.now.finding.now.digests) (sym c.loop-section.invariant.passes.sources.same) c.requires.digests
+    subst (λ bytes. AreDigests bytes c.args.plan.now.finding.now.digests)
+    (sym c.loop-section.invariant.passes.sources.same) c.requires.digests

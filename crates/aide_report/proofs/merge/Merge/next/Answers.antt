@@ -33,7 +33,8 @@ returns-clause-step g c =
         old_ended = λ is. ready.old_ended (old_kept changes m.old_next _ (λ e. cc) is);
         new_ended = λ is. ready.new_ended (new_kept changes m.new_next _ (λ e. cc) is);
       };
-      falls = λ going. step_falls m.old_next m.new_next old_shown new_shown (left_of m.old_cursor) (left_of m.new_cursor) old_not_due new_not_due
+      falls = λ going. step_falls m.old_next m.new_next old_shown new_shown (left_of m.old_cursor)
+          (left_of m.new_cursor) old_not_due new_not_due
           (some_change c.at_path-path.result changes shows going);
       changes = changes;
       shows = shows;

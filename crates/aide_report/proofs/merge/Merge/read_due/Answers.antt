@@ -58,12 +58,14 @@ returns-clause-read g c =
       };
       not_due = record { old_not_due = one.not_due; new_not_due = two.not_due };
       falls = omega (arith, one.falls, two.falls);
-      same = λ old new stands_old stands_new. read_gives c.args.self.now.old_next c.in_ok-self.field-0 c.args.self.now.new_next c.in_ok-self-2.field-0
+      same = λ old new stands_old stands_new. read_gives c.args.self.now.old_next c.in_ok-self.field-0 c.args.self.now.new_next
+          c.in_ok-self-2.field-0
           (desk_entry Old c.args.desk.now) (desk_entry Old c.advance.new.desk) (desk_entry Old c.advance-2.new.desk)
           (desk_entry New c.args.desk.now) (desk_entry New c.advance.new.desk) (desk_entry New c.advance-2.new.desk)
           (rest_of c.args.self.now.old_cursor old) (rest_of c.advance.new.cursor old)
           (rest_of c.args.self.now.new_cursor new) (rest_of c.advance-2.new.cursor new)
           (one.same_ahead old stands_old)
-          (two.same_ahead new (stands_across g.R.Reel.to_come c.args.self.now.new_cursor New c.args.desk.now c.advance.new.desk new c.requires.new_side kept_new stands_new))
+          (two.same_ahead new (stands_across g.R.Reel.to_come c.args.self.now.new_cursor New c.args.desk.now c.advance.new.desk new
+          c.requires.new_side kept_new stands_new))
           same_new same_old;
     }

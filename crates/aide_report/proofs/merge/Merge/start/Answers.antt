@@ -50,5 +50,6 @@ returns-clause-desk g c bytes_of =
     let second = c.start_cursor-2.ensures.desk in
     record {
       room = second.room ∙ first.room;
-      fits = λ old_line new_line before within_old within_new fits. second.fits old_line new_line before (first.fits old_line new_line before fits);
+      fits = λ old_line new_line before within_old within_new fits. second.fits old_line new_line before
+          (first.fits old_line new_line before fits);
     }

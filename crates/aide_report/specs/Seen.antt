@@ -1,15 +1,11 @@
--- What contracts say of the sources at one moment, and what each call over them keeps.
+-- What contracts see of the devices of a run at one moment, and what each call over the sources keeps.
 use Rattle.std.specs.Prelude.{ℕ, ◌≡◌, ◌≤◌, ◌^◌, Bool, Option, List}
 use Rattle.aide_db.specs.Count.{one_more}
 use Rattle.aide_db.specs.Side.{other_side}
 use Rattle.aide_db.specs.declared.limits.Limits.{Limits}
 use Rattle.aide_db.specs.declared.side.Side.{Side}
 use Rattle.aide_db.specs.declared.sources.Sources.{Ghosts as AnySources}
-
--- The limits allow the shortest spec line, and no sum of bytes overflows.
-pub record AreLimits (limits : Limits) : Type 0 where
-  pub line : 14 ≤ limits.line
-  pub bytes : limits.bytes ≤ 2 ^ 60
+use Rattle.aide_text.specs.declared.sink.Sink.{Ghosts as AnySink}
 
 -- All that contracts say of the sources at one moment.
 pub record Seen : Type 0 where
@@ -39,6 +35,31 @@ seen s sources = record {
   lookups = s.lookups sources;
   was_given = s.was_given sources;
 }
+
+-- All that contracts say of a sink at one moment.
+pub record SinkSeen : Type 0 where
+  -- the bytes that have gone out, if the device tells them
+  pub delivered : Option (List ℕ)
+  -- how often the device has failed
+  pub failures : ℕ
+  -- how often it was flushed
+  pub flushes : ℕ
+  -- whether all bytes that have gone out have been flushed
+  pub is_flushed : Bool
+
+-- all that contracts say of a sink of any kind
+abbrev pub sink_seen : {W : Type 0} → AnySink W → W → SinkSeen
+sink_seen w sink = record {
+  delivered = w.delivered sink;
+  failures = w.failures sink;
+  flushes = w.flushes sink;
+  is_flushed = w.is_flushed sink;
+}
+
+-- The limits allow the shortest spec line, and no sum of bytes overflows.
+pub record AreLimits (limits : Limits) : Type 0 where
+  pub line : 14 ≤ limits.line
+  pub bytes : limits.bytes ≤ 2 ^ 60
 
 -- A call over the sources leaves everything but its openings and failures as it was.
 pub record KeepsSources (a b : Seen) : Type 0 where

@@ -1,0 +1,73 @@
+-- The numbers of the last line, one change after another.
+use Rattle.std.specs.Prelude.{◌≡◌, ℕ, ◌+◌, ◌<◌, Option, Some, None, List, count_by}
+use Rattle.aide_agreement.specs.Account.{Pair}
+use Rattle.aide_agreement.specs.declared.account.SameAs.{SameAs}
+use Rattle.aide_agreement.specs.declared.account.SameAs.TheVariants.{Old, Trusted}
+use Rattle.aide_conf.specs.declared.options.Options.{Options}
+use Rattle.aide_line_text.specs.declared.counts.LineCounts.{LineCounts}
+use Rattle.aide_report.specs.ChangeLines.{Accounts, by_old, change_lines}
+use Rattle.aide_report.specs.Changed.{differ_by}
+use Rattle.aide_report.specs.Changes.{is_added, is_removed, is_changed, is_of_new}
+use Rattle.aide_report.specs.Entries.{PathChange}
+use Rattle.aide_report.specs.LineCounts.{is_line_with, is_old, is_other, is_trusted}
+use Rattle.aide_text.specs.Sheet.{Sheet, Wrote}
+
+-- the numbers of a list of changes
+abbrev pub tally : Options → Accounts → List PathChange → LineCounts
+tally options account changes = record {
+  total = count_by is_of_new changes;
+  added = count_by is_added changes;
+  removed = count_by is_removed changes;
+  changed = count_by (is_changed (differ_by options.ignore)) changes;
+  same_as_old = count_by (is_line_with options account is_old) changes;
+  same_as_trusted = count_by (is_line_with options account is_trusted) changes;
+  others = count_by (is_line_with options account is_other) changes;
+}
+
+-- the sums of two counts
+abbrev pub sum_of_counts : LineCounts → LineCounts → LineCounts
+sum_of_counts a b = record {
+  total = a.total + b.total;
+  added = a.added + b.added;
+  removed = a.removed + b.removed;
+  changed = a.changed + b.changed;
+  same_as_old = a.same_as_old + b.same_as_old;
+  same_as_trusted = a.same_as_trusted + b.same_as_trusted;
+  others = a.others + b.others;
+}
+
+-- counts with the entry of the new database, if there is one
+abbrev pub with_entry : LineCounts → Pair → LineCounts
+with_entry counts (old, None) = counts
+with_entry counts (old, Some new) = record counts { total = counts.total + 1 }
+
+-- counts with the line of what both databases have at one path
+abbrev pub with_kind : LineCounts → Pair → LineCounts
+with_kind counts (None, None) = counts
+with_kind counts (None, Some new) = record counts { added = counts.added + 1 }
+with_kind counts (Some old, None) = record counts { removed = counts.removed + 1 }
+with_kind counts (Some old, Some new) = record counts { changed = counts.changed + 1 }
+
+-- counts with what accounts for the change of a line
+abbrev pub with_account : LineCounts → Option SameAs → LineCounts
+with_account counts (Some Old) = record counts { same_as_old = counts.same_as_old + 1 }
+with_account counts (Some Trusted) = record counts { same_as_trusted = counts.same_as_trusted + 1 }
+with_account counts None = record counts { others = counts.others + 1 }
+
+-- Some changes were written and counted, and of them this is true.
+pub record HasWritten (options : Options) (counts : LineCounts) (AreAll : List PathChange → Type 0)
+    (a b : Sheet) : Type 0 where
+  pub done : List PathChange
+  pub all : AreAll done
+  pub counted : counts ≡ tally options by_old done
+  pub wrote : Wrote (change_lines options by_old done) a b
+
+-- each count is below a limit
+pub record AreLinesBelow (counts : LineCounts) (limit : ℕ) : Type 0 where
+  pub total : counts.total < limit
+  pub added : counts.added < limit
+  pub removed : counts.removed < limit
+  pub changed : counts.changed < limit
+  pub same_as_old : counts.same_as_old < limit
+  pub same_as_trusted : counts.same_as_trusted < limit
+  pub others : counts.others < limit
