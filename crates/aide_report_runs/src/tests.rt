@@ -7,6 +7,7 @@ use arrayvec::ArrayVec;
 use std::alloc::{Allocator, Global};
 use std::process::Abort;
 
+mod beside;
 mod counts;
 mod details;
 mod digests;
@@ -122,6 +123,14 @@ enum Call {
 }
 
 impl Call {
+    /// How often each side is opened before anything goes out: to be read whole, and for a report to be counted.
+    fn openings_before(self) -> u64 {
+        match self {
+            Call::Run => 2,
+            Call::RunLines => 1,
+        }
+    }
+
     /// The call over these sources.
     fn over<S: Sources, W: Sink, A: Allocator + Copy>(
         self,

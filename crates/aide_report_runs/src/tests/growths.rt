@@ -57,7 +57,7 @@ fn refuse_one(rt: &impl Abort, alloc: Global, trial: &Trial<'_>, growth: u64) ->
     let wanted = fault_at(trial, &journal);
     assert_answer(rt, answer, Err(wanted));
     assert!(rt; wanted.status() == 22 && trial.report.starts_with(out.bytes()));
-    assert!(rt; openings > 2 || out.bytes().is_empty());
+    assert!(rt; openings > trial.call.openings_before() || out.bytes().is_empty());
     assert_serves(rt, alloc, trial, &mut desk);
     Some(openings)
 }

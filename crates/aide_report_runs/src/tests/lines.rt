@@ -1,4 +1,4 @@
-//! Runs that write lines of JSON. The lines are those of the plain program in `tools/oracle`.
+//! Runs that write lines of JSON. The lines are those of the plain program in `tests/oracle`.
 use super::growths::{refuse_all, refuse_each_of_the_sink};
 use super::refused::{break_readings, cut_and_damage, refuse_openings, replace_databases};
 use super::rows::assert_written;
@@ -15,9 +15,7 @@ const NEW: &[u8] = b"@@begin_db\n@@db_spec name attr colour perm size\n/a 36 7 1
 /c 36 8 100600 7\n@@end_db\n";
 
 // The lines if the old database is `OLD`, and if it is the new one.
-const DIFFERENT: &[u8] =
-    b"{\"format\":2,\"differences\":true,\"total\":2,\"added\":1,\"removed\":1,\"changed\":1,\
-\"entries\":3,\"old\":{\"path\":\"/old\",\
+const DIFFERENT: &[u8] = b"{\"format\":3,\"old\":{\"path\":\"/old\",\
 \"sha256\":\"5ea4e71e671697833f0b9a6b84c4526743005267a819625fb728b7dc6377adc4\",\"skipped\":[]},\
 \"new\":{\"path\":\"/new\",\
 \"sha256\":\"e026a9336ec97af4ec9e3f6e7881370ec8f0a6651b44c58e76a28b11d68f8625\",\
@@ -28,24 +26,21 @@ const DIFFERENT: &[u8] =
 \"old\":{\"Type\":\"Directory\",\"Size\":4096,\"Perm\":\"0755\"}}\n\
 {\"kind\":\"changed\",\"path\":\"/c\",\"summary\":\"f < p             \",\"type\":\"File\",\
 \"old\":{\"Size\":10,\"Perm\":\"0644\"},\"new\":{\"Size\":7,\"Perm\":\"0600\"}}\n\
-{\"end\":true,\"total\":2,\"added\":1,\"removed\":1,\"changed\":1,\"status\":7}\n";
+{\"end\":true,\"total\":2,\"added\":1,\"removed\":1,\"changed\":1,\"same_as_old\":0,\"others\":3,\"status\":7}\n";
 
-const SAME: &[u8] =
-    b"{\"format\":2,\"differences\":false,\"total\":2,\"added\":0,\"removed\":0,\"changed\":0,\
-\"entries\":0,\"old\":{\"path\":\"/old\",\
+const SAME: &[u8] = b"{\"format\":3,\"old\":{\"path\":\"/old\",\
 \"sha256\":\"e026a9336ec97af4ec9e3f6e7881370ec8f0a6651b44c58e76a28b11d68f8625\",\
 \"skipped\":[3]},\"new\":{\"path\":\"/new\",\
 \"sha256\":\"e026a9336ec97af4ec9e3f6e7881370ec8f0a6651b44c58e76a28b11d68f8625\",\
 \"skipped\":[3]}}\n\
-{\"end\":true,\"total\":2,\"added\":0,\"removed\":0,\"changed\":0,\"status\":0}\n";
+{\"end\":true,\"total\":2,\"added\":0,\"removed\":0,\"changed\":0,\"same_as_old\":0,\"others\":0,\"status\":0}\n";
 
-/// A run that writes lines over this old database and the new one, its lines, and how often it opens each side.
+/// A run that writes lines over this old database and the new one, and its lines.
 fn trial_of(
     rt: &impl Abort,
     alloc: Global,
     old: &'static [u8],
     lines: &'static [u8],
-    openings: u64,
 ) -> Trial<'static> {
     Trial {
         call: Call::RunLines,
@@ -53,18 +48,18 @@ fn trial_of(
         old,
         new: NEW,
         report: lines,
-        openings,
+        openings: 2,
     }
 }
 
 /// Over two databases that differ.
 fn differing(rt: &impl Abort, alloc: Global) -> Trial<'static> {
-    trial_of(rt, alloc, OLD, DIFFERENT, 3)
+    trial_of(rt, alloc, OLD, DIFFERENT)
 }
 
 /// Over the same database at both sides.
 fn alike(rt: &impl Abort, alloc: Global) -> Trial<'static> {
-    trial_of(rt, alloc, NEW, SAME, 2)
+    trial_of(rt, alloc, NEW, SAME)
 }
 
 #[test]

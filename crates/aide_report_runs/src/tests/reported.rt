@@ -33,28 +33,29 @@ pub(super) fn overview_of(call: Call, report: &[u8]) -> &[u8] {
     report.split_at(bytes.min(report.len())).0
 }
 
-/// After how many bytes of a report the title lines of each section of entries have gone out. If a run writes lines and
-/// opens both sides a third time, it does so after the first line.
+/// After how many bytes of a report the title lines of each section of entries have gone out. A run that writes lines
+/// opens both sides again after the first line.
 #[derive(Clone, Copy)]
 pub(super) struct Titles {
     added: usize,
     removed: usize,
     changed: usize,
     details: usize,
+    before: u64,
 }
 
 impl Titles {
-    /// Those of what a call writes that opens each side this often. A section that is not there is opened after all bytes.
-    pub(super) fn of(call: Call, report: &[u8], openings: u64) -> Titles {
+    /// Those of what a call writes. A section that is not there is opened after all bytes.
+    pub(super) fn of(call: Call, report: &[u8]) -> Titles {
+        let before = call.openings_before();
         let end = |title: &[u8]| bytes_before(report, title).saturating_add(title.len());
         if let Call::RunLines = call {
-            let first = overview_of(Call::RunLines, report).len();
-            let added = if openings > 2 { first } else { usize::MAX };
             return Titles {
-                added,
+                added: overview_of(Call::RunLines, report).len(),
                 removed: usize::MAX,
                 changed: usize::MAX,
                 details: usize::MAX,
+                before,
             };
         }
         Titles {
@@ -62,6 +63,7 @@ impl Titles {
             removed: end(REMOVED),
             changed: end(CHANGED),
             details: end(DETAILS),
+            before,
         }
     }
 
@@ -69,6 +71,6 @@ impl Titles {
     pub(super) fn openings_at(self, sent: usize) -> u64 {
         let ends = [self.added, self.removed, self.changed, self.details];
         let begun = ends.iter().filter(|end| **end <= sent).count();
-        (begun as u64).saturating_add(2)
+        (begun as u64).saturating_add(self.before)
     }
 }

@@ -110,7 +110,7 @@ fn assert_last<A: Allocator + Copy>(
 
 /// Lets the writer stumble in each way, at each byte of what a run writes and at the flush.
 pub(super) fn stumble_at_each_byte(rt: &impl Abort, alloc: Global, trial: &Trial<'_>) {
-    let titles = Titles::of(trial.call, trial.report, trial.openings);
+    let titles = Titles::of(trial.call, trial.report);
     for sound in 0..trial.report.len().saturating_add(1) {
         let (front, _) = trial.report.split_at(sound.min(trial.report.len()));
         let openings = titles.openings_at(sound);

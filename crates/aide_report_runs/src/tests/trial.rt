@@ -63,10 +63,10 @@ impl<'a> Trial<'a> {
     }
 
     /// Whether these bytes may have gone out before a run ended with this fault. They are a front of the report or the
-    /// lines. If a database has changed since the second opening, they begin with what is said of the outcome.
+    /// lines. If a database has changed since something was written, they begin with what is said first.
     fn may_have_sent(self, bytes: &[u8], fault: RunFault, openings: u64) -> bool {
         match fault {
-            RunFault::Changed(_) if openings > 2 => {
+            RunFault::Changed(_) if openings > self.call.openings_before() => {
                 bytes.starts_with(overview_of(self.call, self.report))
             }
             _ => self.report.starts_with(bytes),
@@ -104,13 +104,14 @@ fn failures_of(fault: RunFault) -> u64 {
     }
 }
 
-/// Checks the fault, the openings, the failures and the bytes that went out. Up to the second opening no bytes go out:
-/// the sink takes none and must not fail.
+/// Checks the fault, the openings, the failures and the bytes that went out. Before the call writes no bytes go out: the
+/// sink takes none and must not fail.
 pub(super) fn assert_stops(rt: &impl Abort, alloc: Global, trial: &Trial<'_>, wrong: &Wrong<'_>) {
     let mut desk = Desk::new(alloc);
     let pace = Pace::new(4096);
     let mut sources = PlannedSources::new(wrong.old, wrong.new, pace);
-    let space = if wrong.old_openings > 2 { u64::MAX } else { 0 };
+    let writes = wrong.old_openings > trial.call.openings_before();
+    let space = if writes { u64::MAX } else { 0 };
     let mut out = PlannedSink::new(MemorySink::new(alloc), pace, space, space > 0);
     let answer = trial.run(&mut desk, &mut sources, &mut out);
     assert_answer(rt, answer, Err(wrong.fault));

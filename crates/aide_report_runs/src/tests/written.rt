@@ -35,7 +35,7 @@ fn assert_cut(
 /// Cuts the report at each byte, and after the last byte by a flush that fails. The sink takes bytes at each pace, and
 /// fails for good.
 pub(super) fn cut_report(rt: &impl Abort, alloc: Global, trial: &Trial<'_>) {
-    let titles = Titles::of(trial.call, trial.report, trial.openings);
+    let titles = Titles::of(trial.call, trial.report);
     for space in 0..trial.report.len().saturating_add(1) {
         let (front, _) = trial.report.split_at(space.min(trial.report.len()));
         let openings = titles.openings_at(space);
@@ -49,7 +49,7 @@ pub(super) fn cut_report(rt: &impl Abort, alloc: Global, trial: &Trial<'_>) {
 
 /// Cuts the report at each byte and at its flush by one failure. Nothing is tried again: that would succeed.
 pub(super) fn cut_once(rt: &impl Abort, alloc: Global, trial: &Trial<'_>) {
-    let titles = Titles::of(trial.call, trial.report, trial.openings);
+    let titles = Titles::of(trial.call, trial.report);
     for space in 0..trial.report.len().saturating_add(1) {
         let (front, _) = trial.report.split_at(space.min(trial.report.len()));
         let openings = titles.openings_at(space);
