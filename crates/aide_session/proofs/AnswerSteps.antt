@@ -74,7 +74,8 @@ has_read files later words job path text copy is_path is_text same found small i
 }
 
 -- a job that reads only as this has the answer of this reading
-read_answer : (w : Writing) (files : Files) (job : JobText) (text : List ℕ) (read : Result Configured ConfFault) (named : Named) (a : Answer)
+read_answer : (w : Writing) (files : Files) (job : JobText) (text : List ℕ) (read : Result Configured ConfFault) (named : Named)
+    (a : Answer)
     → ReadsOnlyAs job text read → IsTextAnswerBy w files job text named a → IsReadAnswerBy w files job.compare read named a
 read_answer w files job text read named a reads is =
     subst (λ (x : Result Configured ConfFault). IsReadAnswerBy w files job.compare x named a) (reads.only is.read is.reads) is.then_is

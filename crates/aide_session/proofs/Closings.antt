@@ -37,7 +37,14 @@ use Rattle.aide_session.proofs.PutLemmas.{appends_none, put_none, put_passed}
 
 abbrev course_of : (opened_before opened_after : Side → ℕ) → (Side → Bool) → (flushes_before flushes_after : ℕ) → Bool → Course
 course_of opened_before opened_after given_after flushes_before flushes_after is_flushed =
-    record { opened_before = opened_before; opened_after = opened_after; given_after = given_after; flushes_before = flushes_before; flushes_after = flushes_after; is_flushed = is_flushed }
+    record {
+      opened_before = opened_before;
+      opened_after = opened_after;
+      given_after = given_after;
+      flushes_before = flushes_before;
+      flushes_after = flushes_after;
+      is_flushed = is_flushed;
+    }
 
 opens_none : (before after : Side → ℕ) (most : ℕ) → after ≡ before → OpensAtMost before after most
 opens_none before after most is =
@@ -49,40 +56,81 @@ opens_none before after most is =
 abbrev pub only_config : List ℕ → Named
 only_config config = record { config = config; old_path = []; new_path = [] }
 
-pub closes_misused : (w : Writing) (files : Files) (words : List (List ℕ)) (d e f : Option (List ℕ)) (m n : ℕ) (course : Course) (site out : Type 0)
+pub closes_misused : (w : Writing) (files : Files) (words : List (List ℕ)) (d e f : Option (List ℕ)) (m n : ℕ) (course : Course)
+    (site out : Type 0)
     → job_of words ≡ None → Put usage_line e f m n
     → course.opened_after ≡ course.opened_before → course.flushes_after ≡ course.flushes_before
     → ClosesBy w files words 15 (sinks d d e f m n) course site out
 closes_misused w files words d e f m n course site out none put unopened unflushed =
-    record { closing = no_job; named = only_config []; cause = none; status_is = refl; output = (appends_none d, unopened, unflushed); opens = tt; opens_some = opens_none course.opened_before course.opened_after w.most_openings unopened; put = put }
+    record {
+      closing = no_job;
+      named = only_config [];
+      cause = none;
+      status_is = refl;
+      output = (appends_none d, unopened, unflushed);
+      opens = tt;
+      opens_some = opens_none course.opened_before course.opened_after w.most_openings unopened;
+      put = put;
+    }
 
-pub closes_starved : (w : Writing) (files : Files) (words : List (List ℕ)) (d e f : Option (List ℕ)) (m n : ℕ) (course : Course) (site out : Type 0)
+pub closes_starved : (w : Writing) (files : Files) (words : List (List ℕ)) (d e f : Option (List ℕ)) (m n : ℕ) (course : Course)
+    (site out : Type 0)
     → Put memory_line e f m n
     → course.opened_after ≡ course.opened_before → course.flushes_after ≡ course.flushes_before
     → ClosesBy w files words 22 (sinks d d e f m n) course site out
 closes_starved w files words d e f m n course site out put unopened unflushed =
-    record { closing = no_memory; named = only_config []; cause = tt; status_is = refl; output = (appends_none d, unopened, unflushed); opens = tt; opens_some = opens_none course.opened_before course.opened_after w.most_openings unopened; put = put }
+    record {
+      closing = no_memory;
+      named = only_config [];
+      cause = tt;
+      status_is = refl;
+      output = (appends_none d, unopened, unflushed);
+      opens = tt;
+      opens_some = opens_none course.opened_before course.opened_after w.most_openings unopened;
+      put = put;
+    }
 
 asks : (words : List (List ℕ)) (job : JobText) → job_of words ≡ Some job → Asks words (only_config job.config)
 asks words job is = record { job = job; job_is = is; config_is = refl }
 
-pub closes_unread : (w : Writing) (files : Files) (words : List (List ℕ)) (job : JobText) (d e f : Option (List ℕ)) (m n : ℕ) (course : Course) (site out : Type 0)
+pub closes_unread : (w : Writing) (files : Files) (words : List (List ℕ)) (job : JobText) (d e f : Option (List ℕ)) (m n : ℕ)
+    (course : Course) (site out : Type 0)
     → job_of words ≡ Some job → site
     → Put (unread_line job.config) e f m n → course.opened_after ≡ course.opened_before
     → course.flushes_after ≡ course.flushes_before → ClosesBy w files words 18 (sinks d d e f m n) course site out
 closes_unread w files words job d e f m n course site out is failed put unopened unflushed =
-    record { closing = no_config; named = only_config job.config; cause = (asks words job is, failed); status_is = refl; output = (appends_none d, unopened, unflushed); opens = tt; opens_some = opens_none course.opened_before course.opened_after w.most_openings unopened; put = put }
+    record {
+      closing = no_config;
+      named = only_config job.config;
+      cause = (asks words job is, failed);
+      status_is = refl;
+      output = (appends_none d, unopened, unflushed);
+      opens = tt;
+      opens_some = opens_none course.opened_before course.opened_after w.most_openings unopened;
+      put = put;
+    }
 
-pub closes_large : (w : Writing) (files : Files) (words : List (List ℕ)) (job : JobText) (d e f : Option (List ℕ)) (m n : ℕ) (course : Course) (site out : Type 0)
+pub closes_large : (w : Writing) (files : Files) (words : List (List ℕ)) (job : JobText) (d e f : Option (List ℕ)) (m n : ℕ)
+    (course : Course) (site out : Type 0)
     → job_of words ≡ Some job
     → ((file : Option (List ℕ)) → files job.config ≡ Some file → IsLarge file) → Put too_large_line e f m n
     → course.opened_after ≡ course.opened_before → course.flushes_after ≡ course.flushes_before
     → ClosesBy w files words 17 (sinks d d e f m n) course site out
 closes_large w files words job d e f m n course site out is large put unopened unflushed =
-    record { closing = large_config; named = only_config job.config; cause = (asks words job is, large); status_is = refl; output = (appends_none d, unopened, unflushed); opens = tt; opens_some = opens_none course.opened_before course.opened_after w.most_openings unopened; put = put }
+    record {
+      closing = large_config;
+      named = only_config job.config;
+      cause = (asks words job is, large);
+      status_is = refl;
+      output = (appends_none d, unopened, unflushed);
+      opens = tt;
+      opens_some = opens_none course.opened_before course.opened_after w.most_openings unopened;
+      put = put;
+    }
 
 -- the configuration of a job was read, and reads as this
-pub asks_and_reads : (files : Files) (words : List (List ℕ)) (job : JobText) (text : List ℕ) (compare : Bool) (read : Result Configured ConfFault)
+pub asks_and_reads : (files : Files) (words : List (List ℕ)) (job : JobText) (text : List ℕ) (compare : Bool)
+    (read : Result Configured ConfFault)
     → HasRead files words job text → job.compare ≡ compare → ReadsOnlyAs job text read
     → AsksAndReads files words job.config compare read
 asks_and_reads files words job text compare read has compare_is only = record {
@@ -96,32 +144,63 @@ asks_and_reads files words job text compare read has compare_is only = record {
   reads = subst (λ (b : Bool). ReadsAs (need_of b) job.before text job.after read) compare_is only.reads;
 }
 
-pub closes_bad_config : (w : Writing) (files : Files) (words : List (List ℕ)) (config : List ℕ) (compare : Bool) (fault : ConfFault) (d e f : Option (List ℕ)) (m n : ℕ) (course : Course) (site out : Type 0)
+pub closes_bad_config : (w : Writing) (files : Files) (words : List (List ℕ)) (config : List ℕ) (compare : Bool) (fault : ConfFault)
+    (d e f : Option (List ℕ)) (m n : ℕ) (course : Course) (site out : Type 0)
     → AsksAndReads files words config compare (Err fault) → Put (conf_line fault) e f m n
     → course.opened_after ≡ course.opened_before → course.flushes_after ≡ course.flushes_before
     → ClosesBy w files words 17 (sinks d d e f m n) course site out
 closes_bad_config w files words config compare fault d e f m n course site out read put unopened unflushed =
-    record { closing = bad_config fault; named = only_config config; cause = (compare, read); status_is = refl; output = (appends_none d, unopened, unflushed); opens = tt; opens_some = opens_none course.opened_before course.opened_after w.most_openings unopened; put = put }
+    record {
+      closing = bad_config fault;
+      named = only_config config;
+      cause = (compare, read);
+      status_is = refl;
+      output = (appends_none d, unopened, unflushed);
+      opens = tt;
+      opens_some = opens_none course.opened_before course.opened_after w.most_openings unopened;
+      put = put;
+    }
 
-pub closes_told : (w : Writing) (files : Files) (words : List (List ℕ)) (config : List ℕ) (s : Configured) (c d e : Option (List ℕ)) (m : ℕ) (course : Course) (site out : Type 0)
+pub closes_told : (w : Writing) (files : Files) (words : List (List ℕ)) (config : List ℕ) (s : Configured) (c d e : Option (List ℕ))
+    (m : ℕ) (course : Course) (site out : Type 0)
     → AsksAndReads files words config false (Ok s)
     → IsTold w.says s c d course.is_flushed course.flushes_before course.flushes_after
     → course.opened_after ≡ course.opened_before → ClosesBy w files words 0 (sinks c d e e m m) course site out
 closes_told w files words config s c d e m course site out read told unopened =
-    record { closing = good_config s; named = only_config config; cause = read; status_is = refl; output = (told, unopened); opens = tt; opens_some = opens_none course.opened_before course.opened_after w.most_openings unopened; put = put_none e m }
+    record {
+      closing = good_config s;
+      named = only_config config;
+      cause = read;
+      status_is = refl;
+      output = (told, unopened);
+      opens = tt;
+      opens_some = opens_none course.opened_before course.opened_after w.most_openings unopened;
+      put = put_none e m;
+    }
 
-pub closes_untold : (w : Writing) (files : Files) (words : List (List ℕ)) (config : List ℕ) (s : Configured) (c d e f : Option (List ℕ)) (m n : ℕ) (course : Course) (site out : Type 0)
+pub closes_untold : (w : Writing) (files : Files) (words : List (List ℕ)) (config : List ℕ) (s : Configured) (c d e f : Option (List ℕ))
+    (m n : ℕ) (course : Course) (site out : Type 0)
     → AsksAndReads files words config false (Ok s)
     → IsUntold w.says s c d course.flushes_before course.flushes_after → out → Put write_line e f m n
     → course.opened_after ≡ course.opened_before → ClosesBy w files words 18 (sinks c d e f m n) course site out
 closes_untold w files words config s c d e f m n course site out read untold rose put unopened =
-    record { closing = untold_config s; named = only_config config; cause = (read, rose); status_is = refl; output = (untold, unopened); opens = tt; opens_some = opens_none course.opened_before course.opened_after w.most_openings unopened; put = put }
+    record {
+      closing = untold_config s;
+      named = only_config config;
+      cause = (read, rose);
+      status_is = refl;
+      output = (untold, unopened);
+      opens = tt;
+      opens_some = opens_none course.opened_before course.opened_after w.most_openings unopened;
+      put = put;
+    }
 
 read_cause : (kind : DbFaultKind) (site first : Type 0) → Causes kind site first → kind ≡ Read → site
 read_cause kind site first stands is = subst (λ (k : DbFaultKind). Causes k site first) is stands
 
 -- the cause of a run's fault, over files that the sources tell
-pub run_cause : (files : Files) (named : Named) (bytes_of : Side → Option (List ℕ)) (fault : RunFault) (site out : Type 0) (first : DbFault → Type 0) (untold : Side → Type 0)
+pub run_cause : (files : Files) (named : Named) (bytes_of : Side → Option (List ℕ)) (fault : RunFault) (site out : Type 0)
+    (first : DbFault → Type 0) (untold : Side → Type 0)
     → ((side : Side) (text : List ℕ) → HasText files named side text → bytes_of side ≡ Some text)
     → HasCause fault site out first untold → IsRight limits bytes_of fault → IsNotOfMemory fault
     → RunCause files named fault site out
@@ -193,7 +272,8 @@ told_side there bytes is_missing None pointed gone is = gone is
 told_side there bytes is_missing (Some text) pointed gone is = pointed text is
 
 -- a comparison that closes over the same files, the same openings and the same count of failures
-pub closes_over : (w : Writing) (files later : Files) (words : List (List ℕ)) (status : ℕ) (s : Sinks) (course later_course : Course) (count later_count end : ℕ) (out : Type 0)
+pub closes_over : (w : Writing) (files later : Files) (words : List (List ℕ)) (status : ℕ) (s : Sinks) (course later_course : Course)
+    (count later_count end : ℕ) (out : Type 0)
     → later ≡ files → later_course ≡ course → later_count ≡ count
     → ClosesBy w later words status s later_course (Rose later_count end) out
     → ClosesBy w files words status s course (Rose count end) out
@@ -212,13 +292,15 @@ asks_over files later words named same asks = record {
 }
 
 -- with the same options
-pub same_options : (files later : Files) (words : List (List ℕ)) (named : Named) (same : later ≡ files) (asks : AsksToCompare files words named)
+pub same_options : (files later : Files) (words : List (List ℕ)) (named : Named) (same : later ≡ files)
+    (asks : AsksToCompare files words named)
     → (asks_over files later words named same asks).settings.options ≡ asks.settings.options
 unfolding asks_over
 same_options files later words named same asks = refl
 
 -- a closing over the same files and openings, after a call that may have counted failures
-pub closes_later : (w : Writing) (files later : Files) (words : List (List ℕ)) (status : ℕ) (s : Sinks) (course later_course : Course) (count later_count end : ℕ) (out : Type 0)
+pub closes_later : (w : Writing) (files later : Files) (words : List (List ℕ)) (status : ℕ) (s : Sinks) (course later_course : Course)
+    (count later_count end : ℕ) (out : Type 0)
     → later ≡ files → later_course ≡ course → count ≤ later_count
     → ClosesBy w later words status s later_course (Rose later_count end) out
     → ClosesBy w files words status s course (Rose count end) out
@@ -228,14 +310,18 @@ closes_later w files later words status s course later_course count later_count 
     (subst (λ (f : Files). ClosesBy w f words status s later_course (Rose later_count end) out) same closes))
 
 -- the sides were opened as often
-pub same_course : {S W : Type 0} (openings : S → Side → ℕ) (was_given : S → Side → Bool) (flushes : W → ℕ) (is_flushed : W → Bool) (before later after : S) (out_old out_new : W)
+pub same_course : {S W : Type 0} (openings : S → Side → ℕ) (was_given : S → Side → Bool) (flushes : W → ℕ) (is_flushed : W → Bool)
+    (before later after : S) (out_old out_new : W)
     → openings later ≡ openings before
-    → course_between openings was_given flushes is_flushed later after out_old out_new ≡ course_between openings was_given flushes is_flushed before after out_old out_new
+    → course_between openings was_given flushes is_flushed later after out_old out_new
+    ≡ course_between openings was_given flushes is_flushed before after out_old out_new
 same_course openings was_given flushes is_flushed before later after out_old out_new same =
-    ap (λ (opened : Side → ℕ). course_of opened (openings after) (was_given after) (flushes out_old) (flushes out_new) (is_flushed out_new)) same
+    ap (λ (opened : Side → ℕ). course_of opened (openings after) (was_given after) (flushes out_old) (flushes out_new)
+    (is_flushed out_new)) same
 
 -- the same closing once its lines are passed on
-pub closes_passed : (w : Writing) (files : Files) (words : List (List ℕ)) (status : ℕ) (c d e f g : Option (List ℕ)) (m n k : ℕ) (course : Course) (site out : Type 0)
+pub closes_passed : (w : Writing) (files : Files) (words : List (List ℕ)) (status : ℕ) (c d e f g : Option (List ℕ)) (m n k : ℕ)
+    (course : Course) (site out : Type 0)
     → Keeps f g → n ≤ k
     → ClosesBy w files words status (sinks c d e f m n) course site out
     → ClosesBy w files words status (sinks c d e g m k) course site out

@@ -46,7 +46,8 @@ pub ends_refused : (a : Answer) (named : Named) (line : List ℕ) (status : ℕ)
     → a ≡ refused line status → Put line e f m n
     → Ends a named status (sinks d d e f m n) site out
 ends_refused a named line status d e f m n site out is put =
-    subst (λ (x : Answer). Ends x named status (sinks d d e f m n) site out) (sym is) (inl (record { status_is = refl; output = appends_none d; put = put }))
+    subst (λ (x : Answer). Ends x named status (sinks d d e f m n) site out) (sym is)
+    (inl (record { status_is = refl; output = appends_none d; put = put }))
 
 -- want of memory before anything went out
 pub ends_starved : (a : Answer) (named : Named) (d e f : Option (List ℕ)) (m n : ℕ) (site out : Type 0)
@@ -63,16 +64,20 @@ ends_broken a named failure d e f m n site out cause put =
     inr (inr (record { status_is = refl; output = none_sent a.output d; failure = failure; cause = cause; put = put }))
 
 -- what is said of an accepted configuration has gone out
-pub ends_told : (says : Option (Configured → List ℕ)) (s : Configured) (a : Answer) (named : Named) (c d e : Option (List ℕ)) (m : ℕ) (is_flushed : Bool) (k l : ℕ) (site out : Type 0)
+pub ends_told : (says : Option (Configured → List ℕ)) (s : Configured) (a : Answer) (named : Named) (c d e : Option (List ℕ)) (m : ℕ)
+    (is_flushed : Bool) (k l : ℕ) (site out : Type 0)
     → a ≡ checked_by says s → IsTold says s c d is_flushed k l
     → Ends a named 0 (sinks c d e e m m) site out
 ends_told None s a named c d e m is_flushed k l site out is told =
-    subst (λ (x : Answer). Ends x named 0 (sinks c d e e m m) site out) (sym is) (inl (record { status_is = refl; output = told.0; put = put_none e m }))
+    subst (λ (x : Answer). Ends x named 0 (sinks c d e e m m) site out) (sym is)
+    (inl (record { status_is = refl; output = told.0; put = put_none e m }))
 ends_told (Some says) s a named c d e m is_flushed k l site out is told =
-    subst (λ (x : Answer). Ends x named 0 (sinks c d e e m m) site out) (sym is) (inl (record { status_is = refl; output = told.0; put = put_none e m }))
+    subst (λ (x : Answer). Ends x named 0 (sinks c d e e m m) site out) (sym is)
+    (inl (record { status_is = refl; output = told.0; put = put_none e m }))
 
 -- it could not be written
-pub ends_untold : (says : Option (Configured → List ℕ)) (s : Configured) (a : Answer) (named : Named) (c d e f : Option (List ℕ)) (m n k l : ℕ) (site out : Type 0)
+pub ends_untold : (says : Option (Configured → List ℕ)) (s : Configured) (a : Answer) (named : Named) (c d e f : Option (List ℕ))
+    (m n k l : ℕ) (site out : Type 0)
     → a ≡ checked_by says s → IsUntold says s c d k l → out → Put write_line e f m n
     → Ends a named 18 (sinks c d e f m n) site out
 ends_untold None s a named c d e f m n k l site out is untold rose put = absurd untold
@@ -217,18 +222,22 @@ by_stop (Err right) hindered fault P f g stops = elim stops [ inl is ↦ f (ap (
 abbrev fault_at : Side → ℕ → DbFaultKind → DbFault
 fault_at side line kind = record { side = side; line = line; kind = kind }
 
-run_database : (side : Side) (line : ℕ) (kind : DbFaultKind) (r : Result Report RunFault) (named : Named) (reliable : Bool) (rose first out : Type 0) (old new c d e f : Option (List ℕ)) (m n : ℕ)
+run_database : (side : Side) (line : ℕ) (kind : DbFaultKind) (r : Result Report RunFault) (named : Named) (reliable : Bool)
+    (rose first out : Type 0) (old new c d e f : Option (List ℕ)) (m n : ℕ)
     → SendsFront r c d → StopsFor r (IsHindered old new rose out) (Database (fault_at side line kind))
     → is_memory kind ≡ false → Causes kind rose first
     → (reliable ≡ true → kind ≡ db.Read → ⊥) → Put (kind_line (fault_at side line kind) kind) e f m n
     → Ends (answer_by named r) named (kind_status kind) (sinks c d e f m n) ((reliable ≡ false) × rose) out
 run_database side line db.Read r named reliable rose first out old new c d e f m n sent stops fed cause unfailed put =
-    run_broken r named (unread (fault_at side line db.Read)) c d e f m n ((reliable ≡ false) × rose) out sent (refl, (never_true reliable (λ is. unfailed is refl), cause)) put
+    run_broken r named (unread (fault_at side line db.Read)) c d e f m n ((reliable ≡ false) × rose) out sent
+    (refl, (never_true reliable (λ is. unfailed is refl), cause)) put
 run_database side line db.Memory r named reliable rose first out old new c d e f m n sent stops fed cause unfailed put =
     absurd (true_is_not_false fed)
 run_database side line kind r named reliable rose first out old new c d e f m n sent stops fed cause unfailed put =
-    by_stop r (IsHindered old new rose out) (Database (fault_at side line kind)) (Ends (answer_by named r) named 24 (sinks c d e f m n) ((reliable ≡ false) × rose) out)
-    (run_right r (Database (fault_at side line kind)) named c d e f m n ((reliable ≡ false) × rose) out sent put) (λ hindered. absurd hindered.1) stops
+    by_stop r (IsHindered old new rose out) (Database (fault_at side line kind))
+    (Ends (answer_by named r) named 24 (sinks c d e f m n) ((reliable ≡ false) × rose) out)
+    (run_right r (Database (fault_at side line kind)) named c d e f m n ((reliable ≡ false) × rose) out sent put)
+    (λ hindered. absurd hindered.1) stops
 
 -- a side that is there gives its bytes
 told_given : (bytes : Option (List ℕ)) (is_missing : Bool) (file : Option (List ℕ)) → TellsSide bytes is_missing file
@@ -245,25 +254,35 @@ there_given bytes_of is_missing old new New told_old told_new there none =
     told_given (bytes_of New) (is_missing New) new told_new there none
 
 -- a run that was given up
-pub ends_fault : (fault : RunFault) (r : Result Report RunFault) (named : Named) (reliable : Bool) (rose out : Type 0) (first : DbFault → Type 0) (untold : Side → Type 0)
+pub ends_fault : (fault : RunFault) (r : Result Report RunFault) (named : Named) (reliable : Bool) (rose out : Type 0)
+    (first : DbFault → Type 0) (untold : Side → Type 0)
     (bytes_of : Side → Option (List ℕ)) (is_missing : Side → Bool) (old new c d e f : Option (List ℕ)) (m n : ℕ)
     → TellsSide (bytes_of Old) (is_missing Old) old → TellsSide (bytes_of New) (is_missing New) new
     → StopsFor r (IsHindered old new rose out) fault × SendsFront r c d → IsNotOfMemory fault
     → HasCause fault rose out first untold → (reliable ≡ true → IsOfReliable bytes_of fault)
     → Put (run_fault_line named.old_path named.new_path fault) e f m n
     → Ends (answer_by named r) named (fault_status fault) (sinks c d e f m n) ((reliable ≡ false) × rose) out
-ends_fault (Open side) r named reliable rose out first untold bytes_of is_missing old new c d e f m n told_old told_new ends fed cause unfailed put =
-    by_stop r (IsHindered old new rose out) (Open side) (Ends (answer_by named r) named 18 (sinks c d e f m n) ((reliable ≡ false) × rose) out)
+ends_fault (Open side) r named reliable rose out first untold bytes_of is_missing old new c d e f m n told_old told_new ends fed cause
+    unfailed put =
+    by_stop r (IsHindered old new rose out) (Open side)
+    (Ends (answer_by named r) named 18 (sinks c d e f m n) ((reliable ≡ false) × rose) out)
     (run_right r (Open side) named c d e f m n ((reliable ≡ false) × rose) out ends.1 put)
     (λ hindered. run_broken r named (unopened side) c d e f m n ((reliable ≡ false) × rose) out ends.1
-    (never_true reliable (λ is. there_given bytes_of is_missing old new side told_old told_new hindered.0 (unfailed is)), hindered.1) put) ends.0
-ends_fault (Database fault) r named reliable rose out first untold bytes_of is_missing old new c d e f m n told_old told_new ends fed cause unfailed put =
-    run_database fault.side fault.line fault.kind r named reliable rose (first fault) out old new c d e f m n ends.1 ends.0 fed cause unfailed put
-ends_fault (Changed side) r named reliable rose out first untold bytes_of is_missing old new c d e f m n told_old told_new ends fed cause unfailed put =
-    by_stop r (IsHindered old new rose out) (Changed side) (Ends (answer_by named r) named 18 (sinks c d e f m n) ((reliable ≡ false) × rose) out)
+    (never_true reliable (λ is. there_given bytes_of is_missing old new side told_old told_new hindered.0 (unfailed is)), hindered.1) put)
+    ends.0
+ends_fault (Database fault) r named reliable rose out first untold bytes_of is_missing old new c d e f m n told_old told_new ends fed cause
+    unfailed put =
+    run_database fault.side fault.line fault.kind r named reliable rose
+    (first fault) out old new c d e f m n ends.1 ends.0 fed cause unfailed put
+ends_fault (Changed side) r named reliable rose out first untold bytes_of is_missing old new c d e f m n told_old told_new ends fed cause
+    unfailed put =
+    by_stop r (IsHindered old new rose out) (Changed side)
+    (Ends (answer_by named r) named 18 (sinks c d e f m n) ((reliable ≡ false) × rose) out)
     (run_right r (Changed side) named c d e f m n ((reliable ≡ false) × rose) out ends.1 put) (λ hindered. absurd hindered) ends.0
-ends_fault (Write written) r named reliable rose out first untold bytes_of is_missing old new c d e f m n told_old told_new ends fed cause unfailed put =
-    by_stop r (IsHindered old new rose out) (Write written) (Ends (answer_by named r) named 18 (sinks c d e f m n) ((reliable ≡ false) × rose) out)
+ends_fault (Write written) r named reliable rose out first untold bytes_of is_missing old new c d e f m n told_old told_new ends fed cause
+    unfailed put =
+    by_stop r (IsHindered old new rose out) (Write written)
+    (Ends (answer_by named r) named 18 (sinks c d e f m n) ((reliable ≡ false) × rose) out)
     (run_right r (Write written) named c d e f m n ((reliable ≡ false) × rose) out ends.1 put)
     (λ hindered. run_broken r named unwritten c d e f m n ((reliable ≡ false) × rose) out ends.1 hindered put) ends.0
 
@@ -282,11 +301,13 @@ same_asked options wish old_path old_task new_path new_task o p q i =
     record { options = o i; old_path = p i; new_path = q i }
 
 -- the answer of a comparison of both sides is that of a run
-pub run_of : (w : Writing) (bytes_of : Side → Option (List ℕ)) (is_missing : Side → Bool) (asked : Asked) (named : Named) (a : Answer) (is : ComparesSides w bytes_of is_missing asked named a)
+pub run_of : (w : Writing) (bytes_of : Side → Option (List ℕ)) (is_missing : Side → Bool) (asked : Asked) (named : Named) (a : Answer)
+    (is : ComparesSides w bytes_of is_missing asked named a)
     → (r : Result Report RunFault) × RunsOverBy limits (w.over asked) is.old_file is.new_file r × (a ≡ answer_by named r)
 run_of w bytes_of is_missing asked named a is =
     let by_run = compared_by w asked.options named is.old_file is.new_file a is.then_is in
-    let same = same_asked asked.options asked.options named.old_path asked.old_path named.new_path asked.new_path refl is.old_is is.new_is in
+    let same = same_asked asked.options asked.options named.old_path asked.old_path named.new_path asked.new_path refl is.old_is
+    is.new_is in
     (by_run.0, subst (λ (wish : Asked). RunsOverBy limits (w.over wish) is.old_file is.new_file by_run.0) same by_run.1, by_run.2)
 
 -- the line of a run's fault over the paths that are named
@@ -315,14 +336,16 @@ pub ends_exactly : (a : Answer) (named : Named) (reliable : Bool) (status : ℕ)
     → HasNoFailure k l → Ends a named status s (HasFailed reliable m n) (Rose k l)
     → Whole a status s ⊎ Starved a status s
 ends_exactly a named reliable status s m n k l unfailed_site unfailed_out ends =
-    ends_unfailed a named status s (HasFailed reliable m n) (Rose k l) (λ failed. no_failure_never_rose m n unfailed_site failed.1) (no_failure_never_rose k l unfailed_out) ends
+    ends_unfailed a named status s (HasFailed reliable m n) (Rose k l) (λ failed. no_failure_never_rose m n unfailed_site failed.1)
+    (no_failure_never_rose k l unfailed_out) ends
 
 -- an ending where the site is reliable and the output has counted no failure
 pub ends_reliably : (a : Answer) (named : Named) (reliable : Bool) (status : ℕ) (s : Sinks) (m n k l : ℕ)
     → reliable ≡ true → HasNoFailure k l → Ends a named status s (HasFailed reliable m n) (Rose k l)
     → Whole a status s ⊎ Starved a status s
 ends_reliably a named reliable status s m n k l is unfailed_out ends =
-    ends_unfailed a named status s (HasFailed reliable m n) (Rose k l) (λ failed. true_is_not_false (sym is ∙ failed.0)) (no_failure_never_rose k l unfailed_out) ends
+    ends_unfailed a named status s (HasFailed reliable m n) (Rose k l) (λ failed. true_is_not_false (sym is ∙ failed.0))
+    (no_failure_never_rose k l unfailed_out) ends
 
 -- the same ending by a status that is equal
 pub ends_status : (a : Answer) (named : Named) (status put : ℕ) (s : Sinks) (site out : Type 0) → status ≡ put
@@ -334,7 +357,11 @@ pub ends_passed : (a : Answer) (named : Named) (status : ℕ) (c d e f g : Optio
     → Keeps f g → n ≤ k
     → Ends a named status (sinks c d e f m n) site out → Ends a named status (sinks c d e g m k) site out
 ends_passed a named status c d e f g m n k site out kept more ends = elim ends [
-  | inl whole ↦ inl (record { status_is = whole.status_is; output = whole.output; put = put_passed a.errors e f g m n k kept more whole.put })
+  | inl whole ↦ inl (record {
+    status_is = whole.status_is;
+    output = whole.output;
+    put = put_passed a.errors e f g m n k kept more whole.put;
+  })
   | inr rest ↦ elim rest [
     | inl starved ↦ inr (inl (record {
       status_is = starved.status_is;

@@ -60,7 +60,8 @@ one_file there one other p q = cc
 abbrev Answered : Writing → Files → JobText → Type 0
 Answered w files job = (named : Named) × (a : Answer) × IsJobAnswerBy w files job named a
 
-module _ (w : Writing) (files : Files) (words : List (List ℕ)) (tells : TellsNamed files words) (job : JobText) (job_is : job_of words ≡ Some job) where
+module _ (w : Writing) (files : Files) (words : List (List ℕ)) (tells : TellsNamed files words) (job : JobText)
+    (job_is : job_of words ≡ Some job) where
   module _ (text : List ℕ) (known : files job.config ≡ Some (Some text)) (small : is_too_large text ≡ false) where
     abbrev Read : Bool → Result Configured ConfFault → Type 0
     Read compare read = (named : Named) × (a : Answer) × (named.config ≡ job.config) × IsReadAnswerBy w files compare read named a
@@ -113,7 +114,8 @@ module _ (w : Writing) (files : Files) (words : List (List ℕ)) (tells : TellsN
         let read = every_configuration_has_an_answer (need_of job.compare) job.before text job.after in
         let answer = of_read job.compare read.0 refl read.1 in
         let of_size : IsFileAnswerBy w files job (Some text) answer.0 answer.1 =
-        subst (λ (b : Bool). IsSizedAnswerBy w files job b text answer.0 answer.1) (sym small) (record { read = read.0; reads = read.1; then_is = answer.3 }) in
+        subst (λ (b : Bool). IsSizedAnswerBy w files job b text answer.0 answer.1) (sym small)
+        (record { read = read.0; reads = read.1; then_is = answer.3 }) in
         (answer.0, answer.1, record { config_is = answer.2; file = Some text; known = known; then_is = of_size })
 
   of_size : (text : List ℕ) → files job.config ≡ Some (Some text) → (large : Bool) → is_too_large text ≡ large
@@ -121,18 +123,27 @@ module _ (w : Writing) (files : Files) (words : List (List ℕ)) (tells : TellsN
   of_size text known true large =
       let answer = refused too_large_line 17 in
       let named = only_config job.config in
-      let of_large : IsFileAnswerBy w files job (Some text) named answer = subst (λ (b : Bool). IsSizedAnswerBy w files job b text named answer) (sym large) refl in
+      let of_large : IsFileAnswerBy w files job (Some text) named answer =
+      subst (λ (b : Bool). IsSizedAnswerBy w files job b text named answer) (sym large) refl in
       (named, answer, record { config_is = refl; file = Some text; known = known; then_is = of_large })
   of_size text known false small = of_text text known small
 
   of_file : (file : Option (List ℕ)) → files job.config ≡ Some file → Answered w files job
-  of_file None known = (only_config job.config, refused (unread_line job.config) 18, record { config_is = refl; file = None; known = known; then_is = refl })
+  of_file None known = (
+    only_config job.config,
+    refused (unread_line job.config) 18,
+    record { config_is = refl; file = None; known = known; then_is = refl },
+  )
   of_file (Some text) known = of_size text known (is_too_large text) refl
 
 of_words : (w : Writing) (files : Files) (words : List (List ℕ)) → TellsNamed files words → (job : Option JobText)
     → job_of words ≡ job → HasSessionAnswerBy w files words
-of_words w files words tells None is =
-    (only_config [], refused usage_line 15, subst (λ (o : Option JobText). IsWordsAnswerBy w files o (only_config []) (refused usage_line 15)) (sym is) refl)
+of_words w files words tells None is = (
+  only_config [],
+  refused usage_line 15,
+  subst
+      (λ (o : Option JobText). IsWordsAnswerBy w files o (only_config []) (refused usage_line 15)) (sym is) refl,
+)
 of_words w files words tells (Some job) is =
     let config = tells.config job is in
     let answer = of_file w files words tells job is config.0 config.1 in

@@ -30,7 +30,8 @@ refused_as need before text after fault refused other = elim refused [
   | inr starved ↦ absurd (other starved.kind)
 ]
 
-module _ (need : Need) (job : JobText) (before text after : List ℕ) (is_need : need ≡ need_of job.compare) (is_before : before ≡ job.before) (is_after : after ≡ job.after) where
+module _ (need : Need) (job : JobText) (before text after : List ℕ) (is_need : need ≡ need_of job.compare)
+    (is_before : before ≡ job.before) (is_after : after ≡ job.after) where
   abbrev Only : Result Configured ConfFault → Type 0
   Only read = (other : Result Configured ConfFault) → ReadsAs need before text after other → other ≡ read
 
@@ -38,7 +39,8 @@ module _ (need : Need) (job : JobText) (before text after : List ℕ) (is_need :
       → ReadsOnlyAs job text read
   reads_only read reads only = record {
     reads = reads_same need (need_of job.compare) before job.before text after job.after read is_need is_before is_after reads;
-    only = λ other is. only other (reads_same (need_of job.compare) need job.before before text job.after after other (sym is_need) (sym is_before) (sym is_after) is);
+    only = λ other is. only other (reads_same (need_of job.compare) need job.before before text job.after after other (sym is_need)
+        (sym is_before) (sym is_after) is);
   }
 
   pub settings_read : (result : Result Configured ConfFault)

@@ -6,14 +6,14 @@ use Rattle.std.proofs.Math.Path.{subst}
 use Rattle.aide_conf.specs.Settings.{Configured}
 use Rattle.aide_conf.specs.ReadResult.{ReadsAs}
 use Rattle.aide_db.specs.declared.fault.DbFault.{DbFault}
-use Rattle.aide_report.specs.Runs.{Report, Runs, RunsBy}
-use Rattle.aide_session.specs.Answer.{Answer, Named, need_of, limits, asked_by, answer_of_run, IsAnswer, IsAnswerBy}
+use Rattle.aide_report.specs.Runs.{Report, RunsBy}
+use Rattle.aide_session.specs.Answer.{Answer, Named, need_of, limits, asked_by, answer_of_run, IsAnswerBy}
 use Rattle.aide_session.specs.Answer.{ComparesBy, IsJobAnswerBy, IsReadAnswerBy, IsSizedAnswerBy}
 use Rattle.aide_session.specs.Answer.{IsTextAnswerBy, IsWordsAnswerBy}
 use Rattle.aide_session.specs.Asks.{Asks}
 use Rattle.aide_session.specs.Existence.{HasSessionAnswerBy, TellsNamed}
 use Rattle.aide_session.specs.Files.{Files}
-use Rattle.aide_session.specs.Writing.{Writing, the_report}
+use Rattle.aide_session.specs.Writing.{Writing}
 use Rattle.aide_words.specs.Job.{JobText}
 use Rattle.aide_session.proofs.Existence.{answered}
 use Rattle.aide_session.proofs.Uniqueness.{one_answer}
@@ -37,7 +37,8 @@ answer_by_what_is_asked w files words named settings old new run asks runs =
     } in
     let of_text : IsTextAnswerBy w files asks.job asks.config named a = record {
       read = Ok settings;
-      reads = subst (λ (b : Bool). ReadsAs (need_of b) asks.job.before asks.config asks.job.after (Ok settings)) (sym asks.compares) asks.accepted;
+      reads = subst (λ (b : Bool). ReadsAs (need_of b) asks.job.before asks.config asks.job.after (Ok settings))
+          (sym asks.compares) asks.accepted;
       then_is = subst (λ (b : Bool). IsReadAnswerBy w files b (Ok settings) named a) (sym asks.compares) compared;
     } in
     let of_job : IsJobAnswerBy w files asks.job named a = record {
@@ -47,12 +48,6 @@ answer_by_what_is_asked w files words named settings old new run asks runs =
       then_is = subst (λ (b : Bool). IsSizedAnswerBy w files asks.job b asks.config named a) (sym asks.small) of_text;
     } in
     subst (λ (o : Option JobText). IsWordsAnswerBy w files o named a) (sym asks.job_is) of_job
-
--- the same if the report is to be written
-pub answer_of_what_is_asked : (files : Files) (words : List (List ℕ)) (named : Named) (settings : Configured)
-    (old new : List ℕ) (run : Result Report DbFault) → Asks files words named settings old new
-    → Runs limits (asked_by settings.options named) old new run → IsAnswer files words named (answer_of_run run)
-answer_of_what_is_asked = answer_by_what_is_asked the_report
 
 -- If it is known what is at the paths that are named, the arguments have an answer, whatever is to be written.
 pub arguments_have_an_answer : (w : Writing) (files : Files) (words : List (List ℕ)) → TellsNamed files words

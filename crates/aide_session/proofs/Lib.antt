@@ -10,3 +10,7 @@ mod Uniqueness
 mod Pages
 mod HeldLemmas
 mod JobReadings
+mod BesideParts
+mod BesideEndings
+pub mod BesideExistence
+pub mod BesideLaws

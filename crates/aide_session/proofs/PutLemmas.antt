@@ -38,7 +38,8 @@ unfolding below
 below_more n = let e : n + 1 ≡ suc n = omega arith in ap below e
 
 lines_more : (side : Side) (columns n : ℕ)
-    → flat_map (line_if_skipped side columns) (below (n + 1)) ≡ flat_map (line_if_skipped side columns) (below n) ++ line_if_skipped side columns n
+    → flat_map (line_if_skipped side columns) (below (n + 1))
+    ≡ flat_map (line_if_skipped side columns) (below n) ++ line_if_skipped side columns n
 lines_more side columns n =
     ap (λ (l : List ℕ). flat_map (line_if_skipped side columns) l) (below_more n)
     ∙ flat_map-append (line_if_skipped side columns) (below n) (n ∷ [])

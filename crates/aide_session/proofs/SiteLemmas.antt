@@ -25,12 +25,14 @@ pub bytes_snoc : (files : List (List ℕ × List ℕ)) (file : List ℕ × List 
 unfolding bytes_at
 bytes_snoc [] file path = either_none (of_file file path)
 bytes_snoc (f ∷ files) file path =
-    ap (λ (o : Option (List ℕ)). either o (of_file f path)) (bytes_snoc files file path) ∙ either_either (of_file file path) (bytes_at files path) (of_file f path)
+    ap (λ (o : Option (List ℕ)). either o (of_file f path)) (bytes_snoc files file path)
+    ∙ either_either (of_file file path) (bytes_at files path) (of_file f path)
 
 pub bytes_more : (files : List (List ℕ × List ℕ)) (i : ℕ) (d : List ℕ × List ℕ) (path : List ℕ) → i < length files
     → bytes_at (take (i + 1) files) path ≡ either (of_file (get_or files i d) path) (bytes_at (take i files) path)
 bytes_more files i d path h =
-    ap (λ (l : List (List ℕ × List ℕ)). bytes_at l path) (take-add i 1 files ∙ ap (λ (l : List (List ℕ × List ℕ)). take i files ++ take 1 l) (drop_more files i d h))
+    ap (λ (l : List (List ℕ × List ℕ)). bytes_at l path)
+    (take-add i 1 files ∙ ap (λ (l : List (List ℕ × List ℕ)). take i files ++ take 1 l) (drop_more files i d h))
     ∙ bytes_snoc (take i files) (get_or files i d) path
 
 pub bytes_none : (path : List ℕ) → None ≡ bytes_at [] path
@@ -50,12 +52,14 @@ bytes_eq_other a b apart = false_from (bytes_eq a b) (λ same. apart ((bytes_dec
 pub added_here : (files : List (List ℕ × List ℕ)) (path bytes : List ℕ)
     → bytes_at (files ++ (path, bytes) ∷ []) path ≡ Some bytes
 added_here files path bytes =
-    bytes_snoc files (path, bytes) path ∙ ap (λ (b : Bool). either (if b then Some bytes else None) (bytes_at files path)) (bytes_eq_self path)
+    bytes_snoc files (path, bytes) path ∙ ap (λ (b : Bool). either (if b then Some bytes else None) (bytes_at files path))
+    (bytes_eq_self path)
 
 pub added_elsewhere : (files : List (List ℕ × List ℕ)) (path bytes other : List ℕ) → other ≢ path
     → bytes_at (files ++ (path, bytes) ∷ []) other ≡ bytes_at files other
 added_elsewhere files path bytes other apart =
-    bytes_snoc files (path, bytes) other ∙ ap (λ (b : Bool). either (if b then Some bytes else None) (bytes_at files other)) (bytes_eq_other path other (λ same. apart (sym same)))
+    bytes_snoc files (path, bytes) other ∙ ap (λ (b : Bool). either (if b then Some bytes else None) (bytes_at files other))
+    (bytes_eq_other path other (λ same. apart (sym same)))
 
 -- what was found at a path that may be missing, by files and a path that are equal
 pub found_at : (files same_files : List (List ℕ × List ℕ)) (path same_path : Option (List ℕ)) (found : Option (List ℕ))

@@ -17,11 +17,14 @@ returns-in-Ok-clause-bound g c = λ named. same_held (g.S.Sources.file_at c.args
 
 pub returns-in-Err-clause-ends : goal.returns-in-Err-clause-ends
 returns-in-Err-clause-ends g c = λ named a is.
-    ends_untold g.C.Comparison.writing.says c.args.settings.now a named _ _ _ _ _ _ _ _ _ _ is c.in-Err.ensures.untold c.in-Err.ensures.rose c.put_write_line.ensures
+    ends_untold g.C.Comparison.writing.says c.args.settings.now a named _ _ _ _ _ _ _ _ _ _ is c.in-Err.ensures.untold
+    c.in-Err.ensures.rose c.put_write_line.ensures
 
 pub returns-in-Err-clause-closes : goal.returns-in-Err-clause-closes
 returns-in-Err-clause-closes g c = λ words config read.
-    closes_untold g.C.Comparison.writing _ words config c.args.settings.now _ _ _ _ _ _ _ _ _ read c.in-Err.ensures.untold c.in-Err.ensures.rose c.put_write_line.ensures refl
+    closes_untold g.C.Comparison.writing _ words config c.args.settings.now _ _ _ _ _ _ _ _ _ read c.in-Err.ensures.untold
+    c.in-Err.ensures.rose c.put_write_line.ensures refl
 
 pub returns-in-Err-clause-bound : goal.returns-in-Err-clause-bound
-returns-in-Err-clause-bound g c = λ named. same_held (g.S.Sources.file_at c.args.devices.now.site.now) named c.args.devices.now.desk.now.peak
+returns-in-Err-clause-bound g c = λ named. same_held (g.S.Sources.file_at c.args.devices.now.site.now) named
+    c.args.devices.now.desk.now.peak

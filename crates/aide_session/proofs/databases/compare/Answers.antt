@@ -16,13 +16,15 @@ pub returns-in-Err-clause-ends : goal.returns-in-Err-clause-ends
 returns-in-Err-clause-ends g c = λ named a is. ends_starved a named _ _ _ _ _ _ _ c.put_memory_line.ensures
 
 pub returns-in-Err-clause-closes : goal.returns-in-Err-clause-closes
-returns-in-Err-clause-closes g c = λ words config read. closes_starved g.C.Comparison.writing _ words _ _ _ _ _ _ _ _ c.put_memory_line.ensures c.point.ensures.keeps.openings refl
+returns-in-Err-clause-closes g c = λ words config read. closes_starved g.C.Comparison.writing _ words _ _ _ _ _ _ _ _
+    c.put_memory_line.ensures c.point.ensures.keeps.openings refl
 
 pub returns-in-Err-point-clause-ends : goal.returns-in-Err-point-clause-ends
 returns-in-Err-point-clause-ends g c = λ named a is. ends_starved a named _ _ _ _ _ _ _ c.put_memory_line-in-Err-point.ensures
 
 pub returns-in-Err-point-clause-closes : goal.returns-in-Err-point-clause-closes
-returns-in-Err-point-clause-closes g c = λ words config read. closes_starved g.C.Comparison.writing _ words _ _ _ _ _ _ _ _ c.put_memory_line-in-Err-point.ensures (c.point-2.ensures.keeps.openings ∙ c.point.ensures.keeps.openings) refl
+returns-in-Err-point-clause-closes g c = λ words config read. closes_starved g.C.Comparison.writing _ words _ _ _ _ _ _ _ _
+    c.put_memory_line-in-Err-point.ensures (c.point-2.ensures.keeps.openings ∙ c.point.ensures.keeps.openings) refl
 
 pub returns-clause-ends : goal.returns-clause-ends
 returns-clause-ends g c = λ named a is.
@@ -38,12 +40,14 @@ returns-clause-ends g c = λ named a is.
     (λ text there. c.point-2.ensures.others.other Old old_is_not_new ∙ c.in_default-point.ensures.pointed text there)
     (λ gone. c.point-2.ensures.others.other_missing Old old_is_not_new ∙ c.in_default-point.ensures.gone gone)
     (subst (λ (path : List ℕ). files path ≡ Some is.old_file) is_old is.old_told) in
-    let told_new = told_side (g.S.Sources.file_at middle task.new_path.now) (g.S.Sources.bytes_of last New) (g.S.Sources.is_missing last New) is.new_file
+    let told_new = told_side (g.S.Sources.file_at middle task.new_path.now) (g.S.Sources.bytes_of last New)
+    (g.S.Sources.is_missing last New) is.new_file
     c.in_default-point-2.ensures.pointed c.in_default-point-2.ensures.gone
     (subst (λ (f : Files). f task.new_path.now ≡ Some is.new_file) (sym c.point.ensures.keeps.files)
     (subst (λ (path : List ℕ). files path ≡ Some is.new_file) is_new is.new_told)) in
     ends_by a named _ _ _ _ _
-    (failed_later (g.S.Sources.is_reliable first) (g.S.Sources.is_reliable last) _ _ _ (c.point-2.ensures.keeps.reliable ∙ c.point.ensures.keeps.reliable)
+    (failed_later (g.S.Sources.is_reliable first) (g.S.Sources.is_reliable last) _ _ _
+    (c.point-2.ensures.keeps.reliable ∙ c.point.ensures.keeps.reliable)
     (stayed _ _ _ c.point.ensures.keeps.failures c.point-2.ensures.keeps.failures))
     (c.compare_sides.ensures.ends named a (record {
       old_is = is_old;
@@ -52,7 +56,8 @@ returns-clause-ends g c = λ named a is.
       new_file = is.new_file;
       old_told = told_old;
       new_told = told_new;
-      then_is = subst (λ (options : Options). IsComparedBy g.C.Comparison.writing options named is.old_file is.new_file a) (sym c.in-Some.ensures.some.2) is.then_is;
+      then_is = subst (λ (options : Options). IsComparedBy g.C.Comparison.writing options named is.old_file is.new_file a)
+          (sym c.in-Some.ensures.some.2) is.then_is;
     }))
 
 pub returns-clause-closes : goal.returns-clause-closes
@@ -60,11 +65,16 @@ returns-clause-closes g c = λ words config read.
     let files = g.S.Sources.file_at c.args.devices.now.site.now in
     let named : Named = record { config = config; old_path = c.in-Some.task.old_path.now; new_path = c.in-Some.task.new_path.now } in
     let same = c.point-2.ensures.keeps.files ∙ c.point.ensures.keeps.files in
-    let texts = pointed_texts files (g.S.Sources.file_at c.point.new.self) named (g.S.Sources.bytes_of c.point.new.self) (g.S.Sources.bytes_of c.point-2.new.self)
-    c.point.ensures.keeps.files c.in_default-point.ensures.pointed c.in_default-point-2.ensures.pointed (c.point-2.ensures.others.other Old old_is_not_new) in
-    let asks : AsksToCompare files words named = record { settings = c.args.settings.now; asks = read; old_is = c.in-Some.ensures.some.0; new_is = c.in-Some.ensures.some.1 } in
+    let texts = pointed_texts files (g.S.Sources.file_at c.point.new.self) named (g.S.Sources.bytes_of c.point.new.self)
+    (g.S.Sources.bytes_of c.point-2.new.self)
+    c.point.ensures.keeps.files c.in_default-point.ensures.pointed c.in_default-point-2.ensures.pointed
+    (c.point-2.ensures.others.other Old old_is_not_new) in
+    let asks : AsksToCompare files words named = record
+    { settings = c.args.settings.now; asks = read; old_is = c.in-Some.ensures.some.0; new_is = c.in-Some.ensures.some.1 } in
     closes_over g.C.Comparison.writing files (g.S.Sources.file_at c.point-2.new.self) words _ _ _ _ _ _ _ _ same
-    (same_course g.S.Sources.openings g.S.Sources.was_given g.W.Sink.flushes g.W.Sink.is_flushed c.args.devices.now.site.now c.point-2.new.self c.compare_sides.new.devices.site.now c.args.devices.now.out.now c.compare_sides.new.devices.out.now (c.point-2.ensures.keeps.openings ∙ c.point.ensures.keeps.openings))
+    (same_course g.S.Sources.openings g.S.Sources.was_given g.W.Sink.flushes g.W.Sink.is_flushed c.args.devices.now.site.now
+    c.point-2.new.self c.compare_sides.new.devices.site.now c.args.devices.now.out.now c.compare_sides.new.devices.out.now
+    (c.point-2.ensures.keeps.openings ∙ c.point.ensures.keeps.openings))
     (c.point-2.ensures.keeps.failures ∙ c.point.ensures.keeps.failures)
     (c.compare_sides.ensures.closes words (record {
       named = named;
@@ -76,16 +86,20 @@ returns-clause-closes g c = λ words config read.
     }))
 
 pub returns-in_default-reserve-clause-closes : goal.returns-in_default-reserve-clause-closes
-returns-in_default-reserve-clause-closes g c = λ words config read. closes_starved g.C.Comparison.writing _ words _ _ _ _ _ _ _ _ c.put_memory_line-in_default-reserve.ensures (c.point-2.ensures.keeps.openings ∙ c.point.ensures.keeps.openings) refl
+returns-in_default-reserve-clause-closes g c = λ words config read. closes_starved g.C.Comparison.writing _ words _ _ _ _ _ _ _ _
+    c.put_memory_line-in_default-reserve.ensures (c.point-2.ensures.keeps.openings ∙ c.point.ensures.keeps.openings) refl
 
 pub returns-in-Err-clause-bound : goal.returns-in-Err-clause-bound
-returns-in-Err-clause-bound g c = λ named a is. same_held (g.S.Sources.file_at c.args.devices.now.site.now) named c.args.devices.now.desk.now.peak
+returns-in-Err-clause-bound g c = λ named a is. same_held (g.S.Sources.file_at c.args.devices.now.site.now) named
+    c.args.devices.now.desk.now.peak
 
 pub returns-in-Err-point-clause-bound : goal.returns-in-Err-point-clause-bound
-returns-in-Err-point-clause-bound g c = λ named a is. same_held (g.S.Sources.file_at c.args.devices.now.site.now) named c.args.devices.now.desk.now.peak
+returns-in-Err-point-clause-bound g c = λ named a is. same_held
+    (g.S.Sources.file_at c.args.devices.now.site.now) named c.args.devices.now.desk.now.peak
 
 pub returns-in_default-reserve-clause-bound : goal.returns-in_default-reserve-clause-bound
-returns-in_default-reserve-clause-bound g c = λ named a is. held_still (g.S.Sources.file_at c.args.devices.now.site.now) named _ _ c.reserve.ensures.peak
+returns-in_default-reserve-clause-bound g c = λ named a is. held_still (g.S.Sources.file_at c.args.devices.now.site.now) named _ _
+    c.reserve.ensures.peak
 
 pub returns-clause-bound : goal.returns-clause-bound
 returns-clause-bound g c = λ named a is old new has_old has_new.
@@ -98,7 +112,8 @@ returns-clause-bound g c = λ named a is old new has_old has_new.
     let is_new = same_some settings.new_path named.new_path task.new_path.now is.new_is c.in-Some.ensures.some.1 in
     let pointed : Named = record { config = named.config; old_path = task.old_path.now; new_path = task.new_path.now } in
     let texts = pointed_texts files (g.S.Sources.file_at middle) pointed (g.S.Sources.bytes_of middle) (g.S.Sources.bytes_of last)
-    c.point.ensures.keeps.files c.in_default-point.ensures.pointed c.in_default-point-2.ensures.pointed (c.point-2.ensures.others.other Old old_is_not_new) in
+    c.point.ensures.keeps.files c.in_default-point.ensures.pointed c.in_default-point-2.ensures.pointed
+    (c.point-2.ensures.others.other Old old_is_not_new) in
     subst (λ (peak : ℕ). IsPeakOf old new peak c.compare_sides.new.devices.desk.now.peak) c.reserve.ensures.peak
     (c.compare_sides.ensures.bound old new
     (texts Old old (subst (λ (path : List ℕ). files path ≡ Some (Some old)) is_old has_old))

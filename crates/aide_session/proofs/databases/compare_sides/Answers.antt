@@ -8,10 +8,12 @@ use Rattle.aide_session.proofs.databases.compare_sides.Goals as goal
 
 pub returns-in-Ok-clause-ends : goal.returns-in-Ok-clause-ends
 returns-in-Ok-clause-ends g c = λ named a is.
-    let by_run = run_of g.C.Comparison.writing (g.S.Sources.bytes_of c.args.devices.now.site.now) (g.S.Sources.is_missing c.args.devices.now.site.now) (asked c.args.task.now) named a is in
+    let by_run = run_of g.C.Comparison.writing (g.S.Sources.bytes_of c.args.devices.now.site.now)
+    (g.S.Sources.is_missing c.args.devices.now.site.now) (asked c.args.task.now) named a is in
     ends_as a (answer_by named by_run.0) named _ _ _ _ by_run.2
     (ends_status (answer_by named by_run.0) named _ _ _ _ _ c.status.ensures
-    (ends_well by_run.0 c.in-Ok.outcome named _ _ _ _ _ _ _ _ (c.in-Ok.ensures.over is.old_file is.new_file is.old_told is.new_told by_run.0 by_run.1) c.put_outcome_lines.ensures))
+    (ends_well by_run.0 c.in-Ok.outcome named _ _ _ _ _ _ _ _
+    (c.in-Ok.ensures.over is.old_file is.new_file is.old_told is.new_told by_run.0 by_run.1) c.put_outcome_lines.ensures))
 
 pub returns-in-Ok-clause-closes : goal.returns-in-Ok-clause-closes
 returns-in-Ok-clause-closes g c = λ words for. record {
@@ -33,13 +35,16 @@ pub returns-in-Err-clause-ends : goal.returns-in-Err-clause-ends
 returns-in-Err-clause-ends g c = λ named a is.
     let fault = c.in-Err.fault in
     let site = c.args.devices.now.site.now in
-    let by_run = run_of g.C.Comparison.writing (g.S.Sources.bytes_of c.args.devices.now.site.now) (g.S.Sources.is_missing c.args.devices.now.site.now) (asked c.args.task.now) named a is in
+    let by_run = run_of g.C.Comparison.writing (g.S.Sources.bytes_of c.args.devices.now.site.now)
+    (g.S.Sources.is_missing c.args.devices.now.site.now) (asked c.args.task.now) named a is in
     let rose = Rose (g.S.Sources.failures site) (g.S.Sources.failures c.run.new.sources) in
     let out = Rose (g.W.Sink.failures c.args.devices.now.out.now) (g.W.Sink.failures c.run.new.out) in
     ends_as a (answer_by named by_run.0) named _ _ _ _ by_run.2
     (ends_status (answer_by named by_run.0) named _ _ _ _ _ c.status-in-Err.ensures
-    (ends_fault fault by_run.0 named (g.S.Sources.is_reliable site) rose out _ _ (g.S.Sources.bytes_of site) (g.S.Sources.is_missing site) is.old_file is.new_file _ _ _ _ _ _ is.old_told is.new_told
-    (c.in-Err.ensures.over is.old_file is.new_file is.old_told is.new_told by_run.0 by_run.1) (c.in-Err.ensures.memory c.requires.room) c.in-Err.ensures.cause c.in-Err.ensures.reliable
+    (ends_fault fault by_run.0 named (g.S.Sources.is_reliable site) rose out _ _ (g.S.Sources.bytes_of site)
+    (g.S.Sources.is_missing site) is.old_file is.new_file _ _ _ _ _ _ is.old_told is.new_told
+    (c.in-Err.ensures.over is.old_file is.new_file is.old_told is.new_told by_run.0 by_run.1)
+    (c.in-Err.ensures.memory c.requires.room) c.in-Err.ensures.cause c.in-Err.ensures.reliable
     (put_paths fault named c.args.task.now.old_path.now c.args.task.now.new_path.now _ _ _ _ is.old_is is.new_is c.put_run_fault.ensures)))
 
 pub returns-in-Err-clause-closes : goal.returns-in-Err-clause-closes
@@ -50,15 +55,21 @@ returns-in-Err-clause-closes g c = λ words for.
     record {
       closing = bad_run c.args.task.now.options fault;
       named = for.named;
-      cause = ((for.asks, for.options_are), run_cause files for.named bytes_of fault _ _ _ _ for.gives c.in-Err.ensures.cause c.in-Err.ensures.right (c.in-Err.ensures.memory c.requires.room));
+      cause = (
+        (for.asks, for.options_are),
+        run_cause files for.named bytes_of fault _ _ _ _ for.gives c.in-Err.ensures.cause
+            c.in-Err.ensures.right (c.in-Err.ensures.memory c.requires.room),
+      );
       status_is = c.status-in-Err.ensures;
       output = (c.in-Err.ensures.unsent, c.in-Err.ensures.refused, c.in-Err.ensures.flushes);
       opens = (
         c.in-Err.ensures.opens_first,
         c.in-Err.ensures.not_given,
         λ old new has_old has_new sound_old sound_new.
-            rw (for.old_is, for.new_is) (c.run.ensures.opens_within old new (for.gives Old old has_old) (for.gives New new has_new) sound_old sound_new),
+            rw (for.old_is, for.new_is) (c.run.ensures.opens_within old new (for.gives Old old has_old)
+            (for.gives New new has_new) sound_old sound_new),
       );
       opens_some = c.run.ensures.opens_some;
-      put = put_paths fault for.named c.args.task.now.old_path.now c.args.task.now.new_path.now _ _ _ _ for.old_is for.new_is c.put_run_fault.ensures;
+      put = put_paths fault for.named c.args.task.now.old_path.now c.args.task.now.new_path.now _ _ _ _ for.old_is for.new_is
+          c.put_run_fault.ensures;
     }

@@ -8,4 +8,7 @@ pub returns : goal.returns
 unfolding conf_line
 returns g c =
     put_written _ _ _ c.new-pen.result c.new-pen.ensures refl
-    (wrote_more c.put.ensures (wrote_more (wrote_as (c.as_bytes.ensures.value ∙ c.word.ensures) c.put-2.ensures) (wrote_more c.put-3.ensures (wrote_more c.put_number.ensures (wrote_more c.put-4.ensures (wrote_more (wrote_as (c.as_bytes-2.ensures.value ∙ c.words.ensures) c.put-5.ensures) c.put-6.ensures))))))
+    (wrote_more c.put.ensures (wrote_more (wrote_as (c.as_bytes.ensures.value ∙ c.word.ensures) c.put-2.ensures)
+    (wrote_more c.put-3.ensures (wrote_more c.put_number.ensures
+    (wrote_more c.put-4.ensures (wrote_more (wrote_as (c.as_bytes-2.ensures.value ∙ c.words.ensures) c.put-5.ensures)
+    c.put-6.ensures))))))

@@ -8,4 +8,7 @@ pub returns : goal.returns
 unfolding database_line
 returns g c =
     put_written _ _ _ c.new-pen.result c.new-pen.ensures refl
-    (wrote_more c.put.ensures (wrote_more (wrote_as c.side_name.ensures c.put-2.ensures) (wrote_more c.put-3.ensures (wrote_more c.put_number.ensures (wrote_more c.put-4.ensures (wrote_more (wrote_as c.words.ensures c.put-5.ensures) (wrote_more c.put_fault_column.ensures c.put-6.ensures)))))))
+    (wrote_more c.put.ensures (wrote_more (wrote_as c.side_name.ensures c.put-2.ensures)
+    (wrote_more c.put-3.ensures (wrote_more c.put_number.ensures
+    (wrote_more c.put-4.ensures (wrote_more (wrote_as c.words.ensures c.put-5.ensures)
+    (wrote_more c.put_fault_column.ensures c.put-6.ensures)))))))

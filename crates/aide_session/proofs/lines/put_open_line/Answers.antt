@@ -9,4 +9,6 @@ pub returns : goal.returns
 unfolding open_line
 returns g c =
     put_written _ _ _ c.new-pen.result c.new-pen.ensures refl
-    (wrote_more c.put.ensures (wrote_more (wrote_as c.side_name.ensures c.put-2.ensures) (wrote_more c.put-3.ensures (wrote_more (wrote_as (ap printed (c.of.ensures ∙ c.as_bytes.ensures.value)) c.put_path.ensures) c.put-4.ensures))))
+    (wrote_more c.put.ensures (wrote_more (wrote_as c.side_name.ensures c.put-2.ensures)
+    (wrote_more c.put-3.ensures (wrote_more (wrote_as (ap printed (c.of.ensures ∙ c.as_bytes.ensures.value)) c.put_path.ensures)
+    c.put-4.ensures))))

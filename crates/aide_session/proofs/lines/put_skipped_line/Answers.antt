@@ -5,4 +5,5 @@ use Rattle.aide_session.proofs.lines.put_skipped_line.Goals as goal
 pub returns : goal.returns
 unfolding skipped_line
 returns g c =
-    wrote_more c.put.ensures (wrote_more (wrote_as c.side_name.ensures c.put-2.ensures) (wrote_more c.put-3.ensures (wrote_more c.put_number.ensures c.put-4.ensures)))
+    wrote_more c.put.ensures (wrote_more (wrote_as c.side_name.ensures c.put-2.ensures)
+    (wrote_more c.put-3.ensures (wrote_more c.put_number.ensures c.put-4.ensures)))

@@ -9,4 +9,5 @@ pub returns : goal.returns
 unfolding unread_line
 returns g c =
     put_written _ _ _ c.new-pen.result c.new-pen.ensures refl
-    (wrote_more c.put.ensures (wrote_more (wrote_as (ap printed (c.of.ensures ∙ c.as_bytes.ensures.value)) c.put_path.ensures) c.put-2.ensures))
+    (wrote_more c.put.ensures (wrote_more (wrote_as (ap printed (c.of.ensures ∙ c.as_bytes.ensures.value)) c.put_path.ensures)
+    c.put-2.ensures))

@@ -1,18 +1,28 @@
 use Rattle.std.proofs.Common.{arith}
 use Rattle.aide_session.proofs.Closings.{closes_passed}
-use Rattle.aide_session.proofs.Endings.{ends_passed}
+use Rattle.aide_session.proofs.Endings.{ends_exactly, ends_passed, ends_reliably}
+use Rattle.aide_session.proofs.Existence.{answered}
 use Rattle.aide_session.proofs.program.run_and_pass_on.Goals as goal
 
-pub returns-clause-ends : goal.returns-clause-ends
-returns-clause-ends g c = λ named a is.
-    ends_passed a named _ _ _ _ _ _ _ _ _ _ _ c.pass_on.ensures.kept c.pass_on.ensures.never_falls (c.run_words-status.ensures.ends named a is)
-
-pub returns-clause-passed_on : goal.returns-clause-passed_on
-returns-clause-passed_on g c = λ unfailed.
+pub returns-clause-session : goal.returns-clause-session
+returns-clause-session g c =
+    let kept = c.pass_on.ensures.kept in
     let before = c.run_words-status.ensures.closes.put.never_falls in
     let after = c.pass_on.ensures.never_falls in
-    c.pass_on.ensures.flushed (omega (arith, before, after, unfailed.0), unfailed.1)
-
-pub returns-clause-closes : goal.returns-clause-closes
-returns-clause-closes g c =
-    closes_passed g.C.Comparison.writing _ c.args.words.now _ _ _ _ _ _ _ _ _ _ _ _ c.pass_on.ensures.kept c.pass_on.ensures.never_falls c.run_words-status.ensures.closes
+    record {
+      ends = λ named a is.
+          ends_passed a named _ _ _ _ _ _ _ _ _ _ _ kept after (c.run_words-status.ensures.ends named a is);
+      exact = λ named a is unfailed_site unfailed_out.
+          ends_exactly a named (g.S.Sources.is_reliable c.args.devices.now.site.now) _ _ _ _ _ _ unfailed_site unfailed_out
+          (ends_passed a named _ _ _ _ _ _ _ _ _ _ _ kept after (c.run_words-status.ensures.ends named a is));
+      reliable = λ named a is reliable unfailed_out.
+          ends_reliably a named _ _ _ (g.S.Sources.failures c.args.devices.now.site.now)
+          (g.S.Sources.failures c.run_words-status.new.devices.site.now) _ _ reliable unfailed_out
+          (ends_passed a named _ _ _ _ _ _ _ _ _ _ _ kept after (c.run_words-status.ensures.ends named a is));
+      passed_on = λ unfailed.
+          c.pass_on.ensures.flushed (omega (arith, before, after, unfailed.0), unfailed.1);
+      answered = answered g.C.Comparison.writing _ c.args.words.now;
+      closes = closes_passed g.C.Comparison.writing _ c.args.words.now _ _ _ _ _ _ _ _ _ _ _ _
+          kept after c.run_words-status.ensures.closes;
+      lookups = c.run_words-status.ensures.lookups;
+    }

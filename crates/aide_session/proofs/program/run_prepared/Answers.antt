@@ -8,7 +8,8 @@ use Rattle.aide_session.proofs.program.run_prepared.Goals as goal
 
 pub returns-then-prepared-clause-ends : goal.returns-then-prepared-clause-ends
 returns-then-prepared-clause-ends g c = λ named a is.
-    c.compare.ensures.ends named a (compares_is g.C.Comparison.writing _ _ _ c.in-Ok.settings named a c.if-prepared.true c.in-Ok.ensures.ok is)
+    c.compare.ensures.ends named a (compares_is g.C.Comparison.writing _ _ _ c.in-Ok.settings named a c.if-prepared.true c.in-Ok.ensures.ok
+    is)
 
 pub returns-then-prepared-clause-closes : goal.returns-then-prepared-clause-closes
 returns-then-prepared-clause-closes g c = λ words has.
@@ -16,11 +17,13 @@ returns-then-prepared-clause-closes g c = λ words has.
 
 pub returns-then-prepared-clause-bound : goal.returns-then-prepared-clause-bound
 returns-then-prepared-clause-bound g c = λ named a is.
-    c.compare.ensures.bound named a (compares_is g.C.Comparison.writing _ _ _ c.in-Ok.settings named a c.if-prepared.true c.in-Ok.ensures.ok is)
+    c.compare.ensures.bound named a (compares_is g.C.Comparison.writing _ _ _ c.in-Ok.settings named a c.if-prepared.true
+    c.in-Ok.ensures.ok is)
 
 pub returns-in-Ok-clause-ends : goal.returns-in-Ok-clause-ends
 returns-in-Ok-clause-ends g c = λ named a is.
-    c.check.ensures.ends named a (checked_is g.C.Comparison.writing _ _ _ c.in-Ok.settings named a c.if-prepared.false c.in-Ok.ensures.ok is)
+    c.check.ensures.ends named a (checked_is g.C.Comparison.writing _ _ _ c.in-Ok.settings named a c.if-prepared.false c.in-Ok.ensures.ok
+    is)
 
 pub returns-in-Ok-clause-closes : goal.returns-in-Ok-clause-closes
 returns-in-Ok-clause-closes g c = λ words has.
@@ -33,18 +36,24 @@ pub returns-in-Memory-clause-ends : goal.returns-in-Memory-clause-ends
 returns-in-Memory-clause-ends g c = λ named a is. ends_starved a named _ _ _ _ _ _ _ c.put_memory_line.ensures
 
 pub returns-in-Memory-clause-closes : goal.returns-in-Memory-clause-closes
-returns-in-Memory-clause-closes g c = λ words has. closes_starved g.C.Comparison.writing _ words _ _ _ _ _ _ _ _ c.put_memory_line.ensures refl refl
+returns-in-Memory-clause-closes g c = λ words has. closes_starved g.C.Comparison.writing _ words _ _ _ _ _ _ _ _ c.put_memory_line.ensures
+    refl refl
 
 pub returns-in-Memory-clause-bound : goal.returns-in-Memory-clause-bound
-returns-in-Memory-clause-bound g c = λ named a is. same_held (g.S.Sources.file_at c.args.devices.now.site.now) named c.args.devices.now.desk.now.peak
+returns-in-Memory-clause-bound g c = λ named a is. same_held
+    (g.S.Sources.file_at c.args.devices.now.site.now) named c.args.devices.now.desk.now.peak
 
 pub returns-clause-ends : goal.returns-clause-ends
 returns-clause-ends g c = λ named a is.
-    ends_refused a named (conf_line c.in-Err.fault) 17 _ _ _ _ _ _ _ (fault_is g.C.Comparison.writing _ _ _ c.in-Err.fault named a (c.in-Err.ensures.err c.in_default.not-Memory) is) c.put_conf_line.ensures
+    ends_refused a named (conf_line c.in-Err.fault) 17 _ _ _ _ _ _ _
+    (fault_is g.C.Comparison.writing _ _ _ c.in-Err.fault named a (c.in-Err.ensures.err c.in_default.not-Memory) is)
+    c.put_conf_line.ensures
 
 pub returns-clause-closes : goal.returns-clause-closes
 returns-clause-closes g c = λ words has.
-    closes_bad_config g.C.Comparison.writing _ words _ _ c.in-Err.fault _ _ _ _ _ _ _ _ (asks_and_reads _ words _ _ _ (Err c.in-Err.fault) has refl (c.in-Err.ensures.err c.in_default.not-Memory)) c.put_conf_line.ensures refl refl
+    closes_bad_config g.C.Comparison.writing _ words _ _ c.in-Err.fault _ _ _ _ _ _ _ _
+    (asks_and_reads _ words _ _ _ (Err c.in-Err.fault) has refl (c.in-Err.ensures.err c.in_default.not-Memory)) c.put_conf_line.ensures
+    refl refl
 
 pub returns-clause-bound : goal.returns-clause-bound
 returns-clause-bound g c = λ named a is. same_held (g.S.Sources.file_at c.args.devices.now.site.now) named c.args.devices.now.desk.now.peak

@@ -8,7 +8,8 @@ use Rattle.aide_session.proofs.HeldLemmas.{same_held}
 use Rattle.aide_session.proofs.program.run_words.Goals as goal
 
 pub returns-in-Ok-clause-ends : goal.returns-in-Ok-clause-ends
-returns-in-Ok-clause-ends g c = λ named a is. c.run_job.ensures.ends named a (job_is g.C.Comparison.writing _ c.args.words.now (text_of_job c.in-Ok.job) named a c.in-Ok.ensures.ok is)
+returns-in-Ok-clause-ends g c = λ named a is. c.run_job.ensures.ends named a
+    (job_is g.C.Comparison.writing _ c.args.words.now (text_of_job c.in-Ok.job) named a c.in-Ok.ensures.ok is)
 
 pub returns-in-Ok-clause-closes : goal.returns-in-Ok-clause-closes
 returns-in-Ok-clause-closes g c = c.run_job.ensures.closes c.args.words.now c.in-Ok.ensures.ok
@@ -16,7 +17,8 @@ returns-in-Ok-clause-closes g c = c.run_job.ensures.closes c.args.words.now c.in
 pub returns-in-Err-Usage-clause-ends : goal.returns-in-Err-Usage-clause-ends
 returns-in-Err-Usage-clause-ends g c = λ named a is.
     let none = c.read_words.ensures.usage (c.in-Err-Usage.is ∙ ap Err c.in-Err-Usage.field-0-is) in
-    ends_refused a named usage_line 15 _ _ _ _ _ _ _ (usage_is g.C.Comparison.writing _ c.args.words.now named a none is) c.put_usage_line.ensures
+    ends_refused a named usage_line 15 _ _ _ _ _ _ _ (usage_is g.C.Comparison.writing _ c.args.words.now named a none is)
+    c.put_usage_line.ensures
 
 pub returns-in-Err-Usage-clause-closes : goal.returns-in-Err-Usage-clause-closes
 returns-in-Err-Usage-clause-closes g c =
@@ -31,10 +33,13 @@ returns-in-Err-Memory-clause-closes g c =
     closes_starved g.C.Comparison.writing _ c.args.words.now _ _ _ _ _ _ _ _ c.put_memory_line.ensures refl refl
 
 pub returns-in-Ok-clause-bound : goal.returns-in-Ok-clause-bound
-returns-in-Ok-clause-bound g c = λ named a is. c.run_job.ensures.bound named a (job_is g.C.Comparison.writing _ c.args.words.now (text_of_job c.in-Ok.job) named a c.in-Ok.ensures.ok is)
+returns-in-Ok-clause-bound g c = λ named a is. c.run_job.ensures.bound named a
+    (job_is g.C.Comparison.writing _ c.args.words.now (text_of_job c.in-Ok.job) named a c.in-Ok.ensures.ok is)
 
 pub returns-in-Err-Usage-clause-bound : goal.returns-in-Err-Usage-clause-bound
-returns-in-Err-Usage-clause-bound g c = λ named a is. same_held (g.S.Sources.file_at c.args.devices.now.site.now) named c.args.devices.now.desk.now.peak
+returns-in-Err-Usage-clause-bound g c = λ named a is. same_held
+    (g.S.Sources.file_at c.args.devices.now.site.now) named c.args.devices.now.desk.now.peak
 
 pub returns-in-Err-Memory-clause-bound : goal.returns-in-Err-Memory-clause-bound
-returns-in-Err-Memory-clause-bound g c = λ named a is. same_held (g.S.Sources.file_at c.args.devices.now.site.now) named c.args.devices.now.desk.now.peak
+returns-in-Err-Memory-clause-bound g c = λ named a is. same_held (g.S.Sources.file_at c.args.devices.now.site.now) named
+    c.args.devices.now.desk.now.peak

@@ -5,7 +5,8 @@ use Rattle.aide_session.proofs.memory_site.MemorySiteSources.open.Goals as goal
 
 pub returns-in-Some-clause-there : goal.returns-in-Some-clause-there
 returns-in-Some-clause-there c =
-    subst IsSome (sym (found_on_side _ _ _ _ _ _ _ _ c.as_slice.ensures.value refl refl c.self.view_is c.path.ensures c.in-Some.ensures)) refl
+    subst IsSome (sym (found_on_side _ _ _ _ _ _ _ _ c.as_slice.ensures.value refl refl c.self.view_is c.path.ensures c.in-Some.ensures))
+    refl
 
 pub returns-in-Some-clause-opened : goal.returns-in-Some-clause-opened
 returns-in-Some-clause-opened c = record {
@@ -22,7 +23,8 @@ returns-in-None-clause-refused c = record {
 
 pub returns-in-Some-clause-gives : goal.returns-in-Some-clause-gives
 returns-in-Some-clause-gives c =
-    subst (λ (o : Option (List ℕ)). IfSome o (λ bytes. Some c.in-Some.bytes.now ≡ Some bytes)) (sym (found_on_side _ _ _ _ _ _ _ _ c.as_slice.ensures.value refl refl c.self.view_is c.path.ensures c.in-Some.ensures)) refl
+    subst (λ (o : Option (List ℕ)). IfSome o (λ bytes. Some c.in-Some.bytes.now ≡ Some bytes))
+    (sym (found_on_side _ _ _ _ _ _ _ _ c.as_slice.ensures.value refl refl c.self.view_is c.path.ensures c.in-Some.ensures)) refl
 
 pub returns-in-None-clause-missing : goal.returns-in-None-clause-missing
 returns-in-None-clause-missing c =

@@ -1,0 +1,438 @@
+-- A session beside a trusted pair ends with its answer, or is kept from it.
+use Rattle.std.proofs.Common.{◌≡◌, ◌∙◌, ℕ, ◌≤◌, List, [], Option, Some, None, refl, sym, ap, Bool, true, false, Ok, Err, inl, inr, ◌⊎◌}
+use Rattle.std.proofs.Common.{arith}
+use Rattle.std.specs.Prelude.{Result, IsSome, max}
+use Rattle.std.specs.Io.KnownBytes.{Keeps}
+use Rattle.std.proofs.Math.Path.{subst}
+use Rattle.aide_conf.specs.Settings.{Configured}
+use Rattle.aide_conf.specs.declared.fault.ConfFault.{ConfFault}
+use Rattle.aide_conf.specs.declared.options.Options.{Options}
+use Rattle.aide_conf.specs.declared.task.Need.TheVariants.{Compare}
+use Rattle.aide_conf.proofs.Laws.{no_configuration_has_two_answers}
+use Rattle.aide_db.specs.Side.{by_side}
+use Rattle.aide_db.specs.declared.side.Side.{Side}
+use Rattle.aide_db.specs.declared.side.Side.TheVariants.{Old, New}
+use Rattle.aide_entry.specs.Cause.{is_memory}
+use Rattle.aide_entry.specs.declared.fault_kind.DbFaultKind.{DbFaultKind}
+use Rattle.aide_entry.specs.declared.fault_kind.DbFaultKind.TheVariants as db
+use Rattle.aide_report.specs.Failures.{Rose}
+use Rattle.aide_report.specs.FaultStatus.{fault_status, kind_status}
+use Rattle.aide_report.specs.Missing.{IsHindered}
+use Rattle.aide_report.specs.Runs.{Causes, Report}
+use Rattle.aide_report.specs.Sent.{SendsPart}
+use Rattle.aide_report.specs.declared.outcome.Outcome.{Outcome}
+use Rattle.aide_report.specs.declared.run_fault.RunFault.{RunFault}
+use Rattle.aide_report.specs.declared.run_fault.RunFault.TheVariants.{Open, Database, Changed, Write}
+use Rattle.aide_session.specs.Answer.{Answer, Named, refused}
+use Rattle.aide_session.specs.BesideAnswer.{IsAnswerBeside, IsFileBeside, IsReadBeside, IsSizedBeside, IsTextBeside, ComparesBeside}
+use Rattle.aide_session.specs.BesideAnswer.{answer_beside, trusted_of}
+use Rattle.aide_session.specs.BesideEnds.{BesideFailure, BesideFailureCause, BesideView, ClosesBeside, ComparesPairs, EndsBesideBy}
+use Rattle.aide_session.specs.BesideEnds.{EndsWithin, HasReadBeside, MeansOfPair, StopCause, StopsWith, beside_failure_line}
+use Rattle.aide_session.specs.BesideEnds.{compared_line, compared_status, of_compared, stop_line, stop_status}
+use Rattle.aide_session.specs.BesideEnds.{trusted_unopened, trusted_unread}
+use Rattle.aide_session.specs.BesideEnds.{config_refused, config_too_large, config_unread, no_memory_left, EarlyStop}
+use Rattle.aide_session.specs.Closing.{HasText}
+use Rattle.aide_session.specs.Ends.{HasFailed, Puts, Sinks, Starved, Whole, config_unread as failed_config, unopened, unread, unwritten}
+use Rattle.aide_session.specs.Files.{Files, IsLarge, is_too_large}
+use Rattle.aide_session.specs.Held.{HoldsWithin, most_held}
+use Rattle.aide_session.specs.Lines.{conf_line, kind_line, outcome_lines, run_fault_line, too_large_line, unread_line}
+use Rattle.aide_session.specs.TrustedLines.{pair_fault_line, pair_fault_status, trusted_fault_line, trusted_kind_line}
+use Rattle.aide_session.proofs.AnswerSteps.{same_file}
+use Rattle.aide_session.proofs.Endings.{by_reliable, rose_later, same_some}
+use Rattle.aide_session.proofs.PutLemmas.{put_as, put_passed}
+use Rattle.aide_trusted.specs.BesideRuns.{SendsFrontOf, SendsWholeOf, StopsForPair}
+use Rattle.aide_trusted.specs.Pairs.{OfEach}
+use Rattle.aide_trusted.specs.declared.pair_fault.PairFault.{PairFault}
+use Rattle.aide_trusted.specs.declared.pair_fault.PairFault.TheVariants.{Compared, Trusted}
+use Rattle.aide_words.specs.BesideJob.{BesideText}
+
+-- ---- a run that is kept from its answer
+
+-- no Bool is both
+pub true_is_not_false : true ≡ false → ⊥
+true_is_not_false e = cc
+
+-- no Bool is true
+never_true : (b : Bool) → (b ≡ true → ⊥) → b ≡ false
+never_true true f = absurd (f refl)
+never_true false f = refl
+
+-- a fault that hinders, and is no want of memory, is a failed read
+read_failed : (kind : DbFaultKind) (rose : Type 0) → is_memory kind ≡ false → Causes kind rose ⊥ → (kind ≡ db.Read) × rose
+read_failed db.Read rose fed cause = (refl, cause)
+read_failed db.Memory rose fed cause = absurd (true_is_not_false fed)
+read_failed kind rose fed cause = absurd cause
+
+-- what is there has a text
+there : (known : Option (Option (List ℕ))) (file : Option (List ℕ)) → known ≡ Some file → IsSome file
+    → ((text : List ℕ) → known ≡ Some (Some text) → ⊥) → ⊥
+there known None told some none = cc
+there known (Some text) told some none = none text told
+
+there_side : (files : Files) (pair : Named) (old new : Option (List ℕ)) (side : Side) → files pair.old_path ≡ Some old
+    → files pair.new_path ≡ Some new
+    → IsSome (by_side old new side) → ((text : List ℕ) → HasText files pair side text → ⊥) → ⊥
+there_side files pair old new Old told_old told_new some none = there (files pair.old_path) old told_old some none
+there_side files pair old new New told_old told_new some none = there (files pair.new_path) new told_new some none
+
+module _ (a : Answer) (named trusted : Named) (v : BesideView) (before count : ℕ) (more : before ≤ count)
+    (sent : SendsPart a.output v.sinks.out_old v.sinks.out_new) where
+  abbrev Ended : ℕ → Type 0
+  Ended status = EndsWithin a named trusted status v.sinks (HasFailed v.is_reliable before v.site_after)
+      (HasFailed v.trusted_reliable v.trusted_before v.trusted_after) (Rose v.out_before v.out_after)
+
+  broken : (status : ℕ) (failure : BesideFailure) → status ≡ 18
+      → BesideFailureCause failure (HasFailed v.is_reliable before v.site_after)
+      (HasFailed v.trusted_reliable v.trusted_before v.trusted_after) (Rose v.out_before v.out_after)
+      → Puts (beside_failure_line named trusted failure) v.sinks
+      → Ended status
+  broken status failure is cause put =
+      inr (inr (record { status_is = is; output = sent; failure = failure; cause = cause; put = put }))
+
+  compared_hindered : (fault : RunFault) (old new : Option (List ℕ)) (status : ℕ) → v.files named.old_path ≡ Some old
+      → v.files named.new_path ≡ Some new → status ≡ fault_status fault
+      → Puts (run_fault_line named.old_path named.new_path fault) v.sinks
+      → MeansOfPair v.files named v.is_reliable v.course (Rose count v.site_after) (Rose v.out_before v.out_after) fault
+      → IsHindered old new (Rose count v.site_after) (Rose v.out_before v.out_after) fault
+      → Ended status
+  compared_hindered (Open side) old new status told_old told_new is put means hindered =
+      broken status (of_compared (unopened side)) is (
+        never_true v.is_reliable (λ reliable. there_side v.files named old new side told_old told_new hindered.0 (means.reliable reliable)),
+        rose_later before count v.site_after more hindered.1,
+      ) put
+  compared_hindered (Database fault) old new status told_old told_new is put means hindered =
+      let failed = read_failed fault.kind (Rose count v.site_after) means.cause.2 hindered.1 in
+      broken status (of_compared (unread fault)) (is ∙ ap kind_status failed.0) (
+        failed.0,
+        (
+          never_true v.is_reliable (λ reliable. means.reliable reliable failed.0),
+          rose_later before count v.site_after more failed.1,
+        ),
+      )
+      (put_as _ _ (ap (kind_line fault) failed.0) put)
+  compared_hindered (Changed side) old new status told_old told_new is put means hindered = absurd hindered
+  compared_hindered (Write written) old new status told_old told_new is put means hindered =
+      broken status (of_compared unwritten) is hindered put
+
+  trusted_hindered : (fault : RunFault) (old new : Option (List ℕ)) (status : ℕ) → v.trusted_files trusted.old_path ≡ Some old
+      → v.trusted_files trusted.new_path ≡ Some new → status ≡ fault_status fault
+      → Puts (trusted_fault_line trusted.old_path trusted.new_path fault) v.sinks
+      → MeansOfPair v.trusted_files trusted v.trusted_reliable v.trusted_course (Rose v.trusted_before v.trusted_after) ⊥ fault
+      → IsHindered old new (Rose v.trusted_before v.trusted_after) ⊥ fault
+      → Ended status
+  trusted_hindered (Open side) old new status told_old told_new is put means hindered =
+      broken status (trusted_unopened side) is (
+        never_true v.trusted_reliable (λ reliable. there_side v.trusted_files trusted old new side told_old told_new hindered.0
+            (means.reliable reliable)),
+        hindered.1,
+      ) put
+  trusted_hindered (Database fault) old new status told_old told_new is put means hindered =
+      let failed = read_failed fault.kind (Rose v.trusted_before v.trusted_after) means.cause.2 hindered.1 in
+      broken status (trusted_unread fault) (is ∙ ap kind_status failed.0)
+      (failed.0, (never_true v.trusted_reliable (λ reliable. means.reliable reliable failed.0), failed.1))
+      (put_as _ _ (ap (trusted_kind_line fault) failed.0) put)
+  trusted_hindered (Changed side) old new status told_old told_new is put means hindered = absurd hindered
+  trusted_hindered (Write written) old new status told_old told_new is put means hindered = absurd hindered
+
+  hindered_ends : (fault : PairFault) (old new trusted_old trusted_new : Option (List ℕ)) (status : ℕ)
+      → v.files named.old_path ≡ Some old → v.files named.new_path ≡ Some new
+      → v.trusted_files trusted.old_path ≡ Some trusted_old → v.trusted_files trusted.new_path ≡ Some trusted_new
+      → status ≡ pair_fault_status fault
+      → Puts (pair_fault_line named.old_path named.new_path trusted.old_path trusted.new_path fault) v.sinks
+      → OfEach (MeansOfPair v.files named v.is_reliable v.course (Rose count v.site_after) (Rose v.out_before v.out_after))
+      (MeansOfPair v.trusted_files trusted v.trusted_reliable v.trusted_course (Rose v.trusted_before v.trusted_after) ⊥) fault
+      → OfEach (IsHindered old new (Rose count v.site_after) (Rose v.out_before v.out_after))
+      (IsHindered trusted_old trusted_new (Rose v.trusted_before v.trusted_after) ⊥) fault
+      → Ended status
+  hindered_ends (Compared fault) old new trusted_old trusted_new status told_old told_new told_trusted_old told_trusted_new is put means
+      hindered =
+      compared_hindered fault old new status told_old told_new is put means hindered
+  hindered_ends (Trusted fault) old new trusted_old trusted_new status told_old told_new told_trusted_old told_trusted_new is put means
+      hindered =
+      trusted_hindered fault trusted_old trusted_new status told_trusted_old told_trusted_new is put means hindered
+
+-- ---- a comparison and its answer
+
+module _ (named trusted : Named) (s : Sinks) where
+  well : (r : Result Report PairFault) (outcome : Outcome) (status : ℕ) → status ≡ compared_status (Ok outcome)
+      → Puts (outcome_lines outcome) s → SendsWholeOf r outcome s.out_old s.out_new
+      → Whole (answer_beside named trusted r) status s
+  well (Ok report) outcome status is put sent = record {
+    status_is = is ∙ ap (λ (o : Outcome). compared_status (Ok o)) (sym sent.0);
+    output = sent.1;
+    put = subst (λ (o : Outcome). Puts (outcome_lines o) s) (sym sent.0) put;
+  }
+  well (Err fault) outcome status is put sent = absurd sent
+
+  front : (r : Result Report PairFault) → SendsFrontOf r s.out_old s.out_new
+      → SendsPart (answer_beside named trusted r).output s.out_old s.out_new
+  front (Ok report) sent = sent
+  front (Err fault) sent = record { front = []; rest = []; whole = refl; bytes = sent }
+
+  right : (r : Result Report PairFault) (fault : PairFault) (status : ℕ) → status ≡ pair_fault_status fault
+      → Puts (pair_fault_line named.old_path named.new_path trusted.old_path trusted.new_path fault) s
+      → SendsFrontOf r s.out_old s.out_new → r ≡ Err fault
+      → Whole (answer_beside named trusted r) status s
+  right r fault status is put sent same =
+      subst (λ (x : Result Report PairFault). Whole (answer_beside named trusted x) status s) (sym same)
+      (record { status_is = is; output = subst (λ (x : Result Report PairFault). SendsFrontOf x s.out_old s.out_new) same sent; put = put })
+
+  -- a run stops for the fault that is the answer, or for one that hindered it
+  by_stop : (r : Result Report PairFault) (hindered : PairFault → Type 0) (fault : PairFault) (P : Type 0)
+      → (r ≡ Err fault → P) → (hindered fault → P) → StopsForPair r hindered fault → P
+  by_stop (Ok report) hindered fault P f g stops = g stops
+  by_stop (Err other) hindered fault P f g stops = elim stops [ inl is ↦ f (ap (λ (x : PairFault). Err x) (sym is)) | inr h ↦ g h ]
+
+-- the peak of neither desk falls, and it rises at most to three lines as long as the limit
+abbrev pub PeaksRise : BesideView → Type 0
+PeaksRise v = (v.peak_before ≤ v.peak_after) × (v.peak_after ≤ max v.peak_before most_held)
+    × (v.trusted_peak_before ≤ v.trusted_peak_after)
+    × (v.trusted_peak_after ≤ max v.trusted_peak_before most_held)
+
+-- how a session ends, by its answer
+abbrev EndsFor : Answer → (named trusted : Named) → (status before : ℕ) → BesideView → Type 0
+EndsFor a named trusted status before v = EndsWithin a named trusted status v.sinks (HasFailed v.is_reliable before v.site_after)
+    (HasFailed v.trusted_reliable v.trusted_before v.trusted_after) (Rose v.out_before v.out_after)
+
+module _ (job : BesideText) (status before count : ℕ) (v : BesideView) (s : Configured) (named : Named) (more : before ≤ count)
+    (a : Answer) (is : ComparesBeside v.files v.trusted_files job s named a) where
+  compared_ends : (result : Result Outcome PairFault)
+      → ComparesPairs named (trusted_of job) s.options result (Rose count v.site_after) v
+      → status ≡ compared_status result → Puts (compared_line named (trusted_of job) result) v.sinks
+      → EndsFor (answer_beside named (trusted_of job) is.run) named (trusted_of job) status before v
+  compared_ends (Ok outcome) compares status_is put =
+      inl (well named (trusted_of job) v.sinks is.run outcome status status_is put
+      (compares.over is.old_file is.new_file is.trusted_old_file is.trusted_new_file is.old_told is.new_told is.trusted_old_told
+      is.trusted_new_told is.run is.runs))
+  compared_ends (Err fault) compares status_is put =
+      let ends = compares.over is.old_file is.new_file is.trusted_old_file is.trusted_new_file is.old_told is.new_told
+      is.trusted_old_told is.trusted_new_told is.run is.runs in
+      by_stop named (trusted_of job) v.sinks is.run
+      (OfEach (IsHindered is.old_file is.new_file (Rose count v.site_after) (Rose v.out_before v.out_after))
+      (IsHindered is.trusted_old_file is.trusted_new_file (Rose v.trusted_before v.trusted_after) ⊥)) fault
+      (EndsFor (answer_beside named (trusted_of job) is.run) named (trusted_of job) status before v)
+      (λ same. inl (right named (trusted_of job) v.sinks is.run fault status status_is put ends.1 same))
+      (λ hindered. hindered_ends (answer_beside named (trusted_of job) is.run) named (trusted_of job) v before count more
+      (front named (trusted_of job) v.sinks is.run ends.1) fault is.old_file is.new_file is.trusted_old_file is.trusted_new_file status
+      is.old_told is.new_told is.trusted_old_told is.trusted_new_told status_is put compares.fault hindered)
+      ends.0
+
+-- ---- from the answer to a job to that of its configuration
+
+module _ (files trusted_files : Files) (job : BesideText) (named : Named) (a : Answer) where
+  of_text : (file : Option (List ℕ)) (text : List ℕ) → file ≡ Some text → is_too_large text ≡ false
+      → IsFileBeside files trusted_files job file named a → IsTextBeside files trusted_files job text named a
+  of_text file text same small is =
+      subst (λ (b : Bool). IsSizedBeside files trusted_files job b text named a) small
+      (subst (λ (o : Option (List ℕ)). IsFileBeside files trusted_files job o named a) same is)
+
+  of_large : (file : Option (List ℕ)) → IsLarge file → IsFileBeside files trusted_files job file named a
+      → a ≡ refused too_large_line 17
+  of_large None large is = absurd large
+  of_large (Some text) large is = subst (λ (b : Bool). IsSizedBeside files trusted_files job b text named a) large is
+
+  of_none : (file : Option (List ℕ)) → file ≡ None → IsFileBeside files trusted_files job file named a
+      → a ≡ refused (unread_line job.config) 18
+  of_none file none is = subst (λ (o : Option (List ℕ)). IsFileBeside files trusted_files job o named a) none is
+
+  -- the answer of the reading that was made
+  of_read : (read : Result Configured ConfFault) → HasReadBeside files job read → IsAnswerBeside files trusted_files job named a
+      → IsReadBeside files trusted_files job read named a
+  of_read read has is =
+      let text = of_text is.file has.text (has.text_is is.file is.known) has.small is.then_is in
+      subst (λ (r : Result Configured ConfFault). IsReadBeside files trusted_files job r named a)
+      (no_configuration_has_two_answers Compare job.before has.text job.after read text.read has.reads text.reads) text.then_is
+
+-- ---- the end of a session
+
+whole_stop : (a : Answer) (line : List ℕ) (code status : ℕ) (v : BesideView) → a ≡ refused line code → StopsWith line code status v
+    → Whole a status v.sinks
+whole_stop a line code status v is stops =
+    subst (λ (x : Answer). Whole x status v.sinks) (sym is)
+    (record { status_is = stops.status_is; output = stops.output; put = stops.put })
+
+module _ (job : BesideText) (status before : ℕ) (v : BesideView) (named : Named) (a : Answer)
+    (is : IsAnswerBeside v.files v.trusted_files job named a) where
+  stop_ends : (stop : EarlyStop) → StopCause v.files v.is_reliable job (Rose before v.site_after) stop
+      → StopsWith (stop_line job stop) (stop_status stop) status v
+      → EndsFor a named (trusted_of job) status before v
+  stop_ends no_memory_left cause stops =
+      inr (inl (record { status_is = stops.status_is; output = stops.output; put = stops.put }))
+  stop_ends config_unread cause stops =
+      by_reliable v.is_reliable (EndsFor a named (trusted_of job) status before v)
+      (λ reliable. inl (whole_stop a (unread_line job.config) 18 status v
+      (of_none v.files v.trusted_files job named a is.file (same_file (v.files job.config) is.file is.known (cause.1 reliable)) is.then_is)
+      stops))
+      (λ unreliable. inr (inr (record {
+        status_is = stops.status_is;
+        output = record { front = []; rest = a.output; whole = refl; bytes = stops.output };
+        failure = of_compared failed_config;
+        cause = (unreliable, cause.0);
+        put = put_as _ _ (ap unread_line (sym is.config_is)) stops.put;
+      })))
+  stop_ends config_too_large cause stops =
+      inl (whole_stop a too_large_line 17 status v
+      (of_large v.files v.trusted_files job named a is.file (cause is.file is.known) is.then_is) stops)
+  stop_ends (config_refused fault) cause stops =
+      inl (whole_stop a (conf_line fault) 17 status v (of_read v.files v.trusted_files job named a (Err fault) cause is) stops)
+
+  -- the paths of the comparison are those of the answer
+  same_paths : (closes : ClosesBeside job status before v) → closes.named ≡ named
+  same_paths closes =
+      let compares = of_read v.files v.trusted_files job named a (Ok closes.settings) closes.read is in
+      let old = same_some closes.settings.old_path closes.named.old_path named.old_path closes.old_is compares.old_is in
+      let new = same_some closes.settings.new_path closes.named.new_path named.new_path closes.new_is compares.new_is in
+      let config = closes.config_is ∙ sym is.config_is in
+      λ i. record { config = config i; old_path = old i; new_path = new i }
+
+  -- a session ends with the answer to its job, or is kept from it
+  pub ends_beside : EndsBesideBy job status before v → EndsFor a named (trusted_of job) status before v
+  ends_beside ends = elim ends [
+    | inl early ↦ stop_ends early.stop early.cause early.stops
+    | inr closes ↦
+        let compares = of_read v.files v.trusted_files job named a (Ok closes.settings) closes.read is in
+        let same = same_paths closes in
+        let result = closes.closes.result in
+        subst (λ (x : Answer). EndsFor x named (trusted_of job) status before v) (sym compares.then_is)
+        (compared_ends job status before closes.count v closes.settings named closes.later a compares result
+        (subst (λ (n : Named). ComparesPairs n (trusted_of job) closes.settings.options result (Rose closes.count v.site_after) v) same
+        closes.closes.compares)
+        closes.closes.status_is
+        (subst (λ (n : Named). Puts (compared_line n (trusted_of job) result) v.sinks) same closes.closes.put))
+  ]
+
+  -- the first desk has held no more than three lines of the named databases
+  pub bound_beside : EndsBesideBy job status before v → HoldsWithin v.files named v.peak_before v.peak_after
+  bound_beside ends = elim ends [
+    | inl early ↦ λ old new has_old has_new. let still = early.stops.still in omega (arith, still)
+    | inr closes ↦ subst (λ (n : Named). HoldsWithin v.files n v.peak_before v.peak_after) (same_paths closes) closes.closes.compares.bound
+  ]
+
+-- what both desks have held
+module _ (job : BesideText) (status before : ℕ) (v : BesideView) where
+  pub trusted_bound_beside : EndsBesideBy job status before v
+      → HoldsWithin v.trusted_files (trusted_of job) v.trusted_peak_before v.trusted_peak_after
+  trusted_bound_beside ends = elim ends [
+    | inl early ↦ λ old new has_old has_new. let still = early.stops.trusted_still in omega (arith, still)
+    | inr closes ↦ closes.closes.compares.trusted_bound
+  ]
+
+  pub peaks_beside : EndsBesideBy job status before v → PeaksRise v
+  peaks_beside ends = elim ends [
+    | inl early ↦ (
+      let still = early.stops.still in omega (arith, still),
+      let still = early.stops.still in omega (arith, still),
+      let still = early.stops.trusted_still in omega (arith, still),
+      let still = early.stops.trusted_still in omega (arith, still),
+    )
+    | inr closes ↦ (
+      closes.closes.compares.peak,
+      closes.closes.compares.below,
+      closes.closes.compares.trusted_peak,
+      closes.closes.compares.trusted_below,
+    )
+  ]
+
+-- standard error has counted no fewer failures
+pub put_rises : (job : BesideText) (status before : ℕ) (v : BesideView) → EndsBesideBy job status before v
+    → v.sinks.err_before ≤ v.sinks.err_after
+put_rises job status before v ends = elim ends [
+  | inl early ↦ early.stops.put.never_falls
+  | inr closes ↦ closes.closes.put.never_falls
+]
+
+-- ---- without a failure
+
+no_failure_left : (failure : BesideFailure) (site trusted_site out : Type 0) → (site → ⊥) → (trusted_site → ⊥) → (out → ⊥)
+    → BesideFailureCause failure site trusted_site out → ⊥
+no_failure_left (of_compared failed_config) site trusted_site out none trusted_none out_none cause = none cause
+no_failure_left (of_compared (unopened side)) site trusted_site out none trusted_none out_none cause = none cause
+no_failure_left (of_compared (unread fault)) site trusted_site out none trusted_none out_none cause = none cause.1
+no_failure_left (of_compared unwritten) site trusted_site out none trusted_none out_none cause = out_none cause
+no_failure_left (trusted_unopened side) site trusted_site out none trusted_none out_none cause = trusted_none cause
+no_failure_left (trusted_unread fault) site trusted_site out none trusted_none out_none cause = trusted_none cause.1
+
+-- an ending without a failure
+pub unfailed_beside : (a : Answer) (named trusted : Named) (status : ℕ) (s : Sinks) (site trusted_site out : Type 0) → (site → ⊥)
+    → (trusted_site → ⊥) → (out → ⊥) → EndsWithin a named trusted status s site trusted_site out
+    → Whole a status s ⊎ Starved a status s
+unfailed_beside a named trusted status s site trusted_site out none trusted_none out_none ends = elim ends [
+  | inl whole ↦ inl whole
+  | inr rest ↦ elim rest [
+    | inl starved ↦ inr starved
+    | inr broken ↦ absurd (no_failure_left broken.failure site trusted_site out none trusted_none out_none broken.cause)
+  ]
+]
+
+-- ---- once the lines are passed on
+
+abbrev pub passed_view : BesideView → Option (List ℕ) → ℕ → BesideView
+passed_view v bytes count = record v { sinks = record v.sinks { err_new = bytes; err_after = count } }
+
+module _ (v : BesideView) (bytes : Option (List ℕ)) (count : ℕ) (kept : Keeps v.sinks.err_new bytes) (more : v.sinks.err_after ≤ count)
+  where
+    passed : (line : List ℕ) → Puts line v.sinks → Puts line (passed_view v bytes count).sinks
+    passed line put = put_passed line _ _ _ _ _ _ kept more put
+
+    passed_stop : (line : List ℕ) (code status : ℕ) → StopsWith line code status v → StopsWith line code status (passed_view v bytes count)
+    passed_stop line code status stops = record {
+      status_is = stops.status_is;
+      put = passed line stops.put;
+      output = stops.output;
+      unopened = stops.unopened;
+      trusted_unopened = stops.trusted_unopened;
+      unflushed = stops.unflushed;
+      still = stops.still;
+      trusted_still = stops.trusted_still;
+    }
+
+    passed_pairs : (named trusted : Named) (options : Options) (result : Result Outcome PairFault) (site : Type 0)
+        → ComparesPairs named trusted options result site v → ComparesPairs named trusted options result site (passed_view v bytes count)
+    passed_pairs named trusted options result site c = record {
+      over = c.over;
+      sound = c.sound;
+      trusted_sound = c.trusted_sound;
+      nothing = c.nothing;
+      trusted_nothing = c.trusted_nothing;
+      flushed = c.flushed;
+      flushes = c.flushes;
+      unsent = c.unsent;
+      fault = c.fault;
+      opens = c.opens;
+      trusted_opens = c.trusted_opens;
+      opens_some = c.opens_some;
+      trusted_opens_some = c.trusted_opens_some;
+      peak = c.peak;
+      below = c.below;
+      bound = c.bound;
+      trusted_peak = c.trusted_peak;
+      trusted_below = c.trusted_below;
+      trusted_bound = c.trusted_bound;
+    }
+
+    pub passed_beside : (job : BesideText) (status before : ℕ) → EndsBesideBy job status before v
+        → EndsBesideBy job status before (passed_view v bytes count)
+    passed_beside job status before ends = elim ends [
+      | inl early ↦ inl (record {
+        stop = early.stop;
+        cause = early.cause;
+        stops = passed_stop (stop_line job early.stop) (stop_status early.stop) status early.stops;
+      })
+      | inr closes ↦ inr (record {
+        settings = closes.settings;
+        read = closes.read;
+        named = closes.named;
+        config_is = closes.config_is;
+        old_is = closes.old_is;
+        new_is = closes.new_is;
+        count = closes.count;
+        later = closes.later;
+        closes = record {
+          result = closes.closes.result;
+          status_is = closes.closes.status_is;
+          put = passed (compared_line closes.named (trusted_of job) closes.closes.result) closes.closes.put;
+          compares = passed_pairs closes.named (trusted_of job) closes.settings.options closes.closes.result
+              (Rose closes.count v.site_after) closes.closes.compares;
+        };
+      })
+    ]

@@ -1,0 +1,168 @@
+-- There is an answer to a job beside a trusted pair, where it is told what stands at the paths that are named.
+use Rattle.std.proofs.Common.{◌≡◌, ℕ, ◌≤◌, List, Option, Some, None, refl, sym, arith, Bool, true, false, Ok, Err, inl, inr}
+use Rattle.std.specs.Prelude.{Result, IsSome, ⊤}
+use Rattle.std.proofs.Math.Path.{subst}
+use Rattle.aide_conf.specs.ReadResult.{ReadsAs}
+use Rattle.aide_conf.specs.Settings.{Configured}
+use Rattle.aide_conf.specs.declared.fault.ConfFault.{ConfFault}
+use Rattle.aide_conf.specs.declared.task.Need.TheVariants.{Compare}
+use Rattle.aide_conf.proofs.Laws.{every_configuration_has_an_answer, what_is_compared_is_named}
+use Rattle.aide_db.specs.declared.limits.Limits.{Limits}
+use Rattle.aide_db.specs.declared.side.Side.TheVariants.{Old, New}
+use Rattle.aide_report.specs.Asked.{Asked}
+use Rattle.aide_report.specs.Missing.{RunsOver}
+use Rattle.aide_report.specs.Runs.{Report}
+use Rattle.aide_report.specs.declared.run_fault.RunFault.{RunFault}
+use Rattle.aide_report.proofs.MissingLemmas.{RunsOver-exists}
+use Rattle.aide_session.specs.Answer.{Answer, Named, asked_by, limits, refused}
+use Rattle.aide_session.specs.BesideAnswer.{HasAnswerBeside, IsReadBeside, IsSizedBeside, IsTextBeside, TellsBeside}
+use Rattle.aide_session.specs.BesideAnswer.{ComparesBeside, answer_beside, trusted_of}
+use Rattle.aide_session.specs.Files.{Files, is_too_large}
+use Rattle.aide_session.specs.Lines.{conf_line, too_large_line, unread_line}
+use Rattle.aide_session.proofs.Closings.{only_config}
+use Rattle.aide_trusted.specs.BesideLines.{lines_beside}
+use Rattle.aide_trusted.specs.BesideRuns.{RunsBeside, answer_by, over_sides}
+use Rattle.aide_trusted.specs.declared.pair_fault.PairFault.{PairFault}
+use Rattle.aide_trusted.specs.declared.pair_fault.PairFault.TheVariants.{Compared, Trusted}
+use Rattle.aide_trusted.proofs.PairLemmas.{IsOkay}
+use Rattle.aide_words.specs.BesideJob.{BesideText}
+
+-- ---- four sides have a right answer
+
+abbrev AreThere : (old new : Option (List ℕ)) → Type 0
+AreThere (Some old) (Some new) = ⊤
+AreThere _ _ = ⊥
+
+refused_okay : (r : Result Report RunFault) (fault : RunFault) → r ≡ Err fault → IsOkay r → ⊥
+refused_okay r fault is okay = subst IsOkay is okay
+
+-- an answer without a fault is one over two texts
+both_there : (bounds : Limits) (wish : Asked) (old new : Option (List ℕ)) (r : Result Report RunFault) → RunsOver bounds wish old new r
+    → IsOkay r → AreThere old new
+both_there bounds wish None new r runs okay = absurd (refused_okay r _ runs okay)
+both_there bounds wish (Some old) None r runs okay = elim runs [
+  | inl missing ↦ refused_okay r _ missing.1 okay
+  | inr bad ↦ refused_okay r _ bad.2 okay
+]
+both_there bounds wish (Some old) (Some new) r runs okay = tt
+
+abbrev IsWhole : Option Report → Type 0
+IsWhole None = ⊥
+IsWhole (Some report) = ⊤
+
+whole : (over : List ℕ → List ℕ → List ℕ → List ℕ → Report) (old new trusted_old trusted_new : Option (List ℕ))
+    → AreThere old new → AreThere trusted_old trusted_new → IsWhole (over_sides over old new trusted_old trusted_new)
+whole over None new trusted_old trusted_new there beside = absurd there
+whole over (Some old) None trusted_old trusted_new there beside = absurd there
+whole over (Some old) (Some new) None trusted_new there beside = absurd beside
+whole over (Some old) (Some new) (Some trusted_old) None there beside = absurd beside
+whole over (Some old) (Some new) (Some trusted_old) (Some trusted_new) there beside = tt
+
+answer_exists : (compared trusted : Result Report RunFault) (over : Option Report) → (IsOkay compared → IsOkay trusted → IsWhole over)
+    → (r : Result Report PairFault) × answer_by compared trusted over r
+answer_exists (Err fault) trusted over whole = (Err (Compared fault), refl)
+answer_exists (Ok report) (Err fault) over whole = (Err (Trusted fault), refl)
+answer_exists (Ok report) (Ok other) None whole = absurd (whole tt tt)
+answer_exists (Ok report) (Ok other) (Some over) whole = (Ok over, refl)
+
+-- What is at four sides has a right answer.
+pub RunsBeside-exists : (bounds : Limits) (wish beside : Asked) (old new trusted_old trusted_new : Option (List ℕ)) → 14 ≤ bounds.line
+    → (r : Result Report PairFault) × RunsBeside bounds wish beside old new trusted_old trusted_new r
+RunsBeside-exists bounds wish beside old new trusted_old trusted_new least =
+    let compared = RunsOver-exists bounds wish old new least in
+    let trusted = RunsOver-exists bounds beside trusted_old trusted_new least in
+    let r = answer_exists compared.0 trusted.0 (over_sides (lines_beside wish beside) old new trusted_old trusted_new)
+    (λ okay other. whole (lines_beside wish beside) old new trusted_old trusted_new
+    (both_there bounds wish old new compared.0 compared.1 okay)
+    (both_there bounds beside trusted_old trusted_new trusted.0 trusted.1 other)) in (
+      r.0,
+      record {
+        compared = compared.0;
+        trusted = trusted.0;
+        compared_runs = compared.1;
+        trusted_runs = trusted.1;
+        answer = r.1;
+      },
+    )
+
+-- ---- a job has an answer
+
+value_of : (path : Option (List ℕ)) → IsSome path → (value : List ℕ) × (path ≡ Some value)
+value_of None some = cc
+value_of (Some value) some = (value, refl)
+
+module _ (files trusted_files : Files) (job : BesideText) (tells : TellsBeside files trusted_files job) where
+  module _ (text : List ℕ) (known : files job.config ≡ Some (Some text)) where
+    abbrev Read : Result Configured ConfFault → Type 0
+    Read read = (named : Named) × (a : Answer) × (named.config ≡ job.config) × IsReadBeside files trusted_files job read named a
+
+    of_read : (read : Result Configured ConfFault) → ReadsAs Compare job.before text job.after read → Read read
+    of_read (Err fault) reads = (only_config job.config, refused (conf_line fault) 17, refl, refl)
+    of_read (Ok s) reads =
+        let both = what_is_compared_is_named job.before text job.after s reads in
+        let old_path = value_of s.old_path both.0 in
+        let new_path = value_of s.new_path both.1 in
+        let named : Named = record { config = job.config; old_path = old_path.0; new_path = new_path.0 } in
+        let old = tells.databases text known s reads old_path.0 (inl old_path.1) in
+        let new = tells.databases text known s reads new_path.0 (inr new_path.1) in
+        let trusted_old = tells.trusted Old in
+        let trusted_new = tells.trusted New in
+        let run = RunsBeside-exists limits (asked_by s.options named) (asked_by s.options (trusted_of job)) old.0 new.0 trusted_old.0
+        trusted_new.0 (omega arith) in
+        let compares : ComparesBeside files trusted_files job s named (answer_beside named (trusted_of job) run.0) = record {
+          old_is = old_path.1;
+          new_is = new_path.1;
+          old_file = old.0;
+          new_file = new.0;
+          trusted_old_file = trusted_old.0;
+          trusted_new_file = trusted_new.0;
+          old_told = old.1;
+          new_told = new.1;
+          trusted_old_told = trusted_old.1;
+          trusted_new_told = trusted_new.1;
+          run = run.0;
+          runs = run.1;
+          then_is = refl;
+        } in
+        (named, answer_beside named (trusted_of job) run.0, refl, compares)
+
+    of_size : (large : Bool) → is_too_large text ≡ large → HasAnswerBeside files trusted_files job
+    of_size true large =
+        let named = only_config job.config in
+        let a = refused too_large_line 17 in (
+          named,
+          a,
+          record {
+            config_is = refl;
+            file = Some text;
+            known = known;
+            then_is = subst (λ (b : Bool). IsSizedBeside files trusted_files job b text named a) (sym large) refl;
+          },
+        )
+    of_size false small =
+        let read = every_configuration_has_an_answer Compare job.before text job.after in
+        let answer = of_read read.0 read.1 in
+        let of_text : IsTextBeside files trusted_files job text answer.0 answer.1 =
+        record { read = read.0; reads = read.1; then_is = answer.3 } in (
+          answer.0,
+          answer.1,
+          record {
+            config_is = answer.2;
+            file = Some text;
+            known = known;
+            then_is = subst (λ (b : Bool). IsSizedBeside files trusted_files job b text answer.0 answer.1) (sym small) of_text;
+          },
+        )
+
+  of_file : (file : Option (List ℕ)) → files job.config ≡ Some file → HasAnswerBeside files trusted_files job
+  of_file None known = (
+    only_config job.config,
+    refused (unread_line job.config) 18,
+    record { config_is = refl; file = None; known = known; then_is = refl },
+  )
+  of_file (Some text) known = of_size text known (is_too_large text) refl
+
+-- a job has an answer where it is told what stands at the paths that are named
+pub answered_beside : (files trusted_files : Files) (job : BesideText) → TellsBeside files trusted_files job
+    → HasAnswerBeside files trusted_files job
+answered_beside files trusted_files job tells = of_file files trusted_files job tells tells.config.0 tells.config.1

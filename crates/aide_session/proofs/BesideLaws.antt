@@ -1,0 +1,148 @@
+-- What the answer to a job beside a trusted pair is, from what a caller knows of the arguments and of the files, and that
+-- there is one and only one.
+use Rattle.std.specs.Prelude.{◌≡◌, ℕ, Option, Some, None, List, Result, Ok, Err, Bool, true, false}
+use Rattle.std.proofs.Common.{◌∙◌, ap, refl, sym}
+use Rattle.std.proofs.Math.Path.{subst}
+use Rattle.aide_conf.specs.Settings.{Configured}
+use Rattle.aide_conf.specs.declared.fault.ConfFault.{ConfFault}
+use Rattle.aide_conf.specs.declared.task.Need.TheVariants.{Compare}
+use Rattle.aide_conf.proofs.Laws.{no_configuration_has_two_answers}
+use Rattle.aide_db.specs.declared.limits.Limits.{Limits}
+use Rattle.aide_report.specs.Asked.{Asked}
+use Rattle.aide_report.specs.Runs.{Report}
+use Rattle.aide_report.specs.declared.run_fault.RunFault.{RunFault}
+use Rattle.aide_report.proofs.MissingLemmas.{RunsOver-unique}
+use Rattle.aide_session.specs.Answer.{Answer, Named, asked_by, limits}
+use Rattle.aide_session.specs.AsksBeside.{AsksBeside}
+use Rattle.aide_session.specs.BesideAnswer.{ComparesBeside, HasAnswerBeside, IsAnswerBeside, IsFileBeside, IsReadBeside, IsSizedBeside}
+use Rattle.aide_session.specs.BesideAnswer.{IsTextBeside, TellsBeside, answer_beside, trusted_of}
+use Rattle.aide_session.specs.Files.{Files, is_too_large}
+use Rattle.aide_session.proofs.BesideExistence.{answered_beside}
+use Rattle.aide_session.proofs.Endings.{same_some}
+use Rattle.aide_trusted.specs.BesideLines.{lines_beside}
+use Rattle.aide_trusted.specs.BesideRuns.{RunsBeside, answer_by, over_sides}
+use Rattle.aide_trusted.specs.declared.pair_fault.PairFault.{PairFault}
+use Rattle.aide_words.specs.BesideJob.{BesideText}
+
+-- If the arguments ask for a comparison of two texts beside two trusted ones, the right answer over the four texts is the
+-- answer to the arguments.
+pub answer_by_what_is_asked_beside : (files trusted_files : Files) (words : List (List ℕ)) (job : BesideText) (named : Named)
+    (settings : Configured) (old new trusted_old trusted_new : List ℕ) (run : Result Report PairFault)
+    → AsksBeside files trusted_files words job named settings old new trusted_old trusted_new
+    → RunsBeside limits (asked_by settings.options named) (asked_by settings.options (trusted_of job))
+    (Some old) (Some new) (Some trusted_old) (Some trusted_new) run
+    → IsAnswerBeside files trusted_files job named (answer_beside named (trusted_of job) run)
+answer_by_what_is_asked_beside files trusted_files words job named settings old new trusted_old trusted_new run asks runs =
+    let a = answer_beside named (trusted_of job) run in
+    let compared : ComparesBeside files trusted_files job settings named a = record {
+      old_is = asks.old_path;
+      new_is = asks.new_path;
+      old_file = Some old;
+      new_file = Some new;
+      trusted_old_file = Some trusted_old;
+      trusted_new_file = Some trusted_new;
+      old_told = asks.old_there;
+      new_told = asks.new_there;
+      trusted_old_told = asks.trusted_old_there;
+      trusted_new_told = asks.trusted_new_there;
+      run = run;
+      runs = runs;
+      then_is = refl;
+    } in
+    let of_text : IsTextBeside files trusted_files job asks.config named a =
+    record { read = Ok settings; reads = asks.accepted; then_is = compared } in
+    record {
+      config_is = asks.config_is;
+      file = Some asks.config;
+      known = asks.config_there;
+      then_is = subst (λ (b : Bool). IsSizedBeside files trusted_files job b asks.config named a) (sym asks.small) of_text;
+    }
+
+-- If it is known what is at the paths that are named, the job has an answer.
+pub a_job_beside_has_an_answer : (files trusted_files : Files) (job : BesideText) → TellsBeside files trusted_files job
+    → HasAnswerBeside files trusted_files job
+a_job_beside_has_an_answer = answered_beside
+
+-- ---- there is only one
+
+-- what is known of a file is one thing
+one_file : (there : Option (Option (List ℕ))) (one other : Option (List ℕ)) → there ≡ Some one → there ≡ Some other → other ≡ one
+one_file there one other p q = cc
+
+one_answer_by : (compared trusted : Result Report RunFault) (over : Option Report) (r s : Result Report PairFault)
+    → answer_by compared trusted over r → answer_by compared trusted over s → r ≡ s
+one_answer_by (Err fault) trusted over r s p q = p ∙ sym q
+one_answer_by (Ok report) (Err fault) over r s p q = p ∙ sym q
+one_answer_by (Ok report) (Ok other) None r s p q = absurd p
+one_answer_by (Ok report) (Ok other) (Some over) r s p q = p ∙ sym q
+
+-- What is at four sides has only one right answer.
+pub four_sides_have_one_answer : (limits : Limits) (wish beside : Asked) (old new trusted_old trusted_new : Option (List ℕ))
+    (r s : Result Report PairFault)
+    → RunsBeside limits wish beside old new trusted_old trusted_new r → RunsBeside limits wish beside old new trusted_old trusted_new s
+    → r ≡ s
+four_sides_have_one_answer limits wish beside old new trusted_old trusted_new r s p q =
+    let over = over_sides (lines_beside wish beside) old new trusted_old trusted_new in
+    let compared = RunsOver-unique limits wish old new q.compared p.compared q.compared_runs p.compared_runs in
+    let trusted = RunsOver-unique limits beside trusted_old trusted_new q.trusted p.trusted q.trusted_runs p.trusted_runs in
+    one_answer_by p.compared p.trusted over r s p.answer
+    (subst (λ (t : Result Report RunFault). answer_by p.compared t over s) trusted
+    (subst (λ (c : Result Report RunFault). answer_by c q.trusted over s) compared q.answer))
+
+module _ (files trusted_files : Files) (job : BesideText) where
+  -- the same settings and the same configuration name the same paths
+  same_named : (s : Configured) (named other : Named) (a b : Answer) → other.config ≡ named.config
+      → ComparesBeside files trusted_files job s named a → ComparesBeside files trusted_files job s other b → other ≡ named
+  same_named s named other a b same p q =
+      let old = same_some s.old_path other.old_path named.old_path q.old_is p.old_is in
+      let new = same_some s.new_path other.new_path named.new_path q.new_is p.new_is in
+      λ i. record { config = same i; old_path = old i; new_path = new i }
+
+  one_comparison : (s : Configured) (named : Named) (a b : Answer) → ComparesBeside files trusted_files job s named a
+      → ComparesBeside files trusted_files job s named b → a ≡ b
+  one_comparison s named a b p q =
+      let old = one_file (files named.old_path) p.old_file q.old_file p.old_told q.old_told in
+      let new = one_file (files named.new_path) p.new_file q.new_file p.new_told q.new_told in
+      let told = one_file (trusted_files job.trusted_old) p.trusted_old_file q.trusted_old_file p.trusted_old_told q.trusted_old_told in
+      let tnew = one_file (trusted_files job.trusted_new) p.trusted_new_file q.trusted_new_file p.trusted_new_told q.trusted_new_told in
+      let wish = asked_by s.options named in
+      let beside = asked_by s.options (trusted_of job) in
+      let runs = subst (λ (o : Option (List ℕ)). RunsBeside limits wish beside o p.new_file p.trusted_old_file p.trusted_new_file q.run) old
+      (subst (λ (o : Option (List ℕ)). RunsBeside limits wish beside q.old_file o p.trusted_old_file p.trusted_new_file q.run) new
+      (subst (λ (o : Option (List ℕ)). RunsBeside limits wish beside q.old_file q.new_file o p.trusted_new_file q.run) told
+      (subst (λ (o : Option (List ℕ)). RunsBeside limits wish beside q.old_file q.new_file q.trusted_old_file o q.run) tnew q.runs))) in
+      p.then_is ∙ ap (λ (r : Result Report PairFault). answer_beside named (trusted_of job) r)
+      (four_sides_have_one_answer limits wish beside p.old_file p.new_file p.trusted_old_file p.trusted_new_file p.run q.run p.runs runs)
+      ∙ sym q.then_is
+
+  one_reading : (read : Result Configured ConfFault) (named other : Named) (a b : Answer) → other.config ≡ named.config
+      → IsReadBeside files trusted_files job read named a → IsReadBeside files trusted_files job read other b → a ≡ b
+  one_reading (Err fault) named other a b same p q = p ∙ sym q
+  one_reading (Ok s) named other a b same p q =
+      one_comparison s named a b p
+      (subst (λ (n : Named). ComparesBeside files trusted_files job s n b) (same_named s named other a b same p q) q)
+
+  one_text : (text : List ℕ) (named other : Named) (a b : Answer) → other.config ≡ named.config
+      → IsTextBeside files trusted_files job text named a → IsTextBeside files trusted_files job text other b → a ≡ b
+  one_text text named other a b same p q =
+      one_reading p.read named other a b same p.then_is
+      (subst (λ (r : Result Configured ConfFault). IsReadBeside files trusted_files job r other b)
+      (no_configuration_has_two_answers Compare job.before text job.after p.read q.read p.reads q.reads) q.then_is)
+
+  one_size : (large : Bool) (text : List ℕ) (named other : Named) (a b : Answer) → other.config ≡ named.config
+      → IsSizedBeside files trusted_files job large text named a → IsSizedBeside files trusted_files job large text other b → a ≡ b
+  one_size true text named other a b same p q = p ∙ sym q
+  one_size false text named other a b same p q = one_text text named other a b same p q
+
+  one_of_file : (file : Option (List ℕ)) (named other : Named) (a b : Answer) → other.config ≡ named.config
+      → IsFileBeside files trusted_files job file named a → IsFileBeside files trusted_files job file other b → a ≡ b
+  one_of_file None named other a b same p q = p ∙ sym q
+  one_of_file (Some text) named other a b same p q = one_size (is_too_large text) text named other a b same p q
+
+  -- A job has only one answer.
+  pub no_job_beside_has_two_answers : (named other : Named) (a b : Answer) → IsAnswerBeside files trusted_files job named a
+      → IsAnswerBeside files trusted_files job other b → a ≡ b
+  no_job_beside_has_two_answers named other a b p q =
+      one_of_file p.file named other a b (q.config_is ∙ sym p.config_is) p.then_is
+      (subst (λ (o : Option (List ℕ)). IsFileBeside files trusted_files job o other b)
+      (one_file (files job.config) p.file q.file p.known q.known) q.then_is)

@@ -1,0 +1,372 @@
+-- The parts of a session beside a trusted pair, over what is seen of both sites.
+use Rattle.std.proofs.Common.{◌≡◌, ◌∙◌, ℕ, ◌≤◌, List, Option, Some, None, sym, ap, Bool, false, Ok, Err, inl, inr, ◌⊎◌}
+use Rattle.std.proofs.Common.{arith}
+use Rattle.std.specs.Prelude.{Result, IfErr, IfOk}
+use Rattle.std.proofs.Math.Path.{subst}
+use Rattle.std.proofs.lemmas.Result.{IfErr-weaker, on_ok_weaker}
+use Rattle.aide_conf.specs.Cutting.{places}
+use Rattle.aide_conf.specs.ReadResult.{IsRead, IsRefused, IsStarved, ReadsAs}
+use Rattle.aide_conf.specs.Settings.{Configured}
+use Rattle.aide_conf.specs.declared.fault.ConfFault.{ConfFault}
+use Rattle.aide_conf.specs.declared.fault.ConfFaultKind.TheVariants.{Memory}
+use Rattle.aide_conf.specs.declared.options.Options.{Options}
+use Rattle.aide_conf.specs.declared.task.Need.TheVariants.{Compare}
+use Rattle.aide_db.specs.DeskView.{DeskView}
+use Rattle.aide_db.specs.declared.side.Side.{Side}
+use Rattle.aide_db.specs.declared.side.Side.TheVariants.{Old, New}
+use Rattle.aide_db.specs.declared.sources.Sources.{Ghosts as AnySources}
+use Rattle.aide_report.specs.Asked.{Asked}
+use Rattle.aide_report.specs.Failures.{Rose}
+use Rattle.aide_report.specs.Missing.{IsOfReliable}
+use Rattle.aide_report.specs.Seen.{Seen, seen}
+use Rattle.aide_report.specs.declared.outcome.Outcome.{Outcome}
+use Rattle.aide_report.specs.declared.run_fault.RunFault.{RunFault}
+use Rattle.aide_report.specs.declared.run_fault.RunFault.TheVariants.{Open, Database, Changed, Write}
+use Rattle.aide_session.specs.Answer.{Named, asked_by, limits}
+use Rattle.aide_session.specs.BesideEnds.{BesideView, ClosesCompared, ComparesPairs, EarlyStop, EndsBesideBy, IsOfReliableFiles}
+use Rattle.aide_session.specs.BesideEnds.{MeansOfPair, StopCause}
+use Rattle.aide_session.specs.BesideEnds.{config_refused, config_too_large, config_unread, no_memory_left}
+use Rattle.aide_session.specs.BesideSession.{beside_view}
+use Rattle.aide_session.specs.Closing.{HasText}
+use Rattle.aide_session.specs.Files.{Files, is_too_large}
+use Rattle.aide_session.specs.Pointing.{KeepsFiles}
+use Rattle.aide_session.specs.Session.{view_between}
+use Rattle.aide_session.specs.code.BesideParts.{HasTextBeside, IsPointed, RunsPairs, named_by}
+use Rattle.aide_session.specs.code.Config.{OpensOneFile}
+use Rattle.aide_session.proofs.AnswerSteps.{IsRead as IsReadFile}
+use Rattle.aide_session.proofs.Closings.{run_cause}
+use Rattle.aide_session.proofs.Endings.{rose_later}
+use Rattle.aide_text.specs.declared.sink.Sink.{Ghosts as AnySink}
+use Rattle.aide_trusted.specs.BesideRuns.{IsFaultOfPair, RunsBeside}
+use Rattle.aide_trusted.specs.Pairs.{OfEach}
+use Rattle.aide_trusted.specs.declared.pair_fault.PairFault.{PairFault}
+use Rattle.aide_trusted.specs.declared.pair_fault.PairFault.TheVariants.{Compared, Trusted}
+use Rattle.aide_words.specs.BesideJob.{BesideText}
+
+-- ---- sites that are pointed at paths
+
+module _ (files : Files) (wish : Asked) (bytes_of : Side → Option (List ℕ)) (is_missing : Side → Bool)
+    (pointed : IsPointed files wish bytes_of is_missing) (config : List ℕ) where
+  -- a side gives the text that is at its path
+  pub pointed_tells : (side : Side) (text : List ℕ) → HasText files (named_by config wish) side text → bytes_of side ≡ Some text
+  pointed_tells Old text has = pointed.of_old (Some text) has
+  pointed_tells New text has = pointed.of_new (Some text) has
+
+  of_reliable : (fault : RunFault) → IsOfReliable bytes_of fault → IsOfReliableFiles files (named_by config wish) fault
+  of_reliable (Open side) none = λ text has. let there = pointed_tells side text has in cc
+  of_reliable (Database fault) none = none
+  of_reliable (Changed side) none = tt
+  of_reliable (Write written) none = tt
+
+-- what a fault of a pair means over the files that its site is pointed at
+pub means_of : (files : Files) (wish : Asked) (a b : Seen) (room : ℕ) (out : Type 0) (config : List ℕ)
+    (flushes_before flushes_after : ℕ) (is_flushed : Bool) (fault : RunFault)
+    → IsPointed files wish a.bytes_of a.is_missing → limits.line ≤ room
+    → IsFaultOfPair limits wish a b room out fault
+    → MeansOfPair files (named_by config wish) a.is_reliable (record {
+      opened_before = a.openings;
+      opened_after = b.openings;
+      given_after = b.was_given;
+      flushes_before = flushes_before;
+      flushes_after = flushes_after;
+      is_flushed = is_flushed;
+    }) (Rose a.failures b.failures) out fault
+means_of files wish a b room out config flushes_before flushes_after is_flushed fault pointed enough means = record {
+  cause = run_cause files (named_by config wish) a.bytes_of fault _ out _ _
+      (pointed_tells files wish a.bytes_of a.is_missing pointed config) means.cause means.right (means.memory enough);
+  reliable = λ is. of_reliable files wish a.bytes_of a.is_missing pointed config fault (means.reliable is);
+  refused = means.refused;
+  not_given = means.not_given;
+  opens_first = means.opens_first;
+}
+
+-- the same sites are pointed after a call that keeps what is known of the files
+pub pointed_later : (files later : Files) (wish : Asked) (bytes_of : Side → Option (List ℕ)) (is_missing : Side → Bool)
+    → later ≡ files → IsPointed files wish bytes_of is_missing → IsPointed later wish bytes_of is_missing
+pointed_later files later wish bytes_of is_missing same pointed =
+    subst (λ (f : Files). IsPointed f wish bytes_of is_missing) (sym same) pointed
+
+-- the same paths with equal options ask for the same
+pub same_wish : (config : List ℕ) (wish : Asked) (options : Options) → wish.options ≡ options
+    → asked_by options (named_by config wish) ≡ wish
+same_wish config wish options same = λ i. record { options = sym same i; old_path = wish.old_path; new_path = wish.new_path }
+
+-- ---- a run over sites that are pointed at their paths
+
+faults_mean : (files beside_files : Files) (wish beside : Asked) (a b s t : Seen) (room beside_room : ℕ) (out : Type 0) (config : List ℕ)
+    (flushes_before flushes_after : ℕ) (is_flushed : Bool) (fault : PairFault)
+    → IsPointed files wish a.bytes_of a.is_missing → IsPointed beside_files beside s.bytes_of s.is_missing
+    → limits.line ≤ room → limits.line ≤ beside_room
+    → OfEach (IsFaultOfPair limits wish a b room out) (IsFaultOfPair limits beside s t beside_room ⊥) fault
+    → OfEach (MeansOfPair files (named_by config wish) a.is_reliable (record {
+      opened_before = a.openings;
+      opened_after = b.openings;
+      given_after = b.was_given;
+      flushes_before = flushes_before;
+      flushes_after = flushes_after;
+      is_flushed = is_flushed;
+    }) (Rose a.failures b.failures) out) (MeansOfPair beside_files (named_by config beside) s.is_reliable (record {
+      opened_before = s.openings;
+      opened_after = t.openings;
+      given_after = t.was_given;
+      flushes_before = flushes_before;
+      flushes_after = flushes_after;
+      is_flushed = is_flushed;
+    }) (Rose s.failures t.failures) ⊥) fault
+faults_mean files beside_files wish beside a b s t room beside_room out config flushes_before flushes_after is_flushed (Compared fault)
+    pointed beside_pointed enough beside_enough means =
+    means_of files wish a b room out config flushes_before flushes_after is_flushed fault pointed enough means
+faults_mean files beside_files wish beside a b s t room beside_room out config flushes_before flushes_after is_flushed (Trusted fault)
+    pointed beside_pointed enough beside_enough means =
+    means_of beside_files beside s t beside_room ⊥ config flushes_before flushes_after is_flushed fault beside_pointed beside_enough means
+
+-- the comparison of both pairs is that of the files at their paths
+pub compares_pairs : {S R W E : Type 0} (src : AnySources S R) (w : AnySink W) (e : AnySink E) (x y p q : S) (out_old out_new : W)
+    (err_old err_new : E) (d f u v : DeskView) (wish beside : Asked) (config : List ℕ) (result : Result Outcome PairFault)
+    → IsPointed (src.file_at x) wish (src.bytes_of x) (src.is_missing x)
+    → IsPointed (src.file_at p) beside (src.bytes_of p) (src.is_missing p)
+    → beside.options ≡ wish.options → limits.line ≤ d.room → limits.line ≤ u.room
+    → RunsPairs wish beside (seen src x) (seen src y) d f (seen src p) (seen src q) u v (w.failures out_old) (w.failures out_new)
+    (w.delivered out_old) (w.delivered out_new) (w.flushes out_old) (w.flushes out_new) (w.is_flushed out_new) result
+    → ComparesPairs (named_by config wish) (named_by config beside) wish.options result (Rose (src.failures x) (src.failures y))
+    (beside_view (view_between src w e x y out_old out_new err_old err_new) (view_between src w e p q out_old out_new err_old err_new)
+    (record { before = d.peak; after = f.peak; trusted_before = u.peak; trusted_after = v.peak }))
+compares_pairs src w e x y p q out_old out_new err_old err_new d f u v wish beside config result pointed beside_pointed same enough
+    beside_enough ran =
+    let tells = pointed_tells (src.file_at x) wish (src.bytes_of x) (src.is_missing x) pointed config in
+    let beside_tells = pointed_tells (src.file_at p) beside (src.bytes_of p) (src.is_missing p) beside_pointed config in
+    record {
+      over = λ old new trusted_old trusted_new is_old is_new is_trusted_old is_trusted_new r runs.
+          ran.over old new trusted_old trusted_new (pointed.of_old old is_old) (pointed.of_new new is_new)
+          (beside_pointed.of_old trusted_old is_trusted_old) (beside_pointed.of_new trusted_new is_trusted_new) r
+          (subst (λ (o : Asked). RunsBeside limits wish o old new trusted_old trusted_new r)
+          (same_wish config beside wish.options same) runs);
+      sound = on_ok_weaker result (λ sound side text has. sound side text (tells side text has)) ran.sound;
+      trusted_sound = on_ok_weaker result (λ sound side text has. sound side text (beside_tells side text has)) ran.trusted_sound;
+      nothing = λ side text has. ran.nothing side text (tells side text has);
+      trusted_nothing = λ side text has. ran.trusted_nothing side text (beside_tells side text has);
+      flushed = ran.flushed;
+      flushes = ran.flushes;
+      unsent = ran.unsent;
+      fault = IfErr-weaker result _ _ (λ fault means.
+          faults_mean (src.file_at x) (src.file_at p) wish beside (seen src x) (seen src y) (seen src p) (seen src q) d.room u.room
+          (Rose (w.failures out_old) (w.failures out_new)) config (w.flushes out_old) (w.flushes out_new) (w.is_flushed out_new) fault
+          pointed beside_pointed enough beside_enough means) ran.fault;
+      opens = ran.opens;
+      trusted_opens = ran.trusted_opens;
+      opens_some = ran.leaves.opens_some;
+      trusted_opens_some = ran.trusted_leaves.opens_some;
+      peak = ran.leaves.peak;
+      below = ran.leaves.below;
+      bound = λ old new has_old has_new. ran.leaves.bound old new (tells Old old has_old) (tells New new has_new);
+      trusted_peak = ran.trusted_leaves.peak;
+      trusted_below = ran.trusted_leaves.below;
+      trusted_bound = λ old new has_old has_new.
+          ran.trusted_leaves.bound old new (beside_tells Old old has_old) (beside_tells New new has_new);
+    }
+
+-- ---- what is seen from an earlier moment
+
+-- what two calls of a site in a row leave as it was
+pub kept_then : {S R : Type 0} (s : AnySources S R) (a b c : S) → KeepsFiles s a b → KeepsFiles s b c → KeepsFiles s a c
+kept_then s a b c first then = record {
+  files = then.files ∙ first.files;
+  openings = then.openings ∙ first.openings;
+  given = then.given ∙ first.given;
+  lookups = then.lookups ∙ first.lookups;
+  reliable = then.reliable ∙ first.reliable;
+  failures = then.failures ∙ first.failures;
+}
+
+module _ {S R W E : Type 0} (s : AnySources S R) (w : AnySink W) (e : AnySink E) (c z : S) (out_old out_new : W) (err_old err_new : E) where
+  -- after the sites were pointed
+  pub seen_pointed : (a b x y : S) (p q last u v end : ℕ) → KeepsFiles s a b → KeepsFiles s x y → q ≡ p → v ≡ u
+      → beside_view (view_between s w e b c out_old out_new err_old err_new) (view_between s w e y z out_old out_new err_old err_new)
+      (record { before = q; after = last; trusted_before = v; trusted_after = end })
+      ≡ beside_view (view_between s w e a c out_old out_new err_old err_new) (view_between s w e x z out_old out_new err_old err_new)
+      (record { before = p; after = last; trusted_before = u; trusted_after = end })
+  seen_pointed a b x y p q last u v end kept other_kept same other_same = λ i. record {
+    files = kept.files i;
+    trusted_files = other_kept.files i;
+    is_reliable = kept.reliable i;
+    trusted_reliable = other_kept.reliable i;
+    site_after = s.failures c;
+    trusted_before = other_kept.failures i;
+    trusted_after = s.failures z;
+    out_before = w.failures out_old;
+    out_after = w.failures out_new;
+    sinks = record {
+      out_old = w.delivered out_old;
+      out_new = w.delivered out_new;
+      err_old = e.delivered err_old;
+      err_new = e.delivered err_new;
+      err_before = e.failures err_old;
+      err_after = e.failures err_new;
+    };
+    course = record {
+      opened_before = kept.openings i;
+      opened_after = s.openings c;
+      given_after = s.was_given c;
+      flushes_before = w.flushes out_old;
+      flushes_after = w.flushes out_new;
+      is_flushed = w.is_flushed out_new;
+    };
+    trusted_course = record {
+      opened_before = other_kept.openings i;
+      opened_after = s.openings z;
+      given_after = s.was_given z;
+      flushes_before = w.flushes out_old;
+      flushes_after = w.flushes out_new;
+      is_flushed = w.is_flushed out_new;
+    };
+    peak_before = same i;
+    peak_after = last;
+    trusted_peak_before = other_same i;
+    trusted_peak_after = end;
+  }
+
+  -- after the configuration was read
+  pub seen_read : (a b x : S) (p last u end : ℕ) → OpensOneFile s a b
+      → beside_view (view_between s w e b c out_old out_new err_old err_new) (view_between s w e x z out_old out_new err_old err_new)
+      (record { before = p; after = last; trusted_before = u; trusted_after = end })
+      ≡ beside_view (view_between s w e a c out_old out_new err_old err_new) (view_between s w e x z out_old out_new err_old err_new)
+      (record { before = p; after = last; trusted_before = u; trusted_after = end })
+  seen_read a b x p last u end opened = λ i. record {
+    files = opened.files i;
+    trusted_files = s.file_at x;
+    is_reliable = opened.reliable i;
+    trusted_reliable = s.is_reliable x;
+    site_after = s.failures c;
+    trusted_before = s.failures x;
+    trusted_after = s.failures z;
+    out_before = w.failures out_old;
+    out_after = w.failures out_new;
+    sinks = record {
+      out_old = w.delivered out_old;
+      out_new = w.delivered out_new;
+      err_old = e.delivered err_old;
+      err_new = e.delivered err_new;
+      err_before = e.failures err_old;
+      err_after = e.failures err_new;
+    };
+    course = record {
+      opened_before = opened.openings i;
+      opened_after = s.openings c;
+      given_after = s.was_given c;
+      flushes_before = w.flushes out_old;
+      flushes_after = w.flushes out_new;
+      is_flushed = w.is_flushed out_new;
+    };
+    trusted_course = record {
+      opened_before = s.openings x;
+      opened_after = s.openings z;
+      given_after = s.was_given z;
+      flushes_before = w.flushes out_old;
+      flushes_after = w.flushes out_new;
+      is_flushed = w.is_flushed out_new;
+    };
+    peak_before = p;
+    peak_after = last;
+    trusted_peak_before = u;
+    trusted_peak_after = end;
+  }
+
+-- the comparison as it is seen from an earlier moment
+pub closes_seen : (named trusted : Named) (options : Options) (status : ℕ) (v now : BesideView) (count later end : ℕ) → later ≡ count
+    → now ≡ v → ClosesCompared named trusted options status (Rose later end) now
+    → ClosesCompared named trusted options status (Rose count end) v
+closes_seen named trusted options status v now count later end same seen closes =
+    subst (λ (n : ℕ). ClosesCompared named trusted options status (Rose n end) v) same
+    (subst (λ (x : BesideView). ClosesCompared named trusted options status (Rose later end) x) seen closes)
+
+-- the comparison for paths and options that are equal
+pub closes_as : (named trusted other : Named) (options wish : Options) (status : ℕ) (site : Type 0) (v : BesideView) → trusted ≡ other
+    → options ≡ wish → ClosesCompared named trusted options status site v
+    → ClosesCompared named other wish status site v
+closes_as named trusted other options wish status site v same same_wish closes =
+    subst (λ (o : Options). ClosesCompared named other o status site v) same_wish
+    (subst (λ (n : Named). ClosesCompared named n options status site v) same closes)
+
+stop_later : (files : Files) (is_reliable : Bool) (job : BesideText) (site more : Type 0) (stop : EarlyStop) → (site → more)
+    → StopCause files is_reliable job site stop → StopCause files is_reliable job more stop
+stop_later files is_reliable job site more no_memory_left then cause = tt
+stop_later files is_reliable job site more config_unread then cause = (then cause.0, cause.1)
+stop_later files is_reliable job site more config_too_large then cause = cause
+stop_later files is_reliable job site more (config_refused fault) then cause = cause
+
+-- the end of a session as it is seen from an earlier moment
+pub ends_seen : (job : BesideText) (status before later : ℕ) (v now : BesideView) → before ≤ later → now ≡ v
+    → EndsBesideBy job status later now → EndsBesideBy job status before v
+ends_seen job status before later v now more seen ends =
+    elim (subst (λ (x : BesideView). EndsBesideBy job status later x) seen ends) [
+      | inl early ↦ inl (record {
+        stop = early.stop;
+        cause = stop_later v.files v.is_reliable job (Rose later v.site_after) (Rose before v.site_after) early.stop
+            (rose_later before later v.site_after more) early.cause;
+        stops = early.stops;
+      })
+      | inr closes ↦ inr (record {
+        settings = closes.settings;
+        read = closes.read;
+        named = closes.named;
+        config_is = closes.config_is;
+        old_is = closes.old_is;
+        new_is = closes.new_is;
+        count = closes.count;
+        later = let h = closes.later in omega (arith, more, h);
+        closes = closes.closes;
+      })
+    ]
+
+-- what is known where the configuration of a job was read
+pub has_text : (files later : Files) (job : BesideText) (path text copy : List ℕ)
+    → path ≡ job.config → copy ≡ text → later ≡ files → IsReadFile files path text → is_too_large text ≡ false
+    → HasTextBeside later job copy
+has_text files later job path text copy is_path is_text same found small = record {
+  text_is = λ file known.
+      let before = subst (λ (f : Files). f job.config ≡ Some file) same known in
+      let at_path = subst (λ (x : List ℕ). files x ≡ Some file) (sym is_path) before in
+      (found file at_path).0 ∙ ap (λ (x : List ℕ). Some x) (sym is_text);
+  small = subst (λ (x : List ℕ). is_too_large x ≡ false) (sym is_text) small;
+}
+
+-- ---- what the texts of a job read as
+
+reads_for : (job : BesideText) (before text after : List ℕ) (read : Result Configured ConfFault) → before ≡ job.before → after ≡ job.after
+    → ReadsAs Compare before text after read → ReadsAs Compare job.before text job.after read
+reads_for job before text after read is_before is_after reads =
+    subst (λ (x : List ℕ). ReadsAs Compare job.before text x read) is_after
+    (subst (λ (x : List ℕ). ReadsAs Compare x text after read) is_before reads)
+
+module _ (job : BesideText) (before text after : List ℕ) (is_before : before ≡ job.before) (is_after : after ≡ job.after) where
+  pub settings_of_texts : (result : Result Configured ConfFault)
+      → IfOk result (λ s. IsRead Compare (places before text after) s)
+      → IfOk result (λ s. ReadsAs Compare job.before text job.after (Ok s))
+  settings_of_texts (Ok s) reads = reads_for job before text after (Ok s) is_before is_after reads
+  settings_of_texts (Err fault) reads = tt
+
+  pub fault_of_texts : (result : Result Configured ConfFault)
+      → IfErr result (λ f. IsRefused Compare (places before text after) f ⊎ IsStarved Compare (places before text after) f)
+      → IfErr result (λ f. (f.kind ≡ Memory → ⊥) → ReadsAs Compare job.before text job.after (Err f))
+  fault_of_texts (Ok s) refused = tt
+  fault_of_texts (Err fault) refused = λ other. reads_for job before text after (Err fault) is_before is_after (elim refused [
+    | inl is ↦ is
+    | inr starved ↦ absurd (other starved.kind)
+  ])
+
+-- ---- the job of the arguments
+
+pub is_none_and_some : (o : Option BesideText) (job : BesideText) → o ≡ None → o ≡ Some job → ⊥
+is_none_and_some o job none some = cc
+
+abbrev job_or : BesideText → Option BesideText → BesideText
+job_or other None = other
+job_or other (Some job) = job
+
+pub same_job : (o : Option BesideText) (one other : BesideText) → o ≡ Some one → o ≡ Some other → one ≡ other
+same_job o one other p q = sym (ap (job_or one) p) ∙ ap (job_or one) q
+
+-- the end of the session of a job that is equal
+pub ends_for : (one other : BesideText) (status before : ℕ) (v : BesideView) → one ≡ other → EndsBesideBy one status before v
+    → EndsBesideBy other status before v
+ends_for one other status before v same ends = subst (λ (j : BesideText). EndsBesideBy j status before v) same ends
