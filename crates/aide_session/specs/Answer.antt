@@ -19,7 +19,7 @@ use Rattle.aide_session.specs.Files.{Files, is_too_large}
 use Rattle.aide_words.specs.Job.{JobText, job_of}
 use Rattle.aide_session.specs.Lines.{usage_line, unread_line, too_large_line, conf_line, open_line}
 use Rattle.aide_session.specs.Lines.{database_line, outcome_lines}
-use Rattle.aide_session.specs.Writing.{Writing, the_report}
+use Rattle.aide_session.specs.Writing.{Writing}
 
 -- what a session writes to standard output and to standard error, and its status
 pub record Answer : Type 0 where
@@ -142,7 +142,3 @@ IsWordsAnswerBy w files (Some job) named a = IsJobAnswerBy w files job named a
 -- counts as a fault. `named` has the paths that are named on the way.
 abbrev pub IsAnswerBy : Writing → Files → List (List ℕ) → Named → Answer → Type 0
 IsAnswerBy w files words named a = IsWordsAnswerBy w files (job_of words) named a
-
--- the answer if the report is to be written
-abbrev pub IsAnswer : Files → List (List ℕ) → Named → Answer → Type 0
-IsAnswer files words named a = IsAnswerBy the_report files words named a

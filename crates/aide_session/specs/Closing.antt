@@ -31,7 +31,7 @@ use Rattle.aide_session.specs.Files.{Files, IsLarge, is_too_large}
 use Rattle.aide_words.specs.Job.{JobText, job_of}
 use Rattle.aide_session.specs.Lines.{usage_line, memory_line, unread_line, too_large_line}
 use Rattle.aide_session.specs.Lines.{conf_line, run_fault_line, outcome_lines, write_line}
-use Rattle.aide_session.specs.Writing.{Writing, the_report}
+use Rattle.aide_session.specs.Writing.{Writing}
 
 -- the result of a session
 pub data Closing : Type 0 where
@@ -122,7 +122,8 @@ ClosingOutput w named (good_run options outcome) course before after =
     w.IsOf (asked_by options named) outcome before after
     × (course.is_flushed ≡ true) × (course.flushes_after ≡ one_more course.flushes_before)
 ClosingOutput w named (bad_run options fault) course before after =
-    HasSentNothing (course.opened_before Old) (course.opened_after Old) before after fault
+    HasSentNothing w.openings_before (course.opened_before Old) (course.opened_after Old)
+    before after fault
     × IsRefusedThere course.opened_before course.opened_after fault
     × (course.flushes_after ≡ course.flushes_before)
 ClosingOutput w named (good_config s) course before after =
@@ -237,8 +238,3 @@ pub record ClosesBy (w : Writing) (files : Files) (words : List (List ℕ)) (sta
   pub opens : ClosingOpens w files named closing course
   pub opens_some : OpensAtMost course.opened_before course.opened_after w.most_openings
   pub put : Puts (closing_line named closing) sinks
-
--- the same if the report is to be written
-abbrev pub Closes : Files → List (List ℕ) → ℕ → Sinks → Course → (site out : Type 0) → Type 0
-Closes files words status sinks course site out =
-    ClosesBy the_report files words status sinks course site out

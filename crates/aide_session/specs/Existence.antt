@@ -5,7 +5,7 @@ use Rattle.aide_db.specs.declared.side.Side.{Side}
 use Rattle.aide_session.specs.Answer.{Answer, Named, IsAnswerBy}
 use Rattle.aide_session.specs.Closing.{AsksToCompare}
 use Rattle.aide_session.specs.Files.{Files}
-use Rattle.aide_session.specs.Writing.{Writing, the_report}
+use Rattle.aide_session.specs.Writing.{Writing}
 use Rattle.aide_words.specs.Job.{JobText, job_of}
 
 -- it is known what is at the configuration's path, and at the paths of the databases that the
@@ -19,7 +19,3 @@ pub record TellsNamed (files : Files) (words : List (List ℕ)) : Type 0 where
 -- the arguments have an answer over these files
 abbrev pub HasSessionAnswerBy : Writing → Files → List (List ℕ) → Type 0
 HasSessionAnswerBy w files words = (named : Named) × (a : Answer) × IsAnswerBy w files words named a
-
--- the same if the report is to be written
-abbrev pub HasSessionAnswer : Files → List (List ℕ) → Type 0
-HasSessionAnswer files words = HasSessionAnswerBy the_report files words

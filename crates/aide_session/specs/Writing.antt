@@ -6,9 +6,10 @@ use Rattle.aide_conf.specs.declared.options.Options.{Options}
 use Rattle.aide_db.specs.declared.side.Side.{Side}
 use Rattle.aide_report.specs.Agreement.{IsOfOutcome, OpensByOutcome}
 use Rattle.aide_report.specs.Asked.{Asked}
-use Rattle.aide_report.specs.LineRuns.{AreLinesOf, line_openings, line_openings_told, lines_over}
+use Rattle.aide_report.specs.LineRuns.{AreLinesOf, line_openings, lines_over}
 use Rattle.aide_report.specs.Openings.{OpensExactly}
 use Rattle.aide_report.specs.Runs.{Report, openings_over, report_over}
+use Rattle.aide_report.specs.Written.{Written}
 use Rattle.aide_report.specs.declared.outcome.Outcome.{Outcome}
 use Rattle.aide_settings_text.specs.Settings.{settings_line}
 
@@ -24,8 +25,21 @@ pub record Writing : Type 1 where
   pub OpensBy : Options → Outcome → (before after : Side → ℕ) → Type 0
   -- no run opens a database more often than this
   pub most_openings : ℕ
+  -- nothing goes out before the old database is opened more often than this
+  pub openings_before : ℕ
   -- what is written of an accepted configuration that is only checked, if anything is
   pub says : Option (Configured → List ℕ)
+
+-- what is written of two databases
+abbrev pub of_databases : Writing → Written
+of_databases w = record {
+  over = w.over;
+  openings = w.openings;
+  IsOf = w.IsOf;
+  OpensBy = w.OpensBy;
+  most_openings = w.most_openings;
+  openings_before = w.openings_before;
+}
 
 -- the report; nothing is written of a configuration
 abbrev pub the_report : Writing
@@ -35,6 +49,7 @@ the_report = record {
   IsOf = λ asked outcome before after. IsOfOutcome asked.options outcome before after;
   OpensBy = OpensByOutcome;
   most_openings = 6;
+  openings_before = 2;
   says = None;
 }
 
@@ -46,9 +61,10 @@ settings_told s = settings_line s.options s.old_path s.new_path
 abbrev pub the_lines : Writing
 the_lines = record {
   over = lines_over;
-  openings = line_openings;
+  openings = λ asked old new. line_openings;
   IsOf = AreLinesOf;
-  OpensBy = λ options outcome before after. OpensExactly before after (line_openings_told outcome);
-  most_openings = 3;
+  OpensBy = λ options outcome before after. OpensExactly before after line_openings;
+  most_openings = line_openings;
+  openings_before = 1;
   says = Some settings_told;
 }

@@ -10,6 +10,7 @@ use crate::comparison::Comparison;
 use crate::devices::Devices;
 use crate::lines::put_write_line;
 use crate::site::Site;
+use crate::status::Status;
 use crate::telling::Unwritten;
 use aide_conf::Settings;
 use aide_db::Sources;
@@ -29,7 +30,7 @@ pub(crate) fn check<C: Comparison, S: Site, W: Sink, E: Sink>(
         (part_between S.Sources W.Sink E.Sink devices.old devices.new) }
     ensures site_never_falls { S.failures devices.old.site.now ≤ S.failures devices.new.site.now }
     ensures lookups { S.lookups devices.new.site.now ≡ S.lookups devices.old.site.now }
-    ensures peak { KeepsPeak (part_between S.Sources W.Sink E.Sink devices.old devices.new) }
+    ensures peak { KeepsPeak devices.old devices.new }
     ensures bound { (named : Named) → HoldsWithin (S.file_at devices.old.site.now) named
         devices.old.desk.now.peak devices.new.desk.now.peak }
 {
@@ -37,7 +38,7 @@ pub(crate) fn check<C: Comparison, S: Site, W: Sink, E: Sink>(
         Ok(()) => 0,
         Err(Unwritten) => {
             put_write_line(devices.err);
-            18
+            Status::Device as u8
         }
     }
 }

@@ -19,13 +19,14 @@ use crate::lines::{
     put_write_line,
 };
 use crate::site::Site;
+use crate::status::Status;
 use aide_conf::{Settings, Task};
 use aide_db::{DbFaultKind, Side, Sources};
 use aide_report::{RunFault, Sink};
 use aide_words::Memory;
 
 /// Returns the configured path of a side.
-fn path_of<'a>(task: &Task<'a>, side: Side) -> &'a str
+pub(crate) fn path_of<'a>(task: &Task<'a>, side: Side) -> &'a str
     ensures { result.now ≡ by_side task.now.old_path.now task.now.new_path.now side }
 {
     match side {
@@ -35,7 +36,7 @@ fn path_of<'a>(task: &Task<'a>, side: Side) -> &'a str
 }
 
 /// Puts the line that says why a run failed.
-fn put_run_fault<E: Sink>(err: &mut E, task: &Task<'_>, fault: RunFault)
+pub(crate) fn put_run_fault<E: Sink>(err: &mut E, task: &Task<'_>, fault: RunFault)
     ensures { PutOn (run_fault_line task.now.old_path.now task.now.new_path.now fault)
         E.Sink err.old err.new }
 {
@@ -68,7 +69,7 @@ fn compare_sides<C: Comparison, S: Site, W: Sink, E: Sink>(
         (part_between S.Sources W.Sink E.Sink devices.old devices.new) }
     ensures site_never_falls { S.failures devices.old.site.now ≤ S.failures devices.new.site.now }
     ensures lookups { S.lookups devices.new.site.now ≡ S.lookups devices.old.site.now }
-    ensures peak { KeepsPeak (part_between S.Sources W.Sink E.Sink devices.old devices.new) }
+    ensures peak { KeepsPeak devices.old devices.new }
     ensures bound { (old new : List ℕ) → S.bytes_of devices.old.site.now Side.Old ≡ Some old
         → S.bytes_of devices.old.site.now Side.New ≡ Some new
         → IsPeakOf old new devices.old.desk.now.peak devices.new.desk.now.peak }
@@ -101,24 +102,24 @@ pub(crate) fn compare<C: Comparison, S: Site, W: Sink, E: Sink>(
         (part_between S.Sources W.Sink E.Sink devices.old devices.new) }
     ensures site_never_falls { S.failures devices.old.site.now ≤ S.failures devices.new.site.now }
     ensures lookups { S.lookups devices.new.site.now ≡ S.lookups devices.old.site.now }
-    ensures peak { KeepsPeak (part_between S.Sources W.Sink E.Sink devices.old devices.new) }
+    ensures peak { KeepsPeak devices.old devices.new }
     ensures bound { HoldsWith (λ files. ComparesBy C.writing files settings.now)
-        (part_between S.Sources W.Sink E.Sink devices.old devices.new) }
+        (S.file_at devices.old.site.now) devices.old devices.new }
 {
     let Some(task) = settings.task() else {
         unreachable!()
     };
     if let Err(Memory) = devices.site.point(devices.alloc, Side::Old, task.old_path) {
         put_memory_line(devices.err);
-        return 22;
+        return Status::Memory as u8;
     }
     if let Err(Memory) = devices.site.point(devices.alloc, Side::New, task.new_path) {
         put_memory_line(devices.err);
-        return 22;
+        return Status::Memory as u8;
     }
     let Ok(()) = devices.desk.reserve(LONGEST) else {
         put_memory_line(devices.err);
-        return 22;
+        return Status::Memory as u8;
     };
     compare_sides(&task, devices)
 }

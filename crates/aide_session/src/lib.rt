@@ -1,6 +1,8 @@
 //! A session over any site: its arguments, its configuration and its two databases.
 #![tactic(auto)]
 
+mod beside;
+mod beside_program;
 mod comparison;
 mod config_check;
 mod config_file;
@@ -16,9 +18,14 @@ mod pointed;
 mod program;
 mod put;
 mod site;
+mod status;
 mod telling;
+mod trusted_lines;
 
-pub use aide_words::{Job, Memory, Word, Words, WordsFault, read_words};
+pub use aide_words::{
+    BesideJob, Job, Memory, Word, Words, WordsFault, read_beside_words, read_words,
+};
+pub use beside_program::lines_session_beside_on;
 pub use file_site::FileSite;
 pub use lines_program::{lines_session, lines_session_on};
 pub use machine::{start, start_lines};

@@ -79,7 +79,7 @@ pub(crate) fn put_conf_line<E: Sink>(err: &mut E, fault: ConfFault)
 }
 
 /// Returns the word for a side.
-fn side_name(of: Side) -> &'static [u8]
+pub(crate) fn side_name(of: Side) -> &'static [u8]
     ensures { result.now ≡ side_word of }
 {
     match of {
@@ -90,7 +90,7 @@ fn side_name(of: Side) -> &'static [u8]
 
 /// Puts the number of the column that a fault is about, if it is about one.
 #[tactic(auto, unfolding(crate::specs::Lines::number_if_any))]
-fn put_fault_column<E: Sink>(err: &mut E, pen: &mut Pen, kind: DbFaultKind)
+pub(crate) fn put_fault_column<E: Sink>(err: &mut E, pen: &mut Pen, kind: DbFaultKind)
     ensures { Wrote (number_if_any (column_of_kind kind)) (on_sheet E.Sink err.old pen.old)
         (on_sheet E.Sink err.new pen.new) }
 {

@@ -1,13 +1,5 @@
 //! The whole program over any site, if it writes lines of JSON.
-ghost use Rattle.std.specs.Prelude.{◌≡◌, ◌≤◌, ◌⊎◌, true, max};
-ghost use Rattle.aide_db.specs.Count.{one_more};
-ghost use Rattle.aide_report.specs.Failures.{Rose};
-ghost use Rattle.aide_session.specs.Answer.{Answer, Named, IsAnswerBy};
-ghost use Rattle.aide_session.specs.Closing.{ClosesBy, course_between};
-ghost use Rattle.aide_session.specs.Ends.{Ends, HasFailed, Whole, Starved, sinks_between};
-ghost use Rattle.aide_session.specs.Existence.{HasSessionAnswerBy, TellsNamed};
-ghost use Rattle.aide_session.specs.Held.{HoldsWithin, most_held};
-ghost use Rattle.aide_session.specs.Put.{HasNoFailure};
+ghost use Rattle.aide_session.specs.Session.{HoldsBy, IsSessionBy, view_between};
 ghost use Rattle.aide_session.specs.Writing.{the_lines};
 
 use crate::comparison::AsLines;
@@ -21,8 +13,7 @@ use std::alloc::Global;
 
 /// Runs the whole program over any site like [`session_on`], but writes the changes as lines of JSON
 /// in place of the report. Of a configuration that is only checked it writes one line, which says
-/// what the configuration sets. Each clause is that of [`session_on`], with the lines in place of the
-/// report.
+/// what the configuration sets.
 pub fn lines_session_on<S: Site, W: Sink, E: Sink>(
     alloc: Global,
     words: &Words,
@@ -31,43 +22,9 @@ pub fn lines_session_on<S: Site, W: Sink, E: Sink>(
     out: &mut W,
     err: &mut E,
 ) -> u8
-    ensures ends { (named : Named) (a : Answer)
-        → IsAnswerBy the_lines (S.file_at site.old) words.now named a
-        → Ends a named result
-        (sinks_between W.delivered E.delivered E.failures out.old out.new err.old err.new)
-        (HasFailed (S.is_reliable site.old) (S.failures site.old) (S.failures site.new))
-        (Rose (W.failures out.old) (W.failures out.new)) }
-    ensures exact { (named : Named) (a : Answer)
-        → IsAnswerBy the_lines (S.file_at site.old) words.now named a
-        → HasNoFailure (S.failures site.old) (S.failures site.new)
-        → HasNoFailure (W.failures out.old) (W.failures out.new)
-        → Whole a result
-        (sinks_between W.delivered E.delivered E.failures out.old out.new err.old err.new)
-        ⊎ Starved a result
-        (sinks_between W.delivered E.delivered E.failures out.old out.new err.old err.new) }
-    ensures reliable { (named : Named) (a : Answer)
-        → IsAnswerBy the_lines (S.file_at site.old) words.now named a
-        → S.is_reliable site.old ≡ true → HasNoFailure (W.failures out.old) (W.failures out.new)
-        → Whole a result
-        (sinks_between W.delivered E.delivered E.failures out.old out.new err.old err.new)
-        ⊎ Starved a result
-        (sinks_between W.delivered E.delivered E.failures out.old out.new err.old err.new) }
-    ensures passed_on { HasNoFailure (E.failures err.old) (E.failures err.new)
-        → E.is_flushed err.new ≡ true }
-    ensures answered { TellsNamed (S.file_at site.old) words.now
-        → HasSessionAnswerBy the_lines (S.file_at site.old) words.now }
-    ensures closes { ClosesBy the_lines (S.file_at site.old) words.now result
-        (sinks_between W.delivered E.delivered E.failures out.old out.new err.old err.new)
-        (course_between S.openings S.was_given W.flushes W.is_flushed
-        site.old site.new out.old out.new)
-        (Rose (S.failures site.old) (S.failures site.new))
-        (Rose (W.failures out.old) (W.failures out.new)) }
-    ensures lookups { S.lookups site.new ≤ one_more (S.lookups site.old) }
-    ensures peak { desk.old.peak ≤ desk.new.peak }
-    ensures below { desk.new.peak ≤ max desk.old.peak most_held }
-    ensures bound { (named : Named) (a : Answer)
-        → IsAnswerBy the_lines (S.file_at site.old) words.now named a
-        → HoldsWithin (S.file_at site.old) named desk.old.peak desk.new.peak }
+    ensures session { IsSessionBy the_lines words.now result (view_between S.Sources W.Sink E.Sink
+        site.old site.new out.old out.new err.old err.new) }
+    ensures desk { HoldsBy the_lines (S.file_at site.old) words.now desk.old.peak desk.new.peak }
 {
     let mut devices = Devices::new(AsLines, alloc, desk, site, out, err);
     run_and_pass_on(words, &mut devices)
@@ -82,38 +39,8 @@ pub fn lines_session<S: Site, W: Sink, E: Sink>(
     out: &mut W,
     err: &mut E,
 ) -> u8
-    ensures ends { (named : Named) (a : Answer)
-        → IsAnswerBy the_lines (S.file_at site.old) words.now named a
-        → Ends a named result
-        (sinks_between W.delivered E.delivered E.failures out.old out.new err.old err.new)
-        (HasFailed (S.is_reliable site.old) (S.failures site.old) (S.failures site.new))
-        (Rose (W.failures out.old) (W.failures out.new)) }
-    ensures exact { (named : Named) (a : Answer)
-        → IsAnswerBy the_lines (S.file_at site.old) words.now named a
-        → HasNoFailure (S.failures site.old) (S.failures site.new)
-        → HasNoFailure (W.failures out.old) (W.failures out.new)
-        → Whole a result
-        (sinks_between W.delivered E.delivered E.failures out.old out.new err.old err.new)
-        ⊎ Starved a result
-        (sinks_between W.delivered E.delivered E.failures out.old out.new err.old err.new) }
-    ensures reliable { (named : Named) (a : Answer)
-        → IsAnswerBy the_lines (S.file_at site.old) words.now named a
-        → S.is_reliable site.old ≡ true → HasNoFailure (W.failures out.old) (W.failures out.new)
-        → Whole a result
-        (sinks_between W.delivered E.delivered E.failures out.old out.new err.old err.new)
-        ⊎ Starved a result
-        (sinks_between W.delivered E.delivered E.failures out.old out.new err.old err.new) }
-    ensures passed_on { HasNoFailure (E.failures err.old) (E.failures err.new)
-        → E.is_flushed err.new ≡ true }
-    ensures answered { TellsNamed (S.file_at site.old) words.now
-        → HasSessionAnswerBy the_lines (S.file_at site.old) words.now }
-    ensures closes { ClosesBy the_lines (S.file_at site.old) words.now result
-        (sinks_between W.delivered E.delivered E.failures out.old out.new err.old err.new)
-        (course_between S.openings S.was_given W.flushes W.is_flushed
-        site.old site.new out.old out.new)
-        (Rose (S.failures site.old) (S.failures site.new))
-        (Rose (W.failures out.old) (W.failures out.new)) }
-    ensures lookups { S.lookups site.new ≤ one_more (S.lookups site.old) }
+    ensures session { IsSessionBy the_lines words.now result (view_between S.Sources W.Sink E.Sink
+        site.old site.new out.old out.new err.old err.new) }
 {
     let mut desk = Desk::new(alloc);
     lines_session_on(alloc, words, &mut desk, site, out, err)

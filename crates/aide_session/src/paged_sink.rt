@@ -1,6 +1,6 @@
 //! A sink that gathers small pieces.
 ghost use Rattle.std.specs.Prelude.{◌≡◌, ◌==◌, ◌&&◌, ◌<◌, ◌≤◌, ℕ, List, [], length, drop, take};
-ghost use Rattle.std.specs.Prelude.{IfOk, OnOk, Bool, vec_capacity};
+ghost use Rattle.std.specs.Prelude.{IfOk, OnOk, Bool};
 ghost use Rattle.std.specs.Io.KnownBytes.{Appends, Keeps, append_known};
 ghost use Rattle.aide_report.specs.Failures.{CountsFault};
 ghost use Rattle.aide_session.specs.Page.{none_waits, known_of};
@@ -24,22 +24,23 @@ const PAGE: usize = 32_768;
 #[derive(Drop)]
 pub struct PagedSink<W> {
     sink: W,
-    page: Vec<u8>,
+    page: Box<[u8; PAGE]>,
+    used: usize,
     passed: usize,
-    ghost within: { passed ≤ length page.items },
-    ghost room: { 32768 ≤ vec_capacity page },
+    ghost within: { passed ≤ used },
+    ghost room: { used ≤ 32768 },
 }
 
 impl<W> Model for PagedSink<W> {
-    ghost use Rattle.std.specs.Prelude.{drop, vec_len};
+    ghost use Rattle.std.specs.Prelude.{drop, take};
     ghost use Rattle.aide_session.specs.Page.{Paged};
 
     ghost Value = { Paged W };
 
     ghost view = { λ s. record {
       sink = s.sink;
-      waiting = drop s.passed s.page.items;
-      used = vec_len s.page;
+      waiting = drop s.passed (take s.used s.page.value);
+      used = s.used;
     } };
 }
 
@@ -52,12 +53,13 @@ impl<W: Sink> PagedSink<W> {
         ensures waiting { IfOk result (λ s. s.waiting ≡ []) }
         ensures used { IfOk result (λ s. s.used ≡ 0) }
     {
-        let Ok(page) = Vec::with_capacity(alloc, PAGE) else {
+        let Ok(page) = Box::new(alloc, [0; PAGE]) else {
             return Err(Memory);
         };
         Ok(PagedSink {
             sink,
             page,
+            used: 0,
             passed: 0,
         })
     }
@@ -70,9 +72,9 @@ impl<W: Sink> PagedSink<W> {
         ensures flushes { W.flushes self.new.sink ≡ W.flushes self.old.sink }
         ensures fault { CountsFault (W.failures self.old.sink) (W.failures self.new.sink) result }
     {
-        match emit(&mut self.sink, &self.page.as_slice()[self.passed..]) {
+        match emit(&mut self.sink, &self.page[self.passed..self.used]) {
             Ok(()) => {
-                self.page.clear();
+                self.used = 0;
                 self.passed = 0;
                 Ok(())
             }
@@ -92,10 +94,9 @@ impl<W: Sink> PagedSink<W> {
             (take result bytes.now) }
         ensures sink { self.new.sink ≡ self.old.sink }
     {
-        let count = bytes.len().min(PAGE - self.page.len());
-        let Ok(()) = self.page.extend_from_slice(&bytes[..count]) else {
-            unreachable!()
-        };
+        let count = bytes.len().min(PAGE - self.used);
+        self.page[self.used..self.used + count].copy_from_slice(&bytes[..count]);
+        self.used += count;
         count
     }
 }
@@ -110,7 +111,7 @@ impl<W: Sink> Sink for PagedSink<W> {
     ghost is_flushed = { λ s. W.is_flushed s.sink && none_waits s.waiting };
 
     fn write(&mut self, bytes: &[u8]) -> Result<usize, DeviceFault> {
-        if self.page.len() >= PAGE {
+        if self.used >= PAGE {
             self.send()?;
         }
         Ok(self.take(bytes))

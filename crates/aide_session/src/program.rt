@@ -1,20 +1,15 @@
 //! The whole program over any site.
-ghost use Rattle.std.specs.Prelude.{◌≡◌, ◌≢◌, ◌≤◌, ◌⊎◌, ℕ, List, Some, Ok, Err, true, max, IfOk};
-ghost use Rattle.std.specs.Prelude.{IfErr, IsSome};
+ghost use Rattle.std.specs.Prelude.{◌≡◌, ◌≢◌, ◌≤◌, ℕ, List, Some, Ok, Err, true, IfOk, IfErr};
+ghost use Rattle.std.specs.Prelude.{IsSome};
 ghost use Rattle.aide_conf.specs.declared.fault.ConfFaultKind.TheVariants.{Memory};
 ghost use Rattle.aide_db.specs.Count.{one_more};
-ghost use Rattle.aide_report.specs.Failures.{Rose};
-ghost use Rattle.aide_session.specs.Answer.{Answer, Named, IsAnswer, IsAnswerBy, IsJobAnswerBy};
-ghost use Rattle.aide_session.specs.Answer.{IsTextAnswerBy, need_of};
-ghost use Rattle.aide_session.specs.Closing.{Closes, course_between};
+ghost use Rattle.aide_session.specs.Answer.{IsAnswerBy, IsJobAnswerBy, IsTextAnswerBy, need_of};
+ghost use Rattle.aide_session.specs.Session.{HoldsBy, IsSessionBy, view_between};
+ghost use Rattle.aide_session.specs.Writing.{the_report};
 ghost use Rattle.aide_session.specs.code.Parts.{AreSame, ClosesFor, EndsWith, HoldsWith};
 ghost use Rattle.aide_session.specs.code.Parts.{KeepsPeak, part_between};
-ghost use Rattle.aide_session.specs.Ends.{Ends, HasFailed, Whole, Starved, sinks_between};
-ghost use Rattle.aide_session.specs.Existence.{HasSessionAnswer, TellsNamed};
-ghost use Rattle.aide_session.specs.Held.{HoldsWithin, most_held};
-ghost use Rattle.aide_words.specs.Job.{job_of, text_of_job};
 ghost use Rattle.aide_session.specs.code.Premises.{HasRead, ReadsOnlyAs};
-ghost use Rattle.aide_session.specs.Put.{HasNoFailure};
+ghost use Rattle.aide_words.specs.Job.{job_of, text_of_job};
 
 use crate::comparison::{AsReport, Comparison};
 use crate::config_check::check;
@@ -26,6 +21,7 @@ use crate::lines::{
 };
 use crate::put::pass_on;
 use crate::site::Site;
+use crate::status::Status;
 use aide_conf::{ConfFault, ConfFaultKind, Need, Settings};
 use aide_db::{Desk, Sources};
 use aide_report::Sink;
@@ -78,11 +74,11 @@ fn run_prepared<C: Comparison, S: Site, W: Sink, E: Sink>(
         (part_between S.Sources W.Sink E.Sink devices.old devices.new) }
     ensures site_never_falls { S.failures devices.old.site.now ≤ S.failures devices.new.site.now }
     ensures lookups { S.lookups devices.new.site.now ≡ S.lookups devices.old.site.now }
-    ensures peak { KeepsPeak (part_between S.Sources W.Sink E.Sink devices.old devices.new) }
+    ensures peak { KeepsPeak devices.old devices.new }
     ensures bound { HoldsWith
         (λ files. IsTextAnswerBy C.writing files (text_of_job prepared.now.job.now)
         prepared.now.text.now)
-        (part_between S.Sources W.Sink E.Sink devices.old devices.new) }
+        (S.file_at devices.old.site.now) devices.old devices.new }
 {
     match read_settings(devices.alloc, prepared) {
         Ok(settings) => {
@@ -95,11 +91,11 @@ fn run_prepared<C: Comparison, S: Site, W: Sink, E: Sink>(
         Err(fault) => match fault.kind {
             ConfFaultKind::Memory => {
                 put_memory_line(devices.err);
-                22
+                Status::Memory as u8
             }
             _ => {
                 put_conf_line(devices.err, fault);
-                17
+                Status::Configuration as u8
             }
         },
     }
@@ -117,9 +113,9 @@ fn run_job<C: Comparison, S: Site, W: Sink, E: Sink>(
         → ClosesFor C.writing words result
         (part_between S.Sources W.Sink E.Sink devices.old devices.new) }
     ensures lookups { S.lookups devices.new.site.now ≤ one_more (S.lookups devices.old.site.now) }
-    ensures peak { KeepsPeak (part_between S.Sources W.Sink E.Sink devices.old devices.new) }
+    ensures peak { KeepsPeak devices.old devices.new }
     ensures bound { HoldsWith (λ files. IsJobAnswerBy C.writing files (text_of_job job.now))
-        (part_between S.Sources W.Sink E.Sink devices.old devices.new) }
+        (S.file_at devices.old.site.now) devices.old devices.new }
 {
     let path = job.config.as_str();
     match read_config(devices.alloc, devices.site, path) {
@@ -129,22 +125,22 @@ fn run_job<C: Comparison, S: Site, W: Sink, E: Sink>(
         }
         Err(ConfigFault::TooLarge) => {
             put_too_large_line(devices.err);
-            17
+            Status::Configuration as u8
         }
         Err(ConfigFault::Unread) => {
             put_unread_line(devices.err, path);
-            18
+            Status::Device as u8
         }
         Err(ConfigFault::Memory) => {
             put_memory_line(devices.err);
-            22
+            Status::Memory as u8
         }
     }
 }
 
 /// Runs the session of these arguments. Its lines may still wait in standard error
 /// afterwards.
-fn run_words<C: Comparison, S: Site, W: Sink, E: Sink>(
+pub(crate) fn run_words<C: Comparison, S: Site, W: Sink, E: Sink>(
     words: &Words,
     devices: &mut Devices<'_, C, S, W, E>,
 ) -> u8
@@ -154,19 +150,19 @@ fn run_words<C: Comparison, S: Site, W: Sink, E: Sink>(
     ensures closes { ClosesFor C.writing words.now result
         (part_between S.Sources W.Sink E.Sink devices.old devices.new) }
     ensures lookups { S.lookups devices.new.site.now ≤ one_more (S.lookups devices.old.site.now) }
-    ensures peak { KeepsPeak (part_between S.Sources W.Sink E.Sink devices.old devices.new) }
+    ensures peak { KeepsPeak devices.old devices.new }
     ensures bound { HoldsWith (λ files. IsAnswerBy C.writing files words.now)
-        (part_between S.Sources W.Sink E.Sink devices.old devices.new) }
+        (S.file_at devices.old.site.now) devices.old devices.new }
 {
     match read_words(devices.alloc, words) {
         Ok(job) => run_job(&job, devices),
         Err(WordsFault::Usage) => {
             put_usage_line(devices.err);
-            15
+            Status::Usage as u8
         }
         Err(WordsFault::Memory) => {
             put_memory_line(devices.err);
-            22
+            Status::Memory as u8
         }
     }
 }
@@ -177,16 +173,10 @@ pub(crate) fn run_and_pass_on<C: Comparison, S: Site, W: Sink, E: Sink>(
     devices: &mut Devices<'_, C, S, W, E>,
 ) -> u8
     ensures same { AreSame devices.old devices.new }
-    ensures ends { EndsWith (λ files. IsAnswerBy C.writing files words.now) result
+    ensures session { IsSessionBy C.writing words.now result
         (part_between S.Sources W.Sink E.Sink devices.old devices.new) }
-    ensures passed_on { HasNoFailure (E.failures devices.old.err.now)
-        (E.failures devices.new.err.now) → E.is_flushed devices.new.err.now ≡ true }
-    ensures closes { ClosesFor C.writing words.now result
-        (part_between S.Sources W.Sink E.Sink devices.old devices.new) }
-    ensures lookups { S.lookups devices.new.site.now ≤ one_more (S.lookups devices.old.site.now) }
-    ensures peak { KeepsPeak (part_between S.Sources W.Sink E.Sink devices.old devices.new) }
-    ensures bound { HoldsWith (λ files. IsAnswerBy C.writing files words.now)
-        (part_between S.Sources W.Sink E.Sink devices.old devices.new) }
+    ensures desk { HoldsBy C.writing (S.file_at devices.old.site.now) words.now
+        devices.old.desk.now.peak devices.new.desk.now.peak }
 {
     let status = run_words(words, devices);
     pass_on(devices.err);
@@ -206,6 +196,8 @@ pub(crate) fn run_and_pass_on<C: Comparison, S: Site, W: Sink, E: Sink>(
 ///
 /// The desk keeps the bytes of the databases. It gets room for any line after the configuration has
 /// been read and before a database is opened.
+///
+/// What is promised is the fields of `IsSessionBy`, and of the desk those of `HoldsBy`.
 pub fn session_on<S: Site, W: Sink, E: Sink>(
     alloc: Global,
     words: &Words,
@@ -214,59 +206,9 @@ pub fn session_on<S: Site, W: Sink, E: Sink>(
     out: &mut W,
     err: &mut E,
 ) -> u8
-    // The session ends in one of three ways:
-    // - with the answer to the arguments;
-    // - out of memory, with no output;
-    // - with a failure that was counted, after the first bytes of the answer's output (none, some
-    //   or all). Only the output or a site that is not reliable can fail so.
-    ensures ends { (named : Named) (a : Answer) → IsAnswer (S.file_at site.old) words.now named a
-        → Ends a named result
-        (sinks_between W.delivered E.delivered E.failures out.old out.new err.old err.new)
-        (HasFailed (S.is_reliable site.old) (S.failures site.old) (S.failures site.new))
-        (Rose (W.failures out.old) (W.failures out.new)) }
-    // If no failure was counted, the session ends with the answer to the arguments or out of
-    // memory.
-    ensures exact { (named : Named) (a : Answer) → IsAnswer (S.file_at site.old) words.now named a
-        → HasNoFailure (S.failures site.old) (S.failures site.new)
-        → HasNoFailure (W.failures out.old) (W.failures out.new)
-        → Whole a result
-        (sinks_between W.delivered E.delivered E.failures out.old out.new err.old err.new)
-        ⊎ Starved a result
-        (sinks_between W.delivered E.delivered E.failures out.old out.new err.old err.new) }
-    // Over a reliable site, if the output counts no failure, the session ends with the answer to
-    // the arguments or out of memory. On such a site a file that is not there counts as a failure,
-    // but is an answer.
-    ensures reliable { (named : Named) (a : Answer)
-        → IsAnswer (S.file_at site.old) words.now named a
-        → S.is_reliable site.old ≡ true → HasNoFailure (W.failures out.old) (W.failures out.new)
-        → Whole a result
-        (sinks_between W.delivered E.delivered E.failures out.old out.new err.old err.new)
-        ⊎ Starved a result
-        (sinks_between W.delivered E.delivered E.failures out.old out.new err.old err.new) }
-    // If standard error counts no failure, the lines have been passed on.
-    ensures passed_on { HasNoFailure (E.failures err.old) (E.failures err.new)
-        → E.is_flushed err.new ≡ true }
-    // If the site tells what is at the paths of the named files, there is an answer.
-    ensures answered { TellsNamed (S.file_at site.old) words.now
-        → HasSessionAnswer (S.file_at site.old) words.now }
-    // Over any site: the lines, the status and the output are those of one closing, whose cause
-    // holds.
-    ensures closes { Closes (S.file_at site.old) words.now result
-        (sinks_between W.delivered E.delivered E.failures out.old out.new err.old err.new)
-        (course_between S.openings S.was_given W.flushes W.is_flushed
-        site.old site.new out.old out.new)
-        (Rose (S.failures site.old) (S.failures site.new))
-        (Rose (W.failures out.old) (W.failures out.new)) }
-    // Besides the databases at most one file is opened, at most once.
-    ensures lookups { S.lookups site.new ≤ one_more (S.lookups site.old) }
-
-    // The greatest number of bytes ever held on the desk does not fall. It rises at most to three
-    // lines as long as the limit. If the files are known, it rises at most to three of their lines:
-    // the longest of each database, and another no longer than these.
-    ensures peak { desk.old.peak ≤ desk.new.peak }
-    ensures below { desk.new.peak ≤ max desk.old.peak most_held }
-    ensures bound { (named : Named) (a : Answer) → IsAnswer (S.file_at site.old) words.now named a
-        → HoldsWithin (S.file_at site.old) named desk.old.peak desk.new.peak }
+    ensures session { IsSessionBy the_report words.now result (view_between S.Sources W.Sink E.Sink
+        site.old site.new out.old out.new err.old err.new) }
+    ensures desk { HoldsBy the_report (S.file_at site.old) words.now desk.old.peak desk.new.peak }
 {
     let mut devices = Devices::new(AsReport, alloc, desk, site, out, err);
     run_and_pass_on(words, &mut devices)
@@ -281,51 +223,8 @@ pub fn session<S: Site, W: Sink, E: Sink>(
     out: &mut W,
     err: &mut E,
 ) -> u8
-    // The session ends in one of three ways:
-    // - with the answer to the arguments;
-    // - out of memory, with no output;
-    // - with a failure that was counted, after the first bytes of the answer's output (none, some
-    //   or all). Only the output or a site that is not reliable can fail so.
-    ensures ends { (named : Named) (a : Answer) → IsAnswer (S.file_at site.old) words.now named a
-        → Ends a named result
-        (sinks_between W.delivered E.delivered E.failures out.old out.new err.old err.new)
-        (HasFailed (S.is_reliable site.old) (S.failures site.old) (S.failures site.new))
-        (Rose (W.failures out.old) (W.failures out.new)) }
-    // If no failure was counted, the session ends with the answer to the arguments or out of
-    // memory.
-    ensures exact { (named : Named) (a : Answer) → IsAnswer (S.file_at site.old) words.now named a
-        → HasNoFailure (S.failures site.old) (S.failures site.new)
-        → HasNoFailure (W.failures out.old) (W.failures out.new)
-        → Whole a result
-        (sinks_between W.delivered E.delivered E.failures out.old out.new err.old err.new)
-        ⊎ Starved a result
-        (sinks_between W.delivered E.delivered E.failures out.old out.new err.old err.new) }
-    // Over a reliable site, if the output counts no failure, the session ends with the answer to
-    // the arguments or out of memory. On such a site a file that is not there counts as a failure,
-    // but is an answer.
-    ensures reliable { (named : Named) (a : Answer)
-        → IsAnswer (S.file_at site.old) words.now named a
-        → S.is_reliable site.old ≡ true → HasNoFailure (W.failures out.old) (W.failures out.new)
-        → Whole a result
-        (sinks_between W.delivered E.delivered E.failures out.old out.new err.old err.new)
-        ⊎ Starved a result
-        (sinks_between W.delivered E.delivered E.failures out.old out.new err.old err.new) }
-    // If standard error counts no failure, the lines have been passed on.
-    ensures passed_on { HasNoFailure (E.failures err.old) (E.failures err.new)
-        → E.is_flushed err.new ≡ true }
-    // If the site tells what is at the paths of the named files, there is an answer.
-    ensures answered { TellsNamed (S.file_at site.old) words.now
-        → HasSessionAnswer (S.file_at site.old) words.now }
-    // Over any site: the lines, the status and the output are those of one closing, whose cause
-    // holds.
-    ensures closes { Closes (S.file_at site.old) words.now result
-        (sinks_between W.delivered E.delivered E.failures out.old out.new err.old err.new)
-        (course_between S.openings S.was_given W.flushes W.is_flushed
-        site.old site.new out.old out.new)
-        (Rose (S.failures site.old) (S.failures site.new))
-        (Rose (W.failures out.old) (W.failures out.new)) }
-    // Besides the databases at most one file is opened, at most once.
-    ensures lookups { S.lookups site.new ≤ one_more (S.lookups site.old) }
+    ensures session { IsSessionBy the_report words.now result (view_between S.Sources W.Sink E.Sink
+        site.old site.new out.old out.new err.old err.new) }
 {
     let mut desk = Desk::new(alloc);
     session_on(alloc, words, &mut desk, site, out, err)

@@ -1,0 +1,111 @@
+-- The answer of a session beside a trusted pair: its output, its error lines and its status. The
+-- job and the files determine it.
+use Rattle.std.specs.Prelude.{◌≡◌, ◌⊎◌, ℕ, Bool, true, false, List, Ok, Err, Result, Option}
+use Rattle.std.specs.Prelude.{Some, None}
+use Rattle.aide_conf.specs.ReadResult.{ReadsAs}
+use Rattle.aide_conf.specs.Settings.{Configured}
+use Rattle.aide_conf.specs.declared.fault.ConfFault.{ConfFault}
+use Rattle.aide_conf.specs.declared.task.Need.TheVariants.{Compare}
+use Rattle.aide_db.specs.Side.{by_side}
+use Rattle.aide_db.specs.declared.side.Side.{Side}
+use Rattle.aide_report.specs.Runs.{Report}
+use Rattle.aide_session.specs.Answer.{Answer, Named, answer_of_run, asked_by, limits, refused}
+use Rattle.aide_session.specs.Files.{Files, is_too_large}
+use Rattle.aide_session.specs.Lines.{conf_line, too_large_line, unread_line}
+use Rattle.aide_session.specs.TrustedLines.{pair_fault_line, pair_fault_status}
+use Rattle.aide_trusted.specs.BesideRuns.{RunsBeside}
+use Rattle.aide_trusted.specs.declared.pair_fault.PairFault.{PairFault}
+use Rattle.aide_words.specs.BesideJob.{BesideText}
+
+-- the trusted pair's paths, which the arguments name
+abbrev pub trusted_of : BesideText → Named
+trusted_of job = record {
+  config = job.config;
+  old_path = job.trusted_old;
+  new_path = job.trusted_new;
+}
+
+-- The answer of a comparison beside a trusted pair, by the paths of both: what is written, or the
+-- line and the status of the fault.
+abbrev pub answer_beside : (named trusted : Named) → Result Report PairFault → Answer
+answer_beside named trusted (Ok report) = answer_of_run (Ok report)
+answer_beside named trusted (Err fault) =
+    refused (pair_fault_line named.old_path named.new_path trusted.old_path trusted.new_path fault)
+    (pair_fault_status fault)
+
+-- The comparison of what is at the paths that the settings and the arguments name. At each path
+-- there is a database or no file. The answer is that of `RunsBeside`: the lines over four maps, or
+-- the first fault, in the order old, new, trusted old, trusted new.
+pub record ComparesBeside (files trusted_files : Files) (job : BesideText) (s : Configured)
+    (named : Named) (a : Answer) : Type 0 where
+  pub old_is : s.old_path ≡ Some named.old_path
+  pub new_is : s.new_path ≡ Some named.new_path
+  pub old_file : Option (List ℕ)
+  pub new_file : Option (List ℕ)
+  pub trusted_old_file : Option (List ℕ)
+  pub trusted_new_file : Option (List ℕ)
+  pub old_told : files named.old_path ≡ Some old_file
+  pub new_told : files named.new_path ≡ Some new_file
+  pub trusted_old_told : trusted_files job.trusted_old ≡ Some trusted_old_file
+  pub trusted_new_told : trusted_files job.trusted_new ≡ Some trusted_new_file
+  pub run : Result Report PairFault
+  pub runs : RunsBeside limits (asked_by s.options named) (asked_by s.options (trusted_of job))
+      old_file new_file trusted_old_file trusted_new_file run
+  pub then_is : a ≡ answer_beside named (trusted_of job) run
+
+-- the answer, by whether the configuration reads as settings or has a fault
+abbrev pub IsReadBeside : (files trusted_files : Files) → BesideText
+    → Result Configured ConfFault → Named → Answer
+    → Type 0
+IsReadBeside files trusted_files job (Ok s) named a =
+    ComparesBeside files trusted_files job s named a
+IsReadBeside files trusted_files job (Err fault) named a = a ≡ refused (conf_line fault) 17
+
+-- the answer if the configuration has this text
+pub record IsTextBeside (files trusted_files : Files) (job : BesideText) (text : List ℕ)
+    (named : Named) (a : Answer) : Type 0 where
+  pub read : Result Configured ConfFault
+  pub reads : ReadsAs Compare job.before text job.after read
+  pub then_is : IsReadBeside files trusted_files job read named a
+
+-- the answer, by whether the configuration is too large
+abbrev pub IsSizedBeside : (files trusted_files : Files) → BesideText → Bool → List ℕ → Named
+    → Answer
+    → Type 0
+IsSizedBeside files trusted_files job true text named a = a ≡ refused too_large_line 17
+IsSizedBeside files trusted_files job false text named a =
+    IsTextBeside files trusted_files job text named a
+
+-- the answer, by what is at the configuration's path
+abbrev pub IsFileBeside : (files trusted_files : Files) → BesideText → Option (List ℕ) → Named
+    → Answer
+    → Type 0
+IsFileBeside files trusted_files job None named a = a ≡ refused (unread_line job.config) 18
+IsFileBeside files trusted_files job (Some text) named a =
+    IsSizedBeside files trusted_files job (is_too_large text) text named a
+
+-- The answer to a job beside a trusted pair, over the files of both sites. It is the first fault of
+-- the configuration or of a database, or else the lines. A named file that is not there counts as a
+-- fault. `named` has the paths that the arguments and the configuration name.
+pub record IsAnswerBeside (files trusted_files : Files) (job : BesideText) (named : Named)
+    (a : Answer) : Type 0 where
+  pub config_is : named.config ≡ job.config
+  pub file : Option (List ℕ)
+  pub known : files job.config ≡ Some file
+  pub then_is : IsFileBeside files trusted_files job file named a
+
+-- It is known what is at the configuration's path, at the paths of the databases that it names, and
+-- at those of the trusted pair.
+pub record TellsBeside (files trusted_files : Files) (job : BesideText) : Type 0 where
+  pub config : (file : Option (List ℕ)) × (files job.config ≡ Some file)
+  pub databases : (text : List ℕ) → files job.config ≡ Some (Some text) → (s : Configured)
+      → ReadsAs Compare job.before text job.after (Ok s) → (path : List ℕ)
+      → (s.old_path ≡ Some path) ⊎ (s.new_path ≡ Some path)
+      → (file : Option (List ℕ)) × (files path ≡ Some file)
+  pub trusted : (side : Side) → (file : Option (List ℕ))
+      × (trusted_files (by_side job.trusted_old job.trusted_new side) ≡ Some file)
+
+-- the job has an answer over these files
+abbrev pub HasAnswerBeside : (files trusted_files : Files) → BesideText → Type 0
+HasAnswerBeside files trusted_files job =
+    (named : Named) × (a : Answer) × IsAnswerBeside files trusted_files job named a

@@ -1,0 +1,105 @@
+-- What a session promises whose arguments may name a trusted pair.
+use Rattle.std.specs.Prelude.{◌≡◌, ◌≤◌, ◌⊎◌, ℕ, true, List, Some, None, max}
+use Rattle.aide_db.specs.Count.{one_more}
+use Rattle.aide_report.specs.Failures.{Rose}
+use Rattle.aide_session.specs.Answer.{Answer, Named}
+use Rattle.aide_session.specs.BesideAnswer.{HasAnswerBeside, IsAnswerBeside, TellsBeside}
+use Rattle.aide_session.specs.BesideAnswer.{trusted_of}
+use Rattle.aide_session.specs.BesideEnds.{BesideView, EndsBesideBy, EndsWithin}
+use Rattle.aide_session.specs.Ends.{HasFailed, Starved, Whole}
+use Rattle.aide_session.specs.Held.{HoldsWithin, most_held}
+use Rattle.aide_session.specs.Put.{HasNoFailure}
+use Rattle.aide_session.specs.Session.{HoldsBy, IsSessionBy, SessionView}
+use Rattle.aide_session.specs.Writing.{the_lines}
+use Rattle.aide_words.specs.BesideJob.{BesideText, beside_job_of}
+
+-- The most that both desks have ever held, before and after.
+pub record DeskPeaks : Type 0 where
+  pub before : ℕ
+  pub after : ℕ
+  pub trusted_before : ℕ
+  pub trusted_after : ℕ
+
+-- what is seen of both sites and desks, as one
+abbrev pub beside_view : (s t : SessionView) → DeskPeaks → BesideView
+beside_view s t desks = record {
+  files = s.files;
+  trusted_files = t.files;
+  is_reliable = s.is_reliable;
+  trusted_reliable = t.is_reliable;
+  site_after = s.site_after;
+  trusted_before = t.site_before;
+  trusted_after = t.site_after;
+  out_before = s.out_before;
+  out_after = s.out_after;
+  sinks = s.sinks;
+  course = s.course;
+  trusted_course = t.course;
+  peak_before = desks.before;
+  peak_after = desks.after;
+  trusted_peak_before = desks.trusted_before;
+  trusted_peak_after = desks.trusted_after;
+}
+
+-- A session of a job beside a trusted pair, with this status. `s` is what is seen of the first
+-- site, `t` of the site of the trusted pair.
+pub record IsSessionBeside (job : BesideText) (status : ℕ) (s t : SessionView)
+    (desks : DeskPeaks) : Type 0 where
+  -- The session ends in one of three ways:
+  -- - with the answer to the job;
+  -- - out of memory, with no output;
+  -- - with a failure that was counted, after the first bytes of the answer's output (none, some or all). Only the
+  --   output or a site that is not reliable can fail so.
+  pub ends : (named : Named) (a : Answer) → IsAnswerBeside s.files t.files job named a
+      → EndsWithin a named (trusted_of job) status s.sinks
+      (HasFailed s.is_reliable s.site_before s.site_after)
+      (HasFailed t.is_reliable t.site_before t.site_after) (Rose s.out_before s.out_after)
+  -- If no failure was counted, the session ends with the answer to the job or out of memory.
+  pub exact : (named : Named) (a : Answer) → IsAnswerBeside s.files t.files job named a
+      → HasNoFailure s.site_before s.site_after → HasNoFailure t.site_before t.site_after
+      → HasNoFailure s.out_before s.out_after
+      → Whole a status s.sinks ⊎ Starved a status s.sinks
+  -- Over reliable sites, if the output counts no failure, the session ends with the answer to the
+  -- job or out of memory.
+  pub reliable : (named : Named) (a : Answer) → IsAnswerBeside s.files t.files job named a
+      → s.is_reliable ≡ true → t.is_reliable ≡ true → HasNoFailure s.out_before s.out_after
+      → Whole a status s.sinks ⊎ Starved a status s.sinks
+  -- If standard error counts no failure, the lines have been passed on.
+  pub passed_on : HasNoFailure s.sinks.err_before s.sinks.err_after → s.is_passed_on ≡ true
+  -- If it is known what is at the paths of the named files, there is an answer.
+  pub answered : TellsBeside s.files t.files job → HasAnswerBeside s.files t.files job
+  -- Over any sites: the session stops before it opens a database, or compares the databases, and
+  -- why.
+  pub closes : EndsBesideBy job status s.site_before (beside_view s t desks)
+  -- Besides the databases at most one file is opened, at most once.
+  pub lookups : s.lookups_after ≤ one_more s.lookups_before
+  pub trusted_lookups : t.lookups_after ≡ t.lookups_before
+  -- The peak of neither desk falls, and it rises at most to three lines as long as the limit.
+  pub peak : desks.before ≤ desks.after
+  pub below : desks.after ≤ max desks.before most_held
+  pub trusted_peak : desks.trusted_before ≤ desks.trusted_after
+  pub trusted_below : desks.trusted_after ≤ max desks.trusted_before most_held
+  -- If the texts of a pair are known, the peak of its desk rises at most to three of their lines.
+  pub bound : (named : Named) (a : Answer) → IsAnswerBeside s.files t.files job named a
+      → HoldsWithin s.files named desks.before desks.after
+  pub trusted_bound : (named : Named) (a : Answer) → IsAnswerBeside s.files t.files job named a
+      → HoldsWithin t.files (trusted_of job) desks.trusted_before desks.trusted_after
+
+-- A session that writes lines of JSON, whose arguments may name a trusted pair. If they name none,
+-- it is a session of today over the first site alone.
+pub record IsLineSession (words : List (List ℕ)) (status : ℕ) (s t : SessionView)
+    (desks : DeskPeaks) : Type 0 where
+  pub alone : beside_job_of words ≡ None → IsSessionBy the_lines words status s
+  pub held : beside_job_of words ≡ None → HoldsBy the_lines s.files words desks.before desks.after
+  -- the site and the desk of the trusted pair are left alone then
+  pub unopened : beside_job_of words ≡ None → t.course.opened_after ≡ t.course.opened_before
+  pub still : beside_job_of words ≡ None → desks.trusted_after ≡ desks.trusted_before
+  pub beside : (job : BesideText) → beside_job_of words ≡ Some job
+      → IsSessionBeside job status s t desks
+
+-- A program that writes lines of JSON has ended with this status: after a session, or because
+-- memory ran out before one.
+abbrev pub HasRunLines : ℕ → Type 0
+HasRunLines status = (status ≡ 22)
+    ⊎ ((words : List (List ℕ)) × (s : SessionView) × (t : SessionView) × (desks : DeskPeaks)
+    × IsLineSession words status s t desks)

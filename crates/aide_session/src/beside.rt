@@ -1,0 +1,126 @@
+//! Comparing the two databases that the settings name, beside the two of a trusted pair.
+ghost use Rattle.std.specs.Prelude.{◌≡◌, ◌≤◌, ◌⊎◌, ℕ, List, OnOk};
+ghost use Rattle.aide_report.specs.Asked.{asked};
+ghost use Rattle.aide_report.specs.Failures.{Rose};
+ghost use Rattle.aide_session.specs.BesideEnds.{ClosesCompared, StopsWith};
+ghost use Rattle.aide_session.specs.Lines.{memory_line};
+ghost use Rattle.aide_session.specs.Pointing.{KeepsFiles};
+ghost use Rattle.aide_session.specs.code.BesideParts.{IsPointed, beside_between, named_by};
+ghost use Rattle.aide_session.specs.code.Parts.{AreSame};
+
+use crate::comparison::{AsLines, LIMITS, LONGEST};
+use crate::devices::Devices;
+use crate::lines::{put_memory_line, put_outcome_lines};
+use crate::site::Site;
+use crate::status::Status;
+use crate::trusted_lines::{pair_status, put_pair_fault};
+use aide_conf::Task;
+use aide_db::{Desk, Side};
+use aide_report::Sink;
+use aide_trusted::run_lines_beside;
+use aide_words::Memory;
+use std::alloc::Global;
+
+/// Points a site at the databases of a task, and reserves what a comparison may hold of them.
+fn prepare<S: Site>(
+    alloc: Global,
+    desk: &mut Desk<Global>,
+    site: &mut S,
+    task: &Task<'_>,
+) -> Result<(), Memory>
+    ensures keeps { KeepsFiles S.Sources site.old site.new }
+    ensures peak { desk.new.peak ≡ desk.old.peak }
+    ensures room { OnOk result (1048576 ≤ desk.new.room) }
+    ensures pointed { OnOk result (IsPointed (S.file_at site.old) (asked task.now)
+        (S.bytes_of site.new) (S.is_missing site.new)) }
+{
+    if let Err(Memory) = site.point(alloc, Side::Old, task.old_path) {
+        return Err(Memory);
+    }
+    if let Err(Memory) = site.point(alloc, Side::New, task.new_path) {
+        return Err(Memory);
+    }
+    let Ok(()) = desk.reserve(LONGEST) else {
+        return Err(Memory);
+    };
+    Ok(())
+}
+
+/// Compares the databases that both sites are pointed at. Each desk has room for any line.
+fn run_pairs<S: Site, W: Sink, E: Sink>(
+    task: &Task<'_>,
+    trusted_task: &Task<'_>,
+    devices: &mut Devices<'_, AsLines, S, W, E>,
+    trusted_desk: &mut Desk<Global>,
+    trusted: &mut S,
+) -> u8
+    requires room { 1048576 ≤ devices.old.desk.now.room }
+    requires trusted_room { 1048576 ≤ trusted_desk.old.room }
+    ensures same { AreSame devices.old devices.new }
+    ensures closes { (config : List ℕ)
+        → IsPointed (S.file_at devices.old.site.now) (asked task.now)
+        (S.bytes_of devices.old.site.now) (S.is_missing devices.old.site.now)
+        → IsPointed (S.file_at trusted.old) (asked trusted_task.now)
+        (S.bytes_of trusted.old) (S.is_missing trusted.old)
+        → trusted_task.now.options ≡ task.now.options
+        → ClosesCompared (named_by config (asked task.now))
+        (named_by config (asked trusted_task.now)) task.now.options result
+        (Rose (S.failures devices.old.site.now) (S.failures devices.new.site.now))
+        (beside_between S.Sources W.Sink E.Sink devices.old devices.new
+        trusted_desk.old trusted_desk.new trusted.old trusted.new) }
+    ensures lookups { S.lookups devices.new.site.now ≡ S.lookups devices.old.site.now }
+    ensures trusted_lookups { S.lookups trusted.new ≡ S.lookups trusted.old }
+{
+    match run_lines_beside(
+        task,
+        trusted_task,
+        LIMITS,
+        devices.desk,
+        devices.site,
+        trusted_desk,
+        trusted,
+        devices.out,
+    ) {
+        Ok(outcome) => {
+            put_outcome_lines(devices.err, &outcome);
+            outcome.status()
+        }
+        Err(fault) => {
+            put_pair_fault(devices.err, task, trusted_task, fault);
+            pair_status(fault)
+        }
+    }
+}
+
+/// Points both sites at their databases, reserves what a comparison may hold, and compares the
+/// databases.
+pub(crate) fn compare_beside<S: Site, W: Sink, E: Sink>(
+    task: &Task<'_>,
+    trusted_task: &Task<'_>,
+    devices: &mut Devices<'_, AsLines, S, W, E>,
+    trusted_desk: &mut Desk<Global>,
+    trusted: &mut S,
+) -> u8
+    ensures same { AreSame devices.old devices.new }
+    ensures closes { (config : List ℕ) → trusted_task.now.options ≡ task.now.options
+        → StopsWith memory_line 22 result
+        (beside_between S.Sources W.Sink E.Sink devices.old devices.new
+        trusted_desk.old trusted_desk.new trusted.old trusted.new)
+        ⊎ ClosesCompared (named_by config (asked task.now))
+        (named_by config (asked trusted_task.now)) task.now.options result
+        (Rose (S.failures devices.old.site.now) (S.failures devices.new.site.now))
+        (beside_between S.Sources W.Sink E.Sink devices.old devices.new
+        trusted_desk.old trusted_desk.new trusted.old trusted.new) }
+    ensures lookups { S.lookups devices.new.site.now ≡ S.lookups devices.old.site.now }
+    ensures trusted_lookups { S.lookups trusted.new ≡ S.lookups trusted.old }
+{
+    if let Err(Memory) = prepare(devices.alloc, devices.desk, devices.site, task) {
+        put_memory_line(devices.err);
+        return Status::Memory as u8;
+    }
+    if let Err(Memory) = prepare(devices.alloc, trusted_desk, trusted, trusted_task) {
+        put_memory_line(devices.err);
+        return Status::Memory as u8;
+    }
+    run_pairs(task, trusted_task, devices, trusted_desk, trusted)
+}

@@ -1,0 +1,14 @@
+//! The exit statuses of a session that compares nothing.
+
+/// Why a session ends without a comparison.
+#[derive(Clone, Copy)]
+pub(crate) enum Status {
+    /// The arguments are not those of the command.
+    Usage = 15,
+    /// The configuration has a fault, or is too long.
+    Configuration = 17,
+    /// The configuration was not read, or what it sets was not written.
+    Device = 18,
+    /// Memory ran out.
+    Memory = 22,
+}
