@@ -1,0 +1,56 @@
+-- The right answer over four texts is that of the run beside a trusted pair.
+use Rattle.std.specs.Prelude.{ℕ, ◌≡◌, ◌≤◌, List, Result, Ok, Err, Some}
+use Rattle.std.proofs.Common.{ap, refl}
+use Rattle.aide_db.specs.Database.{IsSound}
+use Rattle.aide_db.specs.declared.fault.DbFault.{DbFault}
+use Rattle.aide_db.specs.declared.limits.Limits.{Limits}
+use Rattle.aide_headline.specs.Beside.{IsFirstOfPair, IsRightBeside}
+use Rattle.aide_report.specs.Asked.{Asked}
+use Rattle.aide_report.specs.Missing.{RunsOver}
+use Rattle.aide_report.specs.Runs.{Report, report_over}
+use Rattle.aide_report.specs.declared.run_fault.RunFault.{RunFault}
+use Rattle.aide_report.specs.declared.run_fault.RunFault.TheVariants.{Database}
+use Rattle.aide_report.proofs.MissingLemmas.{RunsOver-exists}
+use Rattle.aide_trusted.specs.BesideRuns.{RunsBeside}
+use Rattle.aide_trusted.specs.declared.pair_fault.PairFault.{PairFault}
+use Rattle.aide_trusted.specs.declared.pair_fault.PairFault.TheVariants.{Compared, Trusted}
+
+module _ (limits : Limits) (wish : Asked) (old new : List ℕ) where
+  -- two sound texts have the report for their answer
+  sound_runs : IsSound limits old → IsSound limits new
+      → RunsOver limits wish (Some old) (Some new) (Ok (report_over wish old new))
+  sound_runs sound_old sound_new = (Ok (report_over wish old new), (sound_old, sound_new, refl), refl)
+
+  -- the first fault of two texts is their answer
+  fault_runs : (fault : RunFault) (first : DbFault) → fault ≡ Database first → IsFirstOfPair limits old new first
+      → RunsOver limits wish (Some old) (Some new) (Err fault)
+  fault_runs fault first same is = (Err first, is, ap (λ (f : RunFault). Err f) same)
+
+-- The right answer over four texts is what a run beside a trusted pair has for its answer.
+pub right_is_the_answer : (limits : Limits) (wish beside : Asked) (old new trusted_old trusted_new : List ℕ)
+    (right : Result Report PairFault) → 14 ≤ limits.line
+    → IsRightBeside limits wish beside old new trusted_old trusted_new right
+    → RunsBeside limits wish beside (Some old) (Some new) (Some trusted_old) (Some trusted_new) right
+right_is_the_answer limits wish beside old new trusted_old trusted_new (Ok report) least is = record {
+  compared = Ok (report_over wish old new);
+  trusted = Ok (report_over beside trusted_old trusted_new);
+  compared_runs = sound_runs limits wish old new is.0 is.1;
+  trusted_runs = sound_runs limits beside trusted_old trusted_new is.2 is.3;
+  answer = ap (λ (r : Report). Ok r) is.4;
+}
+right_is_the_answer limits wish beside old new trusted_old trusted_new (Err (Compared fault)) least is =
+    let other = RunsOver-exists limits beside (Some trusted_old) (Some trusted_new) least in
+    record {
+      compared = Err fault;
+      trusted = other.0;
+      compared_runs = fault_runs limits wish old new fault is.0 is.1 is.2;
+      trusted_runs = other.1;
+      answer = refl;
+    }
+right_is_the_answer limits wish beside old new trusted_old trusted_new (Err (Trusted fault)) least is = record {
+  compared = Ok (report_over wish old new);
+  trusted = Err fault;
+  compared_runs = sound_runs limits wish old new is.0 is.1;
+  trusted_runs = fault_runs limits beside trusted_old trusted_new fault is.2.0 is.2.1 is.2.2;
+  answer = refl;
+}

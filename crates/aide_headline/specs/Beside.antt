@@ -1,0 +1,33 @@
+-- The right answer over four texts.
+use Rattle.std.specs.Prelude.{ℕ, ◌≡◌, ◌⊎◌, List, Result, Ok, Err}
+use Rattle.aide_db.specs.Database.{IsSound}
+use Rattle.aide_db.specs.declared.fault.DbFault.{DbFault}
+use Rattle.aide_db.specs.declared.limits.Limits.{Limits}
+use Rattle.aide_db.specs.declared.side.Side.TheVariants.{Old, New}
+use Rattle.aide_report.specs.Asked.{Asked}
+use Rattle.aide_report.specs.Runs.{IsFirstFaultOf, Report}
+use Rattle.aide_report.specs.declared.run_fault.RunFault.TheVariants.{Database}
+use Rattle.aide_trusted.specs.BesideLines.{lines_beside}
+use Rattle.aide_trusted.specs.declared.pair_fault.PairFault.{PairFault}
+use Rattle.aide_trusted.specs.declared.pair_fault.PairFault.TheVariants.{Compared, Trusted}
+
+-- the fault is the first one of two texts, where a fault of the old text comes first
+abbrev pub IsFirstOfPair : Limits → (old new : List ℕ) → DbFault → Type 0
+IsFirstOfPair limits old new fault = IsFirstFaultOf limits Old old fault
+    ⊎ (IsSound limits old × IsFirstFaultOf limits New new fault)
+
+-- The right answer over four texts: the lines over the four maps if all are sound, and otherwise the
+-- first fault, in the order old, new, trusted old, trusted new.
+abbrev pub IsRightBeside : Limits → (asked trusted_asked : Asked)
+    → (old new trusted_old trusted_new : List ℕ) → Result Report PairFault
+    → Type 0
+IsRightBeside limits asked trusted_asked old new trusted_old trusted_new (Ok report) =
+    IsSound limits old × IsSound limits new
+    × IsSound limits trusted_old × IsSound limits trusted_new
+    × (report ≡ lines_beside asked trusted_asked old new trusted_old trusted_new)
+IsRightBeside limits asked trusted_asked old new trusted_old trusted_new (Err (Compared fault)) =
+    (first : DbFault) × (fault ≡ Database first) × IsFirstOfPair limits old new first
+IsRightBeside limits asked trusted_asked old new trusted_old trusted_new (Err (Trusted fault)) =
+    IsSound limits old × IsSound limits new
+    × ((first : DbFault) × (fault ≡ Database first)
+    × IsFirstOfPair limits trusted_old trusted_new first)

@@ -1,0 +1,72 @@
+//! What the whole program promises if its arguments name a trusted pair, in three clauses.
+ghost use Rattle.std.specs.Prelude.{◌≡◌, ◌≤◌, ◌+◌, ◌⊎◌, ℕ, List, Result, max};
+ghost use Rattle.aide_conf.specs.Settings.{Configured};
+ghost use Rattle.aide_db.specs.Longest.{longest_line};
+ghost use Rattle.aide_headline.specs.Beside.{IsRightBeside};
+ghost use Rattle.aide_report.specs.Runs.{Report};
+ghost use Rattle.aide_session.specs.Answer.{Named, asked_by, limits};
+ghost use Rattle.aide_session.specs.AsksBeside.{AsksBeside};
+ghost use Rattle.aide_session.specs.BesideAnswer.{answer_beside, trusted_of};
+ghost use Rattle.aide_session.specs.Ends.{Starved, Whole, sinks_between};
+ghost use Rattle.aide_session.specs.Put.{HasNoFailure};
+ghost use Rattle.aide_trusted.specs.declared.pair_fault.PairFault.{PairFault};
+ghost use Rattle.aide_words.specs.BesideJob.{BesideText};
+
+use aide_db::{Desk, Sources};
+use aide_report::Sink;
+use aide_session::{Site, Words, lines_session_beside_on};
+use std::alloc::Global;
+
+/// Runs the whole program that writes lines of JSON beside a trusted pair on these desks, by
+/// [`lines_session_beside_on`].
+///
+/// - If the arguments ask for a comparison beside a trusted pair, there is a text at each of the four
+///   paths, and no device counts a failure, the program ends with the right answer over the four texts
+///   or out of memory. If all four are sound, exactly the lines go out that the definitions assign to
+///   the four maps. Otherwise nothing goes out, and the first fault is named, in the order old, new,
+///   trusted old, trusted new.
+/// - Neither desk holds more than the longest line of each text of its pair and one more line no longer
+///   than these.
+///
+/// What is promised beyond this is in the contract of [`lines_session_beside_on`].
+pub fn run_beside_program<S: Site, W: Sink, E: Sink>(
+    alloc: Global,
+    words: &Words,
+    desk: &mut Desk<Global>,
+    site: &mut S,
+    trusted_desk: &mut Desk<Global>,
+    trusted: &mut S,
+    out: &mut W,
+    err: &mut E,
+) -> u8
+    ensures answer { (job : BesideText) (named : Named) (settings : Configured)
+        (old new trusted_old trusted_new : List ℕ)
+        → AsksBeside (S.file_at site.old) (S.file_at trusted.old) words.now job named settings
+        old new trusted_old trusted_new
+        → HasNoFailure (S.failures site.old) (S.failures site.new)
+        → HasNoFailure (S.failures trusted.old) (S.failures trusted.new)
+        → HasNoFailure (W.failures out.old) (W.failures out.new)
+        → (right : Result Report PairFault)
+        → IsRightBeside limits (asked_by settings.options named)
+        (asked_by settings.options (trusted_of job)) old new trusted_old trusted_new right
+        → Whole (answer_beside named (trusted_of job) right) result
+        (sinks_between W.delivered E.delivered E.failures out.old out.new err.old err.new)
+        ⊎ Starved (answer_beside named (trusted_of job) right) result
+        (sinks_between W.delivered E.delivered E.failures out.old out.new err.old err.new) }
+    ensures bound { (job : BesideText) (named : Named) (settings : Configured)
+        (old new trusted_old trusted_new : List ℕ)
+        → AsksBeside (S.file_at site.old) (S.file_at trusted.old) words.now job named settings
+        old new trusted_old trusted_new
+        → desk.new.peak ≤ max desk.old.peak
+        (longest_line limits old + longest_line limits new
+        + max (longest_line limits old) (longest_line limits new)) }
+    ensures trusted_bound { (job : BesideText) (named : Named) (settings : Configured)
+        (old new trusted_old trusted_new : List ℕ)
+        → AsksBeside (S.file_at site.old) (S.file_at trusted.old) words.now job named settings
+        old new trusted_old trusted_new
+        → trusted_desk.new.peak ≤ max trusted_desk.old.peak
+        (longest_line limits trusted_old + longest_line limits trusted_new
+        + max (longest_line limits trusted_old) (longest_line limits trusted_new)) }
+{
+    lines_session_beside_on(alloc, words, desk, site, trusted_desk, trusted, out, err)
+}
