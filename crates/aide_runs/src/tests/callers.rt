@@ -1,9 +1,22 @@
-//! Two callers of the library, which `docs/LIBRARY.md` explains: one of `run`, and one of `session`.
+//! Callers of the library, which `docs/LIBRARY.md` explains: one of `run`, one of `session`, and those that take the
+//! promises of a session and of a run one by one.
+mod by_clauses;
 mod by_run;
+mod by_run_clauses;
 mod by_session;
 
-use by_run::{Refusal, counts_of};
+use super::session::{site_of, words_of};
+use aide_conf::{Need, Settings};
+use aide_db::{Desk, MemorySources};
+use aide_report::MemorySink;
+use by_clauses::{lines_on, report_on};
+use by_run::{LIMITS, Refusal, counts_of};
+use by_run_clauses::{
+    run_for_its_answer, run_for_its_bytes, run_for_its_desk, run_for_its_faults,
+    run_for_its_openings, run_lines_for_its_answer,
+};
 use by_session::run_session;
+use std::alloc::Global;
 use std::test::Fail;
 
 /// A configuration that names the databases `/old` and `/new`.
@@ -52,5 +65,49 @@ fn reports_by_session(rt: HostRuntime) -> Result<(), Fail> {
     assert!(rt; ended.status == 7, "status {}", ended.status);
     assert!(rt; ended.output.bytes() == REPORT, "output");
     assert!(rt; ended.errors.bytes().is_empty(), "error lines");
+    Ok(())
+}
+
+/// The statuses of a session that writes the report and of one that writes lines, on one desk. It has no contract, so
+/// that the facts about both sessions are no part of the proof of the test.
+fn statuses_on(alloc: Global, desk: &mut Desk<Global>) -> Result<(u8, u8), Fail> {
+    let words = words_of(alloc, "aide -E -c /conf")?;
+    let mut site = site_of(alloc, CONFIG, OLD, NEW)?;
+    let mut out = MemorySink::new(alloc);
+    let mut err = MemorySink::new(alloc);
+    let report = report_on(alloc, &words, desk, &mut site, &mut out, &mut err);
+    let lines = lines_on(alloc, &words, desk, &mut site, &mut out, &mut err);
+    Ok((report, lines))
+}
+
+#[test]
+fn takes_the_promises_of_a_session(rt: HostRuntime) -> Result<(), Fail> {
+    let mut desk = Desk::new(rt.alloc());
+    let (report, lines) = statuses_on(rt.alloc(), &mut desk)?;
+    assert!(rt; report == 7 && lines == 7);
+    Ok(())
+}
+
+/// How many of the runs on one desk end well. It has no contract either.
+fn good_runs(alloc: Global) -> Option<usize> {
+    let settings = Settings::read(alloc, b"", CONFIG, b"", Need::Compare).ok()?;
+    let task = settings.task()?;
+    let mut desk = Desk::reserved(alloc, LIMITS.line).ok()?;
+    let mut sources = MemorySources::new(OLD, NEW);
+    let mut out = MemorySink::new(alloc);
+    let ends = [
+        run_for_its_answer(&task, LIMITS, &mut desk, &mut sources, &mut out).is_ok(),
+        run_for_its_bytes(&task, LIMITS, &mut desk, &mut sources, &mut out).is_ok(),
+        run_for_its_desk(&task, LIMITS, &mut desk, &mut sources, &mut out).is_ok(),
+        run_for_its_faults(&task, LIMITS, &mut desk, &mut sources, &mut out).is_ok(),
+        run_for_its_openings(&task, LIMITS, &mut desk, &mut sources, &mut out).is_ok(),
+        run_lines_for_its_answer(&task, LIMITS, &mut desk, &mut sources, &mut out).is_ok(),
+    ];
+    Some(ends.iter().filter(|is_good| **is_good).count())
+}
+
+#[test]
+fn takes_the_promises_of_a_run(rt: HostRuntime) -> Result<(), Fail> {
+    assert!(rt; good_runs(rt.alloc()) == Some(6));
     Ok(())
 }

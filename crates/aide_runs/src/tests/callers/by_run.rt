@@ -8,7 +8,7 @@ use aide_report::{MemorySink, Outcome, RunFault, run};
 use std::alloc::Global;
 
 /// The longest line that a database may have, and the most bytes.
-const LIMITS: Limits = Limits {
+pub(super) const LIMITS: Limits = Limits {
     line: 65_536,
     bytes: 1_099_511_627_776,
 };

@@ -1,0 +1,79 @@
+//! A caller of `session_on` and `lines_session_on` that takes each promise out of its record.
+ghost use Rattle.std.specs.Prelude.{◌≡◌, ◌≤◌, ◌⊎◌, true, max};
+ghost use Rattle.aide_db.specs.Count.{one_more};
+ghost use Rattle.aide_report.specs.Failures.{Rose};
+ghost use Rattle.aide_session.specs.Answer.{Answer, IsAnswerBy, Named};
+ghost use Rattle.aide_session.specs.Closing.{ClosesBy, course_between};
+ghost use Rattle.aide_session.specs.Ends.{Ends, HasFailed, Starved, Whole, sinks_between};
+ghost use Rattle.aide_session.specs.Existence.{HasSessionAnswerBy, TellsNamed};
+ghost use Rattle.aide_session.specs.Held.{HoldsWithin, most_held};
+ghost use Rattle.aide_session.specs.Put.{HasNoFailure};
+ghost use Rattle.aide_session.specs.Writing.{the_lines, the_report};
+
+use aide_db::Desk;
+use aide_report::Sink;
+use aide_session::{Site, Words, lines_session_on, session_on};
+use std::alloc::Global;
+
+/// Runs a session that writes the report.
+pub(super) fn report_on<S: Site, W: Sink, E: Sink>(
+    alloc: Global,
+    words: &Words,
+    desk: &mut Desk<Global>,
+    site: &mut S,
+    out: &mut W,
+    err: &mut E,
+) -> u8
+    ensures ends { (named : Named) (a : Answer)
+        → IsAnswerBy the_report (S.file_at site.old) words.now named a
+        → Ends a named result
+        (sinks_between W.delivered E.delivered E.failures out.old out.new err.old err.new)
+        (HasFailed (S.is_reliable site.old) (S.failures site.old) (S.failures site.new))
+        (Rose (W.failures out.old) (W.failures out.new)) }
+    ensures exact { (named : Named) (a : Answer)
+        → IsAnswerBy the_report (S.file_at site.old) words.now named a
+        → HasNoFailure (S.failures site.old) (S.failures site.new)
+        → HasNoFailure (W.failures out.old) (W.failures out.new)
+        → Whole a result
+        (sinks_between W.delivered E.delivered E.failures out.old out.new err.old err.new)
+        ⊎ Starved a result
+        (sinks_between W.delivered E.delivered E.failures out.old out.new err.old err.new) }
+    ensures reliable { (named : Named) (a : Answer)
+        → IsAnswerBy the_report (S.file_at site.old) words.now named a
+        → S.is_reliable site.old ≡ true → HasNoFailure (W.failures out.old) (W.failures out.new)
+        → Whole a result
+        (sinks_between W.delivered E.delivered E.failures out.old out.new err.old err.new)
+        ⊎ Starved a result
+        (sinks_between W.delivered E.delivered E.failures out.old out.new err.old err.new) }
+    ensures passed_on { HasNoFailure (E.failures err.old) (E.failures err.new)
+        → E.is_flushed err.new ≡ true }
+    ensures answered { TellsNamed (S.file_at site.old) words.now
+        → HasSessionAnswerBy the_report (S.file_at site.old) words.now }
+    ensures closes { ClosesBy the_report (S.file_at site.old) words.now result
+        (sinks_between W.delivered E.delivered E.failures out.old out.new err.old err.new)
+        (course_between S.openings S.was_given W.flushes W.is_flushed
+        site.old site.new out.old out.new)
+        (Rose (S.failures site.old) (S.failures site.new))
+        (Rose (W.failures out.old) (W.failures out.new)) }
+    ensures lookups { S.lookups site.new ≤ one_more (S.lookups site.old) }
+{
+    session_on(alloc, words, desk, site, out, err)
+}
+
+/// Runs a session that writes lines of JSON.
+pub(super) fn lines_on<S: Site, W: Sink, E: Sink>(
+    alloc: Global,
+    words: &Words,
+    desk: &mut Desk<Global>,
+    site: &mut S,
+    out: &mut W,
+    err: &mut E,
+) -> u8
+    ensures peak { desk.old.peak ≤ desk.new.peak }
+    ensures below { desk.new.peak ≤ max desk.old.peak most_held }
+    ensures bound { (named : Named) (a : Answer)
+        → IsAnswerBy the_lines (S.file_at site.old) words.now named a
+        → HoldsWithin (S.file_at site.old) named desk.old.peak desk.new.peak }
+{
+    lines_session_on(alloc, words, desk, site, out, err)
+}
