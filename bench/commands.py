@@ -75,7 +75,7 @@ def rows_of(bench, entries):
     run = ["aide-compare", old, new, *LEVEL]
     with_state = ["aide-compare", "--state", bench.path("state"), *run[1:]]
     without = [*with_state[:3], "--exclude-from", os.path.join(HERE, "contrib", "aide", "debian.without"), *run[1:]]
-    nightly = ["aide-compare", "mail", "--queue", bench.path("queue"), *without[1:5], "--reasons", *run[1:]]
+    nightly = ["aide-compare", "mail", "--queue", bench.path("queue"), *without[1:5], *run[1:]]
     os.makedirs(bench.path("queue"), exist_ok=True)
     bench.rows(
         entries,
@@ -84,7 +84,7 @@ def rows_of(bench, entries):
         ("`aide-compare OLD NEW`", run, None, report),
         ("`aide-compare --state FILE OLD NEW`", with_state, None, None),
         ("the same with `--exclude-from debian.without`", without, None, None),
-        ("`aide-compare mail` with all of these and `--reasons --queue`, as the unit calls it", nightly, None, None),
+        ("`aide-compare mail` with all of these and `--queue`, as the unit calls it", nightly, None, None),
         ("`aide-compare json OLD NEW`", ["aide-compare", "json", old, new], None, lines),
         ("`aide-compare page`, of these lines", ["aide-compare", "page", lines], None, bench.path("page")),
         ("`aide-compare sort`, of a database in order", ["aide-compare", "sort", old], None, None),

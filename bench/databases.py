@@ -110,10 +110,8 @@ class Pair:
         self.more_columns, self.sections = list(more_columns), sections
 
     def openings(self, level):
-        """How often a run opens each database: for two passes, and once for each list and the details, or for the lines."""
-        if level == "lines":
-            return 3 if self.sections else 2
-        return 2 if level == "minimal" else 2 + self.sections
+        """How often a run opens each database: for two passes, and in a report once for each list and the details."""
+        return 2 if level in ("minimal", "lines") else 2 + self.sections
 
     def has(self, number, is_new):
         if is_one_of(self.removed if is_new else self.added, number):

@@ -5,7 +5,7 @@ It makes pairs of databases that differ in one way each and prints a table in Ma
 is one reading of both databases: the report at `minimal` takes two, and every other report one more for each list of
 entries and one for the details. `sha256sum` reads both databases as often as the program opens them.
 
-With --lines PROGRAM is the one that writes lines of JSON, which takes two openings, and a third one if the databases differ.
+With --lines PROGRAM is the one that writes lines of JSON, which takes two openings.
 
 With --instructions, valgrind's cachegrind counts the instructions of the program and of `sha256sum`. The counts are the
 same in every run, and the rows are ordered by their ratio. Without it they are ordered by the ratio of times. With --counts
