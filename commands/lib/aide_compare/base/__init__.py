@@ -1,1 +1,2 @@
-"""What every other folder stands on: escapes, statuses, files by descriptor, rights, processes, options, times."""
+"""What every other layer stands on: escapes, statuses, files by descriptor, rights, processes,
+options, times."""

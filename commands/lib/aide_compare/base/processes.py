@@ -1,118 +1,229 @@
-"""Processes: a program that is run; work in a child, which holds only what it needs, and is ended if it takes too long; and the
-rights of another user, so that a user who can write in a folder gains nothing from what root does there."""
+"""Processes: a program that is run, and work in a child, which holds only what it needs, and is
+ended if it takes too long. No other module starts one."""
+from __future__ import annotations
+
 import ctypes
 import fcntl
 import math
 import os
-import pwd
 import resource
 import select
 import signal
+import subprocess
 import time
+from collections.abc import Callable, Container, Iterable, Mapping, Sequence
 from contextlib import ExitStack, suppress
+from functools import partial
+from types import MappingProxyType
+from typing import Union
 
-from aide_compare.base.ending import Fault, Status, failing, fault_of, write_all
+from aide_compare.base.ending import Fault, Status, fault_of, write_all
 from aide_compare.base.escapes import guarded, shown
-from aide_compare.base.folders import closed_after
+from aide_compare.base.directories import closed_after
 
-MOST_RESULT, MOST_FILE, BLOCK = 1 << 20, 256 << 20, 1 << 18
-PAUSE, STOP_SECONDS = 0.25, 10
-FIRST_FREE, NOT_STARTED = 10, 127
+MAX_RESULT = 1 << 20
+MAX_FILE = 256 << 20
+BLOCK = 1 << 18
+PAUSE = 0.25
+STOP_SECONDS = 10
+NOT_STARTED = 127
 PR_SET_PDEATHSIG = 1
 
+# What takes the bytes that come from a descriptor, as they come.
+Taker = Callable[[bytes], object]
+# What a child does; it answers with a few bytes.
+Work = Callable[[], bytes]
+# By the number of a child, what is called now and then while it runs.
+Watch = Callable[[int], Callable[[], None]]
+# A program and its arguments.
+Words = Sequence[Union[str, bytes]]
+NO_DESCRIPTORS: Mapping[int, int] = MappingProxyType({})
 
-def end_with(parent):
+
+class OverTime(Fault):
+    """A program was not over by its deadline."""
+
+    def __init__(self, program: str | bytes) -> None:
+        super().__init__(Status.DEVICE, f"{shown(program)} took too long, and was killed")
+
+
+def end_with(parent: int) -> bool:
     """The kernel ends this process when its parent ends. False if that has ended already."""
     ctypes.CDLL(None).prctl(PR_SET_PDEATHSIG, signal.SIGKILL)
     return os.getppid() == parent
 
 
-def bound_of(kind, most):
+def bound_of(kind: int, limit: int) -> None:
     """Bounds what this process may take of something, and leaves its own right to less."""
     limits = resource.getrlimit(kind)
-    resource.setrlimit(kind, (min([most] + [limit for limit in limits if limit >= 0]), limits[1]))
+    finite = [each for each in limits if each >= 0]
+    resource.setrlimit(kind, (min([limit, *finite]), limits[1]))
 
 
-def _started(words, given, environment):
-    """The number of the process of a program, in a group of its own. `given` are its descriptors by the numbers that they have
-    there; other standard ones are /dev/null. It writes no larger file than MOST_FILE and leaves no core behind, and the kernel
-    ends it if this process ends first."""
-    parent, places = os.getpid(), {}
+# The limits of the memory of this process before it has limited itself.
+_limits_before: tuple[int, int] | None = None
+
+
+def limit_memory(limit: int) -> None:
+    """From now on this process can take so many bytes more. Programs that it starts have the limits
+    of before: they have bounds of their own."""
+    global _limits_before
+    _limits_before = resource.getrlimit(resource.RLIMIT_AS)
+    with open("/proc/self/statm", encoding="ascii") as file:
+        pages = int(file.read().split()[0])
+    bound_of(resource.RLIMIT_AS, pages * resource.getpagesize() + limit)
+
+
+def _prepare_program(parent: int, places: Mapping[int, int]) -> None:
+    """What the process of a program does before it becomes that: it has a group of its own, ends
+    with its parent, has its descriptors by the numbers that they have there, and has bounds."""
+    os.setpgid(0, 0)
+    if not end_with(parent):
+        os._exit(NOT_STARTED)
+    for place, descriptor in places.items():
+        os.dup2(descriptor, place)
+    if _limits_before:
+        resource.setrlimit(resource.RLIMIT_AS, _limits_before)
+    bound_of(resource.RLIMIT_FSIZE, MAX_FILE)
+    bound_of(resource.RLIMIT_CORE, 0)
+
+
+def _occupy_numbers(last: int, opened: ExitStack) -> None:
+    """Opens files until all numbers up to this one are taken, so that no descriptor of Python's own
+    has one that a program is given."""
+    while (descriptor := os.open("/dev/null", os.O_PATH | os.O_CLOEXEC)) <= last:
+        opened.enter_context(closed_after(descriptor))
+    os.close(descriptor)
+
+
+def _start(
+    words: Words, descriptors: Mapping[int, int], environment: Mapping[str, str]
+) -> subprocess.Popen[bytes]:
+    """Starts a program. `descriptors` are its own by the numbers that they have there; other
+    standard ones are /dev/null. It writes no larger file than MAX_FILE and leaves no core behind,
+    and the kernel ends it if this process ends first."""
     with ExitStack() as opened:
-        for place, descriptor in given.items():  # Under numbers that are not among those that it is given.
-            copy = closed_after(fcntl.fcntl(descriptor, fcntl.F_DUPFD_CLOEXEC, FIRST_FREE))
-            places[place] = opened.enter_context(copy)
+        last = max([2, *descriptors])
+        _occupy_numbers(last, opened)
         null = opened.enter_context(closed_after(os.open("/dev/null", os.O_RDWR | os.O_CLOEXEC)))
-        child = os.fork()
-        if child == 0:
-            try:
-                os.setpgid(0, 0)
-                if end_with(parent):
-                    for place, descriptor in {**dict.fromkeys(range(3), null), **places}.items():
-                        os.dup2(descriptor, place)
-                    for number in (signal.SIGPIPE, signal.SIGXFSZ):
-                        signal.signal(number, signal.SIG_DFL)
-                    bound_of(resource.RLIMIT_FSIZE, MOST_FILE)
-                    bound_of(resource.RLIMIT_CORE, 0)
-                    os.execvpe(words[0], words, environment)
-            finally:
-                os._exit(NOT_STARTED)
-        return child
+        places = dict.fromkeys(range(3), null)
+        for place, descriptor in descriptors.items():
+            if descriptor <= last:  # Another one may be given this number.
+                descriptor = fcntl.fcntl(descriptor, fcntl.F_DUPFD_CLOEXEC, last + 1)
+                opened.enter_context(closed_after(descriptor))
+            places[place] = descriptor
+        process = subprocess.Popen(
+            words,
+            env=environment,
+            pass_fds=tuple(places),
+            preexec_fn=partial(_prepare_program, os.getpid(), places),
+        )
+    return process
 
 
-def run(words, takers, given=(), environment=os.environ, deadline=math.inf, watch=None):
-    """Runs a program to its end. Returns its exit code, negative for a signal; None if it was not over by the deadline, and is
-    killed then. What it writes to a descriptor with a taker goes there through a pipe. `given` are its other descriptors, by
-    their numbers. Meanwhile it calls now and then what `watch(child)` gives."""
-    status, readings = None, {}
+def _status_of(process: subprocess.Popen[bytes], deadline: float) -> int | None:
+    """The exit code of a program, negative for a signal; None if it has not ended by the
+    deadline."""
+    if deadline == math.inf:
+        return process.wait()
+    with suppress(subprocess.TimeoutExpired):
+        return process.wait(max(deadline - time.monotonic(), 0))
+    return None
+
+
+def run(
+    words: Words,
+    takers: Mapping[int, Taker],
+    descriptors: Mapping[int, int] = NO_DESCRIPTORS,
+    environment: Mapping[str, str] = os.environ,
+    deadline: float = math.inf,
+    watch: Watch | None = None,
+) -> int:
+    """Runs a program to its end. Returns its exit code, negative for a signal; NOT_STARTED if there
+    is no such program. One that was not over by the deadline is killed, and that is an OverTime.
+
+    What it writes to a descriptor with a taker goes there through a pipe. `descriptors` are its
+    other ones, by their numbers. Meanwhile it calls now and then what `watch(child)` gives.
+    """
+    places = dict(descriptors)
+    readings = {}
     with ExitStack() as opened:
         with ExitStack() as writing:
-            places = dict(given)
             for place, taker in takers.items():
                 reading, places[place] = os.pipe()
                 opened.callback(os.close, reading)
                 writing.callback(os.close, places[place])
                 readings[reading] = taker
-            child = _started(words, places, environment)
+            try:
+                process = _start(words, places, environment)
+            except (FileNotFoundError, PermissionError, subprocess.SubprocessError):
+                return NOT_STARTED
+        status = None
         try:
-            if pump(readings, deadline, watch and watch(child)):
-                status = ended(child, deadline)
+            if pump(readings, deadline, watch(process.pid) if watch else None):
+                status = _status_of(process, deadline)
         finally:
             if status is None:
-                stop(child)
+                stop(process.pid)
+    if status is None:
+        raise OverTime(words[0])
     return status
 
 
-def _live(work, seconds, writing, keep):
-    """The life of the child: its answer is "=" and the result, or "!", the status of a Fault and its text. It holds only what
-    it needs. The alarm ends it if its parent was killed, and no process waits for it any more."""
+def start_child(work: Callable[[], int]) -> int:
+    """The number of a child that does some work, and ends with its status. The kernel ends it if
+    this process ends first."""
+    parent = os.getpid()
+    child = os.fork()
+    if child:
+        return child
+    status = NOT_STARTED
+    try:
+        if end_with(parent):
+            status = work()
+    finally:
+        os._exit(status)
+
+
+def _close_all_but(needed: Container[int]) -> None:
+    """Closes the descriptors of this process, but for some. Standard ones become /dev/null."""
+    null = os.open("/dev/null", os.O_RDWR)
+    for number in sorted(map(int, os.listdir("/proc/self/fd"))):
+        if number <= 2:
+            os.dup2(null, number)
+        elif number not in needed:
+            with suppress(OSError):
+                os.close(number)
+
+
+def _answer_of(work: Work, seconds: float, needed: Container[int]) -> bytes:
+    """What a child answers with: "=" and the result, or "!", the status of a Fault and its text. It
+    holds only what it needs. The alarm ends it if its parent was killed, which the kernel no longer
+    does when the work takes other rights."""
     try:
         signal.signal(signal.SIGPIPE, signal.SIG_IGN)
-        end_with(os.getppid())  # Which the kernel forgets if the work takes other rights.
         signal.signal(signal.SIGALRM, signal.SIG_DFL)
         signal.setitimer(signal.ITIMER_REAL, seconds + 5)
-        null = os.open("/dev/null", os.O_RDWR)
-        for number in sorted(map(int, os.listdir("/proc/self/fd"))):
-            if number <= 2:
-                os.dup2(null, number)
-            elif number not in (*keep, writing):
-                with suppress(OSError):
-                    os.close(number)
-        answer = b"=" + bytes(work() or b"")
+        _close_all_but(needed)
+        return b"=" + work()
     except BaseException as error:
         fault = fault_of(error)
-        answer = b"!%d %s" % (fault.status, fault.text.encode("utf-8", "backslashreplace"))
-    write_all(writing, answer)
+        return b"!%d %s" % (fault.status, fault.text.encode("utf-8", "backslashreplace"))
 
 
-def pump(takers, deadline=math.inf, tell=None):
-    """Gives what comes from each descriptor to its taker until all have ended; False if the time is over before that."""
+def pump(
+    takers: Mapping[int, Taker],
+    deadline: float = math.inf,
+    tell: Callable[[], None] | None = None,
+) -> bool:
+    """Gives what comes from each descriptor to its taker until all have ended; False if the time is
+    over before that."""
     waiting = dict(takers)
     while waiting:
-        left = deadline - time.monotonic()
-        if left <= 0:
+        remaining = deadline - time.monotonic()
+        if remaining <= 0:
             return False
-        for descriptor in select.select(list(waiting), [], [], min(left, PAUSE))[0]:
+        for descriptor in select.select(list(waiting), [], [], min(remaining, PAUSE))[0]:
             block = os.read(descriptor, BLOCK)
             if block:
                 waiting[descriptor](block)
@@ -123,120 +234,70 @@ def pump(takers, deadline=math.inf, tell=None):
     return True
 
 
-def kill_group(child):
+def kill_group(child: int) -> None:
     """Kills a child with its group."""
     for kill in (os.killpg, os.kill):
         with suppress(ProcessLookupError):
             kill(child, signal.SIGKILL)
 
 
-def ended(child, deadline):
+def ended(child: int, deadline: float) -> int | None:
     """The exit code of a child, negative for a signal; None if it has not ended by the deadline."""
     while True:
-        found, status = os.waitpid(child, 0 if deadline == math.inf else os.WNOHANG)
-        if found:
+        process, status = os.waitpid(child, os.WNOHANG)
+        if process:
             return os.waitstatus_to_exitcode(status)
         if time.monotonic() >= deadline:
             return None
         time.sleep(0.01)
 
 
-def stop(child):
-    """Kills a child with its group: its exit code. One in a call that does not return is left to itself after some seconds."""
+def stop(child: int) -> int | None:
+    """Kills a child with its group: its exit code. One in a call that does not return is left to
+    itself after some seconds."""
     kill_group(child)
     return ended(child, time.monotonic() + STOP_SECONDS)
 
 
-def in_child(what, work, seconds, keep=(), beside=""):
-    """The bytes that `work()` gives in a child with these descriptors. A Fault of the work, with the text `beside` after it,
-    or the end of its time is a Fault here."""
+def in_child(
+    what: str, work: Work, seconds: float, keep: Iterable[int] = (), beside: str = ""
+) -> bytes:
+    """The bytes that `work()` gives in a child with these descriptors. A Fault of the work, with
+    the text `beside` after it, or the end of its time is a Fault here."""
     reading, writing = os.pipe()
-    child = os.fork()
-    if child == 0:
-        try:
-            _live(work, seconds, writing, keep)
-        finally:
-            os._exit(0)
-    os.close(writing)
-    answer, is_whole = bytearray(), False
+    needed = {*keep, writing}
 
-    def take(block):
+    def answer_in_child() -> int:
+        write_all(writing, _answer_of(work, seconds, needed))
+        return 0
+
+    child = start_child(answer_in_child)
+    os.close(writing)
+    answer = bytearray()
+
+    def take(block: bytes) -> None:
         answer.extend(block)
-        if len(answer) > MOST_RESULT:
+        if len(answer) > MAX_RESULT:
             raise OverflowError
 
+    is_whole = False
     try:
         with closed_after(reading), suppress(OverflowError):
             is_whole = pump({reading: take}, time.monotonic() + seconds)
     finally:
         stop(child)
     if not is_whole:
-        raise Fault(Status.DEVICE, "%s took more than %d seconds" % (what, seconds))
-    if answer[:1] == b"=":
+        raise Fault(Status.DEVICE, f"{what} took more than {seconds:.0f} seconds")
+    if answer.startswith(b"="):
         return bytes(answer[1:])
+    raise _fault_in(bytes(answer), beside) or Fault(
+        Status.DEVICE, f"{what} ended without an answer"
+    )
+
+
+def _fault_in(answer: bytes, beside: str) -> Fault | None:
+    """The Fault that the answer of a child says, if it says one."""
     status, _, text = answer[1:].decode("utf-8", "replace").partition(" ")
-    if answer[:1] != b"!" or not status.isdigit() or not 8 <= int(status) <= 127:
-        raise Fault(Status.DEVICE, "%s ended without an answer" % what)
-    raise Fault(int(status), guarded(text) + beside)
-
-
-def entry_of(uid):
-    """What the machine knows of a user; an entry with the number alone for one that it does not know."""
-    try:
-        return pwd.getpwuid(uid)
-    except KeyError:
-        return pwd.struct_passwd((str(uid), "", uid, uid, "", "/", ""))
-
-
-def name_of(uid):
-    """The name of a user for people."""
-    user = entry_of(uid).pw_name
-    return "the user %d" % uid if user == str(uid) else shown(user, 100)
-
-
-def _become(entry, groups):
-    """Gives the rights of this process up, and makes sure that they do not come back."""
-    uid, gid = entry.pw_uid, entry.pw_gid
-    os.setgroups(groups)
-    os.setresgid(gid, gid, gid)
-    os.setresuid(uid, uid, uid)
-    for come_back in (os.seteuid, os.setuid, os.setegid):
-        if uid == 0:
-            break
-        try:
-            come_back(0)
-        except PermissionError:
-            continue
-        if come_back is not os.setegid or gid != 0:
-            raise Fault(Status.DEVICE, "the privileges of root cannot be given up")
-
-
-def become(entry):
-    """This process becomes a user for good, with the groups and the environment of the user."""
-    with failing("cannot become %s" % name_of(entry.pw_uid)):
-        _become(entry, os.getgrouplist(entry.pw_name, entry.pw_gid))
-    os.environ.update(HOME=entry.pw_dir or "/", USER=entry.pw_name, LOGNAME=entry.pw_name)
-
-
-def give_up(user):
-    """This process becomes a user, by name: what --user asks for."""
-    try:
-        entry = pwd.getpwnam(user)
-    except KeyError:
-        raise Fault(Status.USAGE, "there is no user %s" % shown(user, 100))
-    if os.getuid() == os.geteuid() == entry.pw_uid:
-        return
-    if os.geteuid() != 0:
-        raise Fault(Status.USAGE, "only root can become %s" % shown(user, 100))
-    become(entry)
-
-
-def with_rights_of(uid, work, seconds=60, keep=()):
-    """The same in a child that has the rights of a user and nothing else."""
-
-    def become_and_work():
-        _become(entry_of(uid), [])
-        return work()
-
-    whose = "with the privileges of %s" % name_of(uid)
-    return in_child("the work " + whose, become_and_work, seconds, keep, " (%s)" % whose)
+    if answer.startswith(b"!") and status.isdigit() and 8 <= int(status) <= 127:
+        return Fault(int(status), guarded(text) + beside)
+    return None

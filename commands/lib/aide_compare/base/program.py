@@ -1,53 +1,143 @@
-"""Runs the proved program: found, given its databases as descriptors, and ended when the command ends."""
+"""Runs the proved program: found, given its databases as descriptors, and ended when the command
+ends."""
+from __future__ import annotations
+
 import os
+from collections.abc import Callable, Mapping, Sequence
+from contextlib import suppress
+from typing import NamedTuple
 
 from aide_compare.base import progress
 from aide_compare.base.ending import Fault, Status, reason
 from aide_compare.base.escapes import shown
 from aide_compare.base.processes import run
 
-OLD, NEW, CONFIGURATION = 3, 4, 5  # Its descriptors, beside the standard ones.
-DATABASES = "database_in=file:/proc/self/fd/%d\ndatabase_new=file:/proc/self/fd/%d" % (OLD, NEW)
-MOST_ERRORS = 1 << 20
-# The proved programs that write reports, and lines of JSON or what a configuration says; and the command with all subcommands.
-PROGRAM, LINES, FRONT = "libexec/aide-compare/aide", "libexec/aide-compare/aide_lines", "bin/aide-compare"
-KNOWN = tuple(range(8)) + (Status.USAGE, Status.CONFIGURATION, Status.DEVICE, Status.MEMORY, Status.DATABASE)
+# Its descriptors, beside the standard ones.
+OLD = 3
+NEW = 4
+CONFIGURATION = 5
+DESCRIPTORS = {"old": OLD, "new": NEW, "trusted_old": 6, "trusted_new": 7}
+DATABASES = f"database_in=file:/proc/self/fd/{OLD}\ndatabase_new=file:/proc/self/fd/{NEW}"
+MAX_ERRORS = 1 << 20
+# The proved programs that write reports, and lines of JSON or what a configuration says; and the
+# command with all subcommands.
+PROGRAM = "libexec/aide-compare/aide"
+LINES = "libexec/aide-compare/aide_lines"
+FRONT = "bin/aide-compare"
+# A program may stand there a second time, built for newer processors: those with x86-64-v3, by the
+# names of /proc/cpuinfo.
+NEWER = "-v3"
+NEEDED = frozenset("abm avx avx2 bmi1 bmi2 f16c fma movbe xsave".split())
+CPUINFO = "/proc/cpuinfo"
+MAX_CPUINFO = 1 << 13
+MAX_DIFFERENT = 7  # The statuses up to this one say what differs; those above, why not.
+FAILURES = (Status.USAGE, Status.CONFIGURATION, Status.DEVICE, Status.MEMORY, Status.DATABASE)
+KNOWN = (*range(MAX_DIFFERENT + 1), *map(int, FAILURES))
+
+
+class Answer(NamedTuple):
+    """How the program ended, and its error lines."""
+
+    status: int
+    errors: bytes
+
+
+class Tail:
+    """Takes blocks, and keeps the last bytes: of lines, the last one says what was counted."""
+
+    def __init__(self, limit: int) -> None:
+        self.limit = limit
+        self.data = b""
+
+    def take(self, block: bytes) -> None:
+        self.data = (self.data + block)[-self.limit :]
+
+    def last_line(self) -> bytes:
+        """The last line; nothing if it has no end."""
+        if not self.data.endswith(b"\n"):
+            return b""
+        return self.data[:-1].rpartition(b"\n")[2]
 
 
 class Drain:
-    """Takes blocks: the first `most` bytes go to `keep`, and all are counted."""
+    """Takes blocks: the first bytes go to `keep`, up to a limit, and all are counted."""
 
-    def __init__(self, most, keep):
-        self.most, self.keep, self.size = most, keep, 0
+    def __init__(self, limit: int, keep: Callable[[bytes], object]) -> None:
+        self.limit = limit
+        self.keep = keep
+        self.size = 0
 
-    def take(self, block):
-        self.keep(block[: max(self.most - self.size, 0)])
+    def take(self, block: bytes) -> None:
+        self.keep(block[: max(self.limit - self.size, 0)])
         self.size += len(block)
 
+    @property
+    def is_cut(self) -> bool:
+        return self.size > self.limit
 
-def find_installed(name):
-    """A file below the prefix of the commands, whose modules are in PREFIX/lib/aide-compare/python, or PREFIX/lib in the
-    repository. PATH does not count: the `aide` that it names is AIDE."""
-    library = os.path.dirname(os.path.dirname(os.path.dirname(os.path.realpath(__file__))))
-    prefix = os.path.realpath(library + ("/../../.." if os.path.basename(library) == "python" else "/.."))
-    path = os.path.join(prefix, name)
+
+def runs_newer() -> bool:
+    """Whether the first processor that the system tells of runs the builds for newer ones. All
+    processors of a machine do, or none. Where the system does not tell, none does."""
+    with suppress(OSError), open(CPUINFO, "rb") as file:
+        for line in file.read(MAX_CPUINFO).decode("ascii", "replace").splitlines():
+            if line.startswith("flags"):
+                return NEEDED.issubset(line.partition(":")[2].split())
+    return False
+
+
+def installed_builds(name: str) -> list[str]:
+    """The builds of a program that are installed, the one for every processor first."""
+    path = installed_path(name)
+    newer = path + NEWER
+    if os.path.isfile(newer) and os.access(newer, os.X_OK):
+        return [path, newer]
+    return [path]
+
+
+def find_installed(name: str) -> str:
+    """A file below the prefix of the commands: of a program, the build for newer processors where
+    this machine has one."""
+    builds = installed_builds(name)
+    if len(builds) > 1 and runs_newer():
+        return builds[-1]
+    return builds[0]
+
+
+def installed_path(name: str) -> str:
+    """A file below the prefix of the commands, whose modules are in PREFIX/lib/aide-compare/python,
+    or PREFIX/lib in the repository. PATH does not count: the `aide` that it names is AIDE."""
+    modules = os.path.dirname(os.path.dirname(os.path.realpath(__file__)))
+    library = os.path.dirname(modules)
+    above = ".."
+    if os.path.basename(library) == "python":
+        above = "../../.."
+    path = os.path.join(os.path.realpath(os.path.join(library, above)), name)
     if not (os.path.isfile(path) and os.access(path, os.X_OK)):
-        raise Fault(Status.DEVICE, "cannot find %s, which came with this command" % shown(path))
+        raise Fault(Status.DEVICE, f"cannot find {shown(path)}, which came with this command")
     return path
 
 
-def run_program(program, words, given, take):
-    """The status of the program, a Fault unless it is one of its own, and its error lines. `given` are the descriptors of the
+def run_program(
+    program: str,
+    words: Sequence[str | bytes],
+    descriptors: Mapping[int, int],
+    take: Callable[[bytes], object],
+) -> Answer:
+    """Runs the program. A Fault unless its status is one of its own. `descriptors` are those of the
     databases, 3 and 4, and of the configuration, 5. What it writes goes to `take`."""
-    lines, databases = [], [given[place] for place in (OLD, NEW) if place in given]
-    takers = {1: take, 2: Drain(MOST_ERRORS, lines.append).take}
+    errors = bytearray()
+    databases = [descriptors[place] for place in (OLD, NEW) if place in descriptors]
+    takers = {1: take, 2: Drain(MAX_ERRORS, errors.extend).take}
+    environment = {**os.environ, "LC_ALL": "C"}
+    watch = progress.watching(databases)
     try:
-        ended = run([program] + words, takers, given, {**os.environ, "LC_ALL": "C"}, watch=progress.watching(databases))
+        status = run([program, *words], takers, descriptors, environment, watch=watch)
     except OSError as error:
-        raise Fault(Status.DEVICE, "cannot run %s: %s" % (shown(program), reason(error)))
-    progress.done("the program has run")
-    if ended < 0:
-        raise Fault(Status.DEVICE, "%s was ended by signal %d" % (shown(program), -ended))
-    if ended not in KNOWN:
-        raise Fault(Status.DEVICE, "%s could not be run: status %d" % (shown(program), ended))
-    return ended, b"".join(lines)
+        raise Fault(Status.DEVICE, f"cannot run {shown(program)}: {reason(error)}")
+    progress.note_step("the program has run")
+    if status < 0:
+        raise Fault(Status.DEVICE, f"{shown(program)} was ended by signal {-status}")
+    if status not in KNOWN:
+        raise Fault(Status.DEVICE, f"{shown(program)} could not be run: status {status}")
+    return Answer(status, bytes(errors))

@@ -1,40 +1,70 @@
 """The words that all commands have: the sides and the kinds of changes, counts, and times."""
+from __future__ import annotations
+
 import time
+from collections.abc import Mapping
+from operator import itemgetter
+from typing import TypeVar
+
+# What is counted: all of one kind, which has an order.
+Thing = TypeVar("Thing")
 
 # In the order in which states, lines and pages have them.
 SIDES = ("old", "new")
+# The pair that a comparison may have beside them.
+TRUSTED_SIDES = ("trusted_old", "trusted_new")
 KINDS = ("added", "removed", "changed")
 SEVERITIES = ("high", "medium", "low")
 
 
-def date_of(seconds):
-    """A time since 1970 as "2026-11-25T12:00:00Z"; a time that has no date as "@" and its seconds."""
+def words_of_side(side: str) -> str:
+    """A side for people, as "trusted old"."""
+    return side.replace("_", " ")
+
+
+def date_of(seconds: int) -> str:
+    """A time since 1970 as "2026-11-25T12:00:00Z"; a time that has no date as "@" and its
+    seconds."""
     try:
         return time.strftime("%Y-%m-%dT%H:%M:%SZ", time.gmtime(seconds))
     except (OverflowError, ValueError, OSError):
-        return "@%d" % seconds
+        return f"@{seconds}"
 
 
-def minute_of(seconds):
+def minute_of(seconds: int) -> str:
     """The same for people, such as "2026-11-25 12:00 UTC"."""
     date = date_of(seconds)
-    return date if date[:1] == "@" else date.replace("T", " ")[: -len(":00Z")] + " UTC"
+    if date.startswith("@"):
+        return date
+    return date.replace("T", " ")[: -len(":00Z")] + " UTC"
 
 
-def age_in_words(seconds):
-    for name, unit, most in (("seconds", 1, 120), ("minutes", 60, 120), ("hours", 3600, 72)):
-        if seconds < unit * most:
-            return "%d %s" % (seconds // unit, name)
-    return "%d days" % (seconds // 86400)
+def age_in_words(seconds: float) -> str:
+    """How long something has been, in the unit that gives a short number."""
+    for name, unit, limit in (("second", 1, 120), ("minute", 60, 120), ("hour", 3600, 72)):
+        if seconds < unit * limit:
+            return counted(int(seconds // unit), name)
+    return counted(int(seconds // 86400), "day")
 
 
-def counted(number, word, form="d"):
+def counted(number: int, word: str, form: str = "d") -> str:
     """A number in a form and a word, which is in the plural unless the number is 1."""
-    plural = word[:-1] + "ies" if word.endswith("y") else word + "s"
-    return "%s %s" % (format(number, form), word if number == 1 else plural)
+    if number == 1:
+        return f"{number:{form}} {word}"
+    if word.endswith("y") and word[-2] not in "aeiou":
+        return f"{number:{form}} {word[:-1]}ies"
+    return f"{number:{form}} {word}s"
 
 
-def most_frequent(counts, most):
-    """The greatest of some counts, so many of them, and the others: each as it is counted, with its count."""
-    pairs = sorted(counts.items(), key=lambda pair: (-pair[1], pair[0]))
-    return pairs[:most], pairs[most:]
+def most_frequent(
+    counts: Mapping[Thing, int], limit: int
+) -> tuple[list[tuple[Thing, int]], list[tuple[Thing, int]]]:
+    """The greatest of some counts, so many of them, and the others: each with its count."""
+    pairs = sorted(counts.items(), key=itemgetter(0))
+    pairs.sort(key=itemgetter(1), reverse=True)
+    return pairs[:limit], pairs[limit:]
+
+
+def status_of(counts: tuple[int, int, int]) -> int:
+    """The status of a comparison with these counts of what was added, removed and changed."""
+    return sum(bit for bit, count in zip((1, 2, 4), counts) if count)

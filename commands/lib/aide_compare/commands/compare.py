@@ -1,161 +1,180 @@
 """aide-compare: compares two databases, explains errors, and keeps the result in a state file."""
+from __future__ import annotations
+
 import os
 import shlex
+from collections.abc import Iterator, Sequence
+from typing import TYPE_CHECKING, Optional
 
 from aide_compare.base import progress
-from aide_compare.base.ending import Fault, Status, failing, say, write_all
+from aide_compare.base.ending import Fault, Status, failing, say, write_all, write_blocks
 from aide_compare.base.escapes import guarded, shown
 from aide_compare.base.files import copy_file
-from aide_compare.base.options import EVIDENCE, RUN, Parser, defaults_for, named_evidence, place_of, some_text
-from aide_compare.base.processes import give_up
-from aide_compare.base.words import SIDES, date_of
-from aide_compare.compare.comparison import Comparison, Request
-from aide_compare.compare.exclusions import read_exclusions
-from aide_compare.compare.outputs import Handed, Handing, Output
-from aide_compare.show.told import are_wanted, coloured, tell
+from aide_compare.base.options import COMPARISON_DEFAULTS
+from aide_compare.base.parser import defaults_for
+from aide_compare.base.rights import give_up
+from aide_compare.base.words import date_of, words_of_side
+from aide_compare.commands.compare_task import (
+    TRY,
+    CompareRequest,
+    Reporter,
+    Task,
+    check_databases,
+    compare_request,
+    keep_failure,
+)
+from aide_compare.compare.comparison import Comparison
+from aide_compare.compare.work import report_of
+from aide_compare.show.told import coloured, no_difference, tell, wants_colours, with_names
 
-DESCRIPTION = "Compares two AIDE databases, plain or compressed by gzip. The report goes to standard output."
-TRY = "try: aide-compare compare --help"
-FORMATS, STDOUT = ("report", "brief"), ("-", "/dev/stdout", "/dev/fd/1")
-EVERYBODY_READS = 0o644
-EPILOG = """Times are as in 90s, 15m, 26h or 3d; a plain number is seconds. Sizes are in bytes, or as in 500k, 20M or 1G.
-Where another user can write in the directory of the state file, or above it, it is written with that user's privileges.
-Root compares with the privileges of the user in whose directory the baseline is, unless --user names another one.
+if TYPE_CHECKING:
+    from aide_compare.changes.judged import Judged
 
-Status: that of aide-compare-program(8). 0 no difference, 1 to 7 differences, above 7 no comparison."""
-
-
-def parser():
-    """The options of a comparison, which aide-compare mail has too."""
-    quiet = "print neither report nor notes: only why nothing was compared"
-    usage = "aide-compare [compare] [OPTIONS] [OLD NEW]"
-    made = Parser("aide-compare compare", DESCRIPTION, quiet, epilog=EPILOG, usage=usage)
-    add, take = made.add_argument, made.take
-    databases = "the databases, - for standard input; without them the configuration names both"
-    add("databases", nargs="*", metavar="OLD NEW", type=some_text, help=databases)
-    take("config", help="the configuration (/dev/null with OLD NEW, otherwise AIDE's, /etc/aide/aide.conf or /etc/aide.conf)")
-    take("after", "before")
-    take("state", help="write the status, the time, the counts and both SHA-256 to FILE; - is standard output")
-    take("max-size", default=Request.max_size)
-    take("max-report", default=Request.max_report, help="refuse a longer report (1G)")
-    take("max-age", default=0, help="refuse a new database that is older, as 50h, or from the future (0: no limit)")
-    take("exclude-from", "exclude", "reasons")
-    add("--format", choices=FORMATS, help="what is printed: the report, or what people should read first (on a terminal)")
-    add("--brief", action="store_const", const="brief", dest="format", help="--format brief")
-    take("json", "page", *EVIDENCE, "user", "no-defaults")
-    return made
+STDOUT = ("-", "/dev/stdout", "/dev/fd/1")
+NAME_LINES = (b"Old database: ", b"New database: ")
+# People compare digests in base 16.
+BASE16 = "report_base16=yes"
+# What a terminal has beside what people read first: two lines for the databases, notes, and the
+# command for the report.
+LINES_BESIDE = 6
+# What standard output gets: what people read first, the report of AIDE, or nothing.
+BRIEF = "brief"
+REPORT = "report"
+NOTHING = ""
 
 
-def request_of(given, databases, **more):
-    """What options ask for that compare two databases: these, or without names those of the configuration."""
-    old, new = databases or (None, None)
-    if old == new == "-":
-        raise Fault(Status.USAGE, "standard input has one database only")
-    texts = {name: getattr(given, name) for name in ("before", "after", "max_size")}
-    return Request(old=old, new=new, configuration=given.config, **texts, **more)
+def form_of(request: CompareRequest) -> str:
+    """What standard output gets: nothing with -q, or if it is the file of another output."""
+    has_state = request.state in STDOUT
+    if has_state and request.wants_report:
+        text = "only one of --state and --report can be on standard output"
+        raise Fault(Status.USAGE, text, TRY)
+    if has_state or request.is_quiet:
+        return NOTHING
+    if request.wants_report or "report_" in request.after + request.before:
+        return REPORT
+    return BRIEF
 
 
-class Task:
-    """A comparison as the options ask for it, and what is written of it. `lines`: whoever is told of it reads its lines.
-    `explains`: all of them, as a page has them. `weighs`: he wants what people read first."""
-
-    def __init__(self, given, lines=True, explains=False, weighs=False):
-        if named_evidence(given) and not given.reasons:
-            raise Fault(Status.USAGE, "%s needs --reasons" % named_evidence(given), TRY)
-        if len(given.databases) not in (0, 2):
-            few = "name both databases, OLD and NEW, or none"
-            many = "more than two databases: %s" % shown(given.databases[-1], 200)
-            raise Fault(Status.USAGE, few if len(given.databases) < 2 else many, TRY)
-        self.handing, self.wanted = Handing(os.geteuid() == 0 and not given.user), None
-        usual = None if given.exclude_from or given.no_defaults else place_of("without")
-        exclusions = read_exclusions([usual] if usual else given.exclude_from, given.exclude)
-        explains = bool(explains or weighs or given.reasons or given.json or given.page)
-        more = {"max_age": given.max_age, "max_report": given.max_report, "lines": lines or explains}
-        self.request = request_of(given, given.databases, exclusions=exclusions, handing=self.handing, **more)
-        if explains:
-            # The modules for it are more than all others together.
-            from aide_compare.show.explained import Wanted
-
-            self.wanted = Wanted(given, self.handing.later, weighs)
-        state = Output(given.state, "the state file", EVERYBODY_READS).begin() if given.state else None
-        self.state = self.handing.later(state) if state else None
-
-    def is_child(self):
-        """Whether this process compares for its parent, with the rights of another user."""
-        return self.handing.owner is not None
-
-    def carry_out(self, told, printed=lambda *_: None):
-        """Compares, explains, and writes what is wanted. First the Comparison and what explains it, or None, are `printed`: if
-        they cannot be, nothing was compared. When the state is written all is `told`. Returns the status, and the State."""
-        comparison, explained = Comparison(self.request), None
-        try:
-            comparison.run()
-            if self.wanted and comparison.status <= 7:
-                explained = self.wanted.explain(comparison)
-            printed(comparison, explained)
-            if self.wanted and comparison.status <= 7:
-                self.wanted.write(explained)
-        except Handed as handed:
-            status = handed.args[0]
-            try:
-                state = self.state.state(status) if self.state else None
-                for output in self.handing.outputs:
-                    output.put()
-                return status, state
-            except Fault as fault:
-                comparison.end_by(fault)
-        except (Fault, MemoryError, OSError) as error:
-            comparison.end_by(error)
-        if self.is_child() and comparison.fault:
-            comparison.fault.more += (self.handing.hint(),)
-        state = comparison.state() if self.state else None
-        if state:
-            self.state.commit(state.text())
-        if self.wanted and comparison.status > 7:
-            self.wanted.write(None)
-        told(comparison, explained)
-        return comparison.status, state
+def named_lines(report: int, comparison: Comparison) -> Iterator[bytes]:
+    """The lines of a report, by its descriptor, in which both databases have their names."""
+    with open(os.dup(report), "rb") as file:
+        file.seek(0)
+        for line in file:
+            if line.startswith(NAME_LINES):
+                line = with_names(line, comparison, b" database: ")
+            yield line
 
 
-def format_of(given):
-    """What standard output gets, one of FORMATS; nothing with -q, and if it is the file of another output."""
-    taken = [name for name in ("json", "page", "state") if getattr(given, name) in STDOUT]
-    if len(taken) + (given.format is not None) > 1:
-        raise Fault(Status.USAGE, "only one of --json, --page, --state and --format can be on standard output", TRY)
-    is_read = os.isatty(1) and not given.after  # Who gives options of the report wants to see that.
-    return None if taken or given.quiet else given.format or ("brief" if is_read else "report")
+class Printer(Reporter):
+    """Prints a comparison: first what there is to say beside it, then what was found, so that on a
+    terminal nothing pushes that off the screen."""
+
+    def __init__(self, request: CompareRequest, arguments: Sequence[str]) -> None:
+        self.request = request
+        self.form = form_of(request)
+        self.arguments = arguments
+        self.has_told = False
+
+    @property
+    def task_request(self) -> CompareRequest:
+        """What is compared so that it can be printed."""
+        if self.form != REPORT or not os.isatty(1):
+            return self.request
+        lines = [line for line in (BASE16, self.request.before) if line]
+        return self.request._replace(before="\n".join(lines))
+
+    def print(self, comparison: Comparison, judged: Optional[Judged]) -> None:
+        """Prints what was asked for. A comparison that fails meanwhile prints nothing."""
+        progress.end()
+        if comparison.has_failed:
+            return
+        text = self._brief(comparison, judged) if self.form == BRIEF else b""
+        if text:
+            self._tell_beside(comparison, is_brief=True)
+            with failing("cannot write the report"):
+                self._print_brief(text, comparison)
+        elif self.form == NOTHING:
+            self._tell_beside(comparison, is_brief=False)
+        else:
+            report = report_of(comparison)
+            self._tell_beside(comparison, is_brief=False)
+            with failing("cannot write the report"):
+                self._print_report(report, comparison)
+
+    def conclude(self, comparison: Comparison, judged: Optional[Judged]) -> bytes:
+        """Says why nothing was compared, or what was said of it before the report."""
+        progress.end()
+        if comparison.has_failed or not self.has_told:
+            tell(comparison, self.request.is_quiet, self.request.is_verbose)
+        return b""
+
+    def _brief(self, comparison: Comparison, judged: Optional[Judged]) -> bytes:
+        """What people read first; nothing if the changes are not known, so that the report is
+        printed."""
+        if comparison.status == 0:
+            return no_difference(comparison)
+        if judged is None:
+            return b""
+        from aide_compare.show.judgement import brief_of
+
+        return brief_of(judged)
+
+    def _tell_beside(self, comparison: Comparison, is_brief: bool) -> None:
+        """Says what is not in a report: it names only the descriptors of the databases."""
+        self.has_told = True
+        tell(comparison, self.request.is_quiet, self.request.is_verbose)
+        if self.request.is_quiet or not comparison.differs:
+            return
+        for side, copy in comparison.copies.items():
+            line = f"{words_of_side(side)} database: {shown(copy.name)}, "
+            if copy.written is not None:
+                line += f"written {date_of(int(copy.written))}, "
+            say(f"{line}SHA-256 {copy.sha256}")
+        if comparison.standings and not (is_brief and os.isatty(1)):
+            say(comparison.standings.words())
+
+    def _print_report(self, report: int, comparison: Comparison) -> None:
+        if os.isatty(1):
+            write_blocks(1, named_lines(report, comparison))
+        else:
+            copy_file(report, 1)
+
+    def _print_brief(self, text: bytes, comparison: Comparison) -> None:
+        """On a terminal the first line comes again at the end if the screen is too small for
+        all."""
+        if wants_colours(self.request.color):
+            write_all(1, coloured(text))
+        else:
+            write_all(1, text)
+        if not os.isatty(1) or not comparison.differs:
+            return
+        report = guarded(shlex.join(["aide-compare", "--report", *self.arguments]))
+        write_all(1, b"\nAIDE's report: %s\n" % report.encode("utf-8", "backslashreplace"))
+        if 0 < os.get_terminal_size(1).lines < text.count(b"\n") + LINES_BESIDE:
+            write_all(1, text.partition(b"\n")[0] + b"\n")
 
 
-def main(arguments):
-    given = parser().parse(defaults_for(RUN, arguments) + arguments)
-    if given.user:
-        give_up(given.user)
-    form = format_of(given)
-    if not given.quiet:
+def task_of(arguments: list[str]) -> tuple[Task, Printer]:
+    """The comparison that arguments ask for with the administrator's defaults before them, and who
+    prints it."""
+    words = [*defaults_for(COMPARISON_DEFAULTS, arguments), *arguments]
+    request = compare_request(words)
+    printer = Printer(request, arguments)
+    if not request.is_quiet:
         progress.begin(2)
+    judges = request.state is not None or printer.form == BRIEF
+    return Task(printer.task_request, judges), printer
 
-    def printed(comparison, explained):
-        """The report, or what people read first of the changes."""
-        progress.end()
-        text = explained.brief() if explained and form == "brief" and comparison.differs else b""
-        report = comparison.report() if form and comparison.status <= 7 and not text else None
-        with failing("cannot write the report"):
-            if text:
-                write_all(1, coloured(text) if are_wanted(given.color) else text)
-                whole = guarded(shlex.join(["aide-compare", "--format", "report", *arguments]))
-                write_all(1, b"" if given.format else b"\nThe whole report: %s\n" % whole.encode("utf-8", "backslashreplace"))
-            elif report is not None and comparison.status <= 7:
-                copy_file(report, 1)
 
-    def told(comparison, _):
-        """All else. A report names only the descriptors of the databases."""
-        progress.end()
-        tell(comparison, given.quiet)
-        for side in SIDES if comparison.differs and not given.quiet else ():
-            copy = comparison.copies[side]
-            written = "" if copy.written is None else "written %s, " % date_of(int(copy.written))
-            say("%s database: %s, %sSHA-256 %s" % (side, shown(copy.name), written, copy.sha256))
-        if comparison.reasons and not given.quiet:
-            say(comparison.reasons.said())
-
-    return Task(given, lines=given.state is not None, weighs=form == "brief").carry_out(told, printed)[0]
+def main(arguments: list[str]) -> int:
+    own_request = compare_request(arguments)
+    check_databases(own_request.databases)
+    if own_request.user:
+        give_up(own_request.user)
+    try:
+        task, printer = task_of(arguments)
+    except Fault as fault:
+        keep_failure(own_request.state, fault)
+        raise
+    return task.carry_out(printer).status

@@ -1,35 +1,47 @@
-"""aide-compare: finds the subcommand and runs its module. A command line as AIDE has it goes to the proved program as it is."""
+"""aide-compare: finds the subcommand and runs its module. A command line as AIDE has it goes to the
+proved program as it is."""
+from __future__ import annotations
+
 import os
 import re
+from collections.abc import Callable, Iterable, Sequence
+from typing import NoReturn
 
 from aide_compare.base.ending import Fault, Status, called, failing, write_all
 from aide_compare.base.escapes import shown
 
 # Each is a module of its name, of which only the one that is asked for is loaded.
-COMMANDS = ("compare", "json", "page", "mail", "accept", "status", "sort", "setup", "version")
-# Each is a module and its function.
-HOSTS = {
-    "fetch": ("hosts", "fetch_one"),
-    "compare": ("hosts", "compare_many"),
-    "accept": ("hosts", "accept_one"),
-    "report": ("hosts_report", "main"),
-}
-JOBS = {"-E", "-D", "--compare", "--config-check"}
+COMMANDS = (
+    "compare",
+    "show",
+    "json",
+    "page",
+    "mail",
+    "accept",
+    "archive",
+    "status",
+    "sort",
+    "setup",
+    "version",
+)
+# Of these the module begins with hosts_.
+HOSTS = ("add", "fetch", "compare", "accept", "report")
+PROGRAM_JOBS = {"-E", "-D", "--compare", "--config-check"}
 USAGE = """\
 usage: aide-compare [compare] [OPTIONS] [OLD NEW]
        aide-compare SUBCOMMAND [OPTIONS] ...
 
-  aide-compare old.db new.db             a report of what differs
+  aide-compare old.db new.db             what differs, the most severe first
   aide-compare                           the databases of AIDE's configuration
-  aide-compare --reasons old.db new.db   and what packages, logs, rules explain
   aide-compare setup                     each day on this machine, with a mail
 
-  compare    compare two databases       json     a report as lines of JSON
-  mail       compare, and send a mail    page     such lines as a page
-  status     the last result: for logs,  sort     put a database into path order
-             Nagios and Prometheus       setup    make this machine ready
+  compare    compare two databases       json     what differs as lines of JSON
+  show PATH  one entry of both in full   page     what differs as a page
+  mail       compare, and send a mail
+  status     the last result: for you,   sort     put a database into path order
+             logs and Prometheus         setup    make this machine ready
   accept     make a database the         version  the program, whether proved
-             baseline
+             baseline                    archive  one after signed upgrades
   hosts      fetch, compare, accept and report: the same for many hosts
   help WORD  the options of a subcommand
 
@@ -38,84 +50,113 @@ reads options as AIDE does: man aide-compare-program. The manual:
 man aide-compare
 """
 HOSTS_USAGE = """\
-usage: aide-compare hosts fetch [OPTIONS] HOST          its new database, by ssh
-       aide-compare hosts compare [OPTIONS] HOSTS-FILE  fetch and compare all
+usage: aide-compare hosts add [OPTIONS] HOST            a new host: asks first
+       aide-compare hosts fetch [OPTIONS] HOST          its new database, by ssh
+       aide-compare hosts compare [OPTIONS] [FILE]      fetch and compare all
        aide-compare hosts accept [OPTIONS] HOST         a new baseline of a host
-       aide-compare hosts report [OPTIONS] HOSTS-FILE   what differs on all
+       aide-compare hosts report [OPTIONS] [FILE]       what differs on all
 
 aide-compare hosts fetch --help and so on say more: man aide-compare-hosts
 """
-HELP, WORDS = ("--help", "-h"), (*COMMANDS, "hosts", "help")
+HELP = ("--help", "-h")
+WORDS = (*COMMANDS, "hosts", "help")
+COMMAND_NAME = re.compile("[A-Za-z][A-Za-z-]{0,19}")
 
 
-def become_program(arguments):
+def become_program(arguments: list[str]) -> NoReturn:
     """The proved program takes the place of this process."""
     import signal
+
     from aide_compare.base.program import PROGRAM, find_installed
 
     program = find_installed(PROGRAM)
     for number in (signal.SIGPIPE, signal.SIGXFSZ):  # Which the interpreter ignores.
         signal.signal(number, signal.SIG_DFL)
-    with failing("cannot run %s" % shown(program)):
-        os.execv(program, [program] + arguments)
+    with failing(f"cannot run {shown(program)}"):
+        os.execv(program, [program, *arguments])
+    raise AssertionError("the program has taken the place of this process")
 
 
-def nearest(word, names):
+def nearest(word: str, names: Iterable[str]) -> list[str]:
     """The name that a word is like, in a list; an empty one if there is none."""
     import difflib
 
-    return difflib.get_close_matches(word, names, 1)
+    return difflib.get_close_matches(word, list(names), 1)
 
 
-def refuse(word, names, what):
+def refuse(word: str, names: Iterable[str], command: str) -> NoReturn:
     """A Fault that names the nearest one of what there is."""
-    near = nearest(word, names)
-    hint = "did you mean: %s %s" % (what, near[0]) if near else "try: %s --help" % what
-    raise Fault(Status.USAGE, "there is no %s %s" % (what, shown(word, 100)), hint)
+    hint = f"try: {command} --help"
+    for name in nearest(word, names):
+        hint = f"did you mean: {command} {name}"
+    raise Fault(Status.USAGE, f"there is no {command} {shown(word, 100)}", hint)
 
 
-def loaded(module, function="main"):
-    """What a subcommand does."""
+def print_usage(text: str) -> int:
+    write_all(1, text.encode())
+    return Status.OK
+
+
+def loaded(name: str) -> Callable[[Sequence[str]], int]:
+    """The function `main` of a module of commands."""
     import importlib
 
-    return getattr(importlib.import_module("aide_compare.commands." + module), function)
+    module = importlib.import_module(f"aide_compare.commands.{name}")
+    main: Callable[[Sequence[str]], int] = module.main
+    return main
 
 
-def hosts(arguments):
+def run_hosts(arguments: list[str]) -> int:
     word = arguments[0] if arguments else "--help"
     if word in HELP:
-        write_all(1, HOSTS_USAGE.encode())
-        return Status.OK
+        return print_usage(HOSTS_USAGE)
     if word not in HOSTS:
         refuse(word, HOSTS, "aide-compare hosts")
-    called("aide-compare hosts " + word)
-    return loaded(*HOSTS[word])(arguments[1:])
+    called(f"aide-compare hosts {word}")
+    return loaded(f"hosts_{word}")(arguments[1:])
 
 
-def help_of(words):
-    """The usage of the words after `help`, or of the whole."""
+def print_help(words: list[str]) -> int:
+    """Prints the usage of the words after `help`, or of the whole."""
     if not words or words[0] in HELP:
-        write_all(1, USAGE.encode())
-        return Status.OK
+        return print_usage(USAGE)
     if words[0] not in WORDS:
         refuse(words[0], WORDS, "aide-compare help")
-    return main(words[: 2 if words[0] == "hosts" else 1] + ["--help"])
+    if words[0] == "hosts":
+        return main([*words[:2], "--help"])
+    return main([words[0], "--help"])
 
 
-def main(arguments):
+def is_misspelt(arguments: list[str]) -> bool:
+    """Whether the first word seems to be meant as a subcommand, and not as a path."""
     word = arguments[0] if arguments else ""
-    if word.startswith("-") and JOBS & set(arguments):
-        return become_program(arguments)
-    if word in HELP or word == "help":
-        return help_of(arguments[1:] if word == "help" else [])
+    if not COMMAND_NAME.fullmatch(word) or os.path.lexists(word):
+        return False
+    return len(arguments) == 1 or bool(nearest(word, WORDS))
+
+
+def main(arguments: list[str]) -> int:
+    word = arguments[0] if arguments else ""
+    if word.startswith("-") and PROGRAM_JOBS & set(arguments):
+        become_program(arguments)
+    if word in HELP:
+        return print_help([])
+    if word == "help":
+        return print_help(arguments[1:])
     if word == "hosts":
-        return hosts(arguments[1:])
+        return run_hosts(arguments[1:])
     if word == "--version":
-        word, arguments = "version", ["version"] + arguments[1:]
-    if word not in COMMANDS:
-        is_path = not re.fullmatch("[A-Za-z][A-Za-z-]{0,19}", word) or os.path.lexists(word)
-        if not is_path and (len(arguments) == 1 or nearest(word, WORDS)):
-            refuse(word, WORDS, "aide-compare")
-        word, arguments = "compare", ["compare"] + arguments
-    called("aide-compare" + (" " + word) * (word != "compare"))
-    return loaded(word)(arguments[1:])
+        return run_command("version", arguments[1:])
+    if word in COMMANDS:
+        return run_command(word, arguments[1:])
+    if is_misspelt(arguments):
+        refuse(word, WORDS, "aide-compare")
+    return run_command("compare", arguments)
+
+
+def run_command(name: str, arguments: list[str]) -> int:
+    if name == "compare":
+        called("aide-compare")
+    else:
+        called(f"aide-compare {name}")
+    return loaded(name)(arguments)

@@ -1,181 +1,299 @@
-"""aide-compare hosts report: what differs on all hosts, each change once, as text, as JSON, as a page or as a mail."""
+"""aide-compare hosts report: what differs on all hosts, each change once, as text, as JSON, as a
+page or as a mail."""
+from __future__ import annotations
+
 import json
 import os
 import shlex
+from typing import Iterable, Iterator, NamedTuple, Optional, Sequence
 
 from aide_compare.base import progress
 from aide_compare.base.ending import Fault, Status, write_blocks
-from aide_compare.base.files import Spool
+from aide_compare.base.spool import Spool
 from aide_compare.base.line_sorter import LineSorter
-from aide_compare.base.options import ALARMS, Parser, duration, matching, pattern, some_text
+from aide_compare.base.kinds import Server, duration, matching, pattern
+from aide_compare.base.options import HTML, MAIL_TIME, RESULT_AGE, SMTP, TO, Option
+from aide_compare.base.parser import Parser, add_option
+from aide_compare.base.paths import Pattern
 from aide_compare.base.program import FRONT, find_installed
-from aide_compare.commands.mail import add_sending
-from aide_compare.compare.outputs import Output
-from aide_compare.compare.state import AGE
-from aide_compare.hosts.fleet_store import SECONDS, STORE, share_of
-from aide_compare.hosts.host_changes import SameChanges, standing_of
-from aide_compare.hosts.hosts_read import CUT, UNREADABLE, differs, hosts_of, is_explained, read_host
-from aide_compare.hosts.hosts_text import headline, report_lines
-from aide_compare.lines.reader import ENCODE, bytes_of
-from aide_compare.show.added import written
+from aide_compare.hosts.canary import notes_in
+from aide_compare.hosts.host_changes import SameChanges
+from aide_compare.hosts.hosts_page import page
+from aide_compare.hosts.hosts_read import CUT, UNREADABLE, differs, hosts_of, is_silent, read_host
+from aide_compare.hosts.hosts_text import Change, Report, headline, report_lines, short_lines
+from aide_compare.hosts.shares import rank_of
+from aide_compare.hosts.store import HOSTS_FILE, SECONDS, STORE, share_of
+from aide_compare.lines.change import Fields, bytes_of
+from aide_compare.lines.reader import ENCODE
+from aide_compare.mail.message import build, clean, within
+from aide_compare.mail.sending import alert, deliver, way_out
 from aide_compare.show.told import severity_in_colour
 
-NAME, FORMAT = "aide-compare hosts report", 2
-BLOCK, GREATEST = 1 << 18, 10**12
-LEAST_MAIL, BRIEF = 16 << 10, 4 << 10
+NAME = "aide-compare hosts report"
+FORMAT = 3
+BLOCK = 1 << 18
+GREATEST = 10**12
+# The page that a mail may have. It leaves out what has no room, and says how much.
+MAX_MAILED_PAGE = 500000
+COLUMNS = 78
 
 
-def whole_command(given):
-    """The command that prints all that this one leaves out, with the options that say what it is about."""
+DESCRIPTION = """\
+Reports what differs on the hosts of HOSTS-FILE, as aide-compare hosts compare has found it:
+which hosts were not compared, and each change once with the hosts that have it."""
+EPILOG = """Ends with the greatest status of all hosts, as aide-compare hosts compare does: 0,
+up to 7 if there are differences and each host was compared, more if a host was not.
+15, 18 or 22 if it cannot do its work."""
+
+
+class ReportRequest(NamedTuple):
+    """What the options ask for."""
+
+    hosts_file: str
+    stores: Sequence[str]  # That of a host is the one of its share.
+    seconds: int
+    max_age: int
+    patterns: Sequence[Pattern]  # Of the paths that are reported; all without any.
+    max_hosts: int
+    order: str
+    format: str
+    address: str  # "" without a mail.
+    has_page: bool  # The mail has the page too.
+    smtp: Optional[Server]
+    mail_seconds: int
+    is_quiet: bool
+    color: str
+
+
+def command_words(request: ReportRequest) -> list[str]:
+    """The command that prints all that this one leaves out."""
     words = [find_installed(FRONT), "hosts", "report"]
-    for store in given.store:
-        words += ["--store", os.path.abspath(store)]
-    for each in given.only_path:
-        words += ["--only-path", os.fsdecode(each.text)]
-    if given.max_age != AGE:
-        words += ["--max-age", str(given.max_age)]
-    return words + [os.path.abspath(given.file)]
+    if list(request.stores) != [STORE]:
+        for store in request.stores:
+            words += ["--store", os.path.abspath(store)]
+    for wanted in request.patterns:
+        words += ["--only-path", os.fsdecode(wanted.text)]
+    if request.max_age != RESULT_AGE.default:
+        words += ["--max-age", str(request.max_age)]
+    if request.hosts_file != HOSTS_FILE:
+        words.append(os.path.abspath(request.hosts_file))
+    return words
 
 
-def read_hosts(names, given):
-    """The objects of all hosts, which are read one after the other, and the changes that are asked for."""
-    changes, hosts = SameChanges(), []
+def command_text(words: Iterable[str]) -> str:
+    """A command for a shell, in lines that fit a mail."""
+    first, *others = map(shlex.quote, words)
+    lines = [first]
+    for word in others:
+        if len(lines[-1]) + len(word) + 3 > COLUMNS:
+            lines[-1] += " \\"
+            lines.append(f"    {word}")
+        else:
+            lines[-1] += f" {word}"
+    return "\n  ".join(lines)
+
+
+def is_wanted(fields: Fields, patterns: Sequence[Pattern]) -> bool:
+    if not patterns:
+        return True
+    pieces = bytes_of(fields, "path")[1:].split(b"/")
+    return any(wanted.matches(pieces) for wanted in patterns)
+
+
+def read_hosts(names: Sequence[str], request: ReportRequest) -> tuple[list[Fields], SameChanges]:
+    """The objects of all hosts, which are read one after the other, and the changes that are asked
+    for."""
+    changes = SameChanges()
+    hosts = []
     for number, name in enumerate(names):
 
-        def take(fields):
-            pieces = bytes_of(fields, "path")[1:].split(b"/")
-            if not given.only_path or any(each.matches(pieces) for each in given.only_path):
+        def add(fields: Fields) -> None:
+            if is_wanted(fields, request.patterns):
                 changes.add(number, fields)
 
-        store = given.store[share_of(name, len(given.store)) - 1]
-        hosts.append(read_host(name, store, given.time, given.max_age, take))
+        store = request.stores[share_of(name, len(request.stores)) - 1]
+        hosts.append(read_host(name, store, request.seconds, request.max_age, add))
     return hosts, changes
 
 
-class HostsReport:
-    """The report: the summary, the objects of the hosts, and those of the changes in a private file, a line each."""
+def sort_key(fields: Fields, order: str, by_severity: bool) -> bytes:
+    """What a change is sorted by; those with one key stay in the order of paths."""
+    rank = rank_of(fields.get("severity", "")) if by_severity else 0
+    place = 0
+    if order == "rare":
+        place = fields["hosts"]
+    elif order == "common":
+        place = GREATEST - fields["hosts"]
+    return b"%d%012d" % (rank, place)
 
-    def __init__(self, names, given):
-        self.hosts, found = read_hosts(names, given)
-        self.body, self.command, sorter, count = Spool(), shlex.join(whole_command(given)), LineSorter(), 0
-        for fields in found.objects(names, given.max_hosts):  # Within the order that is asked for they stay in that of paths.
-            place = fields["hosts"] if given.order == "rare" else GREATEST - fields["hosts"]
-            key = b"" if given.order == "path" else b"%d%d%012d" % (*standing_of(fields), place)
-            sorter.put(b"%s\t%s\n" % (key, ENCODE(fields).encode()))
-            count += 1
-        for line in sorter.lines():
-            self.body.write(line.partition(b"\t")[2])
-        self.body.flush()
-        self.worst = max(host["status"] for host in self.hosts)
+
+class HostsReport:
+    """The report: the summary, the objects of the hosts, and those of the changes in a private
+    file.
+
+    In that file each change has a line: the numbers of the hosts that may pay for it, a tab, and
+    its object.
+    """
+
+    def __init__(self, names: Sequence[str], request: ReportRequest) -> None:
+        self.hosts, same_changes = read_hosts(names, request)
+        self.command = command_text(command_words(request))
+        self.body = Spool()
+        by_severity = request.format != "json" or request.order != "path"
+        changes = same_changes.objects(names, request.max_hosts)
+        count = self._sort(changes, request.order, by_severity)
+        self.worst = max(int(host["status"]) for host in self.hosts)
+        # Silent differences are no reason for a mail.
+        self.is_alarm = any(differs(host) or host["status"] > 7 for host in self.hosts)
         differ = [host for host in self.hosts if differs(host)]
-        self.summary = {
+        self.summary: Fields = {
             "record": "summary",
             "format": FORMAT,
             "hosts": len(names),
             "unchanged": sum(host["status"] == 0 for host in self.hosts),
             "differ": len(differ),
-            "explained": sum(map(is_explained, differ)),
+            "silent": sum(map(is_silent, self.hosts)),
             "not_compared": sum(host["status"] > 7 for host in self.hosts),
             "cut": sum(host["report"] == CUT for host in differ),
             "not_listed": sum(host["report"] == UNREADABLE for host in differ),
             "changes": count,
-            "order": given.order,
+            "order": request.order,
             "lines": 1 + len(names) + count,
         }
+        notes = notes_in(request.stores)
+        if notes:
+            self.summary["canary"] = notes
 
-    def changes(self):
+    def _sort(self, changes: Iterator[Change], order: str, by_severity: bool) -> int:
+        """Writes the changes in an order, and within it in that of paths. Returns how many."""
+        sorter = LineSorter()
+        count = 0
+        for fields, payers in changes:
+            key = sort_key(fields, order, by_severity)
+            numbers = ",".join(map(str, payers)).encode()
+            sorter.put(b"%s\t%s\t%s\n" % (key, numbers, ENCODE(fields).encode()))
+            count += 1
+        for line in sorter.lines():
+            self.body.write(line.partition(b"\t")[2])
+        self.body.flush()
+        return count
+
+    def changes(self) -> Iterator[Change]:
         self.body.seek(0)
-        return map(json.loads, self.body)
+        for line in self.body:
+            numbers, _, text = line.partition(b"\t")
+            yield json.loads(text), [int(number) for number in numbers.split(b",")]
 
-    def json(self):
-        """Yields the lines of JSON, in parts."""
-        for fields in [self.summary] + self.hosts:
+    def report(self) -> Report:
+        return Report(self.summary, self.hosts, self.changes, self.command)
+
+    def json(self) -> Iterator[bytes]:
+        """Yields the lines of JSON."""
+        for fields in [self.summary, *self.hosts]:
             yield ENCODE(fields).encode() + b"\n"
         self.body.seek(0)
-        yield from iter(lambda: self.body.read(BLOCK), b"")
+        for line in self.body:
+            yield line.partition(b"\t")[2]
 
-    def text(self, choice="never", most=None):
-        """Yields the lines of the text, with severities in colours: all of them, or those that come to so many bytes."""
-        for line in report_lines(self.summary, self.hosts, self.changes(), self.command, most):
-            yield (severity_in_colour(line, choice) + "\n").encode("utf-8", "backslashreplace")
+    def text(self, color: str) -> Iterator[bytes]:
+        """Yields the lines of the whole text, with severities in colours."""
+        for line in report_lines(self.report()):
+            yield encoded(severity_in_colour(line, color))
 
-    def page(self):
-        from aide_compare.hosts.hosts_page import page
+    def brief(self) -> Iterator[bytes]:
+        """Yields the lines of the short text."""
+        return map(encoded, short_lines(self.report()))
 
-        return page(self.summary, self.hosts, self.changes(), self.command)
-
-    def mail(self, given, is_alarm):
+    def send(self, request: ReportRequest) -> None:
         """Sends one mail about all hosts, and none if there is nothing to say."""
-        from aide_compare.mail.message import build, clean
-        from aide_compare.mail.sending import alert, deliver, way_out
-
         try:
-            way = way_out(given.smtp, given.mail_time)
+            way = way_out(request.smtp, request.mail_seconds)
         except Fault as fault:
-            alert("%s; %s" % (fault.text, headline(self.summary)))
+            alert(f"{fault.text}; {headline(self.summary)}")
             raise
-        if is_alarm:
-            text = clean(b"".join(self.text(most=given.max_mail * 3 // 4)))
-            deliver(way, build(given.to, headline(self.summary), text))
+        if not self.is_alarm:
+            return
+        attached = None
+        if request.has_page:
+            attached = within(page(self.report(), MAX_MAILED_PAGE), 2 * MAX_MAILED_PAGE)
+        text = clean(b"".join(self.brief()))
+        deliver(way, build(request.address, headline(self.summary), text, attached))
+
+    def parts(self, form: str, color: str) -> Iterable[bytes]:
+        """The bytes of the report in a format."""
+        if form == "brief":
+            return self.brief()
+        if form == "json":
+            return self.json()
+        if form == "page":
+            return page(self.report())
+        return self.text(color)
 
 
-def options():
-    parser = Parser(
-        NAME,
-        "Reports what differs on the hosts of HOSTS-FILE, as aide-compare hosts compare has found it: which hosts were\n"
-        "not compared, and each change once with the hosts that have it.",
-        "print nothing if no host raises an alarm",
-        epilog="Ends with the greatest status of all hosts, as aide-compare hosts compare does: 0, up to 7 if there are\n"
-        "differences and each host was compared, more if a host was not. 15, 18 or 22 if it cannot do\n"
-        "its work.",
+def encoded(line: str) -> bytes:
+    return (line + "\n").encode("utf-8", "backslashreplace")
+
+
+def own_parser() -> Parser:
+    quiet = "print nothing if no host differs and each was compared"
+    parser = Parser(NAME, DESCRIPTION, quiet, epilog=EPILOG)
+    stores = (
+        f"where the reports are kept ({STORE}); given N times: the Kth one is that of --share K/N"
     )
-    stores = "where the reports are kept (%s); given N times: the Kth one is that of --share K/N" % STORE
-    parser.value("store", "DIR", some_text, stores, action="append")
     orders = "changes by path (as JSON), on the fewest hosts first (as text), or on the most"
-    parser.add_argument("--order", choices=("path", "rare", "common"), help=orders)
     paths = "only changes of these paths, as in /usr/local/**"
-    parser.value("only-path", "PATTERN", pattern, paths, action="append", default=[])
     count = matching("[1-9][0-9]{0,4}|100000", "a number from 1 to 100000", int)
-    parser.value("max-hosts", "N", count, "how many hosts of a change are named (20)", default=20)
-    parser.take("max-age", default=AGE, help="a host that was compared longer ago counts as not compared (26h; 0: no limit)")
-    parser.value("time", "TIME", duration, "how long to wait for a run over a host (10m)", default=SECONDS)
+    named = "how many hosts of a change are named (20)"
+    age = "a host that was compared longer ago counts as not compared (26h; 0: no limit)"
+    wait = "how long to wait for a run over a host (10m)"
+    parser.add(
+        Option("--store", stores, metavar="DIR", is_repeated=True),
+        Option("--order", orders, choices=("path", "rare", "common")),
+        Option("--only-path", paths, metavar="PATTERN", kind=pattern, is_repeated=True),
+        Option("--max-hosts", named, metavar="N", kind=count, default=20),
+        RESULT_AGE._replace(help=age),
+        Option("--time", wait, metavar="TIME", kind=duration, default=SECONDS),
+    )
     form = parser.add_mutually_exclusive_group()
-    what = "text (the default), brief: its beginning, json: one object a line, or page: for a browser"
-    form.add_argument("--format", choices=("text", "brief", "json", "page"), help=what)
-    form.add_argument("--brief", action="store_const", const="brief", dest="format", help="--format brief")
-    add_sending(parser, form, help="mail the text, if a host differs or was not compared")
-    parser.take("alarm", help="with --to or --quiet: unexplained: not if all changes are explained")
-    parser.take("json", "page")
-    parser.add_argument("file", metavar="HOSTS-FILE", help="a name a line; - is standard input")
+    formats = "text (the default), brief: 80 lines, json: an object a line, or page: for a browser"
+    add_option(form, Option("--format", formats, choices=("text", "brief", "json", "page")))
+    to = "mail the brief text, if a host differs or was not compared"
+    add_option(form, TO._replace(help=to))
+    parser.add(HTML._replace(help="with --to: send the page with the text"), SMTP, MAIL_TIME)
+    text = f"a name a line; - is standard input ({HOSTS_FILE})"
+    parser.add_operand("file", "HOSTS-FILE", text, nargs="?", default=HOSTS_FILE)
     return parser
 
 
-def main(arguments):
-    given = options().parse(arguments)
-    given.order = given.order or ("path" if given.format == "json" else "rare")
-    if given.max_mail < LEAST_MAIL:
-        raise Fault(Status.USAGE, "--max-mail needs at least %d bytes" % LEAST_MAIL)
-    names, given.store = hosts_of(given.file), given.store or [STORE]
-    outputs = {name: Output(path, "the " + name) for name, path in (("json", given.json), ("page", given.page)) if path}
-    on_stdout = [output for output in outputs.values() if output.fd == 1]
-    if len(on_stdout) + (given.format is not None) > 1:
-        raise Fault(Status.USAGE, "only one of --json, --page and --format can be on standard output")
-    for output in outputs.values():
-        output.begin()
+def request_of(arguments: Sequence[str]) -> ReportRequest:
+    args = own_parser().parse(arguments)
+    if args.html and not args.to:
+        raise Fault(Status.USAGE, "--html goes with --to", f"try: {NAME} --help")
+    usual_order = "path" if args.format == "json" else "rare"
+    return ReportRequest(
+        hosts_file=args.file,
+        stores=args.store or [STORE],
+        seconds=args.time,
+        max_age=args.max_age,
+        patterns=args.only_path,
+        max_hosts=args.max_hosts,
+        order=args.order or usual_order,
+        format=args.format or "text",
+        address=args.to or "",
+        has_page=args.html,
+        smtp=args.smtp,
+        mail_seconds=args.mail_time,
+        is_quiet=args.quiet,
+        color=args.color,
+    )
 
-    report = HostsReport(names, given)
-    progress.done("the hosts are read")
-    is_alarm = report.worst if given.alarm == ALARMS[0] else not all(map(is_explained, report.hosts))
-    forms = {
-        "text": lambda: report.text(given.color),
-        "brief": lambda: report.text(given.color, BRIEF),
-        "json": report.json,
-        "page": report.page,
-    }
-    for name, output in outputs.items():
-        output.commit(written(forms[name]()))
-    if given.to:
-        report.mail(given, is_alarm)
-    elif not on_stdout and (is_alarm or not given.quiet):
-        write_blocks(1, forms[given.format or "text"]())
+
+def main(arguments: Sequence[str]) -> int:
+    request = request_of(arguments)
+    report = HostsReport(hosts_of(request.hosts_file), request)
+    progress.note_step("the hosts are read")
+    if request.address:
+        report.send(request)
+    elif report.is_alarm or not request.is_quiet:
+        write_blocks(1, report.parts(request.format, request.color))
     return report.worst

@@ -1,57 +1,99 @@
 """aide-compare json: the changes between two databases as JSON, one object a line."""
-import argparse
-import re
+from __future__ import annotations
 
-from aide_compare.base.escapes import shown
-from aide_compare.commands.streams import parser_of_changes, write_changes
+import re
+from collections.abc import Iterator, Sequence
+from typing import TYPE_CHECKING, NamedTuple, Optional
+
+from aide_compare.base.kinds import refusal
+from aide_compare.base.options import Option
+from aide_compare.commands.streams import parser_of_changes, stream_request, write_changes
+from aide_compare.lines.change import Fields
+
+if TYPE_CHECKING:
+    from aide_compare.changes.judged import Judged
+    from aide_compare.compare.comparison import Comparison
+    from aide_compare.lines.reader import Reader
 
 NAME = "aide-compare json"
-DESCRIPTION = "Writes the changes between two databases as JSON, one object a line, or reads such lines and adds to them."
+DESCRIPTION = (
+    "Writes the changes between two databases as JSON, one object a line, or reads such lines and"
+    " adds to them."
+)
 EPILOG = """The manual page aide-compare-json(1) describes the objects.
 Status: that of aide-compare-compare(1) for two databases.
 Example: aide-compare json --full old.gz new.gz"""
-MEMBER = re.compile("[A-Za-z_@][A-Za-z0-9_.@-]{0,63}")
-MOST_MEMBERS, LONGEST = 64, 4096
+MEMBER_NAME = re.compile("[A-Za-z_@][A-Za-z0-9_.@-]{0,63}")
+MAX_MEMBERS = 64
+MAX_VALUE = 4096
 # The members that lines have themselves.
-TAKEN = frozenset(
-    "format differences total added removed changed entries old new kind path path_hex summary type old_text new_text "
-    "severity reason reasons left_out skipped end status".split()
+OWN_MEMBERS = frozenset(
+    "format total added removed changed same_as_old same_as_trusted others old new trusted_old"
+    " trusted_new kind path path_hex summary same_as type old_text new_text standing standings"
+    " severity package left_out skipped end status".split()
 )
 
 
-def member(text):
+class Member(NamedTuple):
+    """What a line gets."""
+
+    name: str
+    value: str
+
+
+def is_surrogate(letter: str) -> bool:
+    """Whether a letter stands for a byte that is no UTF-8."""
+    return "\ud800" <= letter <= "\udfff"
+
+
+def member(text: str) -> Member:
     """A member of each line, from NAME=VALUE."""
     name, equals, value = text.partition("=")
-    if not equals or not MEMBER.fullmatch(name) or name in TAKEN:
-        raise argparse.ArgumentTypeError(
-            "needs NAME=VALUE with a name of letters, digits and _ . @ - that lines do not have yet: %s" % shown(text, 100)
-        )
-    if len(value) > LONGEST or any("\ud800" <= letter <= "\udfff" for letter in value):
-        raise argparse.ArgumentTypeError("needs a value in UTF-8 of at most %d letters: %s" % (LONGEST, shown(text, 100)))
-    return name, value
+    if not equals or not MEMBER_NAME.fullmatch(name) or name in OWN_MEMBERS:
+        form = "a name of letters, digits and _ . @ - that lines do not have yet"
+        raise refusal(f"NAME=VALUE with {form}", text)
+    if len(value) > MAX_VALUE or any(map(is_surrogate, value)):
+        raise refusal(f"a value in UTF-8 of at most {MAX_VALUE} letters", text)
+    return Member(name, value)
 
 
-def main(arguments):
-    from aide_compare.show.added import added_lines, full_members, summary_of
+class JsonForm(NamedTuple):
+    """What the lines get, as the options ask for it."""
 
+    members: Fields
+    is_full: bool
+    has_names: bool
+
+    def parts(
+        self, reader: Reader, comparison: Optional[Comparison], judged: Optional[Judged]
+    ) -> Iterator[bytes]:
+        """The lines of changes with all that is added."""
+        from aide_compare.show.added import added_lines, full_members
+
+        each: Fields = {}
+        if self.is_full:
+            each.update(full_members(reader.summary, comparison))
+        each.update(self.members)
+        return added_lines(reader, comparison, each, self.has_names, judged)
+
+
+def main(arguments: Sequence[str]) -> int:
     parser = parser_of_changes(NAME, DESCRIPTION, EPILOG)
-    forms = {"choices": ("lines", "aide"), "default": "lines"}
-    parser.value("format", "FORMAT", str, "lines (the default), or aide: one object with the names of AIDE 0.18", **forms)
-    parser.flag("full", "each line says host, times, status and both digests")
-    several = {"dest": "members", "action": "append", "default": []}
-    parser.value("with", "NAME=VALUE", member, "an additional member for each line, such as site=berlin", **several)
-    parser.flag("names", "the names that this host has for numbers of users and groups, as texts")
-    given = parser.parse(arguments)
-    more = dict(given.members)
-    if len(more) < len(given.members) or len(more) > MOST_MEMBERS:
-        parser.error("more than %d members, or one given twice by --with" % MOST_MEMBERS)
-
-    def parts_of(reader, comparison):
-        each = {**(full_members(reader.summary, comparison) if given.full else {}), **more}
-        if given.format == "lines":
-            return added_lines(reader, comparison, each, given.names)
-        from aide_compare.lines.json_aide import aide_parts
-
-        return aide_parts(reader, summary_of(reader.summary, comparison), each, comparison and comparison.time)
-
-    return write_changes(given, parts_of)
+    parser.add(
+        Option("--full", "each line says host, times, status and both digests"),
+        Option(
+            "--with",
+            "an additional member for each line, such as site=berlin",
+            metavar="NAME=VALUE",
+            kind=member,
+            is_repeated=True,
+        ),
+        Option("--names", "the names that this host has for numbers of users and groups, as texts"),
+    )
+    args = parser.parse(arguments)
+    wanted: Sequence[Member] = getattr(args, "with")
+    members: Fields = dict(wanted)
+    if len(members) < len(wanted) or len(members) > MAX_MEMBERS:
+        parser.error(f"more than {MAX_MEMBERS} members, or one given twice by --with")
+    form = JsonForm(members, args.full, args.names)
+    return write_changes(stream_request(args), form.parts)

@@ -1,24 +1,54 @@
 """aide-compare page: the changes between two databases as a page to look at."""
-from aide_compare.commands.streams import parser_of_changes, write_changes
+from __future__ import annotations
+
+from collections.abc import Iterator, Sequence
+from typing import TYPE_CHECKING, NamedTuple, Optional
+
+from aide_compare.base.kinds import any_text
+from aide_compare.base.options import Option
+from aide_compare.commands.streams import parser_of_changes, stream_request, write_changes
+
+if TYPE_CHECKING:
+    from aide_compare.changes.judged import Judged
+    from aide_compare.compare.comparison import Comparison
+    from aide_compare.lines.reader import Reader
+
+NAME = "aide-compare page"
+DESCRIPTION = (
+    "Makes a page to look at of the changes between two databases, or of the lines of aide-compare"
+    " json."
+)
+EPILOG = "Example: aide-compare page old.gz new.gz > page.html"
 
 
-def main(arguments):
-    parser = parser_of_changes(
-        "aide-compare page",
-        "Makes a page to look at of the changes between two databases, or of the lines of aide-compare json.",
-        "Example: aide-compare page old.gz new.gz > page.html",
-    )
-    parser.value("title", "TEXT", None, "the heading of the page, such as the name of the host")
-    parser.flag("plain", "no script: the list only, as for mail")
-    given = parser.parse(arguments)
+class PageForm(NamedTuple):
+    """What the page is like, as the options ask for it."""
 
-    def parts_of(reader, comparison):
-        from aide_compare.show.added import full_members, summary_of
+    title: str  # "" for one that names the host.
+    is_plain: bool
+
+    def parts(
+        self, reader: Reader, comparison: Optional[Comparison], judged: Optional[Judged]
+    ) -> Iterator[bytes]:
+        """The page of changes."""
+        from aide_compare.lines.reader import reader_over
+        from aide_compare.show.added import added_lines, full_members, written
         from aide_compare.show.page import page
 
         if comparison:
-            summary = reader.summary
-            reader.summary = {**summary_of(summary, comparison), **full_members(summary, comparison)}
-        return page(reader, given.title, given.plain)
+            members = full_members(reader.summary, comparison)
+            lines = added_lines(reader, comparison, members, judged=judged)
+            reader = reader_over(written(lines))
+        return page(reader, self.title, self.is_plain)
 
-    return write_changes(given, parts_of)
+
+def main(arguments: Sequence[str]) -> int:
+    parser = parser_of_changes(NAME, DESCRIPTION, EPILOG)
+    title = "the heading of the page, such as the name of the host"
+    parser.add(
+        Option("--title", title, metavar="TEXT", kind=any_text, default=""),
+        Option("--plain", "no script: the list only, as for mail"),
+    )
+    args = parser.parse(arguments)
+    form = PageForm(args.title, args.plain)
+    return write_changes(stream_request(args), form.parts)

@@ -1,117 +1,170 @@
 """aide-compare sort: a database in path order, whatever its size, in little memory."""
-import re
+from __future__ import annotations
+
+from collections.abc import Iterator, Sequence
+from typing import NamedTuple
 
 from aide_compare.base import progress
+from aide_compare.base.database import MAX_LINE, Kind, Layout
 from aide_compare.base.ending import Fault, Status, say, write_blocks
 from aide_compare.base.escapes import shown
-from aide_compare.base.files import Spool
 from aide_compare.base.line_sorter import LineSorter
-from aide_compare.base.options import Parser, some_text
-from aide_compare.base.paths import key_of, path_of
-from aide_compare.compare.unpack import copy_database
+from aide_compare.base.options import MAX_SIZE
+from aide_compare.base.parser import Parser
+from aide_compare.base.paths import path_of
+from aide_compare.base.spool import Spool
+from aide_compare.compare.unpack import Copy, copy_database
 
 BLOCK = 1 << 16
-# aide-compare refuses longer lines.
-MOST_LINE = 1 << 20
-MOST_BYTES = 1 << 36
-MOST_NAMED = 100
+MAX_NAMED = 100
 
-DESCRIPTION = """Writes a database in path order, as aide-compare wants it, to standard output.
+NAME = "aide-compare sort"
+DESCRIPTION = """\
+Writes a database in path order, as aide-compare wants it, to standard output.
 
-AIDE itself always writes path order. A database straight from AIDE that is out of order is damaged, for example by
-a full disk: make it anew. Sort only what another tool wrote or merged."""
+AIDE itself always writes path order. A database straight from AIDE that is out of order is
+damaged, for example by a full disk: make it anew. Sort only what another tool wrote or merged."""
+EPILOG = (
+    "Status: 0 sorted; 24 a path stands twice, or this is no database; 15, 18, 22: see"
+    " aide-compare-sort(1)."
+)
 ADVICE = (
-    "AIDE itself writes path order: if this database is straight from AIDE, it is damaged (was the disk full?), so make "
-    "it anew; sort only what another tool wrote or merged"
+    "AIDE itself writes path order: if this database is straight from AIDE, it is damaged (was the"
+    " disk full?), so make it anew; sort only what another tool wrote or merged"
 )
 
 
-class Unsorted:
-    """A database that is read once: its entries are given to a sorter, and the lines before them are kept in `head`. `end` is
-    where the end line begins in `file`, `count` how many entries there are, and `breaks` how many of them have to come before
-    the one above them."""
+class SortRequest(NamedTuple):
+    """What the options ask for."""
 
-    def __init__(self, copy, give):
-        self.file, self.give = open(copy.fd, "rb", buffering=BLOCK), give
+    path: str
+    max_size: int
+    is_quiet: bool
+
+
+class Unsorted:
+    """A database that is read once: its entries are given to a sorter, the lines before them are
+    kept in `head`, and `end` is where its end line begins in `file`."""
+
+    def __init__(self, copy: Copy, sorter: LineSorter) -> None:
+        self.file = open(copy.fd, "rb", buffering=BLOCK)
         self.file.seek(0)
-        self.head, self.end, self.name_field, self.count, self.breaks, self.last = Spool(), 0, None, 0, 0, b""
-        for number, line in enumerate(iter(lambda: self.file.readline(MOST_LINE + 2), b""), 1):
-            if len(line.rstrip(b"\n")) > MOST_LINE:
-                raise Fault(Status.DATABASE, "line %d: more than %d bytes" % (number, MOST_LINE))
-            start = line.lstrip(b" \t")[:2]
-            words = re.findall(rb"[^ \t\n]+", line) if start == b"@@" else []
-            if words[:1] == [b"@@end_db"]:
+        self.sorter = sorter
+        self.head = Spool()
+        self.end = 0
+        self.count = 0
+        # How many entries have to come before the one above them.
+        self.breaks = 0
+        self._last_key = b""
+        self.layout = Layout()
+        self._read()
+
+    def _read(self) -> None:
+        for number, line in enumerate(self._lines(), 1):
+            kind = self.layout.kind_of(line)
+            if kind is Kind.END:
                 return
-            if words or start[:1] in (b"", b"\n", b"#"):
-                self.head.write(line)
+            if kind is Kind.ENTRY:
+                self._read_entry(number, line)
             else:
-                self._take_entry(number, line)
-            if words[:1] == [b"@@db_spec"] and b"name" in words:  # The place of the paths.
-                self.name_field = re.compile(rb"[ \t]*(?:[^ \t\n]+[ \t]+){%d}([^ \t\n]+)" % (words.index(b"name") - 1))
+                self.head.write(line)
             self.end += len(line)
         raise Fault(Status.DATABASE, "no @@end_db")
 
-    def _take_entry(self, number, line):
-        if self.name_field is None:
-            raise Fault(Status.DATABASE, "line %d: an entry before @@db_spec, or no column name" % number)
-        found = self.name_field.match(line)
-        if not found:
-            raise Fault(Status.DATABASE, "line %d: no path" % number)
-        if line[-1:] != b"\n":
+    def _lines(self) -> Iterator[bytes]:
+        number = 1
+        while line := self.file.readline(MAX_LINE + 2):
+            if len(line.rstrip(b"\n")) > MAX_LINE:
+                raise Fault(Status.DATABASE, f"line {number}: more than {MAX_LINE} bytes")
+            yield line
+            number += 1
+
+    def _read_entry(self, number: int, line: bytes) -> None:
+        if not self.layout.columns:
+            text = f"line {number}: an entry before @@db_spec, or no column name"
+            raise Fault(Status.DATABASE, text)
+        key = self.layout.key_of(line)
+        if key is None:
+            raise Fault(Status.DATABASE, f"line {number}: no path")
+        if not line.endswith(b"\n"):
             raise Fault(Status.DATABASE, "no @@end_db")
-        key = key_of(found.group(1))
-        self.give(b"%s\t%s" % (key, line))
-        self.count, self.breaks, self.last = self.count + 1, self.breaks + (key < self.last), key
+        self.sorter.put(b"%s\t%s" % (key, line))
+        self.count += 1
+        self.breaks += key < self._last_key
+        self._last_key = key
 
 
-class Twice:
-    """The keys that stand twice; the first of them are named."""
+class RepeatedPaths:
+    """The paths that stand twice, found among sorted keys; the first of them are named."""
 
-    def __init__(self):
-        self.count, self.names, self.last, self.is_named = 0, [], None, False
+    def __init__(self) -> None:
+        self.count = 0
+        self._names: list[str] = []
+        self._last_key = b""
+        self._is_counted = False
 
-    def add(self, key):
-        if key != self.last:
-            self.last, self.is_named = key, False
-        elif not self.is_named:
-            self.is_named, self.count = True, self.count + 1
-            if len(self.names) < MOST_NAMED:
-                self.names.append(shown(path_of(key)))
+    def add(self, key: bytes) -> None:
+        if key != self._last_key:
+            self._last_key = key
+            self._is_counted = False
+        elif not self._is_counted:
+            self._is_counted = True
+            self.count += 1
+            if len(self._names) < MAX_NAMED:
+                self._names.append(shown(path_of(key)))
 
-    def tell(self):
-        for name in self.names:
-            say("stands twice: %s" % name)
-        if self.count > len(self.names):
-            say("more paths that stand twice: %s" % format(self.count - len(self.names), ","))
+    def say(self) -> None:
+        for name in self._names:
+            say(f"stands twice: {name}")
+        more = self.count - len(self._names)
+        if more:
+            say(f"more paths that stand twice: {more:,}")
 
 
-def sorted_blocks(database, sorter, twice):
+def sorted_blocks(
+    database: Unsorted, sorter: LineSorter, repeated: RepeatedPaths
+) -> Iterator[bytes]:
     """Yields the whole database in path order."""
     database.head.seek(0)
-    yield from iter(lambda: database.head.read(BLOCK), b"")
+    while block := database.head.read(BLOCK):
+        yield block
     for record in sorter.lines():
         key, _, line = record.partition(b"\t")
-        twice.add(key)
+        repeated.add(key)
         yield line
     database.file.seek(database.end)
-    yield from iter(lambda: database.file.read(BLOCK), b"")
+    while block := database.file.read(BLOCK):
+        yield block
 
 
-def main(arguments):
-    epilog = "Status: 0 sorted; 24 a path stands twice, or this is no database; 15, 18, 22: see aide-compare-sort(1)."
-    parser = Parser("aide-compare sort", DESCRIPTION, "do not say how many lines were out of order", epilog=epilog)
-    files = "the database, plain or compressed with gzip; standard input if it is left out, and for -"
-    parser.add_argument("file", nargs="?", default="-", type=some_text, help=files)
-    parser.take("max-size", default=MOST_BYTES, help="refuse a database that has more bytes unpacked (64G)")
-    given = parser.parse(arguments)
-    name = "/dev/stdin" if given.file == "-" else given.file
-    twice, sorter = Twice(), LineSorter()
-    database = Unsorted(copy_database("given", name, given.max_size), sorter.put)
-    write_blocks(1, sorted_blocks(database, sorter, twice))
-    progress.done("the lines are in order")
-    if not given.quiet:
-        say("out of order: %s of %s lines" % (format(database.breaks, ","), format(database.count, ",")))
+def sort(request: SortRequest) -> int:
+    """Writes the database in path order, and says what was out of order. Returns the status."""
+    repeated = RepeatedPaths()
+    sorter = LineSorter()
+    database = Unsorted(copy_database("given", request.path, request.max_size), sorter)
+    write_blocks(1, sorted_blocks(database, sorter, repeated))
+    progress.note_step("the lines are in order")
+    if not request.is_quiet:
+        say(f"out of order: {database.breaks:,} of {database.count:,} lines")
         if database.breaks:
             say(ADVICE)
-    twice.tell()
-    return Status.DATABASE if twice.count else Status.OK
+    repeated.say()
+    return Status.DATABASE if repeated.count else Status.OK
+
+
+def request_of(arguments: Sequence[str]) -> SortRequest:
+    quiet = "do not say how many lines were out of order"
+    parser = Parser(NAME, DESCRIPTION, quiet, epilog=EPILOG)
+    files = (
+        "the database, plain or compressed with gzip; standard input if it is left out, and for -"
+    )
+    parser.add_operand("file", "file", files, nargs="?", default="-")
+    size = "refuse a database that has more bytes unpacked (64G)"
+    parser.add(MAX_SIZE._replace(default=1 << 36, help=size))
+    args = parser.parse(arguments)
+    path = "/dev/stdin" if args.file == "-" else args.file
+    return SortRequest(path, args.max_size, args.quiet)
+
+
+def main(arguments: Sequence[str]) -> int:
+    return sort(request_of(arguments))

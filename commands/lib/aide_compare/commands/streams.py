@@ -1,71 +1,162 @@
-"""What the commands share that read lines, or compare two databases for them, and write another stream."""
+"""What the commands share that read lines, or compare two databases for them, and write another
+stream."""
+from __future__ import annotations
+
+import argparse
 import os
 import stat
+from collections.abc import Callable, Iterable, Sequence
+from typing import TYPE_CHECKING, BinaryIO, NamedTuple, Optional
 
-from aide_compare.base.ending import Fault, Status, failing, write_all
+from aide_compare.base.ending import Fault, Status, failing, write_all, write_blocks
 from aide_compare.base.escapes import shown
-from aide_compare.base.files import Spool, open_regular
-from aide_compare.base.options import Parser, some_text
+from aide_compare.base.files import open_regular
+from aide_compare.base.options import (
+    AFTER,
+    BEFORE,
+    CONFIG,
+    EXCLUDE,
+    EXCLUDE_FROM,
+    MAX_SIZE,
+    TRUSTED,
+)
+from aide_compare.base.parser import Parser
+from aide_compare.base.spool import Spool
 from aide_compare.compare.unpack import given_descriptor
 from aide_compare.lines.reader import BLOCK, Reader, Refused, reader_over
 
+if TYPE_CHECKING:
+    from aide_compare.changes.judged import Judged
+    from aide_compare.compare.comparison import Comparison, Request
+
+    # What is written of the lines of two databases, or of a stream of lines, of which nothing more
+    # is known.
+    Writer = Callable[[Reader, Optional[Comparison], Optional[Judged]], Iterable[bytes]]
+
 REFUSED = 65
+STDIN = "-"
 
 
-def parser_of_changes(name, does, more):
+class StreamRequest(NamedTuple):
+    """What is read: two databases, or one file of lines."""
+
+    files: Sequence[str]
+    configuration: Optional[str]
+    before: str
+    after: str
+    exclude_from: Sequence[str]
+    exclude: Sequence[str]
+    trusted: Sequence[str]  # The paths of a trusted pair, or none.
+    max_size: int
+    is_quiet: bool
+    is_verbose: bool
+
+
+def parser_of_changes(name: str, description: str, epilog: str) -> Parser:
     """The options of a command that takes two databases, or lines."""
     usage = "%(prog)s [OPTIONS] [LINES]\n       %(prog)s [OPTIONS] OLD NEW"
-    parser = Parser(name, does, epilog=more, usage=usage)
-    more = {"nargs": "*", "metavar": "OLD NEW", "type": some_text}
-    parser.add_argument("files", help='two databases, or one file of lines; "-" is standard input', **more)
-    parser.take("config", help="the configuration for the two databases (/dev/null)")
-    parser.take("after", "before", "exclude-from", "exclude")
-    parser.take("max-size", default=1 << 40)
+    parser = Parser(name, description, epilog=epilog, usage=usage)
+    files = 'two databases, or one file of lines; "-" is standard input'
+    parser.add_operand("files", "OLD NEW", files, nargs="*")
+    parser.add(CONFIG._replace(help="the configuration for the two databases (/dev/null)"))
+    parser.add(AFTER, BEFORE, EXCLUDE_FROM, EXCLUDE, TRUSTED, MAX_SIZE)
     return parser
 
 
-def _opened(path):
-    """The input: a regular file, or what the caller has opened, named as /dev/stdin or /dev/fd/N."""
-    given = given_descriptor(path)
-    if given is None:
+def stream_request(args: argparse.Namespace) -> StreamRequest:
+    """What the options of such a command ask for; a Fault if they do not go together."""
+    is_of_databases = args.config or args.before or args.after or args.trusted
+    if len(args.files) > 2 or (len(args.files) < 2 and is_of_databases):
+        raise Fault(Status.USAGE, "name two databases, OLD and NEW, or one file of lines")
+    trusted: Sequence[str] = args.trusted or ()
+    if [*args.files, *trusted].count(STDIN) > 1:
+        raise Fault(Status.USAGE, "standard input has one database only")
+    return StreamRequest(
+        files=args.files,
+        configuration=args.config,
+        before=args.before or "",
+        after=args.after or "",
+        exclude_from=args.exclude_from,
+        exclude=args.exclude,
+        trusted=trusted,
+        max_size=args.max_size,
+        is_quiet=args.quiet,
+        is_verbose=args.verbose,
+    )
+
+
+def open_lines(path: str) -> BinaryIO:
+    """The input: a regular file, or what the caller has opened, named as /dev/stdin or
+    /dev/fd/N."""
+    descriptor = given_descriptor(path)
+    if descriptor is None:
         return open(open_regular(path), "rb", buffering=BLOCK)
-    if stat.S_ISDIR(os.fstat(given).st_mode):
-        raise Fault(Status.DEVICE, "cannot read %s: it is a directory" % shown(path))
-    return open(given, "rb", buffering=BLOCK, closefd=False)
+    if stat.S_ISDIR(os.fstat(descriptor).st_mode):
+        raise Fault(Status.DEVICE, f"cannot read {shown(path)}: it is a directory")
+    return open(descriptor, "rb", buffering=BLOCK, closefd=False)
 
 
-def _write_whole(path, parts_of):
-    """Writes what is made of lines when all of it is known: nothing of what is refused, which is a status of its own."""
+def write_of_lines(path: str, writer: Writer) -> int:
+    """Writes what is made of lines when all of it is known: nothing of what is refused, which is a
+    status of its own."""
     spool = Spool()
     try:
-        with failing("cannot read or write"), _opened(path) as source:
-            for part in parts_of(Reader(source), None):
+        with failing("cannot read or write"), open_lines(path) as source:
+            for part in writer(Reader(source), None, None):
                 spool.write(part)
             spool.seek(0)
-            for block in iter(lambda: spool.read(BLOCK), b""):
+            while block := spool.read(BLOCK):
                 write_all(1, block)
     except Refused as refused:
         raise Fault(REFUSED, str(refused)) from None
     return Status.OK
 
 
-def write_changes(given, parts_of):
-    """Writes `parts_of(reader, comparison)` of two databases, or of lines, without a comparison. Returns its status, or 0."""
-    if len(given.files) > 2 or len(given.files) < 2 and (given.config or given.before or given.after):
-        raise Fault(Status.USAGE, "name two databases, OLD and NEW, or one file of lines")
-    if len(given.files) < 2:
-        return _write_whole(given.files[0] if given.files else "-", parts_of)
-    from aide_compare.commands.compare import request_of
-    from aide_compare.compare.comparison import Comparison
+def work_request(request: StreamRequest) -> Request:
+    """What is compared, and how."""
+    from aide_compare.compare.comparison import Request
     from aide_compare.compare.exclusions import read_exclusions
+
+    old, new = request.files
+    return Request(
+        old=old,
+        new=new,
+        configuration=request.configuration,
+        before=request.before,
+        after=request.after,
+        max_size=request.max_size,
+        exclusions=read_exclusions(request.exclude_from, request.exclude),
+        trusted=request.trusted,
+    )
+
+
+def write_of_databases(request: StreamRequest, writer: Writer) -> int:
+    """Compares, and writes what is made of the changes. Returns the status of the comparison."""
+    from aide_compare.compare.work import compare
+    from aide_compare.show.judgement import judge
     from aide_compare.show.told import tell
 
-    left_out = read_exclusions(given.exclude_from, given.exclude)
-    comparison = Comparison(request_of(given, given.files, exclusions=left_out)).run()
-    tell(comparison, given.quiet)
-    if comparison.is_cut:
-        raise Fault(Status.DEVICE, "the changes have more than %d bytes" % comparison.request.max_report)
-    if comparison.status <= 7:
-        with failing("cannot read or write"), open(1, "wb", buffering=BLOCK, closefd=False) as target:
-            target.writelines(parts_of(reader_over(comparison.lines), comparison))
+    comparison = compare(work_request(request))
+    judged = None
+    is_cut = comparison.lines is not None and comparison.lines.is_cut
+    if comparison.differs and not is_cut:
+        reviewed = judge(comparison)
+        comparison = reviewed.comparison
+        judged = reviewed.judged
+    tell(comparison, request.is_quiet, request.is_verbose)
+    if is_cut:
+        text = f"the changes have more than {comparison.request.max_report} bytes"
+        raise Fault(Status.DEVICE, text)
+    if not comparison.has_failed:
+        reader = reader_over(comparison.known_lines().fd)
+        with failing("cannot read or write"):
+            write_blocks(1, writer(reader, comparison, judged))
     return comparison.status
+
+
+def write_changes(request: StreamRequest, writer: Writer) -> int:
+    """Writes a stream of two databases, or of lines. Returns the status of the comparison, or 0."""
+    if len(request.files) == 2:
+        return write_of_databases(request, writer)
+    path = request.files[0] if request.files else STDIN
+    return write_of_lines(path, writer)

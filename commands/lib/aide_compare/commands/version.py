@@ -1,45 +1,82 @@
-"""aide-compare version: which programs the commands run, by their SHA-256, and whether they are known to be proved builds."""
+"""aide-compare version: which programs the commands run, by their SHA-256, and whether they are
+known to be proved builds."""
+from __future__ import annotations
+
 import hashlib
+from collections.abc import Iterator, Sequence
 from contextlib import suppress
 
 from aide_compare import VERSION
 from aide_compare.base.ending import Fault, Status, tell
 from aide_compare.base.escapes import shown
 from aide_compare.base.files import read_file
-from aide_compare.base.options import Parser
-from aide_compare.base.program import LINES, PROGRAM, find_installed
+from aide_compare.base.parser import Parser
+from aide_compare.base.program import LINES, NEWER, PROGRAM, find_installed, installed_builds
 
-MOST_PROGRAM, MOST_RECORD = 1 << 28, 1 << 16
-RECORD = ".build"  # What packaging/install writes beside a program: its SHA-256, the kit that built it, and how.
-UNKNOWN = "not known: there is no record of how it was built"
+MAX_PROGRAM = 1 << 28
+MAX_RECORD = 1 << 16
+# What packaging/install writes beside a program: its SHA-256, the kit that built it, and how.
+RECORD = ".build"
+UNKNOWN = "not known"
+NO_RECORD = "not known: there is no record of how it was built"
+OTHER_PROGRAM = "not known: it is not the program that was installed"
+DESCRIPTION = """\
+Prints the version, and of both programs that the commands run the path, the SHA-256, the kit
+that built it, and whether it is a proved build."""
 
 
-def lines_of(title, name):
-    """What there is to say of a program."""
-    program, record = find_installed(name), {}
-    digest = hashlib.sha256(read_file(program, MOST_PROGRAM, "the program ")).hexdigest()
+def record_of(program: str) -> dict[str, str]:
+    """What the record beside a program says; nothing if there is none that can be read."""
+    record = {}
     with suppress(Fault):
-        text = read_file(program + RECORD, MOST_RECORD, "the record ").decode("utf-8", "replace")
-        record = dict(line.split("=", 1) for line in text.splitlines() if "=" in line)
-    kit, proved = record.get("kit") or "not known", record.get("proved") or UNKNOWN
+        text = read_file(program + RECORD, MAX_RECORD, "the record ").decode("utf-8", "replace")
+        for line in text.splitlines():
+            name, equals, value = line.partition("=")
+            if equals:
+                record[name] = value
+    return record
+
+
+def build_lines(title: str, program: str) -> Iterator[str]:
+    """What there is to say of a build of a program."""
+    record = record_of(program)
+    digest = hashlib.sha256(read_file(program, MAX_PROGRAM, "the program ")).hexdigest()
+    kit = record.get("kit") or UNKNOWN
+    proved = record.get("proved") or NO_RECORD
     if record and record.get("sha256") != digest:
-        kit, proved = "not known", "not known: it is not the program that was installed"
-    yield "%s: %s" % (title, shown(program))
-    yield "SHA-256: %s" % digest
-    yield "kit: %s" % shown(kit, 200)
-    yield "a proved build: %s" % shown(proved, 200)
+        kit = UNKNOWN
+        proved = OTHER_PROGRAM
+    yield f"{title}: {shown(program)}"
+    yield f"SHA-256: {digest}"
+    yield f"kit: {shown(kit, 200)}"
+    yield f"a proved build: {shown(proved, 200)}"
 
 
-def main(arguments):
-    given = Parser(
+def program_lines(title: str, name: str) -> Iterator[str]:
+    """What there is to say of each build of a program. Of two, the one is marked that runs on this
+    machine."""
+    builds = installed_builds(name)
+    running = find_installed(name)
+    for build in builds:
+        full_title = title
+        if build.endswith(NEWER):
+            full_title = f"{title} for newer processors"
+        yield from build_lines(full_title, build)
+        if len(builds) > 1:
+            answer = "yes" if build == running else "no"
+            yield f"run on this machine: {answer}"
+
+
+def main(arguments: Sequence[str]) -> int:
+    args = Parser(
         "aide-compare version",
-        "Prints the version, and of both programs that the commands run the path, the SHA-256, the kit that built\n"
-        "it, and whether it is a proved build.",
-        "print the version alone",
+        DESCRIPTION,
+        quiet="print the version alone",
         epilog="Status: 0 printed; 15 bad arguments; 18 a program cannot be read.",
     ).parse(arguments)
-    told = ["aide-compare %s" % VERSION]
-    if not given.quiet:
-        told += [*lines_of("program", PROGRAM), *lines_of("program of lines", LINES)]
-    tell(*told)
+    lines = [f"aide-compare {VERSION}"]
+    if not args.quiet:
+        lines += program_lines("program", PROGRAM)
+        lines += program_lines("program of lines", LINES)
+    tell(*lines)
     return Status.OK

@@ -1,127 +1,257 @@
-"""What a configuration says of the databases, and the copy of it that the program reads. Lines are told apart by how they
-begin; the program itself is asked what they say, by -D of aide_lines."""
+"""What a configuration says of the databases, and the copy of it that the program reads. Lines are
+told apart by how they begin; the program itself is asked what they say, by -D of aide_lines."""
+from __future__ import annotations
+
+import errno
 import os
 import re
-from collections import namedtuple
+from collections.abc import Callable, Iterable, Iterator, Mapping
+from typing import Any, NamedTuple
 
+from aide_compare.base.directories import failure
 from aide_compare.base.ending import Fault, Status, failing
 from aide_compare.base.escapes import shown
 from aide_compare.base.files import open_regular
 
 DEFAULTS = ("/etc/aide/aide.conf", "/etc/aide.conf")
-MOST_BYTES = 4194304
+NONE = "/dev/null"
+MAX_BYTES = 4194304
 INCLUDES = re.compile(rb"(?m)^[ \t]*(@@(?:x_)?include[^\n]*)")
-# The options whose names begin as those of the report and of databases do. A name that is none of them is a group.
+# The options whose names begin as those of the report and of databases do. A name that is none of
+# them is a group.
 OPTIONS = frozenset(
-    b"report_level report_grouped report_summarize_changes report_base16 report_quiet report_ignore_added_attrs "
-    b"report_ignore_removed_attrs report_ignore_changed_attrs report_force_attrs report_url report_format report_append "
-    b"report_attributes report_detailed_init report_ignore_e2fsattrs database database_in database_new database_out "
-    b"database_add_metadata database_attrs database_gzip".split()
+    b"report_level report_grouped report_summarize_changes report_base16 report_quiet "
+    b"report_ignore_added_attrs report_ignore_removed_attrs report_ignore_changed_attrs "
+    b"report_force_attrs report_url report_format report_append report_attributes "
+    b"report_detailed_init report_ignore_e2fsattrs database database_in database_new "
+    b"database_out database_add_metadata database_attrs database_gzip".split()
 )
 GROUP = re.compile(rb"[ \t]*((?:report_|database)[A-Za-z0-9_]*)[ \t]*=")
-# Lines that may name a database, wherever they stand: the program decides which of them count.
-LINES_OF_OLD, LINES_OF_NEW, NAMED = (
-    re.compile(rb"(?m)^[ \t]*database%s[ \t]*=[^\n]*" % end) for end in (rb"(?:_in)?", rb"_new", rb"(?:_in|_new|_out)?")
-)
+# Lines that may name a database: the program decides which of them count.
+NAMED = re.compile(rb"(?m)^[ \t]*database(?:_in|_new|_out)?[ \t]*=[^\n]*")
 WRITTEN = re.compile(rb"(?m)^([ \t]*)database_out([ \t]*=)")
 URLS = re.compile(rb"(?m)^[ \t]*report_url[ \t]*=[^\n]*")
-MOST_NAMED, ADVICE = 16, "name OLD and NEW"
+# What is no part of the name of a machine.
+OTHER_BYTES = re.compile(rb"[^A-Za-z0-9._-]")
+MAX_NAMED = 16
+ADVICE = "name OLD and NEW"
 # An empty set has a name that no group can have.
-NOTHING, WORDS = "ANF", {True: "yes", False: "no"}
-MOST_MISSPELT, MOST_ASKED = 5, 20
+EMPTY_SET = "ANF"
+MAX_MISSPELT = 5
+MAX_ASKED = 20
 
 
-def without_includes(path):
-    """The text of a configuration, one byte more than is allowed at most, in which lines that include other files are empty; and
-    the notes that say so. /dev/null is an empty one."""
-    text, what = b"", "the configuration "
-    if path != "/dev/null":
-        with open(open_regular(path, what), "rb") as file, failing("cannot read " + what + shown(path)):
-            text = file.read(MOST_BYTES + 1)
-    found = INCLUDES.findall(text)
-    count = "1 line that includes other files is" if len(found) == 1 else "%d lines that include other files are" % len(found)
-    notes = ["%s: %s passed over, the first: %s" % (shown(path), count, shown(line.rstrip(b" \t"), 200)) for line in found[:1]]
-    return INCLUDES.sub(b"", text), notes
+class Named(NamedTuple):
+    """How a configuration names a database."""
+
+    side: str
+    option: str
+    lines: re.Pattern[bytes]  # Those that may name it, wherever they stand.
 
 
-class Texts(namedtuple("Texts", "before config after")):
-    """The three texts that aide-compare reads: before, the file, and after."""
+OLD = Named("old", "database_in", re.compile(rb"(?m)^[ \t]*database(?:_in)?[ \t]*=[^\n]*"))
+NEW = Named("new", "database_new", re.compile(rb"(?m)^[ \t]*database_new[ \t]*=[^\n]*"))
 
-    def replaced(self, pattern, line):
-        """The same texts with another line in the file in place of each that a pattern matches: all keep their numbers."""
-        return self._replace(config=pattern.sub(line, self.config))
+# What the program says of a configuration: the values of its options by their names.
+Settings = Mapping[str, Any]
 
-    def defining_host(self):
-        """The texts with HOSTNAME defined as AIDE does, if they use it; and by how many lines this moves those of the first."""
-        if not any(b"HOSTNAME" in text for text in self):
-            return self, 0
-        line = b"@@define HOSTNAME " + os.fsencode(os.uname().nodename) + b"\n"
-        return self._replace(before=line + self.before), 1
 
-    def misspelt(self, path, is_group):
-        """A line for each of the first groups with a name like that of an option, which AIDE refuses. Here it has no effect."""
+class ReadConfiguration(NamedTuple):
+    """The text of a configuration, and what was passed over in it."""
+
+    text: bytes
+    notes: list[str]
+
+
+def without_includes(path: str) -> ReadConfiguration:
+    """The text of a configuration, one byte more than is allowed at most, in which lines that
+    include other files are empty. /dev/null is an empty one."""
+    text = b""
+    what = "the configuration "
+    if path != NONE:
+        with open(open_regular(path, what), "rb") as file, failing(
+            f"cannot read {what}{shown(path)}"
+        ):
+            block: bytes | None = file.read(MAX_BYTES + 1)
+            if block is None:  # Such as /proc/kmsg, which has no end.
+                raise failure(errno.EAGAIN, "it has no bytes now")
+            text = block
+    return ReadConfiguration(INCLUDES.sub(b"", text), _notes_of(INCLUDES.findall(text), path))
+
+
+def _notes_of(includes: list[bytes], path: str) -> list[str]:
+    """A line that says that lines were passed over; none without any."""
+    if not includes:
+        return []
+    count = f"{len(includes)} lines that include other files are"
+    if len(includes) == 1:
+        count = "1 line that includes other files is"
+    first = shown(includes[0].rstrip(b" \t"), 200)
+    return [f"{shown(path)}: {count} passed over, the first: {first}"]
+
+
+def host_name() -> bytes:
+    """The name of this machine, with only those bytes that a name has: others could be more
+    lines."""
+    return OTHER_BYTES.sub(b"", os.fsencode(os.uname().nodename))
+
+
+class Defining(NamedTuple):
+    """Texts that define a name, and by how many lines this moves those of the first text."""
+
+    texts: Texts
+    moved: int
+
+
+class Group(NamedTuple):
+    """A group of attributes that a line defines, with a name like that of an option."""
+
+    where: str
+    number: int
+    name: bytes
+
+    def words(self) -> str:
         from difflib import get_close_matches
 
-        found, asked = [], {}
+        name = shown(self.name, 100)
+        line = f"{self.where}:{self.number}: {name} is no option, but a group"
+        for option in get_close_matches(self.name, OPTIONS, 1):
+            line += f"; did you mean {option.decode()}?"
+        return line
+
+
+class Texts(NamedTuple):
+    """The three texts that aide-compare reads: before, the file, and after."""
+
+    before: bytes
+    config: bytes
+    after: bytes
+
+    def replaced(self, pattern: re.Pattern[bytes], line: bytes) -> Texts:
+        """The same texts with another line in the file in place of each that a pattern matches: all
+        keep their numbers."""
+        return self._replace(config=pattern.sub(line, self.config))
+
+    def defining_host(self) -> Defining:
+        """The texts with HOSTNAME defined as AIDE does, if they use it."""
+        if not any(b"HOSTNAME" in text for text in self):
+            return Defining(self, 0)
+        line = b"@@define HOSTNAME " + host_name() + b"\n"
+        return Defining(self._replace(before=line + self.before), 1)
+
+    def misspelt(self, path: str, is_group: Callable[[bytes], bool]) -> Iterator[str]:
+        """A line for each of the first groups with a name like that of an option, which AIDE
+        refuses. Here it has no effect. `is_group` is asked whether the texts define one."""
+        groups = list(self._groups(path, is_group))
+        for group in groups[:MAX_MISSPELT]:
+            yield group.words()
+        if len(groups) > MAX_MISSPELT:
+            yield f"{len(groups) - MAX_MISSPELT} more such groups"
+
+    def _groups(self, path: str, is_group: Callable[[bytes], bool]) -> Iterator[Group]:
+        asked: dict[bytes, bool] = {}
         for where, text in zip(("-B", shown(path), "-A"), self):
             for number, line in enumerate(text.split(b"\n"), 1):
-                group = GROUP.match(line)
-                word = group.group(1) if group else b"database"
-                if word not in OPTIONS and word not in asked and len(asked) < MOST_ASKED:
-                    asked[word] = is_group(word)
-                if asked.get(word):
-                    found.append((where, number, word))
-        for where, number, name in found[:MOST_MISSPELT]:
-            near = "".join("; did you mean %s?" % option.decode() for option in get_close_matches(name, OPTIONS, 1))
-            yield "%s:%d: %s is no option, but a group%s" % (where, number, shown(name, 100), near)
-        if len(found) > MOST_MISSPELT:
-            yield "%d more such groups" % (len(found) - MOST_MISSPELT)
+                match = GROUP.match(line)
+                if match is None or match.group(1) in OPTIONS:
+                    continue
+                name = match.group(1)
+                if name not in asked and len(asked) < MAX_ASKED:
+                    asked[name] = is_group(name)
+                if asked.get(name):
+                    yield Group(where, number, name)
 
 
-def databases_of(texts, path, check):
-    """The paths of the old and of the new database that the texts name; a Fault if they name none. `check` gives what the
+class Databases(NamedTuple):
+    """The paths of the two databases that a configuration names."""
+
+    old: str
+    new: str
+
+
+class _Finder:
+    """Finds the databases that texts name. `ask` gives what the program says of texts, None if it
+    refuses them."""
+
+    def __init__(self, path: str, ask: Callable[[Texts], Settings | None]) -> None:
+        self.path = path
+        self.ask = ask
+
+    def fault(self, words: str) -> Fault:
+        return Fault(Status.CONFIGURATION, f"{shown(self.path)} names {words}")
+
+    def settings(self, texts: Texts) -> Settings:
+        settings = self.ask(texts)
+        if settings is None:
+            raise self.fault(f"a database that is no file; {ADVICE}")
+        return settings
+
+    def path_of(self, settings: Settings, texts: Texts, named: Named) -> str:
+        """The path of one database, by what the program says of the texts."""
+        path = settings[named.option]
+        count = len(named.lines.findall(texts.config))
+        if path is None:
+            raise self.fault(f"no {named.side} database; {ADVICE}")
+        if count > MAX_NAMED:
+            raise self.fault(f"the {named.side} database {count} times; {ADVICE}")
+        if count > 1:
+            each = [self.settings(one) for one in _with_one(texts, named.lines, count)]
+            if len({one[named.option] for one in each} - {None}) > 1:
+                twice = f"the {named.side} database twice, and AIDE takes the first"
+                raise self.fault(f"{twice}; {ADVICE}")
+        return os.fsdecode(str(path).encode())
+
+
+def databases_of(texts: Texts, path: str, ask: Callable[[Texts], Settings | None]) -> Databases:
+    """The databases that the texts name; a Fault if they do not name two. `ask` gives what the
     program says of texts, None if it refuses them."""
-
-    def fault(words):
-        return Fault(Status.CONFIGURATION, "%s names %s" % (shown(path), words))
-
-    def said_of(texts):
-        said = check(texts)
-        if said is None:
-            raise fault("a database that is no file; %s" % ADVICE)
-        return said
-
-    said = said_of(texts)
-    if said["database_new"] is None:  # What AIDE writes is what is compared next.
+    finder = _Finder(path, ask)
+    settings = finder.settings(texts)
+    if settings["database_new"] is None:
+        # What AIDE writes is what is compared next.
         texts = texts.replaced(WRITTEN, rb"\1database_new\2")
-        said = said_of(texts)
-    for side, name, lines in (("old", "database_in", LINES_OF_OLD), ("new", "database_new", LINES_OF_NEW)):
-        count = len(lines.findall(texts.config))
-        if said[name] is None:
-            raise fault("no %s database; %s" % (side, ADVICE))
-        if count > MOST_NAMED:
-            raise fault("the %s database %d times; %s" % (side, count, ADVICE))
-        if count > 1 and len({said_of(each)[name] for each in _with_one(texts, lines, count)} - {None}) > 1:
-            raise fault("the %s database twice, and AIDE takes the first; %s" % (side, ADVICE))
-    old, new = (os.fsdecode(said[name].encode()) for name in ("database_in", "database_new"))
+        settings = finder.settings(texts)
+    old = finder.path_of(settings, texts, OLD)
+    new = finder.path_of(settings, texts, NEW)
     if old == new:
-        raise fault("one file as the old and as the new database: %s" % shown(old))
-    return old, new
+        raise finder.fault(f"one file as the old and as the new database: {shown(old)}")
+    return Databases(old, new)
 
 
-def _with_one(texts, lines, count):
+def _with_one(texts: Texts, lines: re.Pattern[bytes], count: int) -> Iterator[Texts]:
     """The texts with each of these lines of the file alone. What -A names wins over all."""
     before = NAMED.sub(b"", texts.before)
     for wanted in range(count):
-        places = iter(range(count))
-        yield Texts(before, lines.sub(lambda line: line.group() * (next(places) == wanted), texts.config), texts.after)
+        config = _only(texts.config, lines, wanted)
+        yield Texts(before, config, texts.after)
 
 
-def options_in(said):
+def _only(config: bytes, lines: re.Pattern[bytes], wanted: int) -> bytes:
+    """A text in which all but one of these lines are empty, so that each line keeps its number."""
+    pieces = []
+    end = 0
+    for number, match in enumerate(lines.finditer(config)):
+        pieces.append(config[end : match.start()])
+        if number == wanted:
+            pieces.append(match.group())
+        end = match.end()
+    return b"".join(pieces) + config[end:]
+
+
+def options_in(settings: Settings) -> bytes:
     """Lines that give the options of the report which the program has read elsewhere."""
-    lines = b""
-    for name, value in said.items():
-        if name.startswith("report_"):
-            text = WORDS[value] if type(value) is bool else value if type(value) is str else "+".join(value) or NOTHING
-            lines += ("%s=%s\n" % (name, text)).encode()
-    return lines
+    lines = [
+        f"{name}={_option_text(value)}\n"
+        for name, value in settings.items()
+        if name.startswith("report_")
+    ]
+    return "".join(lines).encode()
+
+
+def _option_text(value: bool | str | Iterable[str]) -> str:
+    """The value of an option, as a line of a configuration has it."""
+    if isinstance(value, bool):
+        return "yes" if value else "no"
+    if isinstance(value, str):
+        return value
+    return "+".join(value) or EMPTY_SET

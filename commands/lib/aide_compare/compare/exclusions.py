@@ -1,152 +1,287 @@
-"""Entries that are left out of a comparison, by lines of paths and patterns, and how many each line left out. Some stay whatever
-a line says, since they give rights to whoever put them there: see `always_stays`."""
+"""Entries that are left out of a comparison, by lines of paths and patterns, and how many each line
+left out.
+
+Some entries stay whatever a line says, since they give rights to whoever put them there: see
+`why_kept`. The lists themselves are looked up in the database that they cut: one that was changed
+since the baseline was made is reported.
+"""
+from __future__ import annotations
+
+import base64
+import enum
+import hashlib
 import os
 import re
 import stat
-from collections import Counter, namedtuple
+from collections import Counter
+from collections.abc import Callable, Iterator, Mapping, Sequence
 from functools import lru_cache
+from typing import BinaryIO, NamedTuple
 
+from aide_compare.base.database import MAX_LINE, PATH_COLUMN, Kind, Layout, fields_in
 from aide_compare.base.ending import Fault, Status, failing
 from aide_compare.base.escapes import shown
-from aide_compare.base.files import lines_of, nameless, reopened
-from aide_compare.base.paths import Table, pattern_of, unescaped
+from aide_compare.base.files import BLOCK, lines_in, nameless, reopened, trusted_text
+from aide_compare.base.paths import Pattern, Table, pattern_of, unescaped
 from aide_compare.base.words import counted
 
-MOST_LINES = 10000
-LINE = (1 << 20) + 1  # The longest line of a database, with its newline. aide-compare refuses a longer one.
-FIELDS = re.compile(rb"[^ \t\n]+")
-FOLDER = re.compile(rb"(/[^%\s]{0,4095})/")  # As far as nothing of a path is escaped: a / may be.
+MAX_LINES = 10000
+# The directory of a path, as far as nothing of it is escaped: a / may be.
+DIRECTORY = re.compile(rb"(/[^%\s]{0,4095})/")
+PATH_FIRST = (PATH_COLUMN,)
 # A line that also leaves out programs begins so: the reason is between the brackets.
 PROGRAMS = re.compile(rb"programs\(([^()]*[^() \t][^()]*)\)[ \t]+(/.*)")
-BLOCK = 1 << 18
-ABSENT, RUN_BITS, SET_ID, ANY_BITS = b"0", 0o111, 0o6000, 0o777
+ABSENT = b"0"
+RUN_BITS = 0o111
+SET_ID = 0o6000
+ANY_BITS = 0o777
 MEASURES_CAPABILITIES = 1 << 37  # A bit of the column `attr`.
-STAYING = "a program, a set-ID bit, capabilities, a device, or no mode"
+# What decides on what is reported. No list can silence itself.
+SETTINGS = b"/etc/aide-compare"
+WHAT = "the file of --exclude-from"
+# The columns of digests by which a list is looked up in a database.
+DIGESTS = (b"sha512", b"sha256", b"sha3_512", b"sha3_256")
+STAYING = "a program, a set-ID bit, capabilities, a device, no mode, or a file of aide-compare"
+
+# The fields of an entry by the names of their columns.
+Fields = Mapping[bytes, bytes]
 
 
-class Exclusion(namedtuple("Exclusion", "pattern place why")):
-    """A line that leaves entries out: its pattern, where it stands, and why it means programs too; "" if it does not."""
+class Exclusion(NamedTuple):
+    """A line that leaves entries out."""
+
+    pattern: Pattern
+    place: str
+    reason: str  # Why the line means programs too; "" if it does not.
 
 
-def _exclusion(text, place):
+def means_programs(line: Exclusion) -> bool:
+    return bool(line.reason)
+
+
+def exclusion(text: bytes, place: str) -> Exclusion:
+    """What a line says. A Fault if it has no pattern."""
     programs = PROGRAMS.fullmatch(text)
-    why, pattern = (shown(programs.group(1).strip(), 100), programs.group(2)) if programs else ("", text)
-    return Exclusion(pattern_of(pattern, place), place, why)
+    if programs is None:
+        return Exclusion(pattern_of(text, place), place, "")
+    reason = shown(programs.group(1).strip(), 100)
+    return Exclusion(pattern_of(programs.group(2), place), place, reason)
 
 
-def read_exclusions(files, patterns):
-    """The Exclusions of --exclude-from FILE and of --exclude PATTERN, in the order of the command line; None without any."""
-    rules = [_exclusion(*line) for path in files for line in lines_of(path, "the file of --exclude-from")]
-    rules += [_exclusion(os.fsencode(text), "--exclude") for text in patterns]
-    if len(rules) > MOST_LINES:
-        raise Fault(Status.USAGE, "more than %d lines leave entries out" % MOST_LINES)
-    return Exclusions(rules) if files or patterns else None
+class Exclusions(Table[Exclusion]):
+    """The lines that leave entries out, looked up by the pieces that their patterns begin with.
 
+    `lists` has the text of each file that lines came from, by its path.
+    """
 
-class Exclusions(Table):
-    """The lines that leave entries out, looked up by the pieces that their patterns begin with."""
-
-    def __init__(self, lines):
+    def __init__(self, lines: Sequence[Exclusion], lists: Mapping[bytes, bytes]) -> None:
         super().__init__(lines)
+        self.lists = lists
+        self.list_directories = {os.path.dirname(path) for path in lists}
         self.above = {start[:size] for start in self.by_start for size in range(len(start))}
 
     @lru_cache(maxsize=1024)
-    def is_free(self, folder):
-        """Whether no line means anything below a folder. Entries of one folder come one after another."""
-        pieces = tuple(folder[1:].split(b"/"))
+    def is_free(self, directory: bytes) -> bool:
+        """Whether no line means anything below a directory, and no list is in it.
+
+        Entries of one directory come one after another.
+        """
+        if directory in self.list_directories:
+            return False
+        pieces = tuple(directory[1:].split(b"/"))
+        if pieces in self.above:
+            return False
         sizes = range(min(len(pieces), self.longest) + 1)
-        return pieces not in self.above and not any(pieces[:size] in self.by_start for size in sizes)
+        return not any(pieces[:size] in self.by_start for size in sizes)
 
-    def of(self, path, is_meant=None):
+    def of(
+        self, path: bytes, is_meant: Callable[[Exclusion], bool] | None = None
+    ) -> Exclusion | None:
         """The first line that means a path, of those that `is_meant` lets pass, or None."""
-        return next(self.rows(path, is_meant), None) if path.startswith(b"/") else None
+        if not path.startswith(b"/"):
+            return None
+        return next(self.rows(path, is_meant), None)
 
 
-def _number(text, base, digits):
-    return int(text, base) if re.fullmatch(digits, text) else 0
+def read_exclusions(files: Sequence[str], patterns: Sequence[str]) -> Exclusions | None:
+    """The lines of --exclude-from FILE and of --exclude PATTERN, in the order of the command line.
+
+    None without any.
+    """
+    if not files and not patterns:
+        return None
+    lists = {}
+    lines = []
+    for path in files:
+        text = trusted_text(path, WHAT)
+        lists[os.fsencode(os.path.abspath(path))] = text
+        lines += [exclusion(line, place) for line, place in lines_in(text, path, WHAT)]
+    lines += [exclusion(os.fsencode(text), "--exclude") for text in patterns]
+    if len(lines) > MAX_LINES:
+        raise Fault(Status.USAGE, f"more than {MAX_LINES} lines leave entries out")
+    return Exclusions(lines, lists)
 
 
-def _judged(entry):
-    """Whether no line leaves an entry out, and whether only a line does that means programs too, by the fields of its columns.
+class Kept(enum.Enum):
+    """Why no line leaves an entry out."""
 
-    What no line leaves out: a set-ID bit (on a folder it only says whose group new files have), capabilities, a device that
-    somebody may open, and what has no mode. Capabilities that were not measured matter to a program only."""
-    mode, bits = _number(entry.get(b"perm", ABSENT), 8, rb"[0-7]{1,7}"), _number(
-        entry.get(b"attr", ABSENT), 10, rb"[0-9]{1,19}"
-    )
-    is_program = stat.S_ISREG(mode) and bool(mode & RUN_BITS)
-    is_device = stat.S_ISCHR(mode) or stat.S_ISBLK(mode)
-    always_stays = (
-        not stat.S_IFMT(mode)
-        or bool(mode & SET_ID and not stat.S_ISDIR(mode))
-        or (entry.get(b"capabilities", ABSENT) != ABSENT and not stat.S_ISLNK(mode))
-        or (is_program and not bits & MEASURES_CAPABILITIES)
-        or bool(is_device and mode & ANY_BITS)
-    )
-    return always_stays, is_program
+    SETTING = "a file of aide-compare"
+    NO_MODE = "no mode"
+    SET_ID = "a set-ID bit"
+    CAPABILITIES = "capabilities"
+    DEVICE = "a device"
+
+
+def number(text: bytes, base: int, digits: bytes) -> int:
+    if not re.fullmatch(digits, text):
+        return 0
+    return int(text, base)
+
+
+def mode_of(entry: Fields) -> int:
+    return number(entry.get(b"perm", ABSENT), 8, rb"[0-7]{1,7}")
+
+
+def is_program(mode: int) -> bool:
+    return stat.S_ISREG(mode) and bool(mode & RUN_BITS)
+
+
+def has_capabilities(entry: Fields) -> bool:
+    """Whether an entry has capabilities, or is a program of which nobody has asked for them."""
+    mode = mode_of(entry)
+    if entry.get(b"capabilities", ABSENT) != ABSENT:
+        return not stat.S_ISLNK(mode)
+    attributes = number(entry.get(b"attr", ABSENT), 10, rb"[0-9]{1,19}")
+    return is_program(mode) and not attributes & MEASURES_CAPABILITIES
+
+
+def why_kept(path: bytes, entry: Fields) -> Kept | None:
+    """Why no line leaves an entry out; None if a line may. What could give somebody a right
+    stays."""
+    mode = mode_of(entry)
+    if path == SETTINGS or path.startswith(SETTINGS + b"/"):
+        return Kept.SETTING
+    if not stat.S_IFMT(mode):
+        return Kept.NO_MODE
+    # On a directory a set-group-ID bit only says whose group new files have.
+    if mode & SET_ID and not stat.S_ISDIR(mode):
+        return Kept.SET_ID
+    if has_capabilities(entry):
+        return Kept.CAPABILITIES
+    if (stat.S_ISCHR(mode) or stat.S_ISBLK(mode)) and mode & ANY_BITS:
+        return Kept.DEVICE
+    return None
+
+
+def is_text_of(entry: Fields, text: bytes) -> bool:
+    """Whether the digests of an entry are those of a text. One without a known digest says
+    nothing."""
+    for column in DIGESTS:
+        field = entry.get(column, ABSENT)
+        digest = hashlib.new(column.decode(), text).digest()
+        if field not in (ABSENT, base64.b64encode(digest)):
+            return False
+    return True
 
 
 class LeftOut:
-    """What rules leave out of a database: how many entries by each rule, and how many stay although a rule names them."""
+    """What lines leave out of a database: how many entries by each line, and how many stay although
+    a line names them."""
 
-    def __init__(self, rules):
-        self.rules, self.columns, self.is_over = rules, [], False
-        self.counts, self.staying = Counter(), 0
+    def __init__(self, rules: Exclusions) -> None:
+        self.rules = rules
+        self.layout = Layout()
+        self.counts: Counter[Exclusion] = Counter()
+        self.staying = 0
+        self.changed_lists: list[str] = []
 
-    def lines(self, source):
-        """All lines. An entry that is left out becomes an empty line, so that all keep their numbers. What has no end of a line,
-        or more bytes than a line of a database can have, stays."""
+    def lines(self, source: BinaryIO) -> Iterator[bytes]:
+        """All lines. An entry that is left out becomes an empty line, so that all keep their
+        numbers.
+
+        What has no end of a line, or more bytes than a line of a database can have, stays.
+        """
         is_new = True
-        for part in iter(lambda: source.readline(LINE), b""):
+        while part := source.readline(MAX_LINE + 1):
             is_whole = part.endswith(b"\n")
-            yield part if not (is_new and is_whole) or self.keeps(part) else b"\n"
+            if is_new and is_whole and not self.keeps(part):
+                yield b"\n"
+            else:
+                yield part
             is_new = is_whole
 
-    def keeps(self, line):
-        """Whether a line stays. All lines do that are no entries, are refused by the program, or follow the end line."""
-        folder = FOLDER.match(line) if self.columns[:1] == [b"name"] else None
-        if folder and self.rules.is_free(folder.group(1)):  # Then no other field has to be looked at.
+    def keeps(self, line: bytes) -> bool:
+        """Whether a line stays. All do that are no entries, are refused by the program, or follow
+        the end."""
+        columns = self.layout.columns
+        if columns[:1] == PATH_FIRST:
+            directory = DIRECTORY.match(line)
+            if directory and self.rules.is_free(directory.group(1)):
+                return True  # No other field has to be looked at.
+        if self.layout.kind_of(line) is not Kind.ENTRY:
             return True
-        fields = FIELDS.findall(line)
-        if self.is_over or not fields or fields[0].startswith(b"#"):
+        fields = fields_in(line)
+        if not columns or len(fields) != len(columns):
             return True
-        if fields[0].startswith(b"@@"):
-            self.is_over = fields[0] == b"@@end_db"
-            if fields[0] == b"@@db_spec" and b"name" in fields:
-                self.columns = fields[1:]
-            return True
-        return not self.columns or len(fields) != len(self.columns) or self._keeps_entry(fields)
+        return self._keeps_entry(dict(zip(columns, fields)))
 
-    def _keeps_entry(self, fields):
-        path = unescaped(fields[self.columns.index(b"name")])
+    def _keeps_entry(self, entry: Fields) -> bool:
+        path = unescaped(entry[PATH_COLUMN])
+        text = self.rules.lists.get(path)
+        if text is not None and not is_text_of(entry, text):
+            self.changed_lists.append(shown(path, 200))
         if self.rules.of(path) is None:
             return True
-        always_stays, is_program = _judged(dict(zip(self.columns, fields)))
-        rule = None if always_stays else self.rules.of(path, lambda rule: bool(rule.why) or not is_program)
-        if rule is None:
+        line = self._line_for(path, entry)
+        if line is None:
             self.staying += 1
             return True
-        self.counts[rule] += 1
+        self.counts[line] += 1
         return False
 
+    def _line_for(self, path: bytes, entry: Fields) -> Exclusion | None:
+        """The line that leaves out an entry, if one may."""
+        if why_kept(path, entry) is not None:
+            return None
+        if is_program(mode_of(entry)):
+            return self.rules.of(path, means_programs)
+        return self.rules.of(path)
+
     @property
-    def total(self):
+    def total(self) -> int:
         return sum(self.counts.values())
 
-    def words(self, side):
+    def words(self, side: str) -> Iterator[str]:
         """The lines that say so."""
-        yield "left out of the %s database: %s" % (side, counted(self.total, "entry"))
-        for rule, count in sorted(self.counts.items(), key=lambda pair: -pair[1]):
-            why = "; programs too: %s" % rule.why if rule.why else ""
-            yield "  %d by %s (%s%s)" % (count, shown(rule.pattern.text, 200), rule.place, why)
+        yield f"left out of the {side} database: {counted(self.total, 'entry')}"
+        for line, count in self.counts.most_common():
+            place = line.place
+            if line.reason:
+                place += f"; programs too: {line.reason}"
+            yield f"  {count} by {shown(line.pattern.text, 200)} ({place})"
         if self.staying:
-            yield "  %d more that lines name stay, each for one of these: %s" % (self.staying, STAYING)
+            yield f"  {self.staying} more that lines name stay, each for one of these: {STAYING}"
+
+    def warnings(self) -> Iterator[str]:
+        """What has to be said of the lists that are not as they were when this database was
+        made."""
+        for path in self.changed_lists:
+            yield f"{path} is not as it was when the baseline was made: it decides what is left out"
 
 
-def cut_copy(descriptor, rules):
-    """A private copy of an unpacked database without the entries that rules leave out, and the LeftOut."""
-    left_out, target = LeftOut(rules), nameless()
+class Cut(NamedTuple):
+    """A private copy of a database without the entries that lines leave out."""
+
+    fd: int
+    left_out: LeftOut
+
+
+def cut_copy(descriptor: int, rules: Exclusions) -> Cut:
+    """A private copy of an unpacked database without the entries that lines leave out."""
+    left_out = LeftOut(rules)
+    target = nameless()
     with failing("cannot copy a database without the entries that are left out"):
-        with open(reopened(descriptor, os.O_RDONLY), "rb", BLOCK) as source, open(os.dup(target), "wb", BLOCK) as file:
-            file.writelines(left_out.lines(source))
-    return target, left_out
+        with open(reopened(descriptor, os.O_RDONLY), "rb", BLOCK) as source:
+            with open(os.dup(target), "wb", BLOCK) as file:
+                file.writelines(left_out.lines(source))
+    return Cut(target, left_out)

@@ -1,134 +1,233 @@
-"""What the program's error lines mean: which file and line, and the cause if it can be seen; and which columns it skipped."""
+"""What the program's error lines mean: which file and line, and the cause if it can be seen; and
+which columns it skipped."""
+from __future__ import annotations
+
 import os
 import re
+from collections.abc import Iterator, Mapping
 
+from aide_compare.base.database import MAX_LINE, Kind, Layout, fields_in
 from aide_compare.base.escapes import shown
 from aide_compare.base.files import reopened
-from aide_compare.base.processes import entry_of
+from aide_compare.base.rights import entry_of
+from aide_compare.compare.configuration import Texts
+from aide_compare.compare.unpack import Copy
 
-LINE = re.compile(rb"aide: (old database|new database|config|before|after):(\d+): (.*)")
-OPENING = re.compile(rb"aide: (?:cannot open the (old|new) database|the (old|new) database changed)")
+LINE = re.compile(rb"aide: ((?:trusted )?(?:old|new) database|config|before|after):(\d+): (.*)")
+OPENING = re.compile(
+    rb"aide: (?:cannot open the ((?:trusted )?(?:old|new)) database"
+    rb"|the ((?:trusted )?(?:old|new)) database changed)"
+)
 COLUMN = re.compile(rb".* in column (\d+)$")
 SKIPPED = re.compile(rb"^aide: (old|new) database: column ([0-9]{1,2}) skipped$", re.M)
-BLOCK, MOST_LINE = 1 << 20, 1 << 16
-MOST_HEAD, MOST_NAME = 1 << 16, 40
+UNREADABLE = re.compile(
+    r"cannot open the (old|new) database ([\w/.+-]+): Permission denied", re.ASCII
+)
+ATTRIBUTES = re.compile("report_ignore_[a-z]+_attrs|report_force_attrs")
+BLOCK = 1 << 20
+MAX_HEAD = 1 << 16
+MAX_NAME = 40
 LEVELS = (
     "a level is minimal, summary, database_attributes, list_entries, changed_attributes, "
     "added_removed_attributes or added_removed_entries"
 )
-KINDS = (
-    ((b"\x1f\x8b", b"\x1f\x9d"), "it is compressed twice"),
+# How files begin that are no plain databases.
+BEGINNINGS = (
+    (b"\x1f\x8b", "it is compressed twice"),
+    (b"\x1f\x9d", "it is compressed twice"),
     (b"\xfd7zXZ", "it is compressed by xz: unpack it first"),
     (b"\x28\xb5\x2f\xfd", "it is compressed by zstd: unpack it first"),
     (b"BZh", "it is compressed by bzip2: unpack it first"),
     (b"\xef\xbb\xbf", "it begins with a byte order mark, which AIDE does not write"),
-    ((b"\xff\xfe", b"\xfe\xff"), "it is UTF-16, which AIDE does not write"),
+    (b"\xff\xfe", "it is UTF-16, which AIDE does not write"),
+    (b"\xfe\xff", "it is UTF-16, which AIDE does not write"),
 )
+UNKNOWN_BEGINNING = "this is not an AIDE database, or its beginning is missing"
 # What the words of a refusal mean, where they say too little.
 CAUSES = {
     b"no @@end_db": ("it ends too early: was the disk full, or is AIDE still writing it?",),
     b"entry out of path order": (
-        "AIDE writes its databases in order, so one that comes straight from AIDE is damaged: make it anew",
-        "if another tool wrote or merged it, aide-compare sort puts its entries in order; find out why if a path is there twice",
+        "AIDE writes its databases in order, so one that comes straight from AIDE is damaged: "
+        "make it anew",
+        "if another tool wrote or merged it, aide-compare sort puts its entries in order; "
+        "find out why if a path is there twice",
     ),
 }
+NOT_SUPPORTED = (
+    "aide-compare does not support it, AIDE may: leave AIDE's own configuration as it is, and name "
+    "OLD and NEW (no configuration is needed then), or write a short one, as in "
+    "aide-compare.conf(5)"
+)
+# Bytes that no text has.
 BINARY = re.compile(rb"[\x00-\x08\x0b\x0c\x0e-\x1a\x1c-\x1f]")
 
 
-def line_and_columns(descriptor, number):
-    """The beginning of a line of a file, and that of the last @@db_spec before it. Memory does not grow with the file."""
-    columns, count, is_new = b"", 0, True
+def _start_of_line(descriptor: int, number: int, layout: Layout) -> bytes:
+    """The beginning of a line of a database; nothing if there is no such line. The layout has read
+    all lines before it. Memory does not grow with the file."""
+    count = 1
+    is_new = True
     with open(reopened(descriptor, os.O_RDONLY), "rb", BLOCK) as file:
-        for part in iter(lambda: file.readline(MOST_LINE), b""):
-            count += is_new
-            if count == number:
-                return part.rstrip(b"\n"), columns
-            if is_new and part.lstrip(b" \t").startswith(b"@@db_spec"):
-                columns = part
+        while part := file.readline(MAX_LINE):
+            if count == number and is_new:
+                return part.rstrip(b"\n")
+            if is_new:
+                layout.kind_of(part)
             is_new = part.endswith(b"\n")
-    return b"", columns
+            if is_new:
+                count += 1
+    return b""
 
 
-def _database_hints(side, number, words, copy):
+def _beginning_hint(head: bytes) -> str:
+    """What a file is that does not begin as a database."""
+    for beginning, text in BEGINNINGS:
+        if head.startswith(beginning):
+            return text
+    return UNKNOWN_BEGINNING
+
+
+def _can_be_shown(line: bytes) -> bool:
+    """Whether a line is a text. Bytes that no text has, or that begin a packed file, would hide the
+    lines around it."""
+    if not line or BINARY.search(line):
+        return False
+    return not any(line.startswith(beginning) for beginning, _ in BEGINNINGS)
+
+
+def _field_hints(words: bytes, line: bytes, layout: Layout) -> Iterator[str]:
+    """The name and the field of the column that an error line names by its number."""
+    match = COLUMN.match(words)
+    if match is None:
+        return
+    number = int(match.group(1))
+    fields = fields_in(line)
+    if 0 < number <= min(len(layout.columns), len(fields)):
+        name = shown(layout.columns[number - 1], 200)
+        yield f"column {number} is {name}: {shown(fields[number - 1], 200)}"
+
+
+def _database_hints(side: str, number: int, words: bytes, copy: Copy) -> Iterator[str]:
     if words == b"no @@begin_db" and copy.size:
-        head = os.pread(copy.fd, 8, 0)
-        unknown = "this is not an AIDE database, or its beginning is missing"
-        yield next((text for marks, text in KINDS if head.startswith(marks)), unknown)
-    yield "the %s is %s" % (side, shown(copy.name))
+        yield _beginning_hint(os.pread(copy.fd, 8, 0))
+    yield f"the {side} is {shown(copy.name)}"
     if not copy.size:
         yield "it is empty: does AIDE run now? It fills its new database at its end"
-    line, columns = line_and_columns(copy.fd, number)
-    # Bytes that no text has, or that begin a packed file, would hide the lines around them.
-    if line and not BINARY.search(line) and not any(line.startswith(marks) for marks, _ in KINDS):
-        yield "line %d: %s" % (number, shown(line, 200))
-    column = COLUMN.match(words)
-    if column:
-        place = int(column.group(1))
-        names, fields = columns.split()[1:], [field for field in re.split(b"[ \t]+", line) if field]
-        if 0 < place <= len(names) and place <= len(fields):
-            yield "column %d is %s: %s" % (place, shown(names[place - 1], 200), shown(fields[place - 1], 200))
+    layout = Layout()
+    line = _start_of_line(copy.fd, number, layout)
+    if _can_be_shown(line):
+        yield f"line {number}: {shown(line, 200)}"
+    yield from _field_hints(words, line, layout)
     yield from CAUSES.get(words, ())
 
 
-def _configuration_hints(number, words, text):
-    line = dict(enumerate(text.split(b"\n"), 1)).get(number, b"")
+def line_of(text: bytes, number: int) -> bytes:
+    """A line of a text; nothing if there is no such line."""
+    lines = text.split(b"\n")
+    if not 0 < number <= len(lines):
+        return b""
+    return lines[number - 1]
+
+
+def _configuration_hints(number: int, words: bytes, text: bytes) -> Iterator[str]:
+    line = line_of(text, number)
     if line.strip():
-        yield "line %d: %s" % (number, shown(line, 200))
+        yield f"line {number}: {shown(line, 200)}"
     name = shown(line.partition(b"=")[0].strip(b" \t"), 200)
     if name == "report_format":
         yield "for JSON: aide-compare json OLD NEW"
     elif words in (b"unknown attribute", b"bad expression"):
-        if not re.fullmatch("report_ignore_[a-z]+_attrs|report_force_attrs", name):
-            yield "%s is not an option, so the line defines a group of attributes; is it a misspelt option?" % name
+        if not ATTRIBUTES.fullmatch(name):
+            yield (
+                f"{name} is not an option, so the line defines a group of attributes; "
+                "is it a misspelt option?"
+            )
     elif words in (b"left out of this profile", b"unknown directive"):
-        yield "aide-compare does not support it, AIDE may: leave AIDE's own configuration as it is, and name OLD and NEW (no configuration is needed then), or write a short one, as in aide-compare.conf(5)"
+        yield NOT_SUPPORTED
     elif words == b"bad value" and name == "report_level":
         yield LEVELS
 
 
-def hints_of(errors, texts, path, copies):
-    """The lines that explain the first error line over texts, the path of the configuration, and the copies that were made."""
-    found = LINE.match(errors)
-    if not found:
-        opening = OPENING.match(errors)
-        side = opening and (opening.group(1) or opening.group(2)).decode()
-        return ["the %s database is %s" % (side, shown(copies[side].name))] if side in copies else []
-    where, number, words = found.group(1).decode(), int(found.group(2)), found.group(3)
+def _side_of(words: str) -> str:
+    """The side of the words that error lines have for it."""
+    return words.replace(" ", "_")
+
+
+def _opening_hints(errors: bytes, copies: Mapping[str, Copy]) -> list[str]:
+    """Which database could not be opened, or changed while it was read."""
+    match = OPENING.match(errors)
+    if match is None:
+        return []
+    words = (match.group(1) or match.group(2)).decode()
+    copy = copies.get(_side_of(words))
+    return [f"the {words} database is {shown(copy.name)}"] if copy else []
+
+
+def hints_of(errors: bytes, texts: Texts, path: str, copies: Mapping[str, Copy]) -> list[str]:
+    """The lines that explain the first error line over texts, the path of the configuration, and
+    the copies that were made."""
+    match = LINE.match(errors)
+    if match is None:
+        return _opening_hints(errors, copies)
+    where = match.group(1).decode()
+    number = int(match.group(2))
+    words = match.group(3)
     if where.endswith(" database"):
-        copy = copies.get(where[:3])
-        return list(_database_hints(where, number, words, copy)) if copy else []
-    whose = {
-        "config": "the configuration is " + shown(path),
-        "before": "this is the text of -B",
-        "after": "this is the text of -A",
-    }
-    return [whose[where], *_configuration_hints(number, words, getattr(texts, where))]
+        copy = copies.get(_side_of(where.removesuffix(" database")))
+        if copy is None:
+            return []
+        return list(_database_hints(where, number, words, copy))
+    if where == "before":
+        return ["this is the text of -B", *_configuration_hints(number, words, texts.before)]
+    if where == "after":
+        return ["this is the text of -A", *_configuration_hints(number, words, texts.after)]
+    name = f"the configuration is {shown(path)}"
+    return [name, *_configuration_hints(number, words, texts.config)]
 
 
-def hint_for_owner(text):
-    """The command that mends a database that aideinit, as root, has left for root only, by the words of a Fault."""
-    found = re.search(r"cannot open the (old|new) database ([\w/.+-]+): Permission denied", text, re.ASCII)
-    if not found or os.geteuid() == 0:
+def hint_for_owner(text: str) -> Iterator[str]:
+    """The command that mends a database that aideinit, as root, has left for root only, by the
+    words of a Fault."""
+    match = UNREADABLE.search(text)
+    if match is None or os.geteuid() == 0:
         return
-    what = "baseline" if found.group(1) == "old" else "new database"
-    words = what, entry_of(os.geteuid()).pw_name, found.group(2)
-    yield "the %s is not readable for this user, as aideinit leaves it. As root: chown %s: %s" % words
+    what = "baseline" if match.group(1) == "old" else "new database"
+    command = f"chown {entry_of(os.geteuid()).pw_name}: {match.group(2)}"
+    yield f"the {what} is not readable for this user, as aideinit leaves it. As root: {command}"
 
 
-def skipped_in(errors, databases):
-    """By side the names of the columns that the program says it skipped; their numbers where the first lines name none."""
-    numbers, found = SKIPPED.findall(errors), {}
-    for side in sorted({side.decode() for side, _ in numbers}, reverse=True):
-        lines = (line.strip(b" \t") for line in os.pread(databases[side], MOST_HEAD, 0).split(b"\n"))
-        spec = next((line for line in lines if line.startswith(b"@@db_spec")), b"")
-        names = dict(enumerate((shown(name, MOST_NAME) for name in re.split(b"[ \t]+", spec)[1:]), 1))
-        found[side] = [names.get(int(text), "#%d" % int(text)) for which, text in numbers if which.decode() == side]
-    return found
+def skipped_in(errors: bytes, databases: Mapping[str, int]) -> dict[str, list[str]]:
+    """By side the names of the columns that the program says it skipped; their numbers where the
+    first lines name none."""
+    skipped = SKIPPED.findall(errors)
+    names = {}
+    for side in ("old", "new"):
+        numbers = [int(number) for which, number in skipped if which.decode() == side]
+        if numbers:
+            names[side] = _column_names(databases[side], numbers)
+    return names
 
 
-def notes_of(skipped):
+def _column_names(database: int, numbers: list[int]) -> list[str]:
+    """The names of columns by their numbers."""
+    layout = Layout()
+    for line in os.pread(database, MAX_HEAD, 0).split(b"\n"):
+        if layout.kind_of(line) is Kind.COLUMNS:
+            break
+    names = []
+    for number in numbers:
+        if number <= len(layout.columns):
+            names.append(shown(layout.columns[number - 1], MAX_NAME))
+        else:
+            names.append(f"#{number}")
+    return names
+
+
+def notes_of(skipped: Mapping[str, list[str]]) -> Iterator[str]:
     """A line for each column, with the side if it is one of a single database."""
     for name in dict.fromkeys(name for names in skipped.values() for name in names):
         sides = [side for side, names in skipped.items() if name in names]
-        where = " of the %s database" % sides[0] if len(sides) == 1 else ""
-        yield "the column %s%s is not compared: the program does not know it" % (name, where)
+        column = f"the column {name}"
+        if len(sides) == 1:
+            column += f" of the {sides[0]} database"
+        yield f"{column} is not compared: the program does not know it"

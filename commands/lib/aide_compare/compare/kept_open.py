@@ -1,92 +1,144 @@
-"""A baseline of which a part is left open: the new database, but of some paths what the old one says, so that they differ again
-in the next comparison. Both databases are sound and in path order, and are read side by side."""
+"""A baseline of which a part is left open: the new database, but of some paths what the old one
+says, so that they differ again in the next comparison. Both databases are sound and in path order,
+and are read side by side."""
+from __future__ import annotations
+
 import os
-import re
 import shutil
 from collections import Counter
+from collections.abc import Callable, Iterable, Iterator, Sequence
 from heapq import merge
 from itertools import groupby
-from operator import itemgetter
+from typing import NamedTuple
 
+from aide_compare.base.database import Kind, Layout
 from aide_compare.base.ending import Fault, Status, failing
 from aide_compare.base.escapes import shown
-from aide_compare.base.files import nameless, reopened
-from aide_compare.base.paths import key_of, path_of
+from aide_compare.base.files import BLOCK, nameless, reopened
+from aide_compare.base.paths import Pattern, path_of
 from aide_compare.compare.unpack import Copy
 
-OLD, NEW = 0, 1
-BLOCK = 1 << 18
-FIELDS = re.compile(rb"[^ \t\n]+")
-KINDS = {(False, True): "added", (True, False): "removed", (True, True): "changed"}
+OLD = 0
+NEW = 1
 
 
 class Patterns:
-    """The paths that patterns leave open, and how many changes each of them did. Asked only of changes."""
+    """The paths that patterns leave open, and how many changes each of them did. Asked only of
+    changes."""
 
-    def __init__(self, patterns):
-        self.patterns, self.counts = patterns, Counter()
+    def __init__(self, patterns: Sequence[Pattern]) -> None:
+        self.patterns = patterns
+        self.counts: Counter[Pattern] = Counter()
 
-    def __call__(self, key):
+    def __call__(self, key: bytes) -> bool:
         pieces = path_of(key)[1:].split(b"/")
-        found = [pattern for pattern in self.patterns if pattern.matches(pieces)]
-        self.counts.update(found)
-        return bool(found)
+        matching = [pattern for pattern in self.patterns if pattern.matches(pieces)]
+        self.counts.update(matching)
+        return bool(matching)
 
-    def unused(self):
+    def unused(self) -> list[Pattern]:
         """The patterns that left nothing open."""
         return [pattern for pattern in self.patterns if pattern not in self.counts]
 
 
 class Listed:
-    """The paths of a list that is in path order, by their keys. They are asked for in this order too."""
+    """The paths of a list that is in path order, by their keys. They are asked for in this order
+    too."""
 
-    def __init__(self, keys):
-        self.keys, self.next = iter(keys), b""
+    def __init__(self, keys: Iterable[bytes]) -> None:
+        self.keys = iter(keys)
+        self.next: bytes | None = b""
 
-    def __call__(self, key):
+    def __call__(self, key: bytes) -> bool:
         while self.next is not None and self.next < key:
             self.next = next(self.keys, None)
         return self.next == key
 
 
-class _Database:
-    """A sound database: its entries, each with its key and its side. `put` gets all other lines before the end line."""
+class SidedEntry(NamedTuple):
+    """An entry of one of the two databases. They are ordered by the key, then by the side."""
 
-    def __init__(self, copy, put=None):
-        self.put, self.columns, self.end = put, None, b""
+    key: bytes
+    side: int
+    line: bytes
+
+
+def key_of_entry(entry: SidedEntry) -> bytes:
+    return entry.key
+
+
+class EntryReader:
+    """A sound database: its entries, and then its `end`. `put` gets all other lines before that."""
+
+    def __init__(self, copy: Copy, put: Callable[[bytes], object] = len) -> None:
+        self.put = put
+        self.layout = Layout()
+        self.end = b""
         self.file = open(reopened(copy.fd, os.O_RDONLY), "rb", BLOCK)
 
-    def entries(self, side):
+    @property
+    def columns(self) -> tuple[bytes, ...]:
+        return self.layout.columns
+
+    def entries(self, side: int) -> Iterator[SidedEntry]:
         for line in self.file:
-            fields = FIELDS.findall(line) or [b"#"]
-            if not fields[0].startswith((b"@@", b"#")):
-                yield key_of(fields[self.columns.index(b"name")]), side, line
-                continue
-            if fields[0] == b"@@end_db":
+            kind = self.layout.kind_of(line)
+            if kind is Kind.END:
                 self.end = line
                 return
-            if fields[0] == b"@@db_spec":
-                self.columns = fields[1:]
-            if self.put:
+            if kind is not Kind.ENTRY:
                 self.put(line)
+                continue
+            key = self.layout.key_of(line)
+            if key is not None:
+                yield SidedEntry(key, side, line)
 
 
-def keep_open(old, new, is_open):
-    """The Copy of the merged database, and how many of the added, removed and changed paths stay open. `is_open` is asked for
-    the key of each path whose lines differ. Columns that differ are a Fault of status 24."""
-    target, counts = nameless(), Counter()
-    with failing("cannot make a database of which a part is open"), open(os.dup(target), "wb", BLOCK) as file:
-        former, latter = _Database(old), _Database(new, file.write)
-        for key, group in groupby(merge(former.entries(OLD), latter.entries(NEW)), itemgetter(0)):
-            lines = {side: line for _, side, line in group}
-            side = OLD if lines.get(OLD) != lines.get(NEW) and is_open(key) else NEW
-            if side == OLD:
-                counts[KINDS[OLD in lines, NEW in lines]] += 1
-            if side in lines:
-                file.write(lines[side])
-        if former.columns != latter.columns:
-            text = "refused: %s has other columns (@@db_spec) than the baseline, so lines of both cannot stand in one database"
-            raise Fault(Status.DATABASE, text % shown(new.name), "nothing can be kept open; accept all of it")
-        file.write(latter.end)
-        shutil.copyfileobj(latter.file, file, BLOCK)
-    return Copy(target, new.name, new.written), counts
+class Merged(NamedTuple):
+    """A database that was merged, and how many of the added, removed and changed paths stay open
+    in it."""
+
+    copy: Copy
+    counts: Counter[str]
+
+
+def _kind_of(lines: dict[int, bytes]) -> str:
+    """How a path has changed, by the lines of both sides."""
+    if OLD not in lines:
+        return "added"
+    if NEW not in lines:
+        return "removed"
+    return "changed"
+
+
+def keep_open(old: Copy, new: Copy, is_open: Callable[[bytes], bool]) -> Merged:
+    """The new database with the old entries of the paths that stay open. `is_open` is asked for the
+    key of each path whose lines differ. Columns that differ are a Fault of status 24."""
+    target = nameless()
+    counts: Counter[str] = Counter()
+    with failing("cannot make a database of which a part is open"):
+        with open(os.dup(target), "wb", BLOCK) as file:
+            former = EntryReader(old)
+            latter = EntryReader(new, file.write)
+            entries = merge(former.entries(OLD), latter.entries(NEW))
+            for key, group in groupby(entries, key_of_entry):
+                lines = {entry.side: entry.line for entry in group}
+                side = NEW
+                if lines.get(OLD) != lines.get(NEW) and is_open(key):
+                    counts[_kind_of(lines)] += 1
+                    side = OLD
+                if side in lines:
+                    file.write(lines[side])
+            if former.columns != latter.columns:
+                raise _other_columns(new)
+            file.write(latter.end)
+            shutil.copyfileobj(latter.file, file, BLOCK)
+    return Merged(Copy(target, new.name, new.written), counts)
+
+
+def _other_columns(new: Copy) -> Fault:
+    why = (
+        f"refused: {shown(new.name)} has other columns (@@db_spec) than the baseline, "
+        "so lines of both cannot stand in one database"
+    )
+    return Fault(Status.DATABASE, why, "nothing can be kept open; accept all of it")

@@ -1,0 +1,70 @@
+"""The lines of a database: which are entries, and in which field each column is.
+
+The only reader of that form beside the proved program, which alone says whether a database is
+sound.
+"""
+from __future__ import annotations
+
+import re
+from enum import Enum
+
+from aide_compare.base.paths import key_of
+
+# AIDE and aide-compare refuse a longer line.
+MAX_LINE = 1 << 20
+FIELDS = re.compile(rb"[^ \t\n]+")
+FIRST_FIELD = re.compile(rb"[ \t]*([^ \t\n]+)")
+PATH_COLUMN = b"name"
+
+
+class Kind(Enum):
+    """What a line of a database is."""
+
+    ENTRY = "an entry"
+    BESIDE = "blank, a comment, or a line for AIDE"  # All but those that follow.
+    COLUMNS = "the names of the columns"
+    END = "the end"
+    AFTER = "after the end"
+
+
+def fields_in(line: bytes) -> list[bytes]:
+    """The fields of a line."""
+    return FIELDS.findall(line)
+
+
+class Layout:
+    """What the lines that were read so far say of those that follow: the columns, and the end."""
+
+    def __init__(self) -> None:
+        self.columns: tuple[bytes, ...] = ()
+        self.is_over = False
+        self._path = FIRST_FIELD
+
+    def kind_of(self, line: bytes) -> Kind:
+        """What the next line is. The lines of a database have to be asked about in their order."""
+        if self.is_over:
+            return Kind.AFTER
+        start = line.lstrip(b" \t")[:2]
+        if start == b"@@":
+            return self._kind_of_command(fields_in(line))
+        if start[:1] in (b"", b"\n", b"#"):
+            return Kind.BESIDE
+        return Kind.ENTRY
+
+    def _kind_of_command(self, words: list[bytes]) -> Kind:
+        if words[0] == b"@@end_db":
+            self.is_over = True
+            return Kind.END
+        if words[0] != b"@@db_spec" or PATH_COLUMN not in words:
+            return Kind.BESIDE
+        self.columns = tuple(words[1:])
+        before = self.columns.index(PATH_COLUMN)
+        self._path = re.compile(rb"[ \t]*(?:[^ \t\n]+[ \t]+){%d}([^ \t\n]+)" % before)
+        return Kind.COLUMNS
+
+    def key_of(self, entry: bytes) -> bytes | None:
+        """The key of the path of an entry; None if it has no such field, or no column is known."""
+        match = self._path.match(entry)
+        if match is None or not self.columns:
+            return None
+        return key_of(match.group(1))

@@ -1,0 +1,171 @@
+"""Directories that are opened without trust in whoever else can write near them.
+
+A path is walked from the root, directory by directory, each opened by the one before. A symbolic
+link on the way is followed only if it is root's or the caller's, and lies in a directory where no
+other user can put one: so nobody else decides which file it is.
+"""
+from __future__ import annotations
+
+import errno
+import os
+import stat
+from collections.abc import Iterator
+from contextlib import contextmanager, suppress
+
+from aide_compare.base.ending import failing
+from aide_compare.base.escapes import shown
+
+ANYBODY = -1
+OTHERS_WRITE = 0o022
+MAX_LINKS = 40
+# How a piece of a path is opened, a directory in which files are made, and one that is listed.
+PIECE = os.O_PATH | os.O_NOFOLLOW | os.O_CLOEXEC
+PLACE = os.O_PATH | os.O_DIRECTORY | os.O_CLOEXEC
+LISTING = os.O_RDONLY | os.O_DIRECTORY | os.O_CLOEXEC
+
+
+def failure(number: int, text: str | None = None) -> OSError:
+    return OSError(number, text or os.strerror(number))
+
+
+@contextmanager
+def closed_after(descriptor: int) -> Iterator[int]:
+    """A descriptor that is closed at the end of a block, which gets it."""
+    try:
+        yield descriptor
+    finally:
+        os.close(descriptor)
+
+
+class Directory:
+    """An open directory, the root at first.
+
+    `others` are the users, neither root nor the caller, who can write in it or above it; ANYBODY is
+    one of them if a group or everybody can. Above, a sticky directory counts only for its owner.
+    `sticky`: nobody but ANYBODY is in `others`, and only by this directory, where each name belongs
+    to the owner of its file.
+    """
+
+    def __init__(self) -> None:
+        self.fd = -1
+        self.others: frozenset[int] = frozenset()
+        self.sticky = False
+        self._passed_on: frozenset[int] = frozenset()
+        self.enter_root()
+
+    def enter_root(self) -> None:
+        self._passed_on = frozenset()
+        self.enter(os.open("/", PIECE | os.O_DIRECTORY))
+
+    def enter(self, descriptor: int) -> None:
+        """It becomes a directory in it, which was opened by it."""
+        if self.fd >= 0:
+            self.close()
+        self.fd = descriptor
+        status = os.fstat(descriptor)
+        owners = self._passed_on | ({status.st_uid} - {0, os.geteuid()})
+        self.others = owners
+        if status.st_mode & OTHERS_WRITE:
+            self.others |= {ANYBODY}
+        is_sticky = bool(status.st_mode & stat.S_ISVTX)
+        self.sticky = is_sticky and not owners and ANYBODY in self.others
+        self._passed_on = owners if is_sticky else self.others
+
+    def is_safe(self) -> bool:
+        """Whether nobody else can put a name here in place of one of root's or the caller's."""
+        return not self.others or self.sticky
+
+    def opened(self, name: str, make: bool) -> int:
+        """A descriptor (O_PATH) of what has a name in it. A directory may be made if there is
+        nothing."""
+        try:
+            return os.open(name, PIECE, dir_fd=self.fd)
+        except FileNotFoundError:
+            if not make or not self.is_safe():
+                raise
+        mask = os.umask(0o022)
+        try:
+            with suppress(FileExistsError):
+                os.mkdir(name, 0o755, dir_fd=self.fd)
+        finally:
+            os.umask(mask)
+        return os.open(name, PIECE, dir_fd=self.fd)
+
+    def close(self) -> None:
+        os.close(self.fd)
+
+    def __enter__(self) -> Directory:
+        return self
+
+    def __exit__(self, *_: object) -> None:
+        self.close()
+
+
+def _pieces(path: str) -> list[str]:
+    """The pieces of a path, the first one last."""
+    return [piece for piece in reversed(path.split("/")) if piece not in ("", ".")]
+
+
+def _target_of(link: int, directory: Directory) -> str:
+    """What a symbolic link in a directory names. The link is followed only if nobody else can have
+    put it there."""
+    with closed_after(link):
+        if os.fstat(link).st_uid not in (0, os.geteuid()) or not directory.is_safe():
+            raise failure(
+                errno.ELOOP, "a link that another user could have put there is not followed"
+            )
+        return os.readlink("", dir_fd=link)
+
+
+class Walked:
+    """Where a path ends: in a directory, and at the descriptor (O_PATH) of a file there; None if
+    the path is that of the directory."""
+
+    def __init__(self, directory: Directory, file: int | None) -> None:
+        self.directory = directory
+        self.file = file
+
+
+def walked(path: str | bytes, make: bool = False) -> Walked:
+    """Where a path ends, with nobody else's links on the way."""
+    name = os.fsdecode(path)
+    if "\0" in name or not name:
+        raise failure(errno.ENOENT)
+    pieces = _pieces(os.path.join(os.getcwd(), name))
+    directory = Directory()
+    links = 0
+    try:
+        while pieces:
+            descriptor = directory.opened(pieces.pop(), make)
+            mode = os.fstat(descriptor).st_mode
+            if stat.S_ISDIR(mode):
+                directory.enter(descriptor)
+            elif stat.S_ISLNK(mode):
+                target = _target_of(descriptor, directory)
+                links += 1
+                if links > MAX_LINKS:
+                    raise failure(errno.ELOOP)
+                if target.startswith("/"):
+                    directory.enter_root()
+                pieces += _pieces(target)
+            elif pieces or name.endswith("/"):
+                os.close(descriptor)
+                raise failure(errno.ENOTDIR)
+            else:
+                return Walked(directory, descriptor)
+        return Walked(directory, None)
+    except BaseException:
+        directory.close()
+        raise
+
+
+def open_directory(path: str | bytes, make: bool = False) -> Directory:
+    """Opens a directory. With `make`, missing ones are made (0755), but only where no other user
+    could put something else."""
+    with failing(f"cannot open the directory {shown(path)}"):
+        end = walked(path, make)
+        if end.file is not None:
+            os.close(end.file)
+            end.directory.close()
+            raise failure(errno.ENOTDIR)
+        return end.directory

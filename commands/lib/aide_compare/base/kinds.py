@@ -1,0 +1,145 @@
+"""The kinds of values on a command line: each takes a text, and gives the value or says what it
+needs."""
+from __future__ import annotations
+
+import argparse
+import base64
+import os
+import re
+from collections.abc import Callable
+from typing import NamedTuple, TypeVar
+
+from aide_compare.base.escapes import shown
+from aide_compare.base.paths import Pattern
+from aide_compare.base.words import SEVERITIES
+
+# Seconds and bytes.
+UNITS = {"": 1, "s": 1, "m": 60, "h": 3600, "d": 86400, "k": 1 << 10, "M": 1 << 20, "G": 1 << 30}
+MAX_SECONDS = 30 * 86400
+MAX_SIZE = 1 << 62
+BASE64_DIGEST = re.compile("[A-Za-z0-9+/]{42}[AEIMQUYcgkosw048]=")
+HEX_DIGITS = re.compile("[0-9a-fA-F]{16,64}")
+
+Value = TypeVar("Value")
+
+
+def refusal(needs: str, text: str) -> argparse.ArgumentTypeError:
+    """The error for a text that is no such value, which is named."""
+    name = shown(text, 100) or "''"
+    return argparse.ArgumentTypeError(f"needs {needs}: {name}")
+
+
+def matching(
+    pattern: str | re.Pattern[str], needs: str, convert: Callable[[str], Value]
+) -> Callable[[str], Value]:
+    """The kind of the texts that a regular expression describes; `needs` says so to people."""
+
+    def kind(text: str) -> Value:
+        if not re.fullmatch(pattern, text):
+            raise refusal(needs, text)
+        return convert(text)
+
+    return kind
+
+
+def number_in_units(text: str) -> int:
+    """The number that digits and a unit mean."""
+    digits = text.rstrip("".join(UNITS))
+    return int(digits) * UNITS[text[len(digits) :]]
+
+
+_seconds = matching("[0-9]{1,9}[smhd]?", "a number and s, m, h or d, as in 26h", number_in_units)
+
+
+def duration(text: str) -> int:
+    """A time with its unit, in seconds."""
+    seconds = _seconds(text)
+    if seconds > MAX_SECONDS:
+        raise argparse.ArgumentTypeError(f"more than 30 days: {shown(text, 100)}")
+    return seconds
+
+
+def pattern(text: str) -> Pattern:
+    """A pattern of paths."""
+    try:
+        return Pattern(os.fsencode(text))
+    except ValueError as error:
+        raise argparse.ArgumentTypeError(str(error))
+
+
+def _bounded_size(text: str) -> int:
+    return min(number_in_units(text), MAX_SIZE)
+
+
+some_text = matching("(?s).+", "a value that is not empty", str)
+address = matching(r"(?!-)[ -~]+", "an address", str)
+size = matching(
+    "[0-9]{1,15}[kMG]?", "a number of bytes, as in 4000000, 500k, 20M or 1G", _bounded_size
+)
+# As systemd.unit(5) has it.
+UNIT_NAME = re.compile(r"[A-Za-z0-9:_.\\@-]{1,255}")
+unit_name = matching(UNIT_NAME, "the name of a unit", str)
+
+
+def any_text(text: str) -> str:
+    """A text that may be empty."""
+    return text
+
+
+def digest_digits(text: str) -> str:
+    """The digits of a SHA-256: all 64 of them, the first 16 or more, or all of it in base 64."""
+    joined = "".join(text.split())
+    if BASE64_DIGEST.fullmatch(joined):
+        joined = base64.b64decode(joined).hex()
+    if not HEX_DIGITS.fullmatch(joined):
+        name = shown(text, 100) or "''"
+        needs = "give 16 to 64 hexadecimal digits, or all 44 characters of base64"
+        raise argparse.ArgumentTypeError(f"not a SHA-256: {name}; {needs}")
+    return joined.lower()
+
+
+class Server(NamedTuple):
+    """A mail server by its name or address, and its port."""
+
+    host: str
+    port: int
+
+    def __str__(self) -> str:
+        host = shown(self.host, 100)
+        if ":" in self.host:
+            return f"[{host}]:{self.port}"
+        return f"{host}:{self.port}"
+
+
+def _is_port(text: str) -> bool:
+    return text.isascii() and text.isdigit() and len(text) <= 5 and 0 < int(text) < 65536
+
+
+def server(text: str) -> Server:
+    """HOST or HOST:PORT. An address of IPv6, which has colons itself, is in brackets before a
+    port."""
+    name, colon, port = text.rpartition(":")
+    if not colon or (":" in name and not name.endswith("]")):
+        name = text
+        port = "25"
+    name = name.strip("[]")
+    if not name or not _is_port(port):
+        raise refusal("a host, or a host and a port from 1 to 65535", text)
+    return Server(name, int(port))
+
+
+class AlarmLimit(NamedTuple):
+    """From where on a check is WARNING or CRITICAL: a number of changes that are not silent, or, if
+    that is 0, the least severity of one."""
+
+    changes: int
+    severity: str
+
+
+def alarm_limit(text: str) -> AlarmLimit:
+    """A severity, or a number from 1 on."""
+    if text in SEVERITIES:
+        return AlarmLimit(0, text)
+    if text.isascii() and text.isdigit() and len(text) <= 9 and int(text):
+        return AlarmLimit(int(text), "")
+    raise refusal("high, medium or low, or a number from 1", text)

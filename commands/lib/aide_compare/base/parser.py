@@ -1,0 +1,229 @@
+"""The command line of a command, made of rows of the table of options, and the administrator's
+defaults.
+
+An administrator writes down once in /etc/aide-compare what is wanted each time: `defaults` has
+options, as on the command line and one a line, and `without` has paths that are left out. None of
+these names what a command writes, or whose rights it has.
+"""
+from __future__ import annotations
+
+import argparse
+import os
+import re
+from collections.abc import Iterable, Sequence
+from contextlib import suppress
+from functools import partial
+from typing import Any, NoReturn
+
+from aide_compare import VERSION
+from aide_compare.base import progress
+from aide_compare.base.ending import Done, Fault, Status, failing, write_all
+from aide_compare.base.escapes import shown
+from aide_compare.base.files import lines_of
+from aide_compare.base.kinds import some_text
+from aide_compare.base.options import (
+    CHECK_DEFAULTS,
+    COLOR,
+    COMPARISON_DEFAULTS,
+    MAIL_DEFAULTS,
+    NO_DEFAULTS,
+    QUIET,
+    VERBOSE,
+    Option,
+)
+
+OPERAND = "\0"  # Before a word that follows --. No argument has this byte.
+UNKNOWN_OPTION = re.compile(r"unrecognized arguments: (--?[\w-]+)")
+DIRECTORY = "/etc/aide-compare"
+DEFAULTS_LINE = re.compile(r"(--[a-z-]+)(?:(?:=|[ \t]+)(.*))?", re.S)
+MAY_BE_DEFAULTS = {
+    option.name: option for option in (*COMPARISON_DEFAULTS, *MAIL_DEFAULTS, *CHECK_DEFAULTS)
+}
+
+# A width of its own keeps argparse from asking for that of the terminal, which takes 10 ms.
+_FORMATTER = partial(argparse.RawDescriptionHelpFormatter, max_help_position=26, width=110)
+
+
+class Once(argparse.Action):
+    """An option that may be given once."""
+
+    def __call__(
+        self,
+        parser: argparse.ArgumentParser,
+        namespace: argparse.Namespace,
+        values: object,
+        option_string: str | None = None,
+    ) -> None:
+        if getattr(namespace, self.dest) is not None:
+            names = "/".join(self.option_strings)
+            parser.error(f"{names} is given twice")
+        setattr(namespace, self.dest, values)
+
+
+def add_option(parser: argparse.ArgumentParser | argparse._ArgumentGroup, option: Option) -> None:
+    """Adds an option to a parser, or to a group of one."""
+    names = [name for name in (option.letter, option.name) if name]
+    if not option.has_value:
+        parser.add_argument(*names, action="store_true", help=option.help)
+        return
+    words: dict[str, Any] = {"default": option.default, "help": option.help}
+    if option.metavar:
+        words["metavar"] = option.metavar
+    if option.choices:
+        words["choices"] = option.choices
+    else:
+        words["type"] = option.kind
+    if option.bare:
+        words.update(nargs="?", const=option.bare)
+    if option.is_repeated:
+        words.update(action="append", default=[])
+    if option.number_of_values > 1:
+        words.update(nargs=option.number_of_values, metavar=tuple(option.metavar.split()))
+    if option.is_single:
+        words["action"] = Once
+    parser.add_argument(*names, **words)
+
+
+def end_of_options(words: Sequence[str]) -> int:
+    """Where they end on a command line: after -- there are operands only."""
+    return words.index("--") if "--" in words else len(words)
+
+
+class Parser(argparse.ArgumentParser):
+    """The options of a command, with those that all have. Faults have the status 15."""
+
+    def __init__(
+        self,
+        name: str,
+        description: str,
+        quiet: str = QUIET.help,
+        epilog: str = "",
+        usage: str | None = None,
+    ) -> None:
+        super().__init__(
+            prog=name,
+            description=description,
+            usage=usage,
+            epilog=epilog,
+            allow_abbrev=False,
+            formatter_class=_FORMATTER,
+        )
+        self.names = ["--help", "--version"]
+        self.add_argument("--version", action="store_true", help="print the version and stop")
+        self.add(QUIET._replace(help=quiet), VERBOSE, COLOR)
+
+    def add(self, *options: Option) -> None:
+        for option in options:
+            self.names.append(option.name)
+            add_option(self, option)
+
+    def add_operand(
+        self,
+        name: str,
+        metavar: str,
+        help: str,
+        nargs: str | None = None,
+        default: str | None = None,
+    ) -> None:
+        """An operand, a text that is not empty; with `nargs` as argparse has it there may be none
+        or several."""
+        words: dict[str, Any] = {"metavar": metavar, "help": help, "default": default}
+        if nargs:
+            words["nargs"] = nargs
+        self.add_argument(name, type=_operand, **words)
+
+    def parse(self, arguments: Sequence[str]) -> argparse.Namespace:
+        """What the arguments say; options and operands may stand in any order, and after -- there
+        are operands only."""
+        cut = self._cut(arguments)
+        operands = [OPERAND + word for word in arguments[cut + 1 :]]
+        args = self.parse_intermixed_args([*arguments[:cut], *operands])
+        progress.tell_steps(args.verbose)
+        return args
+
+    def parse_own(self, arguments: Sequence[str]) -> tuple[argparse.Namespace, list[str]]:
+        """What the arguments say by the options of this parser, and all other words in their
+        order."""
+        cut = self._cut(arguments)
+        args, others = self.parse_known_args(arguments[:cut])
+        return args, [*others, *arguments[cut:]]
+
+    def _cut(self, arguments: Sequence[str]) -> int:
+        """Where the options end. The version is printed here, whatever else is asked for."""
+        cut = end_of_options(arguments)
+        if "--version" in arguments[:cut]:
+            write_all(1, f"{self.prog} {VERSION}\n".encode())
+            raise Done
+        return cut
+
+    def print_help(self, file: object = None) -> None:
+        write_all(1, self.format_help().encode())
+
+    def exit(self, status: int = 0, message: str | None = None) -> NoReturn:
+        raise Done  # After --help; faults are in `error`.
+
+    def error(self, message: str) -> NoReturn:
+        """Refuses the command line, with the option that is nearest to one that is not there."""
+        text = message.replace(OPERAND, "")
+        hint = f"try: {self.prog} --help"
+        unknown = UNKNOWN_OPTION.match(text)
+        if unknown:
+            import difflib
+
+            for near in difflib.get_close_matches(unknown.group(1), self.names, 1, 0.75):
+                hint = f"did you mean: {near}"
+        raise Fault(Status.USAGE, text, hint)
+
+
+def _operand(text: str) -> str:
+    return some_text(text.removeprefix(OPERAND))
+
+
+def administrators_file(name: str) -> str | None:
+    """The path of a file in the administrator's directory; None if there is no such file."""
+    path = os.path.join(DIRECTORY, name)
+    with failing(f"cannot look for {shown(path)}"):
+        with suppress(FileNotFoundError, NotADirectoryError):
+            os.lstat(path)
+            return path
+    return None
+
+
+def defaults_for(options: Iterable[Option], words: Sequence[str]) -> list[str]:
+    """The words of the lines of the defaults that are for these options; none if the words of the
+    command line turn the defaults off."""
+    names = [option.name for option in options]
+    before = set(words[: end_of_options(words)])
+    if before & {NO_DEFAULTS.name, "--help", "-h", "--version"}:
+        return []
+    path = administrators_file("defaults")
+    if path is None:
+        return []
+    defaults = []
+    for line, place in lines_of(path, "the defaults"):
+        name, value = _default_in(line, place)
+        if name not in names:
+            continue
+        if MAY_BE_DEFAULTS[name].number_of_values > 1:
+            defaults += [name, *value.split()]
+        else:
+            defaults.append(f"{name}={value}" if value else name)
+    return defaults
+
+
+def _default_in(line: bytes, place: str) -> tuple[str, str]:
+    """The option of a line of the defaults, and its value; "" without one."""
+    match = DEFAULTS_LINE.fullmatch(os.fsdecode(line))
+    name = match.group(1) if match else ""
+    if match is None or name not in MAY_BE_DEFAULTS:
+        text = shown(line, 100)
+        raise Fault(Status.USAGE, f"{place}: this option cannot be a default: {text}")
+    value: str = match.group(2) or ""
+    option = MAY_BE_DEFAULTS[name]
+    if option.has_value and not value and not option.bare:
+        raise Fault(Status.USAGE, f"{place}: {name} needs a value")
+    if option.number_of_values > 1 and len(value.split()) != option.number_of_values:
+        raise Fault(Status.USAGE, f"{place}: {name} needs {option.number_of_values} values")
+    if value and not option.has_value:
+        raise Fault(Status.USAGE, f"{place}: {name} needs no value")
+    return name, value

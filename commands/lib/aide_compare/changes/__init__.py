@@ -1,0 +1,1 @@
+"""What both databases say of a changed entry, and how much the change matters."""

@@ -1,0 +1,64 @@
+"""aide-compare accept on a terminal: shows what differs, names the digest, and asks."""
+from __future__ import annotations
+
+import os
+import sys
+import termios
+from collections.abc import Sequence
+
+from aide_compare.base.ending import Fault, Status, tell, write_all
+from aide_compare.base.escapes import guarded, shown
+from aide_compare.base.options import COMPARISON_DEFAULTS, TRUSTED
+from aide_compare.base.parser import defaults_for
+from aide_compare.base.words import minute_of
+from aide_compare.commands.compare import Printer
+from aide_compare.commands.compare_task import Task, compare_request
+from aide_compare.compare.comparison import Request
+from aide_compare.compare.state import State
+from aide_compare.compare.work import named_databases
+
+YES = ("y", "yes")
+MAX_ANSWER = 100
+
+
+def can_ask() -> bool:
+    """Whether a person can read the question and answer it."""
+    return os.isatty(0) and os.isatty(1)
+
+
+def databases_of_aide() -> tuple[str, str]:
+    """The new database and the baseline that AIDE's configuration names."""
+    old, new = named_databases(Request())
+    return new, old
+
+
+def compared(new: str, baseline: str, trusted: Sequence[str]) -> State:
+    """Compares as aide-compare does, with the same defaults and privileges, and prints what
+    differs."""
+    words = [TRUSTED.name, *trusted] if trusted else []
+    words += ["--", baseline, new]
+    request = compare_request([*defaults_for(COMPARISON_DEFAULTS, words), *words])
+    printer = Printer(request, words)
+    ended = Task(printer.task_request, wants_state=True).carry_out(printer)
+    if ended.state is None or ended.status > 7:
+        raise Fault(Status(ended.status), "nothing was compared, so nothing is accepted")
+    return ended.state
+
+
+def answer_to(question: str) -> str:
+    """What a person types after a question. What was typed before it was there does not count."""
+    termios.tcflush(0, termios.TCIFLUSH)
+    write_all(1, guarded(question).encode("utf-8", "backslashreplace"))
+    return sys.stdin.readline(MAX_ANSWER).strip().lower()
+
+
+def wanted_after_question(new: str, baseline: str, trusted: Sequence[str]) -> State:
+    """The State of a comparison whose new database a person wants who has seen its changes."""
+    state = compared(new, baseline, trusted)
+    line = f"New database: {shown(new)}"
+    if state.new_written is not None:
+        line += f", written {minute_of(state.new_written)}"
+    tell("", line, f"SHA-256 {state.new_sha256}")
+    if answer_to(f"Make it the baseline {shown(baseline)}? [y/N] ") not in YES:
+        raise Fault(Status.DATABASE, "nothing is accepted")
+    return state

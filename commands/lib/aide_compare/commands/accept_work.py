@@ -1,0 +1,246 @@
+"""The work of aide-compare accept: a database takes the place of the baseline, whole or but for
+what stays open."""
+from __future__ import annotations
+
+import gzip
+import os
+from collections import Counter
+from collections.abc import Iterator, Sequence
+from contextlib import suppress
+from typing import NamedTuple, Optional
+
+from aide_compare.base.ending import Fault, Status, write_all
+from aide_compare.base.escapes import shown
+from aide_compare.base.files import copy_file, nameless, reopened
+from aide_compare.base.directories import closed_after
+from aide_compare.base.paths import Pattern, key_of_path
+from aide_compare.base.processes import in_child
+from aide_compare.base.rights import become, entry_of
+from aide_compare.base.words import TRUSTED_SIDES, counted
+from aide_compare.compare.baseline import Baseline, owners
+from aide_compare.compare.comparison import Request
+from aide_compare.compare.kept_open import Listed, Patterns, keep_open
+from aide_compare.compare.soundness import refuse_unsound
+from aide_compare.compare.unpack import (
+    GZIP,
+    Copy,
+    Opened,
+    copy_database,
+    copy_opened,
+    copy_packed,
+    database_digest,
+    open_database,
+)
+from aide_compare.compare.work import compare
+from aide_compare.lines.reader import reader_over
+from aide_compare.show.told import told_of
+
+BLOCK = 1 << 18
+SECONDS_TO_COMPARE = 6 * 3600
+
+# Databases by their sides.
+Copies = dict[str, Copy]
+
+
+class AcceptRequest(NamedTuple):
+    """What the options ask for."""
+
+    new: str
+    baseline: str
+    digest: str  # The first digits of the SHA-256 of the new database.
+    keep_open: Sequence[Pattern]
+    only_trusted: bool
+    max_size: int
+    trusted: Sequence[str] = ()  # The paths of a trusted pair, or none.
+
+
+class Offer:
+    """The new database: a private copy of its file, of which all is taken, and the Copy of what it
+    unpacks to."""
+
+    def __init__(self, path: str, max_size: int) -> None:
+        opened = open_database("new", path)
+        packed = copy_packed(opened, max_size)
+        self.fd = reopened(packed, os.O_RDONLY)
+        self.copy = copy_opened(Opened("new", path, packed), max_size)
+        self.copy.written = opened.written
+        self.sha256 = self.copy.sha256
+
+    def packed(self, copy: Copy) -> int:
+        """A descriptor of another database in the form of this one, plain or compressed by gzip."""
+        if os.pread(self.fd, 2, 0) != GZIP:
+            return copy.fd
+        target = nameless()
+        with open(os.dup(target), "wb") as file:
+            with gzip.GzipFile(filename="", mode="wb", fileobj=file, mtime=0) as member:
+                offset = 0
+                while block := os.pread(copy.fd, BLOCK, offset):
+                    member.write(block)
+                    offset += len(block)
+        return target
+
+
+class Owner(NamedTuple):
+    """The user and the group that a file belongs to."""
+
+    user: int
+    group: int
+
+    def names(self) -> str:
+        """Their names, or their numbers."""
+        import grp
+
+        group = str(self.group)
+        with suppress(KeyError):
+            group = grp.getgrgid(self.group).gr_name
+        return shown(f"{entry_of(self.user).pw_name}:{group}", 200)
+
+
+class Former(NamedTuple):
+    """What was the baseline before."""
+
+    sha256: str  # "" if it cannot be read.
+    owner: Owner
+
+
+class Merged(NamedTuple):
+    """The new database with the former entries of what stays open, and how many these are by their
+    kinds."""
+
+    copy: Copy
+    counts: Counter[str]
+
+
+class Accepted(NamedTuple):
+    """What was done."""
+
+    new: Offer
+    former: Optional[Former]  # None if there was no baseline.
+    sha256: str  # Of the baseline now.
+    merged: Optional[Merged]  # None if nothing stays open.
+    owner: Optional[Owner]  # Of the baseline, None if nothing was written.
+
+    @property
+    def is_replaced(self) -> bool:
+        return self.former is None or self.former.sha256 != self.sha256
+
+
+def former_of(baseline: Baseline, max_size: int) -> Optional[Former]:
+    if baseline.former is None:
+        return None
+    owner = Owner(*owners(baseline.former.status))
+    descriptor = baseline.reading()
+    if descriptor is None:
+        return Former("", owner)
+    with closed_after(descriptor), suppress(Fault):
+        return Former(database_digest(Opened("old", baseline.path, descriptor), max_size), owner)
+    return Former("", owner)
+
+
+def _write_open_keys(path: str, copies: Copies, target: int) -> bytes:
+    """Writes the keys of the changes that are not silent, and returns the lines that say what was
+    found."""
+    comparison = compare(Request(old=path, new=copies["new"].name, copies=copies))
+    if comparison.status > 7:
+        text = "refused: nothing was compared, so nothing is silent"
+        raise comparison.fault or Fault(Status(comparison.status), text)
+    lines = comparison.known_lines()
+    if lines.is_cut:
+        limit = comparison.request.max_report
+        raise Fault(Status.DEVICE, f"refused: the changes have more than {limit} bytes")
+    for _, change in reader_over(lines.fd):
+        if not change.standing.is_silent:
+            write_all(target, key_of_path(change.path) + b"\n")
+    end = lines.end
+    silent = f"{end.changes - end.others} of {counted(end.changes, 'change')} silent"
+    return f"{told_of(comparison)}aide-compare: {silent}\n".encode("utf-8", "replace")
+
+
+def _own_copy(copy: Copy) -> Copy:
+    """The same database in a file of this process's user: the program could not open another."""
+    descriptor = nameless()
+    copy_file(copy.fd, descriptor)
+    return Copy(descriptor, copy.name, copy.written)
+
+
+def _open_keys(baseline: Baseline, copies: Copies) -> Iterator[bytes]:
+    """The keys, in path order, of the changes that are not silent, found with the rights of the
+    baseline's owner."""
+    target = nameless()
+    owner = baseline.user
+
+    def find_as_owner() -> bytes:
+        assert owner is not None
+        become(entry_of(owner))
+        own = {side: _own_copy(copy) for side, copy in copies.items()}
+        return _write_open_keys(baseline.path, own, target)
+
+    if owner is None:
+        lines = _write_open_keys(baseline.path, copies, target)
+    else:
+        descriptors = [target, *(copy.fd for copy in copies.values())]
+        lines = in_child("the comparison", find_as_owner, SECONDS_TO_COMPARE, descriptors)
+    write_all(2, lines)
+    with open(target, "rb") as file:
+        file.seek(0)
+        for line in file:
+            yield line[:-1]
+
+
+def merge(request: AcceptRequest, offer: Offer, baseline: Baseline) -> Merged:
+    """The new database with the old entries of what stays open."""
+    descriptor = baseline.reading()
+    if descriptor is None:
+        text = (
+            f"there is no baseline {shown(baseline.path)} that can be read, so nothing stays open"
+        )
+        raise Fault(Status.DEVICE, text)
+    old = copy_opened(Opened("old", baseline.path, descriptor), request.max_size)
+    refuse_unsound(offer.copy, old)
+    patterns = Patterns(request.keep_open)
+    listed = Listed(())
+    if request.only_trusted:
+        copies = {"old": old, "new": offer.copy}
+        for side, path in zip(TRUSTED_SIDES, request.trusted):
+            copies[side] = copy_database(side, path, request.max_size)
+        listed = Listed(_open_keys(baseline, copies))
+
+    def stays_open(key: bytes) -> bool:
+        # Both are asked for each key, since both count what they are asked for.
+        answers = [patterns(key), listed(key)]
+        return any(answers)
+
+    copy, counts = keep_open(old, offer.copy, stays_open)
+    for unused in patterns.unused():
+        text = f"refused: nothing that differs is kept open by {shown(unused.text, 200)}"
+        raise Fault(Status.DATABASE, text)
+    refuse_unsound(copy)
+    return Merged(copy, counts)
+
+
+def accept(request: AcceptRequest) -> Accepted:
+    """Makes the new database the baseline. A database that is not meant is a Fault of status 24."""
+    offer = Offer(request.new, request.max_size)
+    if not offer.sha256.startswith(request.digest):
+        raise Fault(
+            Status.DATABASE,
+            f"refused: {shown(request.new)} is not the database that was reported",
+            f"the SHA-256 that was given: {request.digest}",
+            f"the SHA-256 of the database: {offer.sha256}",
+        )
+    baseline = Baseline(request.baseline)
+    baseline.settle()
+    former = former_of(baseline, request.max_size)
+    merged = None
+    sha256 = offer.sha256
+    source = offer.fd
+    if request.keep_open or request.only_trusted:
+        merged = merge(request, offer, baseline)
+        sha256 = merged.copy.sha256
+        source = offer.packed(merged.copy)
+    else:
+        refuse_unsound(offer.copy)
+    owner = None
+    if former is None or former.sha256 != sha256:
+        owner = Owner(*baseline.replace(source))
+    return Accepted(offer, former, sha256, merged, owner)

@@ -1,0 +1,151 @@
+"""check_aide_compare: the result of the last comparison as Nagios, Icinga and their like read it,
+in one line and a status from 0 to 3."""
+from __future__ import annotations
+
+import os
+from collections.abc import Sequence
+from enum import IntEnum
+from typing import NamedTuple, Optional
+
+from aide_compare.base.ending import Done, Fault, tell, why_of
+from aide_compare.base.escapes import guarded, shown
+from aide_compare.base.kinds import AlarmLimit
+from aide_compare.base.options import (
+    ALARM,
+    CHECK_DEFAULTS,
+    CRITICAL,
+    NO_DEFAULTS,
+    NOT_SILENT,
+    RESULT_AGE,
+    STATE,
+    WARNING,
+)
+from aide_compare.base.parser import Parser, defaults_for
+from aide_compare.base.words import SEVERITIES, age_in_words, date_of
+from aide_compare.compare.state import DAILY, State, read_state
+from aide_compare.lines.change import Counts
+from aide_compare.show.result import result_numbers, result_text
+
+NAME = "check_aide_compare"
+DESCRIPTION = "Says in one line what the last comparison found."
+EPILOG = """\
+Status: 0 OK, all changes are silent; 1 WARNING, the others are as packages' records on the host
+have them; 2 CRITICAL, a change is open; 3 UNKNOWN, all else. A LIMIT takes the place of one of
+the two: a number of changes that are not silent, or the least severity of one, high, medium or
+low.
+With --alarm any: 1 WARNING, entries were added; 2 CRITICAL, entries were removed or changed."""
+MAX_LINE = 300
+ONLY_ADDED = 1
+
+
+class Level(IntEnum):
+    """The statuses of a check."""
+
+    OK = 0
+    WARNING = 1
+    CRITICAL = 2
+    UNKNOWN = 3
+
+
+class CheckRequest(NamedTuple):
+    """What the options ask for. Without a limit the standings decide."""
+
+    state: str
+    max_age: int
+    alarm: str
+    warning: Optional[AlarmLimit]
+    critical: Optional[AlarmLimit]
+
+
+class Answer(NamedTuple):
+    """What the check says, with numbers for graphs."""
+
+    level: Level
+    text: str
+    numbers: str = ""
+
+
+def is_reached(limit: AlarmLimit, counts: Counts) -> bool:
+    if limit.severity:
+        severities = SEVERITIES[: SEVERITIES.index(limit.severity) + 1]
+        return any(counts.of_severity(severity) for severity in severities)
+    return counts.told >= limit.changes
+
+
+def is_critical(request: CheckRequest, counts: Counts) -> bool:
+    if request.critical is not None:
+        return is_reached(request.critical, counts)
+    return counts.open > 0
+
+
+def is_warning(request: CheckRequest, counts: Counts) -> bool:
+    if request.warning is not None:
+        return is_reached(request.warning, counts)
+    return counts.told > 0
+
+
+def every_difference_counts(request: CheckRequest, state: State) -> bool:
+    """Whether nobody knows the standings, or nobody has asked for them."""
+    has_limit = request.warning is not None or request.critical is not None
+    return state.standings is None or (request.alarm != NOT_SILENT and not has_limit)
+
+
+def level_of(request: CheckRequest, state: State) -> Level:
+    """The level by a state that is young enough."""
+    counts = state.standings
+    if state.status == 0:
+        return Level.OK
+    if state.status > 7:
+        return Level.UNKNOWN
+    if counts is None or every_difference_counts(request, state):
+        return Level.WARNING if state.status == ONLY_ADDED else Level.CRITICAL
+    if is_critical(request, counts):
+        return Level.CRITICAL
+    if is_warning(request, counts):
+        return Level.WARNING
+    return Level.OK
+
+
+def answer_to(request: CheckRequest) -> Answer:
+    if not os.path.lexists(request.state):
+        text = f"there is no {shown(request.state)}; aide-compare --state writes it"
+        return Answer(Level.UNKNOWN, text)
+    state = read_state(request.state)
+    if state.age is None:
+        text = f"the last comparison is in the future: {date_of(state.time)}"
+        return Answer(Level.UNKNOWN, text)
+    text = result_text(state)
+    numbers = f"{result_numbers(state)}age={state.age}s"
+    if state.age > request.max_age:
+        age = f"older than {age_in_words(request.max_age)}: {date_of(state.time)}"
+        return Answer(Level.UNKNOWN, f"the last comparison is {age}: {text}", numbers)
+    return Answer(level_of(request, state), text, numbers)
+
+
+def request_of(arguments: list[str]) -> CheckRequest:
+    parser = Parser(NAME, DESCRIPTION, "changes nothing here", epilog=EPILOG)
+    parser.add(
+        STATE._replace(default=DAILY, help=f"what aide-compare has written ({DAILY})"),
+        RESULT_AGE._replace(help="an older result is UNKNOWN (26h)"),
+        ALARM._replace(help="which changes count (not-silent)"),
+        WARNING,
+        CRITICAL,
+        NO_DEFAULTS,
+    )
+    args = parser.parse(defaults_for(CHECK_DEFAULTS, arguments) + arguments)
+    return CheckRequest(args.state, args.max_age, args.alarm, args.warning, args.critical)
+
+
+def main(arguments: Sequence[str]) -> int:
+    """Every failure of the check itself is UNKNOWN, since 1 and 2 say what was found."""
+    try:
+        answer = answer_to(request_of(list(arguments)))
+    except Done:
+        return Level.UNKNOWN
+    except (Fault, MemoryError, OSError) as error:
+        answer = Answer(Level.UNKNOWN, why_of(error))
+    line = guarded(answer.text)[:MAX_LINE].replace("|", "!")  # A bar begins the numbers.
+    if answer.numbers:
+        line += f"|{answer.numbers}"
+    tell(f"AIDE {answer.level.name}: {line}")
+    return answer.level

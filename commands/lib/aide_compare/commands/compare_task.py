@@ -1,0 +1,271 @@
+"""A comparison as the options of a command line ask for it, and what is written of it."""
+from __future__ import annotations
+
+import os
+from collections.abc import Callable, Sequence
+from contextlib import suppress
+from typing import TYPE_CHECKING, NamedTuple, Optional
+
+from aide_compare.base.ending import Fault, Status, write_all
+from aide_compare.base.escapes import shown
+from aide_compare.base.files import nameless
+from aide_compare.base.options import (
+    AFTER,
+    BEFORE,
+    CONFIG,
+    EXCLUDE,
+    EXCLUDE_FROM,
+    MAX_AGE,
+    MAX_REPORT,
+    MAX_SIZE,
+    NO_DEFAULTS,
+    STATE,
+    TRUSTED,
+    USER,
+    Option,
+)
+from aide_compare.base.parser import Parser, administrators_file
+from aide_compare.base.program import KNOWN
+from aide_compare.base.replacement import ANYBODY_READS
+from aide_compare.base.rights import name_of, run_as
+from aide_compare.compare.comparison import Comparison, Request
+from aide_compare.compare.exclusions import Exclusions, read_exclusions
+from aide_compare.compare.outputs import Output, open_output, owner_of, rights_hint, state_in
+from aide_compare.compare.state import State
+from aide_compare.compare.unpack import Opened
+from aide_compare.compare.work import FAILURES, Work, failed_comparison
+from aide_compare.lines.change import Counts
+
+if TYPE_CHECKING:
+    from aide_compare.changes.judged import Judged
+
+NAME = "aide-compare compare"
+DESCRIPTION = """Compares two AIDE databases, plain or compressed by gzip, and prints what differs,
+the most severe first; with --report the report as AIDE prints it."""
+TRY = "try: aide-compare compare --help"
+EPILOG = """\
+Times are as in 90s, 15m, 26h or 3d; a plain number is seconds. Sizes are in bytes, or as in
+500k, 20M or 1G. Where another user can write in the directory of the state file, or above it, it
+is written with that user's privileges. Root compares with the privileges of the user in whose
+directory the baseline is, unless --user names another one.
+
+Status: that of aide-compare-program(8). 0 no difference, 1 to 7 differences, above 7 no
+comparison."""
+REPORT = Option(
+    "--report",
+    "print the report as AIDE prints it, as also with an option report_* in -A or -B",
+)
+
+
+class CompareRequest(NamedTuple):
+    """What the options of a comparison ask for."""
+
+    databases: Sequence[str]  # The paths of both, or none if the configuration names them.
+    configuration: Optional[str]
+    before: str
+    after: str
+    state: Optional[str]
+    max_size: int
+    max_report: int
+    max_age: int
+    exclude_from: Sequence[str]
+    exclude: Sequence[str]
+    trusted: Sequence[str]  # The paths of a trusted pair, or none.
+    wants_report: bool
+    user: Optional[str]
+    reads_defaults: bool
+    is_quiet: bool
+    is_verbose: bool
+    color: str
+
+
+def own_parser() -> Parser:
+    """The options of a comparison, which aide-compare mail has too."""
+    quiet = "print neither report nor notes: only why nothing was compared"
+    usage = "aide-compare [compare] [OPTIONS] [OLD NEW]"
+    parser = Parser(NAME, DESCRIPTION, quiet, epilog=EPILOG, usage=usage)
+    databases = "the databases, - for standard input; without them the configuration names both"
+    parser.add_operand("databases", "OLD NEW", databases, nargs="*")
+    state = "write the status, the time, the counts and both SHA-256 to FILE; - is standard output"
+    parser.add(CONFIG, AFTER, BEFORE, STATE._replace(help=state), MAX_SIZE, MAX_REPORT, MAX_AGE)
+    parser.add(EXCLUDE_FROM, EXCLUDE, TRUSTED, REPORT, USER, NO_DEFAULTS)
+    return parser
+
+
+def compare_request(arguments: Sequence[str]) -> CompareRequest:
+    args = own_parser().parse(arguments)
+    return CompareRequest(
+        databases=args.databases,
+        configuration=args.config,
+        before=args.before or "",
+        after=args.after or "",
+        state=args.state,
+        max_size=args.max_size,
+        max_report=args.max_report,
+        max_age=args.max_age,
+        exclude_from=args.exclude_from,
+        exclude=args.exclude,
+        trusted=args.trusted or (),
+        wants_report=args.report,
+        user=args.user,
+        reads_defaults=not args.no_defaults,
+        is_quiet=args.quiet,
+        is_verbose=args.verbose,
+        color=args.color,
+    )
+
+
+def check_databases(databases: Sequence[str]) -> None:
+    """Refuses operands that do not name both databases."""
+    if len(databases) == 1:
+        raise Fault(Status.USAGE, "name both databases, OLD and NEW, or none", TRY)
+    if len(databases) > 2:
+        raise Fault(Status.USAGE, f"more than two databases: {shown(databases[-1], 200)}", TRY)
+
+
+def exclusions_of(request: CompareRequest) -> Optional[Exclusions]:
+    """The lines that leave entries out: those of the options, or those of the administrator."""
+    paths = request.exclude_from
+    if not paths and request.reads_defaults:
+        usual = administrators_file("without")
+        paths = [usual] if usual else []
+    return read_exclusions(paths, request.exclude)
+
+
+def work_request(request: CompareRequest) -> Request:
+    """What is compared, and how."""
+    check_databases(request.databases)
+    if [*request.databases, *request.trusted].count("-") > 1:
+        raise Fault(Status.USAGE, "standard input has one database only")
+    wanted = Request(
+        configuration=request.configuration,
+        before=request.before,
+        after=request.after,
+        max_size=request.max_size,
+        max_report=request.max_report,
+        max_age=request.max_age,
+        exclusions=exclusions_of(request),
+        trusted=request.trusted,
+    )
+    if not request.databases:
+        return wanted
+    old, new = request.databases
+    return wanted._replace(old=old, new=new)
+
+
+def keep_failure(path: Optional[str], error: Exception) -> None:
+    """Writes into the state file that a run has failed before it could begin, as by a fault in the
+    defaults: otherwise the result of an earlier run would look like that of today."""
+    if path is None:
+        return
+    with suppress(Fault, OSError):
+        state = failed_comparison(error).state()
+        open_output(path, "the state file", ANYBODY_READS).commit(state.text())
+
+
+class Reporter:
+    """Who is told of a comparison."""
+
+    def print(self, comparison: Comparison, judged: Judged | None) -> None:
+        """Prints what was found, before the state is written. If that is not possible, nothing was
+        compared."""
+
+    def conclude(self, comparison: Comparison, judged: Judged | None) -> bytes:
+        """Says the rest when the state is written. Returns the mail that is sent of it."""
+        return b""
+
+
+class Ended(NamedTuple):
+    """How a comparison has ended."""
+
+    status: int
+    state: Optional[State]  # None if nobody wants it.
+    message: bytes  # The mail that is sent of it.
+
+
+class Task:
+    """A comparison that is carried out. `judges`: whoever is told of it reads its changes with
+    their standings; otherwise the report alone is wanted. `wants_state`: also without a file for
+    it."""
+
+    def __init__(
+        self, request: CompareRequest, judges: bool = True, wants_state: bool = False
+    ) -> None:
+        self.may_be_child = os.geteuid() == 0 and not request.user
+        self.judges = judges
+        self.request = work_request(request)._replace(wants_lines=judges)
+        self.output: Optional[Output] = None
+        if request.state:
+            self.output = open_output(request.state, "the state file", ANYBODY_READS)
+        self.wants_state = wants_state or self.output is not None
+
+    def carry_out(self, reporter: Reporter) -> Ended:
+        """Compares, judges, and writes what is wanted. Root does it with the rights of the user in
+        whose directory the baseline is."""
+        work = Work(self.request)
+        try:
+            opened = work.open_databases()
+            user = owner_of(work.databases.old) if self.may_be_child else None
+        except FAILURES as error:
+            return self._end(work.failed(error), reporter, self.keep)
+        if user is not None:
+            return self._compare_as(user, work, opened, reporter)
+        return self._end(work.compare(opened), reporter, self.keep)
+
+    def keep(self, state: State) -> None:
+        """Writes the state where the options want it."""
+        if self.output:
+            self.output.commit(state.text())
+
+    def _end(
+        self, comparison: Comparison, reporter: Reporter, keep: Callable[[State], None]
+    ) -> Ended:
+        """Judges a comparison, prints it, keeps its state, and says the rest."""
+        judged = None
+        try:
+            if self.judges and comparison.status == 0:
+                comparison = comparison._replace(standings=Counts())
+            elif self.judges and comparison.differs:
+                # The modules for it are more than all others together.
+                from aide_compare.show.judgement import judge
+
+                reviewed = judge(comparison)
+                comparison = reviewed.comparison
+                judged = reviewed.judged
+            reporter.print(comparison, judged)
+        except (Fault, MemoryError, OSError) as error:
+            comparison = comparison.failed(error)
+        state = None
+        if self.wants_state:
+            state = comparison.state()
+            keep(state)
+        message = reporter.conclude(comparison, judged)
+        return Ended(comparison.status, state, message)
+
+    def _compare_as(
+        self, user: int, work: Work, opened: Sequence[Opened], reporter: Reporter
+    ) -> Ended:
+        """Compares in a child with the rights of a user, and keeps what it has written."""
+        state_file = nameless()
+        message_file = nameless()
+
+        def compare() -> int:
+            comparison = work.compare(opened).explained(rights_hint(user))
+            ended = self._end(
+                comparison, reporter, lambda state: write_all(state_file, state.text())
+            )
+            write_all(message_file, ended.message)
+            return ended.status
+
+        try:
+            status = run_as(user, compare)
+            if status not in KNOWN:
+                whose = f"the comparison with {name_of(user)}'s privileges"
+                raise Fault(Status.DEVICE, f"{whose} ended with {status}")
+            state = state_in(state_file, status) if self.wants_state else None
+        except Fault as fault:
+            return self._end(work.failed(fault), reporter, self.keep)
+        if state is not None:
+            self.keep(state)
+        message = os.pread(message_file, os.fstat(message_file).st_size, 0)
+        return Ended(status, state, message)

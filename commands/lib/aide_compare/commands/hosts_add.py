@@ -1,0 +1,95 @@
+"""aide-compare hosts add: shows the key and the first database of a host, asks, and watches the
+host from then on."""
+from __future__ import annotations
+
+import os
+from contextlib import closing
+from typing import NamedTuple, Sequence
+
+from aide_compare.base.ending import Fault, Status, tell, write_all
+from aide_compare.base.replacement import NewFile
+from aide_compare.base.options import Option
+from aide_compare.base.parser import Parser
+from aide_compare.base.processes import limit_memory
+from aide_compare.base.words import counted
+from aide_compare.hosts import adding
+from aide_compare.hosts.store import (
+    BASELINE,
+    HOSTS_FILE,
+    MAX_MEMORY,
+    HostDirectory,
+    add_store_options,
+)
+
+NAME = "aide-compare hosts add"
+DESCRIPTION = """\
+Fetches the first database of HOST by ssh, shows the key of HOST and the SHA-256 of the database,
+and asks. After yes the key is in known_hosts, the database is the baseline, and HOST is in the
+file of hosts."""
+EPILOG = """Status: 0 HOST is watched; 15 bad arguments, or no terminal; 18 nothing was fetched;
+24 the answer was no, HOST has a baseline already, or it sent no sound database."""
+MAX_ANSWER = 100
+
+
+class AddRequest(NamedTuple):
+    """What the options ask for."""
+
+    host: str
+    store: str
+    seconds: int
+    hosts_file: str
+    is_quiet: bool
+
+
+def request_of(arguments: Sequence[str]) -> AddRequest:
+    parser = Parser(NAME, DESCRIPTION, epilog=EPILOG)
+    add_store_options(parser)
+    text = f"the file that gets the name of HOST ({HOSTS_FILE})"
+    parser.add(Option("--hosts-file", text, metavar="FILE", default=HOSTS_FILE))
+    parser.add_operand("host", "HOST", "its name for ssh")
+    args = parser.parse(arguments)
+    return AddRequest(args.host, args.store, args.time, args.hosts_file, args.quiet)
+
+
+def show(host: str, offer: adding.Offer) -> None:
+    """What the host has answered with, and where the true values are."""
+    if offer.key:
+        tell(f"{host} has this key, which was not known here:")
+        tell(f"    {adding.key_words(offer.key)}")
+    else:
+        tell(f"{host} has the key that is known here.")
+    tell("Its database has this SHA-256:", f"    {offer.sha256}", "")
+    commands = adding.commands_on_host(offer.key)
+    these = "this" if len(commands) == 1 else "these"
+    tell(f"Compare with what {these} {counted(len(commands), 'command')} on {host} say:")
+    tell(*(f"    {command}" for command in commands))
+
+
+def answer_is_yes(host: str) -> bool:
+    write_all(1, f"Is it the same? Then {host} is watched from now on. yes or no: ".encode())
+    answer = os.read(0, MAX_ANSWER)
+    return answer.strip().lower() == b"yes"
+
+
+def main(arguments: Sequence[str]) -> int:
+    request = request_of(arguments)
+    if not os.isatty(0):
+        how = "without one: aide-compare hosts fetch, then aide-compare hosts accept --first"
+        raise Fault(Status.USAGE, "it asks a question, so it needs a terminal", how)
+    limit_memory(MAX_MEMORY)
+    directory = HostDirectory(request.store, request.host, request.seconds)
+    if directory.has(BASELINE):
+        raise directory.fault("has a baseline already; nothing was added", Status.DATABASE)
+    settings = adding.ssh_settings(directory.host)
+    with closing(NewFile(directory.fd)) as part:
+        try:
+            offer = adding.offered(directory, settings, part)
+        except Fault as fault:
+            raise Fault(fault.status, fault.text, *adding.refused_words(fault, settings))
+        show(directory.host, offer)
+        if not answer_is_yes(directory.host):
+            raise Fault(Status.DATABASE, "the answer was not yes: nothing was added")
+        adding.keep(directory, offer, settings, request.hosts_file)
+    if not request.is_quiet:
+        tell(f"{directory.host} is watched. Compare all hosts: aide-compare hosts compare")
+    return Status.OK

@@ -1,0 +1,308 @@
+"""aide-compare hosts compare: the databases of many hosts fetched and compared, some at a time."""
+from __future__ import annotations
+
+import json
+import os
+import select
+import signal
+import time
+from contextlib import suppress
+from typing import Iterator, NamedTuple, Sequence
+
+from aide_compare.base.ending import Fault, Status, fault_of, say, tell, write_all
+from aide_compare.base.escapes import guarded, shown
+from aide_compare.base.files import copy_file, open_regular
+from aide_compare.base.directories import closed_after
+from aide_compare.base.kinds import duration, matching
+from aide_compare.base.options import CONFIG, EXCLUDE_FROM, MAX_SIZE, NOT_SILENT, Option
+from aide_compare.base.parser import Parser
+from aide_compare.base.processes import end_with, limit_memory
+from aide_compare.base.words import counted
+from aide_compare.compare.exclusions import read_exclusions
+from aide_compare.compare.state import State, is_alarm
+from aide_compare.compare.unpack import Copy
+from aide_compare.hosts.canary import failed_note, keep_note, trusted_pair, used_note
+from aide_compare.hosts.fetching import fetch
+from aide_compare.hosts.host_comparison import Settings, compare
+from aide_compare.hosts.hosts_read import differs, hosts_of, read_host
+from aide_compare.hosts.hosts_text import WHY, not_listed
+from aide_compare.hosts.store import (
+    ERRORS,
+    HOSTS_FILE,
+    MAX_MEMORY,
+    HostDirectory,
+    add_store_options,
+    check_name,
+)
+from aide_compare.lines.change import Fields, change_of
+from aide_compare.show.changes import change_lines
+from aide_compare.show.told import RED, YELLOW, in_colour
+
+NAME = "aide-compare hosts compare"
+SAME_FOR = 50 * 3600
+MAX_TEXT = 300
+GRACE = 15
+PAUSE = 0.2  # A process that was ended may go on, in a call that does not return.
+
+
+DESCRIPTION = """\
+Fetches and compares the databases of the hosts of HOSTS-FILE, which has a name a line. Prints a
+line for each host as it ends: its name, its status, and what that says. Then a summary."""
+EPILOG = """Ends with the greatest status of all hosts: 0, up to 7 if there are differences
+and each host was compared, more if a host was not; 15 if arguments or a host's name are
+wrong; 18 if it cannot run."""
+
+
+class CompareRequest(NamedTuple):
+    """What the options of `hosts compare` ask for."""
+
+    hosts_file: str  # Or the name of the one host.
+    is_one: bool
+    share: tuple[int, int]
+    settings: Settings
+    canary: str  # "" for none.
+    is_quiet: bool
+    color: str
+
+
+def counts_text(state: State) -> str:
+    """What a comparison that has found differences has counted."""
+    added, removed, changed = state.counts or ("?", "?", "?")
+    text = f"added {added}, removed {removed}, changed {changed}"
+    if state.standings:
+        text += f": {state.standings.words()}"
+    return text
+
+
+class HostResult(NamedTuple):
+    """How the comparison of a host ended, and what its line says."""
+
+    host: str
+    status: int
+    is_alarm: bool  # Silent differences are none.
+    text: str
+
+    def line(self, color: str) -> str:
+        name = shown(self.host, 200).replace(" ", "\\040")
+        line = f"{name} {self.status} {self.text}"
+        if self.status > 7:
+            return in_colour(line, RED, color)
+        if self.is_alarm:
+            return in_colour(line, YELLOW, color)
+        return line
+
+
+def compare_host(host: str, settings: Settings) -> HostResult:
+    """Fetches and compares one host."""
+    try:
+        directory = HostDirectory(settings.store, host, settings.seconds)
+        if settings.fetches:
+            fetch(directory, settings.jobs)
+        state = compare(directory, settings)
+    except (Fault, OSError, MemoryError) as error:
+        fault = fault_of(error)
+        return HostResult(host, int(fault.status), True, without_name(host, fault.text))
+    if state.status == 0:
+        return HostResult(host, 0, False, "no differences")
+    if state.status > 7:
+        return HostResult(host, state.status, True, without_name(host, state.error))
+    return HostResult(host, state.status, is_alarm(state, NOT_SILENT), counts_text(state))
+
+
+def without_name(host: str, text: str) -> str:
+    """A text about a host, whose name stands before it already."""
+    return text.removeprefix(f"{host}: ")
+
+
+class Worker:
+    """The process of one host, which the kernel ends if this one ends, and the pipe of its
+    answer."""
+
+    def __init__(self, host: str, settings: Settings) -> None:
+        self.host = host
+        self.store = settings.store
+        self.deadline = time.monotonic() + settings.seconds + GRACE
+        self.fd, writing = os.pipe()
+        parent = os.getpid()
+        self.child = os.fork()
+        if self.child == 0:
+            try:
+                if end_with(parent):
+                    limit_memory(MAX_MEMORY)
+                    self._write_result(compare_host(host, settings), writing)
+            finally:
+                os._exit(0)
+        os.close(writing)
+
+    def _write_result(self, result: HostResult, descriptor: int) -> None:
+        text = guarded(result.text)[:MAX_TEXT]
+        answer = json.dumps([result.status, result.is_alarm, text])
+        write_all(descriptor, answer.encode())
+
+    def result(self) -> HostResult:
+        """The answer of the process. A pipe takes so few bytes in one piece."""
+        with closed_after(self.fd):
+            answer = os.read(self.fd, select.PIPE_BUF)
+        ended = os.waitstatus_to_exitcode(os.waitpid(self.child, 0)[1])
+        if answer and ended == 0:
+            return HostResult(self.host, *json.loads(answer))
+        text = f"ended without an answer ({ended})"
+        # Another run may have the lock by now, and writes a state of its own.
+        with suppress(Fault, OSError):
+            directory = HostDirectory(self.store, self.host, PAUSE)
+            directory.not_compared(f"{self.host}: {text}")
+        return HostResult(self.host, int(Status.DEVICE), True, text)
+
+
+def results(hosts: Sequence[str], settings: Settings) -> Iterator[HostResult]:
+    """The results of all hosts as they end, so many at a time."""
+    waiting = list(reversed(hosts))
+    workers: dict[int, Worker] = {}
+    while waiting or workers:
+        while waiting and len(workers) < settings.jobs:
+            worker = Worker(waiting.pop(), settings)
+            workers[worker.fd] = worker
+        left = min(worker.deadline for worker in workers.values()) - time.monotonic()
+        for descriptor in select.select(list(workers), [], [], max(left, PAUSE))[0]:
+            yield workers.pop(descriptor).result()
+        for worker in workers.values():
+            if worker.deadline < time.monotonic():
+                os.kill(worker.child, signal.SIGKILL)
+
+
+def results_beside(canary: str, hosts: Sequence[str], settings: Settings) -> Iterator[HostResult]:
+    """The results of all hosts beside the canary, whose own result comes first. Without its pair
+    the others are compared all the same, and that is said before them."""
+    (first,) = results([canary], settings)
+    yield first
+    pair: dict[str, Copy] = {}
+    note = used_note(canary)
+    try:
+        if first.status > 7:
+            raise Fault(first.status, first.text)
+        pair = trusted_pair(settings.store, canary, settings.seconds)
+    except (Fault, OSError) as error:
+        note = failed_note(canary, without_name(canary, fault_of(error).text))
+        tell(guarded(note))
+    keep_note(settings.store, note)
+    others = [host for host in hosts if host != canary]
+    yield from results(others, settings._replace(trusted=pair))
+
+
+def compare_all(request: CompareRequest, hosts: Sequence[str]) -> int:
+    """Prints a line for each host and the summary; returns the greatest status."""
+    is_quiet = request.is_quiet
+    color = request.color
+    if request.canary:
+        all_results = results_beside(request.canary, hosts, request.settings)
+    else:
+        all_results = results(hosts, request.settings)
+    unchanged = 0
+    differ = 0
+    not_compared = 0
+    worst = 0
+    has_alarm = False
+    count = 0
+    for result in all_results:
+        count += 1
+        if result.status == 0:
+            unchanged += 1
+        elif result.status <= 7:
+            differ += 1
+        else:
+            not_compared += 1
+        worst = max(worst, result.status)
+        has_alarm = has_alarm or result.is_alarm
+        if result.is_alarm or not is_quiet:
+            tell(result.line(color))
+    if has_alarm or not is_quiet:
+        compared = f"{unchanged} without differences, {differ} with"
+        tell(f"{counted(count, 'host')}: {compared}, {not_compared} not compared")
+    return worst
+
+
+def print_changes(name: str, store: str, seconds: int) -> None:
+    """What the comparison of a single host has noted, its changes for people, and how to accept
+    them."""
+
+    def show(fields: Fields) -> None:
+        text = "\n" + "".join(change_lines(change_of(fields)))
+        write_all(1, text.encode("utf-8", "backslashreplace"))
+
+    host = read_host(name, store, seconds, 0, show)
+    with closed_after(open_regular(f"{store}/hosts/{name}/{ERRORS}")) as errors:
+        copy_file(errors, 2)
+    if differs(host):
+        if host["report"] in WHY:
+            say(not_listed(host))
+        say(f"to accept it: aide-compare hosts accept --sha256 {host['new_sha256']} {name}")
+
+
+def share(text: str) -> tuple[int, int]:
+    """The kind of a value as 1/10."""
+    part, parts = map(int, text.split("/"))
+    if part > parts:
+        needs = "--share needs a part of all of them: --share 1/10 to --share 10/10"
+        raise Fault(Status.USAGE, needs)
+    return part, parts
+
+
+def own_parser() -> Parser:
+    quiet = "only hosts with changes that are not silent, or not compared, and a summary"
+    parser = Parser(NAME, DESCRIPTION, quiet, epilog=EPILOG)
+    add_store_options(parser)
+    jobs = matching(r"[1-9][0-9]{0,2}", "a number from 1 to 999", int)
+    part = matching(
+        r"[1-9][0-9]{0,5}/[1-9][0-9]{0,5}", "a part of all of them: 1/10 to 10/10", share
+    )
+    one = "HOSTS-FILE is the name of one host, whose changes are printed too, without --quiet"
+    canary = "compared first; what differs there too is silent on all other hosts"
+    size = "the most bytes of the unpacked database (4 times the baseline, at least 64M)"
+    same = "how long a host may send the same bytes (50h; 0: no limit)"
+    shares = "only the hosts of the Kth of N shares"
+    parser.add(
+        Option("--jobs", "how many hosts at a time (8)", metavar="N", kind=jobs, default=8),
+        Option("--share", shares, metavar="K/N", kind=part, default=(1, 1)),
+        Option("--no-fetch", "compare what was fetched before"),
+        Option("--one", one),
+        Option("--canary", canary, metavar="HOST", kind=check_name),
+        CONFIG._replace(help="a configuration of this machine (none)"),
+        EXCLUDE_FROM,
+        MAX_SIZE._replace(default=0, help=size),
+        Option("--same-for", same, metavar="TIME", kind=duration, default=SAME_FOR),
+    )
+    text = f"a name a line; - is standard input ({HOSTS_FILE})"
+    parser.add_operand("file", "HOSTS-FILE", text, nargs="?", default=HOSTS_FILE)
+    return parser
+
+
+def request_of(arguments: Sequence[str]) -> CompareRequest:
+    args = own_parser().parse(arguments)
+    settings = Settings(
+        store=args.store,
+        seconds=args.time,
+        jobs=args.jobs,
+        configuration=args.config,
+        exclusions=read_exclusions(args.exclude_from, []),
+        max_size=args.max_size,
+        same_for=args.same_for,
+        fetches=not args.no_fetch,
+        trusted={},
+    )
+    canary = args.canary or ""
+    return CompareRequest(args.file, args.one, args.share, settings, canary, args.quiet, args.color)
+
+
+def main(arguments: Sequence[str]) -> int:
+    request = request_of(arguments)
+    settings = request.settings
+    if request.is_one:
+        hosts = [request.hosts_file]
+    else:
+        hosts = hosts_of(request.hosts_file, request.share)
+        if not request.canary:
+            keep_note(settings.store, "")
+    status = compare_all(request, hosts)
+    if request.is_one and status <= 7 and not request.is_quiet:
+        print_changes(request.hosts_file, settings.store, settings.seconds)
+    return status

@@ -1,0 +1,176 @@
+"""What the options of aide-compare mail ask for. All words that are not its own are those of a
+comparison."""
+from __future__ import annotations
+
+import argparse
+from collections.abc import Sequence
+from typing import NamedTuple, Optional, Union
+
+from aide_compare.base import progress
+from aide_compare.base.ending import Fault, Status, say
+from aide_compare.base.escapes import shown
+from aide_compare.base.kinds import Server, unit_name
+from aide_compare.base.options import (
+    ALARM,
+    COMPARISON_DEFAULTS,
+    DAYS,
+    HTML,
+    MAIL_DEFAULTS,
+    MAIL_TIME,
+    MAX_MAIL,
+    SMTP,
+    STATE,
+    TO,
+    USER,
+    WEEKLY,
+    Option,
+)
+from aide_compare.base.parser import Parser, defaults_for, end_of_options
+from aide_compare.commands.compare_task import CompareRequest, compare_request
+from aide_compare.compare.outputs import descriptor_of
+
+NAME = "aide-compare mail"
+DESCRIPTION = """\
+Runs aide-compare with all other arguments, and mails the report if the databases differ, or the
+errors if nothing was compared. No mail is sent if there is no difference."""
+EPILOG = """\
+Status: that of aide-compare-compare(1); 18 if no mail can be sent. With --alarm-sent-is-success
+it is 0 if the mail went out or was kept in the queue."""
+
+
+class MailRequest(NamedTuple):
+    """What the options ask for."""
+
+    comparison: Union[CompareRequest, Fault]  # A Fault in its options is mailed.
+    default_fault: str  # What is wrong with the defaults; "" if nothing is.
+    address: str
+    max_mail: int
+    smtp: Optional[Server]
+    seconds: int
+    has_page: bool
+    alarm: str
+    is_test: bool
+    weekly: Optional[str]  # The day of the heartbeat.
+    queue: Optional[str]
+    send_queue: Optional[str]
+    unit_failed: Optional[str]
+    user: Optional[str]
+    state: Optional[str]
+    sent_is_success: bool
+
+
+def own_parser() -> Parser:
+    usage = "%(prog)s [OPTIONS] [ARGUMENTS of aide-compare]"
+    parser = Parser(NAME, DESCRIPTION, epilog=EPILOG, usage=usage)
+    parser.add(TO._replace(default="root", help="where the mail goes (root)"))
+    parser.add(MAX_MAIL, SMTP, MAIL_TIME, HTML)
+    parser.add(ALARM._replace(help="which changes are mailed: not-silent (the default), or any"))
+    queue = "keep the mail in this directory; --send-queue sends it"
+    send = "compare nothing, and send the mails of this directory"
+    unit = "with --send-queue: mail first that this unit of systemd has failed"
+    success = "end with 0 also after differences or errors that were mailed"
+    parser.add(
+        Option("--test", "compare nothing, and send a test mail the same way"),
+        WEEKLY,
+        Option("--queue", queue, metavar="DIRECTORY"),
+        Option("--send-queue", send, metavar="DIRECTORY"),
+        Option("--unit-failed", unit, metavar="NAME", kind=unit_name),
+        USER,
+        # It is the comparison's, and not for the command that a mail names.
+        STATE._replace(help=argparse.SUPPRESS),
+        Option("--alarm-sent-is-success", success),
+    )
+    return parser
+
+
+def with_days(words: Sequence[str]) -> list[str]:
+    """The words in which a --weekly has its day: what follows it may be a database."""
+    cut = end_of_options(words)
+    complete = []
+    for word, next_word in zip(words[:cut], [*words[1:], ""]):
+        if word == WEEKLY.name and next_word not in DAYS:
+            word = f"{WEEKLY.name}={WEEKLY.bare}"
+        complete.append(word)
+    return [*complete, *words[cut:]]
+
+
+def comparison_of(
+    words: Sequence[str], user: Optional[str], state: Optional[str]
+) -> Union[CompareRequest, Fault]:
+    """What is compared; the Fault if the words do not say it."""
+    try:
+        return compare_request(words)._replace(user=user, state=state)
+    except Fault as fault:
+        return fault
+
+
+def parsed(words: Sequence[str]) -> MailRequest:
+    """What the words ask for; a Fault for those that mean nothing without another one."""
+    args, others = own_parser().parse_own(with_days(words))
+    request = MailRequest(
+        comparison=comparison_of(others, args.user, args.state),
+        default_fault="",
+        address=args.to,
+        max_mail=args.max_mail,
+        smtp=args.smtp,
+        seconds=args.mail_time,
+        has_page=args.html,
+        alarm=args.alarm,
+        is_test=args.test,
+        weekly=args.weekly,
+        queue=args.queue,
+        send_queue=args.send_queue,
+        unit_failed=args.unit_failed,
+        user=args.user,
+        state=args.state,
+        sent_is_success=args.alarm_sent_is_success,
+    )
+    progress.tell_steps(args.verbose)
+    if not isinstance(request.comparison, Fault):
+        check(request)
+    return request
+
+
+def check(request: MailRequest) -> None:
+    """Refuses options that mean nothing without another one."""
+    state = request.state
+    if request.weekly and not state:
+        text = "--weekly needs --state, beside which the number of quiet runs is kept"
+        raise Fault(Status.USAGE, text)
+    if state and descriptor_of(state) is not None:
+        text = f"--state needs a file here, which the next run reads: {shown(state, 200)}"
+        raise Fault(Status.USAGE, text)
+    if request.unit_failed and not request.send_queue:
+        raise Fault(Status.USAGE, "--unit-failed needs --send-queue")
+
+
+def own_defaults(words: Sequence[str]) -> list[str]:
+    """The defaults of a mail. A command by hand keeps no number of quiet runs."""
+    options = words[: end_of_options(words)]
+    keeps_state = any(word.partition("=")[0] == STATE.name for word in options)
+    return defaults_for([row for row in MAIL_DEFAULTS if keeps_state or row != WEEKLY], words)
+
+
+def request_of(words: Sequence[str]) -> MailRequest:
+    """What the options ask for, with the administrator's defaults before them. A fault in the
+    defaults costs no mail, and the mail says it."""
+    own: list[str] = []
+    others: list[str] = []
+    refusal: Optional[Fault] = None
+    try:
+        own = own_defaults(words)
+        others = defaults_for(COMPARISON_DEFAULTS, words)
+    except Fault as fault:
+        refusal = fault
+    why = refusal
+    try:
+        request = parsed([*own, *others, *words])
+    except Fault as fault:
+        request = parsed([*others, *words])
+        why = fault
+    if why:
+        say(why.text)
+        request = request._replace(default_fault=why.text)
+    if refusal and not isinstance(request.comparison, Fault):
+        return request._replace(comparison=refusal)
+    return request

@@ -1,0 +1,124 @@
+"""What setup finds on a machine: where its files are, AIDE's user, and the programs of the
+system."""
+from __future__ import annotations
+
+import os
+import pwd
+import re
+import subprocess
+from collections.abc import Sequence
+from contextlib import suppress
+from typing import NamedTuple
+
+from aide_compare.base.ending import Fault, Status, failing, tell
+from aide_compare.base.files import read_file
+
+HERE = os.path.dirname(os.path.realpath(__file__))
+# Where the package, packaging/install and the repository have the examples.
+EXAMPLES = (
+    os.path.join(HERE, "../../../../../share/doc/aide-compare/examples"),
+    os.path.join(HERE, "../../../../contrib"),
+)
+
+
+class Paths:
+    """Where the files of a machine are."""
+
+    def __init__(self, root: str) -> None:
+        self.debian_configuration = f"{root}/etc/aide/aide.conf"
+        self.other_configuration = f"{root}/etc/aide.conf"
+        self.databases = f"{root}/var/lib/aide"
+        self.own_directory = f"{root}/var/lib/aide-compare"
+        self.defaults = f"{root}/etc/aide-compare/defaults"
+        self.without = f"{root}/etc/aide-compare/without"
+        self.apt = f"{root}/etc/apt/apt.conf.d/60aide-compare"
+        self.cron_job = f"{root}/etc/cron.daily/aide-compare"
+        self.systemd = f"{root}/run/systemd/system"
+
+
+PATHS = Paths("")
+PROGRAM_PATH = "/usr/local/sbin:/usr/local/bin:/usr/sbin:/usr/bin:/sbin:/bin"
+ENVIRONMENT = {"PATH": PROGRAM_PATH, "LC_ALL": "C.UTF-8", "HOME": "/root"}
+AIDES_USER = "_aide"
+MAX_EXAMPLE = 1 << 20
+SECONDS = 600
+DATE = re.compile("[A-Za-z0-9 :+-]{10,60}")
+
+
+class DatabaseNames(NamedTuple):
+    """The names of the databases in AIDE's directory."""
+
+    baseline: str
+    new: str
+
+
+# On Debian AIDE has a command that makes the first one; on systems of rpm both are compressed.
+DEBIANS = DatabaseNames("aide.db", "aide.db.new")
+OTHERS = DatabaseNames("aide.db.gz", "aide.db.new.gz")
+
+
+def example(name: str) -> bytes:
+    """The bytes of an example that comes with the commands."""
+    for directory in EXAMPLES:
+        path = os.path.join(directory, name)
+        if os.path.isfile(path):
+            return read_file(os.path.realpath(path), MAX_EXAMPLE)
+    raise Fault(Status.DEVICE, f"the example {name} did not come with this command")
+
+
+def run(words: Sequence[str], seconds: int = SECONDS) -> None:
+    """Runs a program of the system, whose status has to be 0. It is shown first, and writes where
+    this command writes."""
+    tell("    " + " ".join(words))
+    status = status_of(words, seconds, None)
+    if status:
+        raise Fault(Status.DEVICE, f"{words[0]} ended with status {status}")
+
+
+def says_yes(words: Sequence[str]) -> bool:
+    """Whether a program of the system ends with 0. It is not shown, and says nothing."""
+    try:
+        return status_of(words, 60, subprocess.DEVNULL) == 0
+    except Fault:
+        return False
+
+
+def status_of(words: Sequence[str], seconds: int, output: int | None) -> int:
+    try:
+        with failing(f"cannot run {words[0]}"):
+            return subprocess.run(
+                words,
+                stdin=subprocess.DEVNULL,
+                stdout=output,
+                stderr=output,
+                env=ENVIRONMENT,
+                cwd="/",
+                timeout=seconds,
+            ).returncode
+    except subprocess.TimeoutExpired:
+        raise Fault(Status.DEVICE, f"{words[0]} took more than {seconds} seconds")
+
+
+def aides_user() -> pwd.struct_passwd:
+    """The user that owns AIDE's databases."""
+    try:
+        return pwd.getpwnam(AIDES_USER)
+    except KeyError:
+        return pwd.getpwuid(0)
+
+
+def next_time(timer: str) -> str:
+    """When a timer elapses next, as systemd says it; "" if it does not."""
+    words = ["systemctl", "show", "--value", "--property=NextElapseUSecRealtime", timer]
+    with suppress(OSError, subprocess.SubprocessError):
+        answer = subprocess.run(
+            words,
+            stdin=subprocess.DEVNULL,
+            capture_output=True,
+            timeout=60,
+            env=ENVIRONMENT,
+        )
+        date = answer.stdout.decode("ascii", "replace").strip()
+        if DATE.fullmatch(date):
+            return date
+    return ""

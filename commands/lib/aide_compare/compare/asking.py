@@ -1,0 +1,113 @@
+"""The proved programs asked over a configuration, and over two databases."""
+from __future__ import annotations
+
+import json
+import os
+import re
+from collections.abc import Callable, Iterator, Mapping
+from contextlib import contextmanager, suppress
+
+from aide_compare.base.ending import Fault, Status
+from aide_compare.base.escapes import shown
+from aide_compare.base.files import in_memory
+from aide_compare.base.program import CONFIGURATION, DATABASES, DESCRIPTORS, LINES, Answer, Drain
+from aide_compare.base.program import find_installed, run_program
+from aide_compare.base.words import TRUSTED_SIDES
+from aide_compare.compare.configuration import NONE, Settings, Texts
+from aide_compare.lines.reader import FORMAT
+
+MAX_SETTINGS = 1 << 16
+LINE_BEFORE = re.compile(rb"\Aaide: before:(\d+):")
+
+# What takes the bytes that a program writes.
+Taker = Callable[[bytes], object]
+
+
+def odd_answer(program: str, answer: Answer) -> Fault:
+    """The Fault for a status that is not borne out: a loader that refuses the program ends with 1,
+    as added entries do."""
+    first_error = shown(answer.errors.split(b"\n")[0], 300)
+    why = f"ended with status {answer.status}, but its answer does not say so"
+    if first_error:
+        why = f"does not run here: {first_error}"
+    return Fault(Status.DEVICE, f"{shown(program)} {why}")
+
+
+@contextmanager
+def _configuration_places(text: bytes) -> Iterator[dict[int, int]]:
+    """The descriptor of a configuration by its number in the program; none for an empty one."""
+    if not text:
+        yield {}
+        return
+    descriptor = in_memory(text)
+    try:
+        yield {CONFIGURATION: descriptor}
+    finally:
+        os.close(descriptor)
+
+
+def _ask(
+    program: str, words: list[bytes], texts: Texts, places: Mapping[int, int], take: Taker
+) -> Answer:
+    """Runs a program over texts, by these words and those that name the texts."""
+    defined = texts.defining_host()
+    if defined.texts.before:
+        words = [*words, b"--before=" + defined.texts.before]
+    with _configuration_places(defined.texts.config) as configuration:
+        name = NONE
+        if configuration:
+            name = f"/proc/self/fd/{CONFIGURATION}"
+        descriptors = {**places, **configuration}
+        answer = run_program(program, [*words, b"-c", name.encode()], descriptors, take)
+    return Answer(answer.status, _moved_back(answer.errors, defined.moved))
+
+
+def _moved_back(errors: bytes, moved: int) -> bytes:
+    """Error lines whose line of -B, if there is one, has the number that it has for the caller."""
+    return LINE_BEFORE.sub(
+        lambda match: b"aide: before:%d:" % (int(match.group(1)) - moved), errors
+    )
+
+
+def ask_for_changes(
+    program: str, texts: Texts, databases: Mapping[str, int], take: Taker
+) -> Answer:
+    """Compares databases, by their descriptors for each side: what the program writes goes to
+    `take`."""
+    places = {DESCRIPTORS[side]: descriptor for side, descriptor in databases.items()}
+    words = [b"-E", b"--after=" + texts.after + b"\n" + DATABASES.encode()]
+    for side in TRUSTED_SIDES:
+        if side in databases:
+            option = "--" + side.replace("_", "-")
+            words.append(f"{option}=/proc/self/fd/{DESCRIPTORS[side]}".encode())
+    return _ask(program, words, texts, places, take)
+
+
+def ask_for_settings(texts: Texts, take: Taker) -> Answer:
+    """Asks what texts say, without any database."""
+    return _ask(find_installed(LINES), [b"-D", b"--after=" + texts.after], texts, {}, take)
+
+
+class Question:
+    """What the program says of texts: its settings, if it does not refuse them, and its answer."""
+
+    def __init__(self, texts: Texts) -> None:
+        written = bytearray()
+        self.texts = texts
+        self.answer = ask_for_settings(texts, Drain(MAX_SETTINGS, written.extend).take)
+        self.settings: Settings | None = None
+        if self.answer.status <= 7:
+            self.settings = self._settings_in(bytes(written))
+
+    def _settings_in(self, written: bytes) -> Settings:
+        with suppress(ValueError, KeyError, TypeError):
+            settings = json.loads(written)
+            if settings["format"] == FORMAT:
+                return dict(settings)
+        raise odd_answer(find_installed(LINES), self.answer)
+
+
+def defines_group(texts: Texts, name: bytes) -> bool:
+    """Whether texts define a group of this name: only then an option can have it as its value."""
+    more = texts._replace(after=texts.after + b"\nreport_force_attrs=" + name)
+    return ask_for_settings(more, len).status == 0
