@@ -1,124 +1,116 @@
-"""What a command writes beside its standard output, by itself or by a child that has not the rights of root.
+"""What a command writes beside its standard output, and with whose rights it compares.
 
-Root compares with the rights of the user in whose folder the baseline is, and so reads what others have written with no more
-than their rights. It opens both databases; a child gives root's rights up and does the rest; its parent puts that in place.
+Root compares with the rights of the user in whose directory the baseline is, and so reads what
+others have written with no more than their rights. It opens both databases; a child gives root's
+rights up and does the rest; its parent puts what the child has written in place.
 """
+from __future__ import annotations
+
 import fcntl
 import os
 from contextlib import suppress
 
-from aide_compare.base.ending import Fault, Status, failing
+from aide_compare.base.directories import ANYBODY, open_directory
+from aide_compare.base.ending import Fault, Status, failing, write_all
 from aide_compare.base.escapes import shown
-from aide_compare.base.files import Replacement, copy_file, nameless
-from aide_compare.base.folders import ANYBODY, open_folder
-from aide_compare.base.processes import become, end_with, entry_of, name_of
-from aide_compare.base.program import KNOWN
-from aide_compare.compare.state import MOST_BYTES, parse_state
+from aide_compare.base.files import PRIVATE
+from aide_compare.base.replacement import Replacement
+from aide_compare.base.rights import name_of
+from aide_compare.compare.state import MAX_BYTES, State, parse_state
 from aide_compare.compare.unpack import given_descriptor
 
 STREAMS = {"-": 1, "/dev/stdout": 1, "/dev/stderr": 2}
-PRIVATE = 0o600
+RIGHTS_OF = (
+    "this was done with the privileges of {}, whose directory the baseline is in; "
+    "--user root keeps root's"
+)
+
+
+def _is_open_for_writing(descriptor: int) -> bool:
+    """Whether the caller has opened a descriptor for writing."""
+    try:
+        flags = fcntl.fcntl(descriptor, fcntl.F_GETFL) & os.O_ACCMODE
+        is_ours = fcntl.fcntl(descriptor, fcntl.F_GETFD) & fcntl.FD_CLOEXEC
+    except OSError:
+        return False
+    return flags != os.O_RDONLY and not is_ours
+
+
+def descriptor_of(path: str) -> int | None:
+    """The descriptor that a path means, as -, /dev/stdout, /dev/stderr and /dev/fd/N do; None for
+    the path of a file."""
+    return STREAMS.get(path, given_descriptor(path))
 
 
 class Output:
-    """The place that a path means: a file, which is replaced in one step and private without another mode, or -, /dev/stdout,
-    /dev/stderr and /dev/fd/N as the caller has opened them. `begin` finds out before the work whether it can be written."""
+    """The place that a path means, to which bytes can be written. It is known before the work that
+    this is possible."""
 
-    def __init__(self, path, what, mode=PRIVATE):
-        self.path, self.what, self.mode, self.file = path, what, mode, None
-        self.words = "cannot write %s %s" % (what, shown(path))
-        self.fd = STREAMS.get(path, given_descriptor(path))
+    def __init__(self, path: str, what: str) -> None:
+        self.words = f"cannot write {what} {shown(path)}"
 
-    def begin(self):
-        if self.fd is None:
-            self.file = Replacement(self.path, self.mode, self.what).begin()
-            return self
-        try:
-            flags = fcntl.fcntl(self.fd, fcntl.F_GETFL) & os.O_ACCMODE
-            is_open = flags != os.O_RDONLY and not fcntl.fcntl(self.fd, fcntl.F_GETFD) & fcntl.FD_CLOEXEC
-        except OSError:
-            is_open = False
-        if not is_open:
-            raise Fault(Status.DEVICE, self.words + ": the caller has not opened it for writing")
-        return self
+    def commit(self, data: bytes) -> None:
+        raise NotImplementedError
 
-    def commit(self, source):
-        """Writes bytes, or what the file of a descriptor has."""
-        if self.file:
-            return self.file.commit(source)
+
+class FileOutput(Output):
+    """A file, which is replaced in one step."""
+
+    def __init__(self, path: str, what: str, mode: int) -> None:
+        super().__init__(path, what)
+        # A file for others may have a directory of its own.
+        makes_directory = mode != PRIVATE
+        self.file = Replacement(path, mode, what, makes_directory).begin()
+
+    def commit(self, data: bytes) -> None:
+        self.file.commit(data)
+
+
+class StreamOutput(Output):
+    """A descriptor that the caller has opened."""
+
+    def __init__(self, path: str, what: str, descriptor: int) -> None:
+        super().__init__(path, what)
+        self.fd = descriptor
+        if not _is_open_for_writing(descriptor):
+            raise Fault(Status.DEVICE, f"{self.words}: the caller has not opened it for writing")
+
+    def commit(self, data: bytes) -> None:
         with failing(self.words):
-            copy_file(source, self.fd)
+            write_all(self.fd, data)
 
 
-class Later:
-    """An output that a child may fill: it writes to a private file, and its parent puts that in place. Without a `place` it stays
-    in memory here, as the message of a mail does, which may have to say that a disk is full."""
-
-    def __init__(self, place=None):
-        self.place, self.kept, self.is_childs, self.held = place, None, False, b""
-
-    def commit(self, source):
-        if self.is_childs:
-            copy_file(source, self.kept)
-        elif self.place:
-            self.place.commit(source)
-        else:
-            self.held = source
-
-    def put(self):
-        """Puts in place what a child has written."""
-        self.commit(self.kept if self.place else os.pread(self.kept, os.fstat(self.kept).st_size, 0))
-
-    def state(self, status):
-        """The whole State that a child has written, of a run that ended with this status; a Fault if there is none."""
-        with suppress(ValueError, KeyError):
-            state = parse_state(os.pread(self.kept, MOST_BYTES + 1, 0))
-            if state.status == status:
-                return state
-        raise Fault(Status.DEVICE, "the comparison with the privileges of another user left no whole result")
+def open_output(path: str, what: str, mode: int = PRIVATE) -> Output:
+    """The place that a path means; a Fault if nothing can be written there."""
+    descriptor = descriptor_of(path)
+    if descriptor is None:
+        return FileOutput(path, what, mode)
+    return StreamOutput(path, what, descriptor)
 
 
-class Handed(BaseException):
-    """The way out of the parent, with the status of its child, which did the work with the rights of an owner."""
+def owner_of(baseline: str) -> int | None:
+    """The user, neither root nor the caller, who alone can write in the directory of a baseline;
+    None if there is none, or several, or if the baseline is what the caller has opened."""
+    if given_descriptor(baseline) is not None:
+        return None
+    with open_directory(os.path.dirname(baseline) or ".") as directory:
+        others = directory.others
+    if len(others) != 1 or ANYBODY in others:
+        return None
+    return min(others)
 
 
-class Handing:
-    """Hands the work of a run over, once the databases are open, if that `is_wanted`. `owner`: whose rights the child has."""
+def state_in(descriptor: int, status: int) -> State:
+    """The whole State that a child has written, of a run that ended with this status; a Fault if
+    there is none."""
+    with suppress(ValueError, KeyError):
+        state = parse_state(os.pread(descriptor, MAX_BYTES + 1, 0))
+        if state.status == status:
+            return state
+    why = "the comparison with the privileges of another user left no whole result"
+    raise Fault(Status.DEVICE, why)
 
-    def __init__(self, is_wanted):
-        self.is_wanted, self.outputs, self.owner = is_wanted, [], None
 
-    def later(self, place=None):
-        """An output that either process may fill."""
-        self.outputs.append(Later(place))
-        return self.outputs[-1]
-
-    def take(self, baseline):
-        """The child returns from here, if one user, neither root nor the caller, can write in the folder of the baseline; its
-        parent leaves by Handed."""
-        if not self.is_wanted or given_descriptor(baseline) is not None:
-            return
-        with open_folder(os.path.dirname(baseline) or ".") as folder:
-            others = folder.others
-        if len(others) != 1 or ANYBODY in others:
-            return
-        owner = min(others)
-        for output in self.outputs:
-            output.kept = nameless()
-        parent, child = os.getpid(), os.fork()
-        if child:
-            status = os.waitstatus_to_exitcode(os.waitpid(child, 0)[1])
-            if status in KNOWN:
-                raise Handed(status)
-            raise Fault(Status.DEVICE, "the comparison with %s's privileges ended with %d" % (name_of(owner), status))
-        self.owner = owner
-        for output in self.outputs:
-            output.is_childs = True
-        become(entry_of(owner))
-        if not end_with(parent):
-            raise Fault(Status.DEVICE, "the command was ended")
-
-    def hint(self):
-        """Why a file may be closed to root's own comparison."""
-        words = "this was done with the privileges of %s, whose directory the baseline is in; --user root keeps root's"
-        return words % name_of(self.owner)
+def rights_hint(user: int) -> str:
+    """Why a file may be closed to root's own comparison."""
+    return RIGHTS_OF.format(name_of(user))

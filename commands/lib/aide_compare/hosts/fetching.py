@@ -1,86 +1,97 @@
-"""Fetches the database of a host by ssh, with a bound on bytes, error lines and time."""
+"""Fetches the database of a host by ssh, with limits on bytes, error lines and time."""
+from __future__ import annotations
+
 import filecmp
 import os
 import re
 from contextlib import closing
+from typing import Sequence
 
-from aide_compare.base.ending import Fault, failing, say, write_all
+from aide_compare.base.ending import Fault, failing, write_all
 from aide_compare.base.escapes import shown
-from aide_compare.base.files import NewFile
-from aide_compare.base.options import matching, size
-from aide_compare.base.processes import run
-from aide_compare.hosts.fleet_store import no_room
+from aide_compare.base.replacement import NewFile
+from aide_compare.base.processes import NOT_STARTED, OverTime, run
+from aide_compare.hosts.store import CAUSE, NEW, HostDirectory, write_cause
 
-PATH, MOST, MOST_ERRORS = "/var/lib/aide/aide.db.new", 1 << 30, 65536
-RECORDS = "aide.db.new.packages"
-SEND_RECORDS = "tar -C /var/lib/dpkg -czf - status diversions info"
+DATABASE = "/var/lib/aide/aide.db.new"
+# A forced command in authorized_keys of the host stands above this one, and may name another file.
+COMMAND = "cat " + DATABASE
+MAX_SENT = 1 << 30
+MAX_ERRORS = 65536
 SSH = (
-    "ssh -n -a -x -o BatchMode=yes -o ConnectTimeout=30 -o ServerAliveInterval=30 -o LogLevel=ERROR "
-    "-o ControlPath=none -o ClearAllForwardings=yes"
+    "ssh -n -a -x -o BatchMode=yes -o ConnectTimeout=30 -o ServerAliveInterval=30 "
+    "-o LogLevel=ERROR -o ControlPath=none -o ClearAllForwardings=yes"
 ).split()
+UNKNOWN_KEY = "Host key verification failed"
+NOT_ALLOWED = "Permission denied"
 HINTS = (
-    ("Host key verification failed", "is its key in known_hosts?"),
-    ("Permission denied", "is the key of this user in its authorized_keys?"),
+    (UNKNOWN_KEY, "is its key in known_hosts?"),
+    (NOT_ALLOWED, "is the key of this user in its authorized_keys?"),
 )
 
 
-def add_fetching(parser):
-    """The options that say what is fetched. The shell of a host leaves such a path as it is."""
-    path = matching(r"/[A-Za-z0-9._/-]*", "a path that begins with /, of letters, digits and . _ / -")
-    parser.value("max-sent", "SIZE", size, "the most bytes that a host may send (1G)", default=MOST)
-    parser.value("path", "PATH", path, "the file on HOST (%s)" % PATH, default=PATH)
-
-
-def transfer(place, command, part, most):
-    """Runs a command on a host, which has to send something, and no more than may be kept in the part."""
+def transfer(
+    directory: HostDirectory, part: NewFile, limit: int, options: Sequence[str] = ()
+) -> None:
+    """Runs ssh, which has to send something, and no more than `limit` bytes, into the part."""
     errors = bytearray()
 
-    def take(block):
-        if os.fstat(part.fd).st_size + len(block) > most:
-            raise place.fault("sent more than %d bytes" % most)
+    def take(block: bytes) -> None:
+        if os.fstat(part.fd).st_size + len(block) > limit:
+            raise directory.fault(f"sent more than {limit} bytes")
         try:
             write_all(part.fd, block)
         except OSError as error:
-            raise place.fault("what it sent was not written: %s" % no_room(error))
+            raise directory.fault(f"what it sent was not written: {write_cause(error)}")
 
-    def take_error(block):
+    def take_error(block: bytes) -> None:
         errors.extend(block)
-        if len(errors) > MOST_ERRORS:
-            raise place.fault("sent more than %d bytes of errors" % MOST_ERRORS)
+        if len(errors) > MAX_ERRORS:
+            raise directory.fault(f"sent more than {MAX_ERRORS} bytes of errors")
 
-    status = run(SSH + [place.host, command], {1: take, 2: take_error}, deadline=place.deadline)
-    if status is None:
-        raise place.fault("had not sent all of it after %d seconds" % place.seconds)
-    if status == 127 and not errors:
-        raise place.fault("there is no program ssh")
-    if status != 0:
-        # The last line that ssh or the host has written, without the carriage return at its end.
-        lines = [line for line in re.split(rb"[\r\n]+", errors) if line.strip()]
-        text = shown(lines[-1], 200) if lines else "ssh gave no reason"
-        hints = "".join("; " + hint for words, hint in HINTS if words in text)
-        raise place.fault("%s (ssh ended with %d)%s" % (text, status, hints))
-    if not os.fstat(part.fd).st_size:
-        raise place.fault("sent nothing")
-
-
-def receive(place, command, name, given):
-    """What a host sends becomes a file. The same bytes again leave the file's time, which tells how old it is."""
-    with failing("%s: cannot keep what it sent" % place.host), closing(NewFile(place.fd)) as part:
-        transfer(place, command, part, min(given.max_sent, place.room(given.jobs)))
-        if not (place.has(name) and filecmp.cmp("/proc/self/fd/%d" % part.fd, place.file(name), shallow=False)):
-            part.put(name)
-
-
-def fetch(place, given):
-    """Fetches; if that fails, the state of the host says so."""
+    words = [*SSH, *options, directory.host, COMMAND]
     try:
-        receive(place, "cat " + given.path, "aide.db.new", given)
+        status = run(words, {1: take, 2: take_error}, deadline=directory.deadline)
+    except OverTime:
+        raise directory.fault(f"had not sent all of it after {directory.seconds:g} seconds")
+    if status == NOT_STARTED and not errors:
+        raise directory.fault("there is no program ssh")
+    if status != 0:
+        raise directory.fault(cause_of(bytes(errors), status))
+    if not os.fstat(part.fd).st_size:
+        raise directory.fault("sent nothing")
+
+
+def cause_of(errors: bytes, status: int) -> str:
+    """Why ssh has failed: the last line that it or the host has written, and what may help."""
+    lines = [line for line in re.split(rb"[\r\n]+", errors) if line.strip()]
+    text = "ssh gave no reason"
+    if lines:
+        text = shown(lines[-1], 200)
+    hints = "".join(f"; {hint}" for words, hint in HINTS if words in text)
+    return f"{text} (ssh ended with {status}){hints}"
+
+
+def fetch(directory: HostDirectory, jobs: int) -> None:
+    """Fetches the database. If that fails, the state of the host says so, and the cause is kept.
+
+    The same bytes again leave the file's time as it is: it says since when the host has sent them.
+    """
+    try:
+        with failing(f"{directory.host}: cannot keep what it sent"):
+            with closing(NewFile(directory.fd)) as part:
+                transfer(directory, part, min(MAX_SENT, directory.room(jobs)))
+                if not is_same(part, directory):
+                    part.put(NEW)
+                directory.remove(CAUSE)
     except Fault as fault:
-        place.not_compared(fault.text)
+        directory.not_fetched(fault.text)
+        directory.not_compared(fault.text)
         raise
-    place.remove(RECORDS)  # Those of another night explain nothing of this one.
-    if given.reasons:
-        try:
-            receive(place, SEND_RECORDS, RECORDS, given)
-        except Fault as fault:
-            say("%s; no package explains a change of it" % fault.text)
+
+
+def is_same(part: NewFile, directory: HostDirectory) -> bool:
+    """Whether what came has the bytes of what was fetched before."""
+    if not directory.has(NEW):
+        return False
+    return filecmp.cmp(f"/proc/self/fd/{part.fd}", directory.file(NEW), shallow=False)

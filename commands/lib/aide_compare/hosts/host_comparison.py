@@ -1,172 +1,169 @@
-"""Compares the database that was fetched from a host with its baseline, in bounded room and time, and keeps the lines of its
-changes: with their reasons if these are asked for, and cut if they are longer than the host may have."""
+"""Compares the database that was fetched from a host with its baseline, in limited memory and time,
+and keeps the changes."""
+from __future__ import annotations
+
 import os
-import re
 import signal
 import time
-from argparse import Namespace
+from collections.abc import Mapping
 from contextlib import closing
+from typing import NamedTuple, Optional
 
-from aide_compare.base.ending import Fault, Status, write_all, write_blocks
-from aide_compare.base.files import NewFile, replace
-from aide_compare.base.options import duration
+from aide_compare.base.ending import Fault, Status
+from aide_compare.base.replacement import NewFile, replace
+from aide_compare.compare import work
 from aide_compare.compare.comparison import Comparison, Request
+from aide_compare.compare.exclusions import Exclusions
 from aide_compare.compare.state import State
-from aide_compare.compare.unpack import copy_database
-from aide_compare.hosts.fetching import RECORDS
-from aide_compare.hosts.fleet_store import no_room
-from aide_compare.lines.reader import LINE_LIMIT
-from aide_compare.reasons.records import SUFFIX
-from aide_compare.show.explained import Sources, explain
+from aide_compare.compare.unpack import Copy, copy_database
+from aide_compare.hosts.findings import write_findings
+from aide_compare.hosts.store import BASELINE, ERRORS, LINES, NEW, HostDirectory, write_cause
 from aide_compare.show.told import told_of
 
-MOST_BASELINE, LEAST_BOUND, MOST_REPORT = 4 << 30, 64 << 20, 4 << 20
-MOST_AHEAD, SAME_FOR = 600, 50 * 3600
-BASELINES = "aide.db" + SUFFIX
-# Of so many changes each takes some hundred bytes of memory. A host that sends more has other questions to answer.
-MOST_LINES, MOST_CHANGES = 256 << 20, 200000
-VALUES = ("archive", "keyring", "rules", "severity")
-CUT = b'{"cut":{"bytes":%d,"most":%d}}\n'
-# No line of a change is like it, whatever its path and its values are.
-CUT_LINE = re.compile(rb'(?:\A|\n)\{"cut":\{"bytes":[0-9]{1,19},"most":[0-9]{1,19}\}\}\n\Z')
-MOST_TAIL = 100
+MAX_BASELINE = 4 << 30
+# Without --max-size a new database may always have so many bytes, and so many times those of the
+# baseline.
+MIN_SIZE = 64 << 20
+GROWTH = 4
+# So many bytes of the lines of all changes are judged, and so many of the lines of a host are kept.
+MAX_JUDGED = 256 << 20
+MAX_KEPT = 4 << 20
+MAX_AHEAD = 600
 MISSING = {
-    "aide.db.new": "nothing was fetched yet; see aide-compare hosts fetch --help",
-    "aide.db": "there is no baseline yet; see aide-compare hosts accept --help",
+    NEW: "nothing was fetched yet; see aide-compare hosts fetch --help",
+    BASELINE: "there is no baseline yet; see aide-compare hosts add --help",
 }
 
 
-def add_comparison(parser):
-    """How a host is compared, what is left out, and whether its changes are explained. The files are the collector's."""
-    take = parser.take
-    take("config", help="a configuration of this machine (none)")
-    take("after", "before")
-    take("max-size", default=0, help="the most bytes of the unpacked database (4 times the baseline, at least 64M)")
-    take("max-report", default=MOST_REPORT, help="the most bytes of a report that are kept; what is cut is said (4M)")
-    same = "how long a host may send the same bytes (50h; 0: no limit)"
-    parser.value("same-for", "TIME", duration, same, default=SAME_FOR)
-    take("exclude-from", "exclude", "reasons", *VALUES)
+class Settings(NamedTuple):
+    """How hosts are compared: what the options of the command say."""
+
+    store: str
+    seconds: int
+    jobs: int
+    configuration: Optional[str]
+    exclusions: Optional[Exclusions]
+    max_size: int  # 0: by the size of the baseline.
+    same_for: int  # A host may send the same bytes for so many seconds; 0: without end.
+    fetches: bool
+    trusted: Mapping[str, Copy]  # The pair of the canary, if there is one.
 
 
-def compared(place, given, part):
-    """The Comparison, with its lines in the part: cut, if they are longer than this host may have. Without --max-size, the new
-    database may have four times the bytes of the old."""
-    old = copy_database("old", place.file("aide.db"), MOST_BASELINE)
-    new = copy_database("new", place.file("aide.db.new"), given.max_size or max(4 * old.size, LEAST_BOUND))
-    comparison = Comparison(
+def run_comparison(directory: HostDirectory, settings: Settings, part: NewFile) -> Comparison:
+    """The Comparison, with its lines in the part. What ended it is a Fault."""
+    old = copy_database("old", directory.file(BASELINE), MAX_BASELINE)
+    max_size = settings.max_size or max(GROWTH * old.size, MIN_SIZE)
+    new = copy_database("new", directory.file(NEW), max_size)
+    comparison = work.compare(
         Request(
-            old=place.file("aide.db"),
-            new=place.file("aide.db.new"),
-            configuration=given.config,
-            before=given.before,
-            after=given.after,
-            copies={"old": old, "new": new},
-            exclusions=given.exclusions,
+            old=directory.file(BASELINE),
+            new=directory.file(NEW),
+            configuration=settings.configuration,
+            copies={"old": old, "new": new, **settings.trusted},
+            exclusions=settings.exclusions,
             target=part.fd,
-            max_report=min(MOST_LINES if given.reasons else given.max_report, place.room(given.jobs)),
+            max_report=min(MAX_JUDGED, directory.room(settings.jobs)),
         )
-    ).run()
+    )
     if comparison.fault:
         raise comparison.fault
     return comparison
 
 
-def cut(descriptor, size, most):
-    """Cuts a file of lines, of which there were so many bytes, behind its last whole line within `most` bytes."""
-    kept = os.fstat(descriptor).st_size
-    if size <= most and kept == size:
-        return
-    end = min(kept, most)
-    at = max(end - LINE_LIMIT, 0)
-    end = at + os.pread(descriptor, end - at, at).rfind(b"\n") + 1
-    os.ftruncate(descriptor, end)
-    os.pwrite(descriptor, CUT % (size, most), end)
+def keep_findings(
+    directory: HostDirectory, settings: Settings, comparison: Comparison
+) -> Comparison:
+    """Keeps the changes that are not silent. Returns the comparison with their standings."""
+    with closing(NewFile(directory.fd)) as part:
+        limit = min(MAX_KEPT, directory.room(settings.jobs))
+        standings = write_findings(part.fd, comparison, limit)
+        if standings is None:
+            return comparison.doubtful("the changes are too many to be judged")
+        part.put(LINES)
+        return comparison._replace(standings=standings)
 
 
-def is_cut(descriptor):
-    """Whether the last line of a file says that its lines were cut."""
-    size = os.fstat(descriptor).st_size
-    return bool(CUT_LINE.search(os.pread(descriptor, MOST_TAIL, max(size - MOST_TAIL, 0))))
+def age_fault(directory: HostDirectory, settings: Settings) -> str:
+    """Why what was fetched is not the database of today; "" if it is."""
+    cause = directory.fetch_cause()
+    if cause:
+        return f"it was not fetched the last time: {cause.removeprefix(directory.host + ': ')}"
+    age = time.time() - os.stat(NEW, dir_fd=directory.fd).st_mtime
+    if not settings.same_for or -MAX_AHEAD <= age <= settings.same_for:
+        return ""
+    if age < 0:
+        return "its database was fetched in the future; is the clock of this host right?"
+    hours = settings.same_for // 3600
+    return f"has sent the same database for more than {hours} hours; does AIDE run there?"
 
 
-def explain_host(place, given, comparison):
-    """Finds out what explains the changes, and keeps their lines; whether it has. The packages' records are those that the host
-    has sent, and never those of this machine. Without reasons every change is an alarm."""
-    missing = [text for name, text in ((BASELINES, "the baseline"), (RECORDS, "now")) if not place.has(name)]
-    evidence = {"packages": None, "packages_now": None, **{name: getattr(given, name) for name in VALUES}}
-    if missing:
-        text = "no package explains a change: there are no packages' records of %s" % " and of ".join(missing)
-        comparison.doubts.append(text)
-    else:
-        evidence.update(packages=place.file(BASELINES), packages_now=place.file(RECORDS))
-    try:
-        if not comparison.counts or sum(comparison.counts) > MOST_CHANGES:
-            raise Fault(Status.DEVICE, "there are more than %d changes" % MOST_CHANGES)
-        explained = explain(comparison, Sources(Namespace(**evidence), finds=False))
-        if explained:
-            with closing(NewFile(place.fd)) as part:
-                write_blocks(part.fd, bounded(explained.lines(), min(MOST_LINES, place.room(given.jobs))))
-                part.put("lines")
-        return explained is not None
-    except Fault as fault:
-        comparison.reasons = None
-        comparison.doubts.append("the changes are not explained: %s" % fault.text)
-        return False
+def as_not_compared(directory: HostDirectory, state: State, why: str) -> State:
+    """The same State with the status of a comparison that says nothing of today."""
+    text = f"{directory.host}: {why}"
+    if state.status and state.counts:
+        text += f"; it differs: added {state.added}, removed {state.removed}"
+        text += f", changed {state.changed}"
+    return State(
+        int(Status.DEVICE),
+        state.time,
+        old_sha256=state.old_sha256,
+        new_sha256=state.new_sha256,
+        old=state.old,
+        new=state.new,
+        error=text,
+    )
 
 
-def bounded(lines, most):
-    for line in lines:
-        most -= len(line)
-        if most < 0:
-            raise Fault(Status.DEVICE, "there is no room for the lines of the changes")
-        yield line
-
-
-def kept_state(place, given):
+def keep_comparison(directory: HostDirectory, settings: Settings) -> State:
     """Compares, keeps lines and errors, and returns the State."""
     for name, text in MISSING.items():
-        if not place.has(name):
-            raise Fault(Status.DEVICE, text)
-    with closing(NewFile(place.fd)) as part:
-        comparison = compared(place, given, part)
-        place.remove("lines")
-        if not (given.reasons and comparison.differs and explain_host(place, given, comparison)):
-            cut(part.fd, comparison.size, min(given.max_report, place.room(given.jobs)))
-            part.put("lines")
-    state, told = comparison.state(), told_of(comparison)
-    age = time.time() - os.stat("aide.db.new", dir_fd=place.fd).st_mtime
-    if given.same_for and not -MOST_AHEAD <= age <= given.same_for:
-        stale = "has sent the same database for more than %d hours; does AIDE run there?" % (given.same_for // 3600)
-        stale = "its database was fetched in the future; is the clock of this host right?" if age < 0 else stale
-        found = "; it differs: added %d, removed %d, changed %d" % state.counts if state.status and state.counts else ""
-        known = {name: getattr(state, name) for name in ("old", "new", "old_sha256", "new_sha256")}
-        state = State(int(Status.DEVICE), state.time, error="%s: %s%s" % (place.host, stale, found), **known)
-        told += state.error + "\n"
-    with closing(NewFile(place.fd)) as part:
-        write_all(part.fd, told.encode("utf-8", "backslashreplace"))
-        part.put("errors")
+        if directory.has(name):
+            continue
+        cause = ""
+        if name == NEW:
+            cause = directory.fetch_cause()
+        if cause:
+            text = f"nothing was fetched yet: {cause}"
+        raise Fault(Status.DEVICE, text)
+    with closing(NewFile(directory.fd)) as part:
+        comparison = run_comparison(directory, settings, part)
+        directory.remove(LINES)
+        if comparison.differs:
+            comparison = keep_findings(directory, settings, comparison)
+    state = comparison.state()
+    errors = told_of(comparison)
+    why = age_fault(directory, settings)
+    if why:
+        state = as_not_compared(directory, state, why)
+        errors += state.error + "\n"
+    directory.write(ERRORS, errors.encode("utf-8", "backslashreplace"))
     return state
 
 
-def compare(place, given):
-    """Compares, and keeps lines, errors and state, which says so too if that fails or takes too long. Returns the State. The
-    program ends with this process."""
+def compare(directory: HostDirectory, settings: Settings) -> State:
+    """Compares, and keeps lines, errors and the state, which says so too if that fails or takes too
+    long.
 
-    def over(*_):
-        raise Fault(Status.DEVICE, "was not compared within %d seconds" % given.time)
+    The program ends with this process.
+    """
+
+    def over(*_: object) -> None:
+        raise Fault(Status.DEVICE, f"was not compared within {settings.seconds} seconds")
 
     signal.signal(signal.SIGALRM, over)
     # Again after some seconds: Python drops an exception that comes while it takes an object away.
-    signal.setitimer(signal.ITIMER_REAL, max(place.deadline - time.monotonic(), 0.001), 2)
+    signal.setitimer(signal.ITIMER_REAL, max(directory.deadline - time.monotonic(), 0.001), 2)
     try:
-        state = kept_state(place, given)
-        replace(place.state_path, state.text(), what="the state")
+        state = keep_comparison(directory, settings)
+        replace(directory.state_path, state.text(), what="the state")
         return state
     except OSError as error:
-        fault = place.fault("cannot keep its lines: %s" % no_room(error))
+        fault = directory.fault(f"cannot keep its lines: {write_cause(error)}")
+    except MemoryError:
+        fault = directory.fault("what it sent needs too much memory", Status.MEMORY)
     except Fault as error:
-        fault = place.fault(error.text, error.status)
+        fault = directory.fault(error.text, error.status)
     finally:
         signal.setitimer(signal.ITIMER_REAL, 0)
-    place.not_compared(fault.text)
+    directory.not_compared(fault.text, fault.status)
     raise fault

@@ -1,59 +1,103 @@
-"""The report of all hosts as one page without a script: the counts, the hosts, and each change with the hosts that have it."""
+"""The report of all hosts as one page without a script: the counts, the hosts, and each change with
+the hosts that have it."""
+from __future__ import annotations
+
 from html import escape
+from typing import Iterator, Sequence
 
 from aide_compare.base.escapes import shown_note
-from aide_compare.base.files import Spool
-from aide_compare.hosts.hosts_text import ORDERS, Share, headline, host_lists, names_of, reason_words
-from aide_compare.show.page_heading import beginning, cards, number
+from aide_compare.base.spool import Spool
+from aide_compare.hosts.hosts_text import ORDERS, Report, canary_lines, headline, host_lists
+from aide_compare.hosts.hosts_text import names_of
+from aide_compare.hosts.shares import Selection
+from aide_compare.lines.change import Fields, change_of
+from aide_compare.show.page_heading import Beginning, CountRow, counts_line, number
 from aide_compare.show.page_items import entry_of, head_of, item, table
 
-# The most bytes of a page, and of each of its lists of hosts.
-MOST, MOST_LIST, RESERVE = 20000000, 1500000, 8000
-MOST_WHY, MOST_COMMAND = 1000, 4000
-REMARK = '<p class="remark">This page has no room for %s more changes. This command prints all: <code>%s</code></p>\n'
-CARDS = (("all", "Hosts", "hosts"), ("changed", "Differ", "differ"), ("removed", "Not compared", "not_compared"))
+# Of a page, and of each of its lists of hosts.
+MAX_PAGE = 20000000
+MAX_LIST = 1500000
+RESERVE = 8000  # For what a page has beside its changes.
+MAX_CAUSE = 1000
+MAX_COMMAND = 4000
+REMARK = (
+    '<p class="remark">This page has no room for %s more changes, %s of them high. '
+    "This command prints all: <code>%s</code></p>\n"
+)
+# The counts of a page, and where the summary has them.
+COUNTS = (("hosts", "hosts"), ("differ", "differ"), ("not compared", "not_compared"))
 
 
-def host_list(title, lines):
+def host_list(title: str, lines: Sequence[str]) -> str:
     """A list of hosts with its title; nothing if it is empty. What is missing is seen at once."""
-    items, room = [], MOST_LIST
+    if not lines:
+        return ""
+    items: list[str] = []
+    room = MAX_LIST
     for line in lines:
-        items.append("<li>%s\n" % escape(shown_note(line, MOST_WHY)))
-        room -= len(items[-1].encode("utf-8", "backslashreplace"))
+        text = f"<li>{escape(shown_note(line, MAX_CAUSE))}\n"
+        room -= len(text.encode("utf-8", "backslashreplace"))
         if room < 0:
-            items[-1] = "<li>and %s more\n" % number(len(lines) - len(items) + 1)
+            items.append(f"<li>and {number(len(lines) - len(items))} more\n")
             break
-    text = "<details%s><summary>%s: %s</summary><ul>\n%s</ul></details>\n"
-    return text % (" open" if title.startswith("Not") else "", title, number(len(lines)), "".join(items)) if lines else ""
+        items.append(text)
+    tag = "<details open>" if title.startswith("Not") else "<details>"
+    count = number(len(lines))
+    inner = "".join(items)
+    return f"{tag}<summary>{title}: {count}</summary><ul>\n{inner}</ul></details>\n"
 
 
-def head(summary, hosts, left_out, command):
-    """The beginning of the page, up to the changes: also how many of these it leaves out, and how to see them."""
-    remark = REMARK % (number(left_out), escape(shown_note(command, MOST_COMMAND))) if left_out else ""
-    changes = "%s different changes, %s" % (number(summary["changes"]), ORDERS[summary["order"]])
-    return beginning(
-        headline(summary),
-        outcome=changes if summary["changes"] else "No changes are listed",
-        counts=cards((name, text, summary[key]) for name, text, key in CARDS) + "\n",
-        remarks=remark + "".join(host_list(*each) for each in host_lists(hosts).items()),
-    )
+def head(report: Report, left_out: int, high: int) -> bytes:
+    """The beginning of the page, up to the changes: also how many of these it leaves out."""
+    summary = report.summary
+    remarks = ""
+    for line in filter(None, canary_lines(summary)):
+        remarks += f'<p class="remark">{escape(shown_note(line, MAX_CAUSE))}</p>\n'
+    if left_out:
+        command = escape(shown_note(report.command, MAX_COMMAND))
+        remarks = REMARK % (number(left_out), number(high), command)
+    for title, lines in host_lists(report.hosts).items():
+        remarks += host_list(title, lines)
+    outcome = "No changes are listed"
+    if summary["changes"]:
+        outcome = f"{number(summary['changes'])} different changes, {ORDERS[summary['order']]}"
+    title = headline(summary)
+    return Beginning(
+        title=title,
+        heading=escape(title),
+        outcome=f'<p class="outcome">{outcome}</p>\n',
+        counts=counts_line(CountRow(word, summary[key]) for word, key in COUNTS),
+        remarks=remarks,
+    ).encoded()
 
 
-def page(summary, hosts, changes, command, most=MOST):
-    """Yields the page. Of a change its kind, its path and its hosts are seen at once, its values on demand."""
-    room = most - len(head(summary, hosts, summary["changes"], command)) - RESERVE
-    share, items = Share(max(room, 0)), Spool()
-    for fields in changes:
-        entry = entry_of(fields, fields.get("old_various", ()))
-        where = "on %s of %s hosts: %s" % (number(fields["hosts"]), number(summary["hosts"]), names_of(fields))
-        own = ", ".join(fields.get("per_host", ()))
-        inner = table(entry) + ('<p class="hint">Of each host: %s</p>' % escape(own) if own else "")
-        told = "; ".join(filter(None, (where, reason_words(fields))))
-        text = item(head_of(entry, told), inner).encode("utf-8", "backslashreplace")
-        if share.takes(fields, len(text)):
-            items.write(text)
-    yield head(summary, hosts, share.left_out, command)
+def item_of(fields: Fields, hosts: int) -> bytes:
+    """A change. Its kind, its path and its hosts are seen at once, its values on demand."""
+    entry = entry_of(change_of(fields), fields.get("old_various", ()))
+    where = f"on {number(fields['hosts'])} of {number(hosts)} hosts: {names_of(fields)}"
+    inner = table(entry)
+    if fields.get("per_host"):
+        inner += f'<p class="hint">Of each host: {escape(", ".join(fields["per_host"]))}</p>'
+    text: str = item(head_of(entry, where), inner)
+    return text.encode("utf-8", "backslashreplace")
+
+
+def page(report: Report, limit: int = 0) -> Iterator[bytes]:
+    """Yields the page, of at most so many bytes. The most severe changes have room first."""
+    count = report.summary["changes"]
+    limit = limit or MAX_PAGE
+    room = max(limit - len(head(report, count, count)) - RESERVE, 0)
+    selection = Selection(room, report.summary["differ"])
+    items = Spool()
+    ends = [0]
+    for fields, payers in report.changes():
+        text = item_of(fields, report.summary["hosts"])
+        selection.offer(fields.get("severity", ""), payers, len(text))
+        items.write(text)
+        ends.append(ends[-1] + len(text))
+    yield head(report, sum(selection.left_out.values()), selection.left_out["high"])
     yield b'<div id="content" tabindex="-1">\n<ul>\n'
-    items.seek(0)
-    yield from items
+    for place in selection.in_order():
+        items.seek(ends[place])
+        yield items.read(ends[place + 1] - ends[place])
     yield b"</ul>\n</div>\n</main>\n</body>\n</html>\n"

@@ -1,144 +1,303 @@
-"""The report of all hosts as text: which were not compared, which differ, and each change with the hosts that have it."""
-from collections import Counter
+"""The report of all hosts as text: which were not compared, and each change with its hosts.
+
+The whole text has all values. The short one, which a mail has too, has a line for a change, and so
+many lines and columns that people read it.
+"""
+from __future__ import annotations
+
+from itertools import groupby
+from typing import Callable, Iterable, Iterator, NamedTuple, Sequence
 
 from aide_compare.base.escapes import guarded, shown
-from aide_compare.base.words import KINDS, counted, most_frequent
-from aide_compare.hosts.host_changes import EXPLAINED, standing_of
+from aide_compare.base.words import KINDS, SEVERITIES, counted
 from aide_compare.hosts.hosts_read import CUT, UNREADABLE, differs
-from aide_compare.lines.reader import bytes_of, counts_in
-from aide_compare.show.changes import MOST_VALUE, values_in
+from aide_compare.hosts.shares import Selection, rank_of
+from aide_compare.lines.attributes import STRENGTH
+from aide_compare.lines.change import Fields, bytes_of, change_of
+from aide_compare.show.changes import values_in
 
-MOST_REASONS = 100
+MAX_ROWS = 80
+MAX_COLUMNS = 80
+# Of a short text: the lines for hosts that were not compared, for those whose changes were cut, and
+# the columns for the names of the hosts of a change.
+MAX_MISSING = 12
+MAX_CUT = 6
+NAMES_WIDTH = 18
+MAX_LETTERS = 400
 WHY = {
-    CUT: "its changes were cut (--max-report of aide-compare hosts compare)",
-    UNREADABLE: "its changes cannot be read",
+    CUT: "its changes were cut, the least severe ones",
+    UNREADABLE: "its changes cannot be read, or are too many",
 }
 ORDERS = {
     "path": "in the order of paths",
     "rare": "those on the fewest hosts first",
     "common": "those on the most hosts first",
 }
+# What has changed of an entry, in a word, by the attributes that differ.
+WORDS = {
+    "Type": "type",
+    "Lname": "target",
+    "Perm": "mode",
+    "UID": "owner",
+    "GID": "group",
+    "ACL": "ACL",
+    "Caps": "capabilities",
+    "XAttrs": "extended attributes",
+    "SELinux": "SELinux",
+    "E2FSAttrs": "flags",
+}
+# What is said only if nothing else is.
+LESSER_WORDS = {"Size": "size", "Linkcount": "links", "Inode": "inode", "Bcount": "blocks"}
+
+Change = tuple[Fields, list[int]]
 
 
-def headline(summary):
-    explained = " (%d all explained)" % summary["explained"] if summary["explained"] else ""
-    told = (summary["hosts"], summary["differ"], explained, summary["not_compared"])
-    return "aide on %d hosts: %d differ%s, %d not compared" % told
+class Report(NamedTuple):
+    """What a text or a page is made of."""
+
+    summary: Fields
+    hosts: list[Fields]
+    changes: Callable[[], Iterable[Change]]  # Each call begins anew.
+    command: str  # The command that prints the whole text.
 
 
-def not_listed(host):
-    total = "?" if host["added"] is None else sum(counts_in(host))
-    return "%s: %s; %d of %s changes are listed" % (host["host"], WHY[host["report"]], host["listed"], total)
+def headline(summary: Fields) -> str:
+    hosts = counted(summary["hosts"], "host")
+    return f"aide on {hosts}: {summary['differ']} differ, {summary['not_compared']} not compared"
 
 
-def host_lists(hosts):
-    """The lists of hosts, each with its title: those that were not compared and why, those of which not all is listed, and
-    all that differ."""
-    lists = {"Not compared": [], "Not all changes are listed": [], "Hosts that differ": []}
-    missing, cut, differ = lists.values()
+def others_line(summary: Fields) -> str:
+    """How many hosts there is nothing to say of, as in "90 without differences, 9 with silent
+    ones"."""
+    line = f"{summary['unchanged']} without differences"
+    if summary["silent"]:
+        line += f", {summary['silent']} with silent ones"
+    return line
+
+
+def canary_lines(summary: Fields) -> list[str]:
+    """Beside which host the others were compared, or why they were not; nothing without a
+    canary."""
+    lines = [f"{line[:1].upper()}{line[1:]}" for line in summary.get("canary", ())]
+    return [*lines, ""] if lines else []
+
+
+def not_listed(host: Fields) -> str:
+    total = "?" if host["told"] is None else host["told"]
+    why = WHY[host["report"]]
+    line = f"{host['host']}: {why}; {host['listed']} of {total} changes are listed"
+    if host["high"]:
+        line += f"; {host['high']} of all are high"
+    return line
+
+
+def host_lists(hosts: Iterable[Fields]) -> dict[str, list[str]]:
+    """The lists of hosts, each with its title.
+
+    Those that were not compared and why, those of which not all is listed, and all that differ.
+    """
+    missing: list[str] = []
+    cut: list[str] = []
+    differ: list[str] = []
     for host in hosts:
         if host["status"] > 7:
-            missing.append("%s: %s (status %d)" % (host["host"], host["error"], host["status"]))
+            missing.append(f"{host['host']}: {host['error']} (status {host['status']})")
         elif differs(host):
-            counts = ", ".join("%s %s" % (kind, host[kind]) for kind in KINDS)
-            differ.append("%s: %s" % (host["host"], "no counts are known" if host["added"] is None else counts))
+            counts = "no counts are known"
+            if host["added"] is not None:
+                counts = ", ".join(f"{kind} {host[kind]}" for kind in KINDS)
+            differ.append(f"{host['host']}: {counts}")
             if host["report"] in WHY:
                 cut.append(not_listed(host))
-    return lists
+    return {
+        "Not compared": missing,
+        "Not all changes are listed": cut,
+        "Hosts that differ": differ,
+    }
 
 
-def names_of(fields):
+def names_of(fields: Fields) -> str:
     """The hosts that have a change, the first ones by their names."""
+    names = ", ".join(fields["names"])
     more = fields["hosts"] - len(fields["names"])
-    return ", ".join(fields["names"]) + (" and %d more" % more if more else "")
+    if more:
+        names += f" and {more} more"
+    return names
 
 
-def reason_words(fields):
-    """What is said of the reason of a change; nothing without reasons."""
-    reason = fields.get("reason")
-    if reason:
-        return "%s: %s" % ("explained" if reason["verified"] else "not verified", shown(reason["text"], MOST_VALUE))
-    return "unexplained" if "severity" in fields else ""
+def change_lines(fields: Fields, hosts: int) -> Iterator[str]:
+    """The lines of a change in the whole text.
 
-
-class Share:
-    """What there is room for. Changes whose first host is the same take half of it at most, so that one host cannot crowd out
-    what the others have."""
-
-    def __init__(self, room):
-        self.room, self.share, self.taken, self.left_out = room, room // 2, Counter(), 0
-
-    def takes(self, fields, size):
-        """Whether a change of this size is taken."""
-        first = fields["names"][0]
-        has_room = size <= self.room and self.taken[first] + size <= self.share
-        if has_room:
-            self.room -= size
-            self.taken[first] += size
-        self.left_out += not has_room
-        return has_room
-
-
-def change_lines(fields, hosts):
-    """The lines of a change. The path stands last in its line, so that no path can look like another line's words. An old value
-    that is not the same on all hosts is not shown."""
-    told = (fields["kind"], fields["hosts"], hosts, fields.get("type", "Entry"), shown(bytes_of(fields, "path")))
-    yield "%s on %d of %d hosts: %s %s" % told
-    various, values = fields.get("old_various", ()), []
-    for label, old, new in values_in(fields, various):
-        old = "(various)" if label in various else old
-        both = "%s -> %s" % (old or "none", new or "none")
-        values.append("%s %s" % (label, {"added": new, "removed": old, "changed": both}[fields["kind"]]))
-    line = ", ".join(values) or shown(fields.get("summary") or "", 18)
-    own = "of each host: " + ", ".join(fields["per_host"]) if fields.get("per_host") else ""
-    reason = ", ".join(filter(None, (fields.get("severity"), reason_words(fields))))
-    yield from ("    " + part for part in ("on " + names_of(fields), reason, line, own) if part)
+    The path stands last in its line, so that no path can look like another line's words. An old
+    value that is not the same on all hosts is not shown.
+    """
+    path = shown(bytes_of(fields, "path"))
+    entry = fields.get("type", "Entry")
+    yield f"{fields['kind']} on {fields['hosts']} of {hosts} hosts: {entry} {path}"
+    yield f"    on {names_of(fields)}"
+    if "severity" in fields:
+        yield f"    {fields['severity']}"
+    values = list(value_texts(fields))
+    if values or fields.get("summary"):
+        yield "    " + (", ".join(values) or shown(fields["summary"], 18))
+    if fields.get("per_host"):
+        yield "    of each host: " + ", ".join(fields["per_host"])
     yield ""
 
 
-def listed(title, lines, most=None):
-    """A list with its title; nothing if it is empty. At most so many lines are shown."""
+def value_texts(fields: Fields) -> Iterator[str]:
+    """The attributes of a change with their values."""
+    various = fields.get("old_various", ())
+    for label, old, new in values_in(change_of(fields), various):
+        if label in various:
+            old = "(various)"
+        if fields["kind"] == "added":
+            yield f"{label} {new}"
+        elif fields["kind"] == "removed":
+            yield f"{label} {old}"
+        else:
+            yield f"{label} {old or 'none'} -> {new or 'none'}"
+
+
+def listed(title: str, lines: Sequence[str]) -> Iterator[str]:
+    """A list with its title; nothing if it is empty."""
     if lines:
         yield title + ":"
-        yield from ("  " + guarded(line) for line in lines[:most])
-        if most and len(lines) > most:
-            yield "  and %d more" % (len(lines) - most)
+        yield from ("  " + guarded(line) for line in lines)
         yield ""
 
 
-def all_change_lines(changes, hosts, share):
-    """The lines of the changes that a Share takes. Those that are explained for certain have no lines of their own: a line
-    says of each reason how many there are."""
-    explained = Counter()
-    for fields in changes:
-        if standing_of(fields)[0] == EXPLAINED:
-            text = fields["reason"]["text"]
-            explained[text if text in explained or len(explained) < MOST_REASONS else "other reasons"] += 1
-            continue
-        lines = list(change_lines(fields, hosts))
-        if share.takes(fields, size_of(lines)):
-            yield from lines
-    counts = most_frequent(explained, len(explained))[0]
-    yield from listed(
-        "Explained", ["%s: %s" % (shown(text, MOST_VALUE), counted(count, "different change")) for text, count in counts]
-    )
-
-
-def report_lines(summary, hosts, changes, command, room=None):
-    """Yields the lines of the text: all of them, or those that come to so many bytes, and then the command that prints all. Of
-    each list of hosts such a text has the first ones."""
-    head = ["%s, %d without differences" % (headline(summary), summary["unchanged"]), ""]
-    for title, lines in host_lists(hosts).items():
-        head += listed(title, lines, room and max(room // 2000, 10))
+def report_lines(report: Report) -> Iterator[str]:
+    """Yields the lines of the whole text."""
+    summary = report.summary
+    yield from canary_lines(summary)
+    yield f"{headline(summary)}, {others_line(summary)}"
+    yield ""
+    for title, lines in host_lists(report.hosts).items():
+        yield from listed(title, lines)
     if summary["changes"]:
-        head += ["%s, %s:" % (counted(summary["changes"], "different change"), ORDERS[summary["order"]]), ""]
+        order = ORDERS[summary["order"]]
+        yield f"{counted(summary['changes'], 'different change')}, {order}:"
+        yield ""
+    for fields, _ in report.changes():
+        yield from change_lines(fields, summary["hosts"])
+
+
+def shortened(text: str, width: int) -> str:
+    """A text in so many columns, without its middle if it is longer."""
+    if len(text) <= width:
+        return text
+    head = (width - 3) // 2
+    return text[:head] + "..." + text[len(text) - (width - 3 - head) :]
+
+
+def short_names(fields: Fields) -> str:
+    """The hosts of a change in few columns, such as "www1, www2 +35"."""
+    count: int = fields["hosts"]
+    for number in range(min(len(fields["names"]), count), 0, -1):
+        text = ", ".join(fields["names"][:number]) + more_hosts(count - number)
+        if len(text) <= NAMES_WIDTH:
+            return text
+    more = more_hosts(count - 1)
+    return shortened(fields["names"][0], NAMES_WIDTH - len(more)) + more
+
+
+def more_hosts(count: int) -> str:
+    return f" +{count}" if count > 0 else ""
+
+
+def what_changed(fields: Fields) -> str:
+    """What has changed of an entry, in few words; of one that came its mode."""
+    if fields["kind"] == "removed":
+        return ""
+    change = change_of(fields)
+    texts = {label: new for label, _, new in values_in(change, fields.get("old_various", ()))}
+    if fields["kind"] == "added":
+        return texts.get("Perm") or ""
+    words = [word for label, word in WORDS.items() if label in texts]
+    if any(label in texts for label in STRENGTH):
+        words.insert(0, "content")
+    words = words or [word for label, word in LESSER_WORDS.items() if label in texts]
+    return ", ".join(words) or "times"
+
+
+def short_line(fields: Fields) -> str:
+    """The line of a change in a short text."""
+    begin = f"  {short_names(fields):<{NAMES_WIDTH}}  {fields['kind']:<7}  "
+    width = MAX_COLUMNS - len(begin)
+    what = shortened(what_changed(fields), width // 2)
+    if what:
+        what = ": " + what
+    path = shown(bytes_of(fields, "path"), MAX_LETTERS)
+    return begin + shortened(path, width - len(what)) + what
+
+
+def short_list(title: str, lines: Sequence[str], rows: int) -> Iterator[str]:
+    """The beginning of a list of hosts, with its title and how many there are."""
+    if not lines:
+        return
+    yield f"{title} ({len(lines)}):"
+    first = lines
+    if len(lines) > rows:
+        first = lines[: rows - 1]
+    for line in first:
+        yield "  " + shortened(guarded(line), MAX_COLUMNS - 2)
+    if len(lines) > len(first):
+        yield f"  and {len(lines) - len(first)} more"
+    yield ""
+
+
+def severity_of(fields: Fields) -> str:
+    return SEVERITIES[rank_of(fields.get("severity", ""))]
+
+
+def selection_of(report: Report, rows: int) -> Selection:
+    """The Selection of a text that has so many rows for changes."""
+    selection = Selection(rows, report.summary["differ"])
+    for fields, payers in report.changes():
+        selection.offer(fields.get("severity", ""), payers)
+    return selection
+
+
+def numbered(report: Report) -> Iterator[tuple[int, Fields]]:
+    """The changes with their places."""
+    return enumerate(fields for fields, _ in report.changes())
+
+
+def left_out_lines(report: Report, selection: Selection) -> Iterator[str]:
+    """How many changes a short text leaves out, by severity, and of which hosts most of them
+    are."""
+    total = sum(selection.left_out.values())
+    if not total:
+        return
+    counts = [
+        f"{selection.left_out[name]} {name}" for name in SEVERITIES if selection.left_out[name]
+    ]
+    yield f"Left out: {counted(total, 'more change')}, {', '.join(counts)}."
+    host = max(selection.left_out_by, key=selection.left_out_by.__getitem__)
+    name = shortened(report.hosts[host]["host"], MAX_COLUMNS - 30)
+    yield f"Of these {selection.left_out_by[host]} on {name}."
+
+
+def short_lines(report: Report) -> Iterator[str]:
+    """Yields the lines of the short text, at most MAX_ROWS of at most MAX_COLUMNS."""
+    summary = report.summary
+    lists = host_lists(report.hosts)
+    head = [shortened(line, MAX_COLUMNS) for line in canary_lines(summary)]
+    head += [headline(summary), others_line(summary), ""]
+    head += short_list("Not compared", lists["Not compared"], MAX_MISSING)
+    head += short_list("Not all listed", lists["Not all changes are listed"], MAX_CUT)
+    # A line for each severity with an empty one, what is left out, and the command at the end.
+    selection = selection_of(report, MAX_ROWS - len(head) - 2 * len(SEVERITIES) - 6)
+    places = selection.in_order()
+    wanted = set(places)
+    chosen = {place: fields for place, fields in numbered(report) if place in wanted}
     yield from head
-    share = Share(room - size_of(head) if room else 1 << 62)
-    yield from all_change_lines(changes, summary["hosts"], share)
-    if share.left_out:
-        yield "%d more changes are left out. This command prints all:" % share.left_out
-        yield "    " + command
-
-
-def size_of(lines):
-    return sum(len(line.encode("utf-8", "backslashreplace")) + 1 for line in lines)
+    for severity, group in groupby((chosen[place] for place in places), key=severity_of):
+        yield f"{severity.capitalize()}:"
+        yield from map(short_line, group)
+        yield ""
+    yield from left_out_lines(report, selection)
+    if summary["changes"]:
+        yield "All changes with their values:"
+        yield "  " + report.command

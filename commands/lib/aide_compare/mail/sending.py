@@ -1,139 +1,217 @@
-"""How a mail leaves this machine: sendmail with a time limit, SMTP if that is chosen, and the system log if neither takes it. It
-may first wait in a folder for the unit that sends it: there each is a file with the whole message, put there in one step.
+"""How a mail leaves this machine: sendmail with a time limit, SMTP if that is chosen, and the
+system log if neither takes it. It may first wait in a directory for the unit that sends it: there
+each is a file with the whole message, put there in one step.
 
 A way is a function that is given the bytes of a message, and raises a Fault if it was not taken.
 """
-import argparse
-import contextlib
+from __future__ import annotations
+
 import email
 import fcntl
 import os
+import re
 import resource
 import signal
 import socket
 import stat
 import time
-from collections import namedtuple
+from collections.abc import Callable
+from contextlib import suppress
 from functools import partial
+from typing import NamedTuple, Optional
 
+from aide_compare.base.directories import Directory, closed_after, open_directory
 from aide_compare.base.ending import Fault, Status, failing, say
 from aide_compare.base.escapes import shown
-from aide_compare.base.files import closed_after, in_memory, open_folder, replace
+from aide_compare.base.files import in_memory
+from aide_compare.base.kinds import Server
 from aide_compare.base.processes import bound_of, ended, in_child, kill_group
+from aide_compare.base.replacement import replace
 from aide_compare.mail.message import shortened
 
-SECONDS = 60
-MAILERS = ("/usr/sbin/sendmail", "/usr/lib/sendmail")  # cron's PATH does not have their folders.
-LOG, JOURNAL = "/dev/log", "/run/systemd/journal/socket"
+MAILERS = (
+    "/usr/sbin/sendmail",
+    "/usr/lib/sendmail",
+)  # cron's PATH does not have their directories.
+LOG = "/dev/log"
+JOURNAL = "/run/systemd/journal/socket"
 AUTH_ALERT = 4 * 8 + 1
-MOST_ANSWER = 1 << 16
-MOST_ANSWERS = 64 << 20  # Bytes of memory for all that a server answers.
+MAX_ANSWER = 1 << 16
+MAX_ANSWERS = 64 << 20  # Bytes of memory for all that a server answers.
+STOP_SECONDS = 5
 QUIT_SECONDS = 5
-MOST_WAITING, MOST_BYTES = 64, 64 << 20
+LOG_SECONDS = 5
+MAX_LABEL = 63  # Bytes of a part of a domain (RFC 1035).
+MAX_WAITING = 64
+MAX_WAITING_BYTES = 64 << 20
+TIMED_OUT = 1
+
+Way = Callable[[bytes], object]
 
 
-class Server(namedtuple("Server", "host port")):
-    """A mail server by its name or address, and its port."""
-
-    def __str__(self):
-        return ("[%s]:%d" if ":" in self.host else "%s:%d") % (shown(self.host, 100), self.port)
-
-
-def server(text):
-    """The server that --smtp names, as HOST or HOST:PORT. An address of IPv6 is in brackets before a port."""
-    name, colon, port = text.rpartition(":")
-    if not colon or (":" in name and not name.endswith("]")):  # An address of IPv6 has colons itself.
-        name, port = text, "25"
-    name = name.strip("[]")
-    if not name or not (port.isascii() and port.isdigit() and len(port) <= 5 and 0 < int(port) < 65536):
-        raise argparse.ArgumentTypeError("needs a host, or a host and a port from 1 to 65535: %s" % shown(text, 100))
-    return Server(name, int(port))
-
-
-def way_out(server, seconds):
-    """SMTP if a server is given, otherwise sendmail, which has to be there."""
-    if server:
-        # A child with limits of time and memory has the exchange: a server may answer slowly, or without end.
-        return lambda message: in_child(str(server), partial(_hand_over, server, seconds, message), seconds)
-    beside = [folder + "/sendmail" for folder in os.environ.get("PATH", "").split(":") if folder.startswith("/")]
+def find_mailer() -> str:
+    """The path of sendmail, which has to be there."""
+    directories = os.environ.get("PATH", "").split(":")
+    beside = [f"{directory}/sendmail" for directory in directories if directory.startswith("/")]
     for path in (*beside, *MAILERS):
         if os.path.isfile(path) and os.access(path, os.X_OK):
-            return partial(by_sendmail, path, seconds)
+            return path
     raise Fault(Status.DEVICE, "cannot find sendmail, so no mail can be sent")
 
 
-def by_sendmail(path, seconds, message):
-    """Hands a message to sendmail. Postfix's one tries for ever if it cannot write to the spool, so it gets a time limit. It
-    lives on if this process is ended: a mail that is on its way should go."""
+def way_out(server: Optional[Server], seconds: int) -> Way:
+    """SMTP if a server is given, otherwise sendmail, which has to be there."""
+    if server:
+        return partial(by_smtp, server, seconds)
+    return partial(by_sendmail, find_mailer(), seconds)
+
+
+class MailerEnd(NamedTuple):
+    """How sendmail has ended, and what it has said."""
+
+    status: int
+    words: str
+    answer: bytes
+
+
+def status_of_shell(code: int) -> int:
+    """The status by which a shell tells an end: a signal, which is negative here, is above 128."""
+    if code < 0:
+        return 128 - code
+    return code
+
+
+def run_mailer(path: str, seconds: int, message: bytes) -> MailerEnd:
+    """Runs sendmail, which lives on if this process is ended: a mail that is on its way should
+    go."""
     import subprocess
 
     sealed = os.MFD_CLOEXEC | os.MFD_ALLOW_SEALING
-    with closed_after(in_memory(message)) as given, closed_after(os.memfd_create("answer", sealed)) as answer:
-        os.lseek(given, 0, os.SEEK_SET)
-        os.ftruncate(answer, MOST_ANSWER)  # What sendmail says cannot grow beyond that.
-        fcntl.fcntl(answer, fcntl.F_ADD_SEALS, fcntl.F_SEAL_GROW)
-        words = [path, "-oi", "-t"]
-        process = subprocess.Popen(words, stdin=given, stdout=answer, stderr=answer, start_new_session=True)
-        try:
-            status = process.wait(seconds)
-            how = "status %d of sendmail" % (status if status >= 0 else 128 - status)
-        except subprocess.TimeoutExpired:
-            kill_group(process.pid)
-            status, how = ended(process.pid, time.monotonic() + 5) or 1, "sendmail did not end within %d seconds" % seconds
-        lines = [line for line in os.pread(answer, MOST_ANSWER, 0).strip(b"\0").split(b"\n") if line.strip()]
-    if status:
-        raise Fault(Status.DEVICE, "%s: %s" % (how, shown(lines[-1], 300) if lines else "it gave no reason"))
+    with closed_after(in_memory(message)) as source:
+        with closed_after(os.memfd_create("answer", sealed)) as answer:
+            os.lseek(source, 0, os.SEEK_SET)
+            os.ftruncate(answer, MAX_ANSWER)  # What sendmail says cannot grow beyond that.
+            fcntl.fcntl(answer, fcntl.F_ADD_SEALS, fcntl.F_SEAL_GROW)
+            process = subprocess.Popen(
+                [path, "-oi", "-t"],
+                stdin=source,
+                stdout=answer,
+                stderr=answer,
+                start_new_session=True,
+            )
+            try:
+                status = status_of_shell(process.wait(seconds))
+                words = f"status {status} of sendmail"
+            except subprocess.TimeoutExpired:
+                kill_group(process.pid)
+                status = ended(process.pid, time.monotonic() + STOP_SECONDS) or TIMED_OUT
+                words = f"sendmail did not end within {seconds} seconds"
+            return MailerEnd(status, words, os.pread(answer, MAX_ANSWER, 0).strip(b"\0"))
 
 
-def _hand_over(server, seconds, message):
-    """Hands a message to a mail server by SMTP (RFC 5321), which needs no set-ID program, but has to listen and to take the
-    message for each address."""
+def by_sendmail(path: str, seconds: int, message: bytes) -> None:
+    """Hands a message to sendmail. Postfix's one tries for ever if it cannot write to the spool, so
+    it gets a time limit."""
+    end = run_mailer(path, seconds, message)
+    if end.status == 0:
+        return
+    lines = [line for line in end.answer.split(b"\n") if line.strip()]
+    why = shown(lines[-1], 300) if lines else "it gave no reason"
+    raise Fault(Status.DEVICE, f"{end.words}: {why}")
+
+
+def own_domain() -> str:
+    """The name of this machine as a domain (RFC 5321), whatever bytes somebody has put into it."""
+    labels = []
+    for label in os.uname().nodename.split("."):
+        letters = re.sub("[^A-Za-z0-9-]", "", label).strip("-")
+        labels.append(letters[:MAX_LABEL].rstrip("-"))
+    return ".".join(label for label in labels if label) or "localhost"
+
+
+def by_smtp(server: Server, seconds: int, message: bytes) -> None:
+    """Hands a message to a mail server. A child with limits of time and memory has the exchange: a
+    server may answer slowly, or without end."""
+    in_child(str(server), partial(_hand_over, server, seconds, message), seconds)
+
+
+def _hand_over(server: Server, seconds: int, message: bytes) -> bytes:
+    """Hands a message over by SMTP (RFC 5321), which needs no set-ID program, but has to listen and
+    to take the message for each address. There is nothing to answer."""
     import smtplib
 
-    def over(*_):
-        raise TimeoutError
-
-    limit, mail = time.monotonic() + seconds, email.message_from_bytes(message)
-    sender = mail["From"] = "aide-compare@" + (os.uname().nodename or "localhost")
-    # Room for some copies of the message and for what a server answers, and for no more.
-    with open("/proc/self/statm") as file:
-        used = int(file.read().split()[0]) * resource.getpagesize()
-    bound_of(resource.RLIMIT_AS, used + 10 * len(message) + MOST_ANSWERS)
+    _bound_memory(message)
     try:
-        connection = smtplib.SMTP(*server, timeout=seconds)
-        refused = connection.send_message(mail, sender)
-        # The server has the mail: what it answers to QUIT, however slowly, changes nothing.
-        with contextlib.suppress(OSError, smtplib.SMTPException):
-            signal.signal(signal.SIGALRM, over)
-            signal.setitimer(signal.ITIMER_REAL, max(min(QUIT_SECONDS, (limit - time.monotonic()) / 2), 0.01))
-            connection.quit()
-        why = "; ".join("%s: %d %s" % (name, code, said.decode("ascii", "replace")) for name, (code, said) in refused.items())
-        why = why and " for " + shown(why, 300)  # The others get the second, short one too, which says who has none.
+        why = _exchange(server, seconds, message)
     except MemoryError:
         why = ": its answers have no end"
     except (OSError, smtplib.SMTPException, UnicodeError) as error:
-        why = ": " + shown(str(error), 300)
+        why = f": {shown(str(error), 300)}"
     if why:
-        raise Fault(Status.DEVICE, "%s did not take it%s" % (server, why))
+        raise Fault(Status.DEVICE, f"{server} did not take it{why}")
+    return b""
 
 
-def alert(text):
+def _bound_memory(message: bytes) -> None:
+    """Room for some copies of the message and for what a server answers, and for no more."""
+    with open("/proc/self/statm") as file:
+        used = int(file.read().split()[0]) * resource.getpagesize()
+    bound_of(resource.RLIMIT_AS, used + 10 * len(message) + MAX_ANSWERS)
+
+
+def _exchange(server: Server, seconds: int, message: bytes) -> str:
+    """Sends a message. Returns for which addresses the server did not take it; "" for none."""
+    import smtplib
+
+    deadline = time.monotonic() + seconds
+    mail = email.message_from_bytes(message)
+    sender = f"aide-compare@{own_domain()}"
+    mail["From"] = sender
+    connection = smtplib.SMTP(
+        server.host, server.port, local_hostname=own_domain(), timeout=seconds
+    )
+    refused = connection.send_message(mail, sender)
+    # The server has the mail: what it answers to QUIT, however slowly, changes nothing.
+    with suppress(OSError, smtplib.SMTPException):
+        _end_by_alarm(min(QUIT_SECONDS, (deadline - time.monotonic()) / 2))
+        connection.quit()
+    if not refused:
+        return ""
+    # The others get the second, short mail too, which says who has none.
+    whys = [
+        f"{name}: {code} {answer.decode('ascii', 'replace')}"
+        for name, (code, answer) in refused.items()
+    ]
+    return f" for {shown('; '.join(whys), 300)}"
+
+
+def _end_by_alarm(seconds: float) -> None:
+    """After so many seconds a call of the system that waits fails."""
+
+    def give_up(*_: object) -> None:
+        raise TimeoutError
+
+    signal.signal(signal.SIGALRM, give_up)
+    signal.setitimer(signal.ITIMER_REAL, max(seconds, 0.01))
+
+
+def alert(text: str) -> bool:
     """One line in the system log at the priority `alert`; False if there is no log either."""
-    line = "aide-compare mail: " + shown(text, 800)
-    for path, data in (
-        (LOG, "<%d>%s" % (AUTH_ALERT, line)),
-        (JOURNAL, "PRIORITY=1\nSYSLOG_FACILITY=4\nSYSLOG_IDENTIFIER=aide-compare\nMESSAGE=%s\n" % line),
-    ):
-        with contextlib.suppress(OSError), socket.socket(socket.AF_UNIX, socket.SOCK_DGRAM) as log:
-            log.settimeout(5)
+    line = f"aide-compare mail: {shown(text, 800)}"
+    fields = ("PRIORITY=1", "SYSLOG_FACILITY=4", "SYSLOG_IDENTIFIER=aide-compare")
+    entry = "".join(f"{field}\n" for field in (*fields, f"MESSAGE={line}"))
+    for path, data in ((LOG, f"<{AUTH_ALERT}>{line}"), (JOURNAL, entry)):
+        with suppress(OSError), socket.socket(socket.AF_UNIX, socket.SOCK_DGRAM) as log:
+            log.settimeout(LOG_SECONDS)
             log.connect(path)
             log.send(data.encode("utf-8", "backslashreplace"))
             return True
     return False
 
 
-def _refusal(way, message):
-    """Why a message was not taken, or None. One such reason is that no process can be started, or no pipe made for it."""
+def refusal_of(way: Way, message: bytes) -> Optional[str]:
+    """Why a message was not taken, or None. One such reason is that no process can be started, or
+    no pipe made for it."""
     try:
         with failing("nothing can be started to send it"):
             way(message)
@@ -142,50 +220,66 @@ def _refusal(way, message):
     return None
 
 
-def deliver(way, message):
-    """Sends a message; a short one if it is refused, and says so; then a line in the system log, and a Fault."""
-    why = _refusal(way, message)
+def deliver(way: Way, message: bytes) -> None:
+    """Sends a message; a short one if it is refused, and says so; then a line in the system log,
+    and a Fault."""
+    why = refusal_of(way, message)
     if why is None:
         return
-    if _refusal(way, shortened(message, why)) is None:
-        say("only a short mail was sent: %s" % why)
+    if refusal_of(way, shortened(message, why)) is None:
+        say(f"only a short mail was sent: {why}")
         return
-    is_logged = alert("no mail could be sent (%s): %s" % (why, email.message_from_bytes(message)["Subject"]))
-    log = "the system log has a line at priority alert" if is_logged else "there is no system log either"
-    raise Fault(Status.DEVICE, "cannot send the mail: %s; %s" % (why, log))
+    subject = email.message_from_bytes(message)["Subject"]
+    log = "there is no system log either"
+    if alert(f"no mail could be sent ({why}): {subject}"):
+        log = "the system log has a line at priority alert"
+    raise Fault(Status.DEVICE, f"cannot send the mail: {why}; {log}")
 
 
-def waiting(folder):
-    """The names of the messages that wait in a folder, the oldest first."""
-    with closed_after(os.open(".", os.O_RDONLY | os.O_DIRECTORY | os.O_CLOEXEC, dir_fd=folder.fd)) as listing:
-        return sorted(name for name in os.listdir(listing) if name.endswith(".mail") and not name.startswith("."))
+def waiting_in(directory: Directory) -> list[str]:
+    """The names of the messages that wait in a directory, the oldest first."""
+    flags = os.O_RDONLY | os.O_DIRECTORY | os.O_CLOEXEC
+    with closed_after(os.open(".", flags, dir_fd=directory.fd)) as listing:
+        names = os.listdir(listing)
+    return sorted(name for name in names if name.endswith(".mail") and not name.startswith("."))
 
 
-def way_in(path):
-    """A way that keeps a message in this folder for the unit that sends it."""
-    with open_folder(path, make=True) as folder:
-        if len(waiting(folder)) >= MOST_WAITING:
-            alert("%d mails wait in %s: none can be sent" % (MOST_WAITING, path))
-            raise Fault(Status.DEVICE, "%d mails wait already in %s: none is sent" % (MOST_WAITING, shown(path)))
-    name = "%020d-%d.mail" % (time.time_ns(), os.getpid())
-    return lambda message: replace(os.path.join(path, name), message, 0o600, "the mail that waits")
+def way_in(path: str) -> Way:
+    """A way that keeps a message in this directory for the unit that sends it."""
+    with open_directory(path, make=True) as directory:
+        if len(waiting_in(directory)) >= MAX_WAITING:
+            alert(f"{MAX_WAITING} mails wait in {path}: none can be sent")
+            text = f"{MAX_WAITING} mails wait already in {shown(path)}: none is sent"
+            raise Fault(Status.DEVICE, text)
+    name = f"{time.time_ns():020d}-{os.getpid()}.mail"
+
+    def keep(message: bytes) -> None:
+        replace(os.path.join(path, name), message, 0o600, "the mail that waits")
+
+    return keep
 
 
-def send_all(path, way):
-    """Sends what waits, the oldest first. What cannot be sent stays, and is tried again the next time; so does what is anything
-    else than a regular file of the caller."""
-    failed, flags = None, os.O_RDONLY | os.O_NOFOLLOW | os.O_NONBLOCK | os.O_CLOEXEC
-    with open_folder(path, make=True) as folder:
-        for name in waiting(folder):
+def waiting_mail(directory: Directory, name: str) -> bytes:
+    """A message that waits; a Fault if it is anything else than a regular file of the caller."""
+    flags = os.O_RDONLY | os.O_NOFOLLOW | os.O_NONBLOCK | os.O_CLOEXEC
+    with open(os.open(name, flags, dir_fd=directory.fd), "rb") as file:
+        status = os.fstat(file.fileno())
+        is_ours = stat.S_ISREG(status.st_mode) and status.st_uid == os.geteuid()
+        if not is_ours or status.st_size > MAX_WAITING_BYTES:
+            raise Fault(Status.DEVICE, f"{shown(name)} is no mail that this user has put there")
+        return file.read()
+
+
+def send_all(path: str, way: Way) -> None:
+    """Sends what waits, the oldest first. What cannot be sent stays, and is tried again the next
+    time."""
+    failed = None
+    with open_directory(path, make=True) as directory:
+        for name in waiting_in(directory):
             try:
-                with failing("cannot send or remove the mail %s" % shown(name)):
-                    with open(os.open(name, flags, dir_fd=folder.fd), "rb") as file:
-                        found = os.fstat(file.fileno())
-                        if not stat.S_ISREG(found.st_mode) or found.st_uid != os.geteuid() or found.st_size > MOST_BYTES:
-                            raise Fault(Status.DEVICE, "%s is no mail that this user has put there" % shown(name))
-                        message = file.read()
-                    deliver(way, message)
-                    os.unlink(name, dir_fd=folder.fd)
+                with failing(f"cannot send or remove the mail {shown(name)}"):
+                    deliver(way, waiting_mail(directory, name))
+                    os.unlink(name, dir_fd=directory.fd)
             except Fault as fault:
                 failed = fault
     if failed:

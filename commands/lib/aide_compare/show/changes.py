@@ -1,104 +1,82 @@
-"""The changes of lines as a text for people: each with its values, or only the first paths where all would be too much."""
+"""A change as a text for people, with its values; and what keeps a list of changes from being
+filled by one directory or one user."""
+from __future__ import annotations
+
 from collections import Counter
-from contextlib import suppress
+from typing import Hashable, Iterable, Iterator, List, NamedTuple, Optional, Tuple
 
 from aide_compare.base.escapes import guarded, shown
-from aide_compare.base.words import KINDS, SIDES, most_frequent
-from aide_compare.lines.decoded import texts_of, values_of
-from aide_compare.lines.reader import FORMS, STRENGTH, Refused, bytes_of, counts_in
+from aide_compare.lines.attributes import FORMS, STRENGTH
+from aide_compare.lines.change import Change, Value
+from aide_compare.lines.decoded import texts_of
 
-MOST_VALUE = 200
-MOST_PATHS = 1000
-# How many paths of one folder a cut list has, how many below the first two pieces of a path, and how many folders it counts.
-FOLDER_SHARE, TREE_SHARE, MOST_FOLDERS = 20, 100, 10
-# What was removed or changed comes before what was added, since everybody can add files somewhere.
-ORDER = ("changed", "removed", "added")
+MAX_VALUE = 200
+
+Limits = List[Tuple[Hashable, int]]
 
 
-def head_of(summary):
-    """What a text begins with."""
-    lines = ["Total number of entries: %d" % summary["total"]]
-    lines += ["%-25s%d" % (kind.capitalize() + " entries:", count) for kind, count in zip(KINDS, counts_in(summary))]
-    return "The two databases differ.\n\nSummary:\n" + "".join("  %s\n" % line for line in lines)
-
-
-def _shown(value, text):
+def _shown(value: Value, text: Optional[str]) -> Optional[str]:
     """A value for people; None if there is none."""
-    if text is not None or isinstance(value, int):
-        return guarded(str(value if text is None else text)[:MOST_VALUE])
-    return None if value is None else shown(value, MOST_VALUE)
+    if text is not None:
+        return guarded(text[:MAX_VALUE])
+    if isinstance(value, int):
+        return guarded(str(value)[:MAX_VALUE])
+    if value is None:
+        return None
+    return shown(value, MAX_VALUE)
 
 
-def values_in(fields, others=()):
-    """Each attribute of a change, and those that it has too, with both values for people, None for one that is not there. Of the
-    digests the strongest says as much as all, and the type is said already unless it changed."""
-    both = [values_of(fields, side) for side in SIDES]
-    texts, labels = texts_of(fields, both), {*others}.union(*both)
+class Row(NamedTuple):
+    """An attribute of a change with both values for people, None for one that is not there."""
+
+    label: str
+    old: Optional[str]
+    new: Optional[str]
+
+    def line(self, kind: str) -> str:
+        texts = ["none" if text is None else text for text in (self.old, self.new)]
+        if kind == "changed":
+            return f"    {self.label:<10} {texts[0]} -> {texts[1]}\n"
+        if kind == "removed":
+            return f"    {self.label:<10} {texts[0]}\n"
+        return f"    {self.label:<10} {texts[1]}\n"
+
+
+def values_in(change: Change, others: Iterable[str] = ()) -> Iterator[Row]:
+    """Each attribute of a change, and those that it has too, with both values for people, None for
+    one that is not there. Of the digests the strongest says as much as all, and the type is said
+    already unless it changed."""
+    texts = texts_of(change)
+    labels = {*others, *change.old, *change.new}
     digest = next((label for label in STRENGTH if label in labels), None)
     for label in FORMS:
-        is_said = label == "Type" and fields["kind"] != "changed" or label in STRENGTH and label != digest
-        if label in labels and not is_said:
-            yield (label, *(_shown(values.get(label), each.get(label)) for values, each in zip(both, texts)))
+        if label not in labels or (label in STRENGTH and label != digest):
+            continue
+        if label == "Type" and change.kind != "changed":
+            continue
+        old = _shown(change.old.get(label), texts.old.get(label))
+        new = _shown(change.new.get(label), texts.new.get(label))
+        yield Row(label, old, new)
 
 
-def change_lines(fields):
-    """The lines of a change. The path stands last in its line, so that no path can look like the words of another one."""
-    yield "%s %s: %s\n" % (fields["kind"], fields.get("type", "Entry"), shown(bytes_of(fields, "path")))
-    for label, old, new in values_in(fields):
-        if fields["kind"] == "changed":
-            yield "    %-10s %s -> %s\n" % (label, "none" if old is None else old, "none" if new is None else new)
-        else:
-            yield "    %-10s %s\n" % (label, old if new is None else new)
-
-
-def changes_text(reader):
-    """Yields the text of all changes of a Reader."""
-    yield head_of(reader.summary)
-    for _, fields in reader:
-        yield "\n" + "".join(change_lines(fields))
+def change_lines(change: Change) -> Iterator[str]:
+    """The lines of a change. The path stands last in its line, so that no path can look like the
+    words of another one."""
+    yield f"{change.kind} {change.type}: {shown(change.path)}\n"
+    for row in values_in(change):
+        yield row.line(change.kind)
 
 
 class Shares:
-    """What has been listed, for each key: no more than its limit, so that nobody fills a list with files of his own."""
+    """What has been listed, for each key: no more than its limit, so that nobody fills a list with
+    files of his own."""
 
-    def __init__(self):
-        self.listed = Counter()
+    def __init__(self) -> None:
+        self.listed: Counter[Hashable] = Counter()
 
-    def takes(self, limits):
+    def takes(self, limits: Limits) -> bool:
         """Whether there is room for something by its keys and their limits, which then is taken."""
-        if any(self.listed[key] >= most for key, most in limits):
+        if any(self.listed[key] >= limit for key, limit in limits):
             return False
         self.listed.update(key for key, _ in limits)
         return True
-
-
-def cut_text(reader, most, command):
-    """The beginning of a text of at most about so many bytes: the first paths of each kind, and for the folders of which most is
-    left out how much. A folder has a share of the paths, and the tree below the first two pieces of a path."""
-    shares, lists, rests = Shares(), {kind: [] for kind in ORDER}, {kind: Counter() for kind in ORDER}
-    with suppress(Refused):  # They were cut, and those that are there are told.
-        for _, fields in reader:
-            kind, path = fields["kind"], bytes_of(fields, "path")
-            folder, tree = path.rpartition(b"/")[0] or b"/", b"/".join(path.split(b"/")[:3])
-            limits = [(kind, MOST_PATHS), ((kind, folder), FOLDER_SHARE), ((kind, "tree", tree), TREE_SHARE)]
-            if shares.takes(limits):
-                lists[kind].append("%s: %s\n" % (fields["summary"], shown(path, MOST_PATHS)))
-            elif shares.listed[kind, folder]:
-                rests[kind][folder] += 1
-    text, room, paths = head_of(reader.summary), most, 0
-    for kind, lines in lists.items():
-        text += "\n%s entries:\n\n" % kind.capitalize() if lines else ""
-        folders = most_frequent(rests[kind], MOST_FOLDERS)[0]
-        rest = ["%s: %d more\n" % (shown(folder, MOST_PATHS), count) for folder, count in folders]
-        lines = lines[: MOST_PATHS - paths]
-        for place, line in enumerate(lines + rest):
-            room -= len(line.encode("utf-8", "backslashreplace"))
-            if room < 0:
-                break
-            text += line
-            paths += place < len(lines)
-    total = sum(counts_in(reader.summary))
-    return text + (
-        "\nThis mail is cut: %d paths are listed, %d are left out, and no values are shown.\n"
-        "This command prints the whole report:\n    %s\n" % (paths, total - paths, command)
-    )

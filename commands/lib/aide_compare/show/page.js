@@ -1,6 +1,5 @@
 // Takes the items of the entries out of the document, and shows those again that the address asks for.
-const PAGE = 100, FEW = 25, REASONS = 4;
-const STANDINGS = { unexplained: 'not explained', not_verified: 'explained, not verified', explained: 'explained' };
+const PAGE = 100, FEW = 3, PACKAGES = 4;
 const ORDERS = { importance: 'what matters most', size: 'change of size' };
 const find = (id) => document.getElementById(id), on = (target, event, act) => target.addEventListener(event, act);
 const number = (count) => count.toLocaleString('en');
@@ -26,7 +25,7 @@ function entryOf(item, standing, section, place) {
   return {
     item, standing, section, place, kind, severity, path, about,
     attribute: names && names.title || about.replace(/ [+-]\d+/, ''),
-    reason: standing === 'explained' ? section : why ? why.textContent.slice(1) : '',
+    package: standing === 'recorded' ? section : '',
     folded: path.toLowerCase(), key: path.replaceAll('/', '\0'), node: null, told: null,
   };
 }
@@ -43,21 +42,21 @@ function filter() {
 
 // The filters in words, also for a page that is printed; nothing without a filter.
 function askedWords() {
-  const words = [...Object.keys(choices), 'reason'].filter((name) => view[name].size)
-    .map((name) => name + ' ' + chosen(view, name).join(' or ').replace('not_verified', 'not verified'));
+  const words = [...Object.keys(choices), 'package'].filter((name) => view[name].size)
+    .map((name) => name + ' ' + chosen(view, name).join(' or '));
   if (view.path) words.push('path with \u201c' + view.path + '\u201d');
   const parts = words.length ? ['with: ' + words.join(', ')] : [];
   if (view.directory) parts.push('in ' + view.directory + '/');
   return parts.length ? 'Only entries ' + parts.join(', ') + '.' : '';
 }
 
-// The item of an entry as it is shown: its name stands out from its directory, and the reason of an explained one is beside
+// The item of an entry as it is shown: its name stands out from its directory, and the package of a recorded one is beside
 // it, if that is not in the heading.
 function itemOf(entry) {
-  const { item, path, standing, reason } = entry, details = item.querySelector('details'), cut = path.lastIndexOf('/') + 1;
+  const { item, path } = entry, details = item.querySelector('details'), cut = path.lastIndexOf('/') + 1;
   if (details) details.open = view.values !== '';
   if (!entry.told) {
-    entry.told = make('span', { class: 'reason' }, standing === 'explained' ? ' ' + reason : '');
+    entry.told = make('span', { class: 'reason' }, entry.package ? ' ' + entry.package : '');
     item.querySelector('code').replaceChildren(path.slice(0, cut), make('b', {}, path.slice(cut)));
     item.querySelector('code').after(entry.told);
   }
@@ -127,11 +126,12 @@ function countedWords(name) {
   return words.filter((word) => word && counts.has(word)).map((word) => [word, counts.get(word)]);
 }
 
-// A row of buttons that are pressed or not, for the words of a filter. Arrow keys go from one to the next.
+// A row of buttons that are pressed or not, for the words of a filter. Arrow keys go from one to the next. The rows of
+// standings, severities and kinds are the counts of the page too.
 function showChoices(name, title) {
   const buttons = countedWords(name).map(([word, count]) => {
-    const attributes = { type: 'button', class: name === 'reason' ? '' : word, tabindex: -1, 'aria-pressed': false };
-    const button = make('button', attributes, (STANDINGS[word] || word) + ' ', make('small', {}, number(count)));
+    const attributes = { type: 'button', class: name === 'package' ? '' : word, tabindex: -1, 'aria-pressed': false };
+    const button = make('button', attributes, make('small', {}, number(count)), ' ' + word);
     button.show = () => button.setAttribute('aria-pressed', view[name].has(word));
     on(button, 'click', () => {
       const words = new Set(view[name]);
@@ -143,27 +143,31 @@ function showChoices(name, title) {
   const row = make('span', { class: 'choices' }, ...buttons);
   if (!buttons.length) return;
   buttons[0].tabIndex = 0;
-  if (name === 'reason' && buttons.length > REASONS) {
-    const more = make('button', { type: 'button', tabindex: -1 }, number(buttons.length - REASONS) + ' more');
+  if (name === 'package' && buttons.length > PACKAGES) {
+    const more = make('button', { type: 'button', tabindex: -1 }, number(buttons.length - PACKAGES) + ' more');
     on(more, 'click', () => {
       more.remove();
       row.classList.remove('few');
-      focusOn(buttons[REASONS], row);
+      focusOn(buttons[PACKAGES], row);
     });
     row.append(more);
     row.classList.add('few');
   }
   const seen = () => [...row.children].filter((one) => one.offsetParent);
   on(row, 'keydown', (event) => moveFocus(event, row, seen(), ['ArrowLeft', 'ArrowRight']));
-  find('filters').append(make('div', { class: 'row', id: name, role: 'toolbar', 'aria-label': title },
-    make('span', { class: 'name' }, title), row));
+  const toolbar = make('div', { class: 'row', id: name, role: 'toolbar', 'aria-label': title }, row);
+  if (name === 'attribute' || name === 'package') {
+    toolbar.prepend(make('span', { class: 'name' }, title));
+    find('more').append(toolbar);
+  } else {
+    find('search').before(toolbar);
+  }
 }
 
 function makeFilters() {
-  const hasReasons = firstOrder === 'importance', isHere = (name) => hasReasons || !['importance', 'severity'].includes(name);
-  const titles = { severity: 'Severity', kind: 'Kind', attribute: 'Attribute', reason: 'Explained by' };
-  for (const [name, title] of Object.entries(hasReasons ? { standing: 'Reason', ...titles } : titles)) showChoices(name, title);
-  for (const order of Object.keys(KEYS).filter(isHere)) {
+  const titles = { standing: 'Standing', severity: 'Severity', kind: 'Kind', attribute: 'Attribute', package: 'Package' };
+  for (const [name, title] of Object.entries(titles)) showChoices(name, title);
+  for (const order of Object.keys(KEYS)) {
     find('order').append(make('option', { value: order }, ORDERS[order] || order));
   }
 }
@@ -173,6 +177,7 @@ function showView(text) {
   view = viewOf(text);
   if (view.directory && !nodeAt(view.directory)) view.directory = '';
   find('search').value = view.path;
+  if (view.attribute.size || view.package.size) find('more').open = true;
   change({ page: view.page });
 }
 
@@ -231,6 +236,7 @@ function begin() {
     first = shownChildren(first[0].node)) opened.add(first[0].node);
   showView(text);
   listen();
+  document.querySelector('.counts').hidden = true;
   find('view').hidden = false;
 }
 

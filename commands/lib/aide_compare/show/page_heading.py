@@ -1,124 +1,206 @@
-"""The beginning of a page: its policy, of which host and which databases it is, the counts, and what is missing."""
+"""The beginning of a page: its policy, of which host and which databases it is, the counts, and
+what is missing."""
+from __future__ import annotations
+
 import base64
 import hashlib
 import os
 import re
 from html import escape
+from typing import Iterable, Iterator, List, NamedTuple
 
 from aide_compare.base.escapes import shown_note, shown_value
 from aide_compare.base.words import KINDS, SEVERITIES, SIDES, counted
-from aide_compare.compare.state import GRADE_KEYS, REASON_KEYS, ReasonCounts
-from aide_compare.lines.reader import bytes_of
+from aide_compare.lines.change import Counts, Fields, Standing, bytes_of
+from aide_compare.lines.reader import EndCounts, Reader
 
 HERE = os.path.dirname(os.path.abspath(__file__))
-POLICY = "default-src 'none'; base-uri 'none'; form-action 'none'; style-src 'sha256-%s'"
-CARDS = {"unexplained": "Not explained", "not_verified": "Explained, not verified", "explained": "Explained"}
-KNOWN = set(
-    """format differences total added removed changed entries old new reasons left_out skipped host @timestamp status old_time
-    new_time old_digest new_digest""".split()
+POLICY = "default-src 'none'; base-uri 'none'; form-action 'none'; style-src 'sha256-{}'"
+# Members of the summary that have a place of their own.
+KNOWN = frozenset(
+    "format old new trusted_old trusted_new left_out skipped host @timestamp old_time new_time"
+    " old_digest new_digest".split()
 )
 DATE = re.compile("[0-9]{4}-[0-9]{2}-[0-9]{2}T[0-9]{2}:[0-9]{2}:[0-9]{2}Z")
-MOST_MEMBERS, MOST_LETTERS = 20, 5000
+MAX_MEMBERS = 20
+MAX_LETTERS = 5000
 HINT = (
-    "Reasons are hints: those of the grades dpkg and rpm come from records of the host, and whoever was root before AIDE ran "
-    "can forge these. The evidence of a signed archive is stronger."
+    "Open: all that is not one of the following. Recorded: a package's records on the host have"
+    " this content. Whoever was root there can write such records, so they only shorten what you"
+    " read. Same: the old entry, but for times and inode. Trusted: as on the trusted machine."
 )
 
 
-def number(count):
-    return format(count, ",")
+def number(count: int) -> str:
+    return f"{count:,}"
 
 
-def entries(count):
+def entries(count: int) -> str:
     return counted(count, "entry", ",")
 
 
-def part_of(name):
+def part_of(name: str) -> str:
     """A file of the page that is the same for each report."""
     with open(os.path.join(HERE, name), encoding="utf-8") as file:
         return file.read()
 
 
-def beginning(title, script="", **parts):
-    """The beginning of a page, up to the entries. `title` is a text; the parts are markup. Its policy knows script and style."""
-    style = part_of("page.css")
-    digests = [base64.b64encode(hashlib.sha256(text.encode()).digest()).decode() for text in (style, script)]
-    policy = POLICY % digests[0] + ("; script-src 'sha256-%s'" % digests[1] if script else "")
-    fixed = {"title": escape(title), "style": style, "policy": policy, "script": script and "<script>%s</script>\n" % script}
-    text = part_of("page.html") % {"heading": escape(title), "databases": "", **parts, **fixed}
-    return text.encode("utf-8", "backslashreplace")
+class Beginning(NamedTuple):
+    """What stands on a page before its entries. `title` is a text; all else is markup."""
+
+    title: str
+    heading: str
+    outcome: str
+    counts: str
+    remarks: str
+    facts: str = ""
+    about: str = ""
+    script: str = ""
+
+    def encoded(self) -> bytes:
+        """Its bytes. The policy knows style and script."""
+        style = part_of("page.css")
+        policy = POLICY.format(digest_of(style))
+        script = ""
+        if self.script:
+            policy += f"; script-src 'sha256-{digest_of(self.script)}'"
+            script = f"<script>{self.script}</script>\n"
+        text = part_of("page.html") % {
+            "title": escape(self.title),
+            "heading": self.heading,
+            "style": style,
+            "policy": policy,
+            "script": script,
+            "outcome": self.outcome,
+            "counts": self.counts,
+            "remarks": self.remarks,
+            "facts": self.facts,
+            "about": self.about,
+        }
+        return text.encode("utf-8", "backslashreplace")
 
 
-def member(summary, name):
+class CountRow(NamedTuple):
+    """A number on a page, and its word, which is also its class."""
+
+    word: str
+    number: int
+
+    def text(self) -> str:
+        style = self.word.lower().replace(" ", "-")
+        return f'<div class="{style}"><dt>{self.word}</dt><dd>{self.number:,}</dd></div>'
+
+
+def digest_of(text: str) -> str:
+    """The SHA-256 of a style or a script, as a policy has it."""
+    return base64.b64encode(hashlib.sha256(text.encode()).digest()).decode()
+
+
+def member(summary: Fields, name: str) -> str:
     """A member of the summary that is a text, as it is shown; a date is shown as people read it."""
     value = summary.get(name)
     if not isinstance(value, str):
         return ""
-    return value.replace("T", " ").replace("Z", " UTC") if DATE.fullmatch(value) else shown_note(value)
+    if DATE.fullmatch(value):
+        return value.replace("T", " ").replace("Z", " UTC")
+    return shown_note(value)
 
 
-def about(summary):
-    """The host, the time, what else the caller has written into the summary, and the databases, with the time of each."""
-    more = [name for name, value in summary.items() if name not in KNOWN and isinstance(value, str)][:MOST_MEMBERS]
+def facts_of(summary: Fields) -> str:
+    """The host, the time, and what else the caller has written into the summary."""
+    others = [name for name in summary if name not in KNOWN and isinstance(summary[name], str)]
     rows = [("Host", member(summary, "host")), ("Compared", member(summary, "@timestamp"))]
-    rows += [(shown_note(name), member(summary, name)) for name in more]
-    text = "".join("<div><dt>%s</dt><dd>%s</dd></div>" % (escape(name), escape(value)) for name, value in rows if value)
-    lines, facts = "", '<dl class="facts">%s</dl>\n' % text if text else ""
-    for side in SIDES:
-        name, time = shown_value(bytes_of(summary[side], "path")[:MOST_LETTERS]), member(summary, side + "_time")
-        of_time = " <span>of %s</span>" % escape(time) if time else ""
-        told = (side.capitalize(), escape(name), of_time, summary[side]["sha256"])
-        lines += "<dt>%s</dt><dd><code>%s</code>%s<small>SHA-256 <code>%s</code></small></dd>" % told
-    return facts + '<details class="databases"><summary>Databases</summary><dl>%s</dl></details>\n' % lines
+    rows += [(shown_note(name), member(summary, name)) for name in others[:MAX_MEMBERS]]
+    text = ""
+    for name, value in rows:
+        if value:
+            text += f"<div><dt>{escape(name)}</dt><dd>{escape(value)}</dd></div>"
+    if not text:
+        return ""
+    return f'<dl class="facts">{text}</dl>\n'
 
 
-def cards(rows):
-    """Counts: of each its class, its name and its number."""
-    text = '<div class="%s"><dt>%s</dt><dd>%s</dd></div>'
-    return '<dl class="counts">%s</dl>' % "".join(text % (name, words, number(count)) for name, words, count in rows)
+def database_text(summary: Fields, side: str) -> str:
+    """A database by its name, its time and its digest."""
+    name = shown_value(bytes_of(summary[side], "path")[:MAX_LETTERS])
+    time = member(summary, f"{side}_time")
+    text = f"<dt>{side.capitalize()}</dt><dd><code>{escape(name)}</code>"
+    if time:
+        text += f" <span>of {escape(time)}</span>"
+    return f"{text}<small>SHA-256 <code>{summary[side]['sha256']}</code></small></dd>"
 
 
-def counts(reader):
-    """The counts of what is explained, if that was asked, and of each kind; a narrow screen has a link in their place."""
-    summary, count, told, text = reader.summary, reader.count, "", ""
-    if "reasons" in summary:
-        given = summary["reasons"]
-        reasons = ReasonCounts(**{key: given[key] for key in REASON_KEYS + GRADE_KEYS if type(given.get(key)) is int})
-        severe = ", ".join("%s %s" % (number(getattr(reasons, name)), name) for name in SEVERITIES if getattr(reasons, name))
-        told = '<p class="severities">Severity of what is not explained or not verified: %s</p>\n' % severe if severe else ""
-        told += '<p class="severities">Explained by: %s</p>\n' % reasons.grades() if reasons.grades() else ""
-        told += '<p class="hint">%s</p>\n' % HINT
-        text, count = cards((name, words, getattr(reasons, name)) for name, words in CARDS.items()), reasons.unanswered
-    rows = [(kind, kind.capitalize(), summary[kind]) for kind in KINDS]
-    text += cards(rows + [("all", "Entries in the new database", summary["total"])])
-    look = '<p class="look"><a href="#content">%s to look at</a></p>\n' % number(count) if count else ""
-    return '<div class="cards">%s</div>\n%s%s' % (text, told, look)
+def about_of(summary: Fields, total: int) -> str:
+    """The databases with the time of each, how many entries there are, and what the words mean."""
+    lines = "".join(database_text(summary, side) for side in SIDES)
+    text = f"<dl>{lines}</dl>\n<p>{entries(total)} in the new database.</p>\n"
+    text += f'<p class="hint">{escape(HINT)}</p>'
+    title = "<summary>Databases, and what the words mean</summary>"
+    return f'<details class="about">{title}{text}</details>\n'
 
 
-def remarks_of(summary):
-    """What the comparison has left out, and the columns that were not compared, as far as the summary says it."""
+def counts_line(rows: Iterable[CountRow]) -> str:
+    """A line of counts."""
+    return f'<dl class="counts">{"".join(row.text() for row in rows)}</dl>\n'
+
+
+def counts_of(end: EndCounts, counts: Counts) -> str:
+    """How many changes have each standing, each severity and each kind. What has none is left out,
+    but for open ones."""
+    rows = [CountRow(standing.value, counts.of(standing)) for standing in reversed(Standing)]
+    rows += [CountRow(name, counts.of_severity(name)) for name in SEVERITIES]
+    rows += [CountRow(kind, count) for kind, count in zip(KINDS, end.kinds)]
+    return counts_line(row for row in rows if row.number or row.word == Standing.OPEN.value)
+
+
+def left_out_remark(summary: Fields) -> Iterator[str]:
+    """How many entries were left out of each database, if both numbers are there."""
     value = summary.get("left_out")
-    numbers = [value.get(side) for side in SIDES] if isinstance(value, dict) else []
-    if all(type(count) is int for count in numbers) and any(numbers):
-        where = " and ".join("%s of the %s database" % (entries(count), side) for count, side in zip(numbers, SIDES))
-        yield "The comparison left out %s, by the rules of --exclude-from." % where
+    if not isinstance(value, dict):
+        return
+    numbers: List[int] = [value[side] for side in SIDES if type(value.get(side)) is int]
+    if len(numbers) == len(SIDES) and any(numbers):
+        parts = [f"{entries(count)} of the {side} database" for count, side in zip(numbers, SIDES)]
+        yield f"The comparison left out {' and '.join(parts)}, by the rules of --exclude-from."
+
+
+def column_remarks(summary: Fields) -> Iterator[str]:
+    """The columns that were not compared."""
     value = summary.get("skipped")
-    names = [name for names in value.values() for name in names] if isinstance(value, dict) else []
-    for name in list(dict.fromkeys(names))[:MOST_MEMBERS]:
-        yield "The column %s is not compared: the program does not know it." % shown_note(str(name))
+    if not isinstance(value, dict):
+        return
+    names = [str(name) for side_names in value.values() for name in side_names]
+    for name in list(dict.fromkeys(names))[:MAX_MEMBERS]:
+        yield f"The column {shown_note(name)} is not compared: the program does not know it."
 
 
-def head(reader, title, script, notes):
-    """The beginning of the page of a report; without a title it has that of the host. The notes say what is missing."""
-    summary, host = reader.summary, member(reader.summary, "host")
-    title = shown_value(title[:MOST_LETTERS]) if title else "File changes on %s" % host if host else "File changes"
-    kinds = ": " + ", ".join("%s %s" % (number(summary[kind]), kind) for kind in KINDS)
-    return beginning(
-        title,
-        script,
-        heading=escape(title + kinds),
-        outcome="The two databases differ" if summary["differences"] else "No differences between the two databases",
-        databases=about(summary),
-        counts=counts(reader),
-        remarks="".join('<p class="remark">%s</p>\n' % escape(text) for text in [*remarks_of(summary), *notes]),
-    )
+def title_of(summary: Fields, title: bytes) -> str:
+    """The title that was asked for, or that of the host."""
+    if title:
+        return shown_value(title[:MAX_LETTERS])
+    host = member(summary, "host")
+    if host:
+        return f"File changes on {host}"
+    return "File changes"
+
+
+def head(reader: Reader, counts: Counts, title: bytes, script: str, notes: List[str]) -> bytes:
+    """The beginning of the page of a report. `counts` are the Counts of its changes, the notes say
+    what is missing."""
+    summary = reader.summary
+    text = title_of(summary, title)
+    kinds = [f"{number(count)} {kind}" for kind, count in zip(KINDS, reader.counts.kinds)]
+    remarks = [*left_out_remark(summary), *column_remarks(summary), *notes]
+    outcome = '<p class="outcome">No differences between the two databases</p>\n'
+    if reader.counts.status:
+        outcome = ""
+    return Beginning(
+        title=text,
+        heading=escape(f"{text}: {', '.join(kinds)}"),
+        outcome=outcome,
+        facts=facts_of(summary),
+        counts=counts_of(reader.counts, counts),
+        about=about_of(summary, reader.counts.total),
+        remarks="".join(f'<p class="remark">{escape(remark)}</p>\n' for remark in remarks),
+        script=script,
+    ).encoded()

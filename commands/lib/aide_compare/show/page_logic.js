@@ -14,13 +14,13 @@ const KEYS = {
 
 // A view from its text. A filter without words takes every entry; several words take what has one of them.
 function viewOf(text) {
-  const view = { reason: new Set(), path: '', directory: '', order: '', page: 1, values: '' };
+  const view = { package: new Set(), path: '', directory: '', order: '', page: 1, values: '' };
   for (const name of Object.keys(choices)) view[name] = new Set();
   for (const [name, value] of new URLSearchParams(text)) {
     if (Object.hasOwn(choices, name)) {
       for (const word of value.split(',')) if (choices[name].includes(word)) view[name].add(word);
-    } else if (name === 'reason' && value) {
-      view.reason.add(value);
+    } else if (name === 'package' && value) {
+      view.package.add(value);
     } else if (name === 'path' || name === 'directory' || name === 'order' && Object.hasOwn(KEYS, value)
       || name === 'values' && value === 'shown') {
       view[name] = value;
@@ -32,13 +32,13 @@ function viewOf(text) {
 }
 
 // The words that are chosen of a filter, in their order.
-const chosen = (view, name) => (choices[name] || [...view.reason].sort()).filter((word) => view[name].has(word));
+const chosen = (view, name) => (choices[name] || [...view.package].sort()).filter((word) => view[name].has(word));
 
 // A view as the address has it.
 function textOf(view) {
   const parts = new URLSearchParams();
   for (const name of Object.keys(choices)) if (view[name].size) parts.append(name, chosen(view, name).join(','));
-  for (const reason of chosen(view, 'reason')) parts.append('reason', reason);
+  for (const name of chosen(view, 'package')) parts.append('package', name);
   for (const name of ['path', 'directory', 'order']) if (view[name]) parts.append(name, view[name]);
   if (view.page > 1) parts.append('page', view.page);
   if (view.values) parts.append('values', view.values);
@@ -47,7 +47,7 @@ function textOf(view) {
 
 // Whether an entry fits; `folded` is the text of the path filter in small letters.
 function fits(view, folded, entry) {
-  return ['kind', 'standing', 'severity', 'reason'].every((name) => !view[name].size || view[name].has(entry[name]))
+  return ['kind', 'standing', 'severity', 'package'].every((name) => !view[name].size || view[name].has(entry[name]))
     && (!view.attribute.size || [...view.attribute].some((name) => entry.attribute.includes(name)))
     && (!folded || entry.folded.includes(folded))
     && (!view.directory || entry.path === view.directory || entry.path.startsWith(view.directory + '/'));

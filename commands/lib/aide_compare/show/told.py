@@ -1,60 +1,151 @@
-"""What commands tell of a comparison beside its report, and colours for what people read on a terminal. They are around words of
-ours only; names are escaped by then, so that a terminal obeys no bytes but those that are put in here."""
+"""What commands tell of a comparison beside its report, and colours for what people read on a
+terminal. They are around words of ours only; names are escaped by then, so that a terminal obeys no
+bytes but those that are put in here."""
+from __future__ import annotations
+
 import os
 import re
+from collections.abc import Iterable
 from contextlib import suppress
+from typing import TYPE_CHECKING
 
-from aide_compare.base.ending import write_all
-from aide_compare.base.escapes import guarded, shown_lines
+from aide_compare.base.ending import ReaderGone, write_all
+from aide_compare.base.escapes import guarded, shown, shown_lines
+from aide_compare.base.words import counted
 
-BOLD, RED, YELLOW, PLAIN = "\033[1m", "\033[1;31m", "\033[33m", "\033[0m"
+if TYPE_CHECKING:
+    from aide_compare.compare.comparison import Comparison
+
+BOLD = "\033[1m"
+RED = "\033[1;31m"
+YELLOW = "\033[33m"
+PLAIN = "\033[0m"
 COLOURS = {"high": RED, "medium": YELLOW}
 HOSTS_SEVERITY = re.compile("    (high|medium)(?=, )")
-SEVERITY, TITLE = re.compile("^  (high|medium) ", re.M), re.compile("^(Unexplained|Not verified|Explained):$", re.M)
+SEVERITY = re.compile("^  (high|medium) ", re.M)
+TITLE = re.compile("^(Open|Recorded):$", re.M)
 
 
-def are_wanted(choice):
-    """Whether standard output gets colours: on a terminal, unless the environment says no (see no-color.org)."""
+def wants_colours(choice: str) -> bool:
+    """Whether standard output gets colours: on a terminal, unless the environment says no (see
+    no-color.org)."""
     if choice != "auto":
         return choice == "always"
-    return os.isatty(1) and not os.environ.get("NO_COLOR") and os.environ.get("TERM") != "dumb"
+    if os.environ.get("NO_COLOR") or os.environ.get("TERM") == "dumb":
+        return False
+    return os.isatty(1)
 
 
-def painted(line, choice):
-    """A line that says whether there are differences, with its first words in colours."""
-    words, colon, rest = line.partition(":")
-    return in_colour(words, {"no comparison": RED, "differences": YELLOW}.get(words, BOLD), choice) + colon + rest
+def in_colour(line: str, colour: str, choice: str) -> str:
+    """A line in a colour, where that is wanted."""
+    if not wants_colours(choice):
+        return line
+    return colour + line + PLAIN
 
 
-def in_colour(line, colour, choice):
-    """A line in a colour, where that is wanted; without a colour as it is."""
-    return colour + line + PLAIN if colour and are_wanted(choice) else line
-
-
-def severity_in_colour(line, choice):
+def severity_in_colour(line: str, choice: str) -> str:
     """A line of the report of many hosts, with the severity that it begins with in a colour."""
-    found = HOSTS_SEVERITY.match(line)
-    return "    " + in_colour(found.group(1), COLOURS[found.group(1)], choice) + line[found.end() :] if found else line
+    match = HOSTS_SEVERITY.match(line)
+    if match is None:
+        return line
+    severity: str = match.group(1)
+    return "    " + in_colour(severity, COLOURS[severity], choice) + line[match.end() :]
 
 
-def coloured(text):
-    """The bytes of what people read first, with its first line, its titles and the severities in colours."""
+def _coloured_severity(match: re.Match[str]) -> str:
+    severity: str = match.group(1)
+    return f"  {COLOURS[severity]}{severity}{PLAIN} "
+
+
+def coloured(text: bytes) -> bytes:
+    """The bytes of what people read first, with its first line, its titles and the severities in
+    colours."""
     first, _, rest = text.decode("utf-8", "surrogateescape").partition("\n")
-    rest = SEVERITY.sub(lambda found: "  %s%s%s " % (COLOURS[found.group(1)], found.group(1), PLAIN), rest)
-    rest = TITLE.sub(lambda found: BOLD + found.group() + PLAIN, rest)
-    return (BOLD + first + PLAIN + "\n" + rest).encode("utf-8", "surrogateescape")
+    rest = SEVERITY.sub(_coloured_severity, rest)
+    rest = TITLE.sub(rf"{BOLD}\g<0>{PLAIN}", rest)
+    return f"{BOLD}{first}{PLAIN}\n{rest}".encode("utf-8", "surrogateescape")
 
 
-def told_of(comparison, quiet=False):
-    """The lines: notes, errors, doubts, and what ended the comparison, whose cause is enough; with `quiet` what went wrong."""
-    fault, is_quiet = comparison.fault, quiet and comparison.status <= 7
-    lines = [] if quiet or fault else ["aide-compare: " + guarded(line) for line in comparison.notes]
-    lines += [] if is_quiet else filter(None, shown_lines(comparison.errors).split("\n"))
-    last = comparison.hints + comparison.doubts + ([fault.text, *fault.more] if fault else [])
-    return "".join(line + "\n" for line in lines + ["aide-compare: " + guarded(line) for line in last])
+def left_out_numbers(comparison: Comparison) -> str:
+    """How many entries were left out, as in "187"; both numbers if they differ, and "" without
+    any."""
+    totals = list(dict.fromkeys(each.total for each in comparison.left_out.values()))
+    if not any(totals):
+        return ""
+    return " and ".join(f"{total:,}" for total in totals)
 
 
-def tell(comparison, quiet=False):
+def _notes_of(comparison: Comparison, verbose: bool) -> list[str]:
+    """What was not compared: with `verbose` how many entries each line of a list has left out."""
+    notes = list(comparison.notes)
+    numbers = left_out_numbers(comparison)
+    if verbose:
+        for side, left_out in comparison.left_out.items():
+            notes += left_out.words(side)
+    elif numbers and comparison.status:
+        entries = "entry" if numbers == "1" else "entries"
+        notes.append(f"{numbers} {entries} left out; -v lists them")
+    return notes
+
+
+def _faults_of(comparison: Comparison) -> list[str]:
+    """Why nothing was compared, the cause first."""
+    fault = comparison.fault
+    if fault is None or isinstance(fault, ReaderGone):
+        return []
+    return [fault.text, *fault.more]
+
+
+def _errors_of(comparison: Comparison) -> list[str]:
+    """The lines of the program itself, in which databases have their names, and not those of
+    descriptors."""
+    errors = with_names(comparison.errors, comparison, b" database ")
+    return [line for line in shown_lines(errors).split("\n") if line]
+
+
+def with_names(text: bytes, comparison: Comparison, before: bytes) -> bytes:
+    """Bytes of the program in which both databases have their names, wherever their descriptors
+    follow some words."""
+    # Here, so that status does not load what starts programs.
+    from aide_compare.base.program import DESCRIPTORS
+
+    for side, copy in comparison.copies.items():
+        descriptor = b"/proc/self/fd/%d" % DESCRIPTORS[side]
+        text = text.replace(before + descriptor, before + os.fsencode(shown(copy.name)))
+    return text
+
+
+def no_difference(comparison: Comparison) -> bytes:
+    """The one line of a comparison that has found none."""
+    entries = counted(comparison.known_lines().end.total, "entry", ",")
+    numbers = left_out_numbers(comparison)
+    if numbers:
+        entries += f" ({numbers} left out)"
+    return f"no differences in {entries}\n".encode()
+
+
+def told_of(comparison: Comparison, quiet: bool = False, verbose: bool = False) -> str:
+    """The lines beside a report: notes, what the program says, and what is not silent. If nothing
+    was compared, the cause comes first, and notes only with `verbose`; with `quiet` there is
+    nothing else."""
+    hints = _ours([*comparison.hints, *comparison.doubts, *comparison.warnings])
+    if comparison.status > 7:
+        lines = [*_ours(_faults_of(comparison)), *_errors_of(comparison), *hints]
+        if verbose and not quiet:
+            lines += _ours(_notes_of(comparison, verbose))
+    elif quiet:
+        lines = hints
+    else:
+        lines = [*_ours(_notes_of(comparison, verbose)), *_errors_of(comparison), *hints]
+    return "".join(f"{line}\n" for line in lines)
+
+
+def _ours(texts: Iterable[str]) -> list[str]:
+    """Texts as lines of the command itself."""
+    return [f"aide-compare: {guarded(text)}" for text in texts]
+
+
+def tell(comparison: Comparison, quiet: bool = False, verbose: bool = False) -> None:
     """Writes them to standard error. If that cannot be written, nothing else changes."""
     with suppress(OSError):
-        write_all(2, told_of(comparison, quiet).encode("utf-8", "backslashreplace"))
+        write_all(2, told_of(comparison, quiet, verbose).encode("utf-8", "backslashreplace"))

@@ -1,0 +1,35 @@
+"""Whether a database is sound, as the proved program says."""
+from __future__ import annotations
+
+from aide_compare.base.ending import Fault, Status
+from aide_compare.base.escapes import shown, shown_lines
+from aide_compare.compare.comparison import Request
+from aide_compare.compare.unpack import Copy
+from aide_compare.compare.work import compare
+
+MAX_REPORT = 1 << 20
+MAX_LINE = 1000
+SHORTEST = "report_level=minimal"
+
+
+def refuse_unsound(copy: Copy, former: Copy | None = None) -> None:
+    """A Fault of status 24 if the program does not read an unpacked database to its end, or the
+    former one beside it."""
+    copies = {"old": former or copy, "new": copy}
+    request = Request(
+        old="",
+        copies=copies,
+        before=SHORTEST,
+        wants_lines=False,
+        max_report=MAX_REPORT,
+    )
+    comparison = compare(request)
+    if comparison.fault:
+        raise comparison.fault
+    if comparison.has_failed:
+        side = "old" if comparison.errors.startswith(b"aide: old ") else "new"
+        lines = [shown_lines(comparison.errors).partition("\n")[0][:MAX_LINE], *comparison.hints]
+        if former is None:  # The program reads one database as both.
+            lines = [line.replace("old database", "new database") for line in lines]
+        name = shown(copies[side].name)
+        raise Fault(Status(comparison.status), f"refused: {name} is no sound database", *lines)

@@ -1,0 +1,276 @@
+"""The one engine: two databases made ready, the proved program run over them, and its answer
+checked."""
+from __future__ import annotations
+
+import io
+import json
+import os
+import time
+from collections.abc import Mapping, Sequence
+
+from aide_compare.base.ending import Fault, Status, write_all
+from aide_compare.base.files import nameless
+from aide_compare.base.program import LINES, Answer, Drain, Tail, find_installed
+from aide_compare.base.words import SIDES, TRUSTED_SIDES, age_in_words
+from aide_compare.compare.asking import Question, ask_for_changes, defines_group, odd_answer
+from aide_compare.compare.comparison import Comparison, Lines, Refusal, Request
+from aide_compare.compare.configuration import URLS, Databases, Settings, Texts, databases_of
+from aide_compare.compare.configuration import options_in, without_includes
+from aide_compare.compare.exclusions import Exclusions, LeftOut, cut_copy
+from aide_compare.compare.hints import hints_of, notes_of, skipped_in
+from aide_compare.compare.report import write_report
+from aide_compare.compare.unpack import Copy, Opened, copy_opened, open_database
+from aide_compare.lines.change import Fields
+from aide_compare.lines.reader import ODD, Reader, Refused, end_of
+
+MAX_CLOCKS_DIFFER = 600
+HEAD_BYTES = 1 << 16
+MIN_LINES = 1 << 12
+END_BYTES = 1 << 12  # The last line has nothing but names of counts and numbers.
+
+
+# What ends a comparison.
+FAILURES = (Fault, MemoryError, OSError)
+
+
+class Work:
+    """A comparison that is at work: what is known of it so far.
+
+    First the databases are opened, then compared, which may be done with the rights of another
+    user; what ends it in between is made of an exception by `failed`.
+    """
+
+    def __init__(self, request: Request) -> None:
+        self.request = request
+        self.path = request.configuration_path
+        self.given = Texts(b"", b"", b"")  # As the caller gives them.
+        self.texts = self.given  # As the program reads them for the comparison.
+        self.asked = self.given  # As it has read them last.
+        self.answer = Answer(0, b"")
+        self.databases = Databases(request.old or "", request.new or "")
+        self.notes: list[str] = []
+        self.warnings: list[str] = []
+        self.copies: dict[str, Copy] = {}
+        self.compared: dict[str, int] = {}
+        self.left_out: dict[str, LeftOut] = {}
+
+    def open_databases(self) -> Sequence[Opened]:
+        """Both databases, opened, unless there are copies already; a Refusal or a Fault if they
+        cannot be compared."""
+        request = self.request
+        configuration = without_includes(self.path)
+        self.notes += configuration.notes
+        self.given = Texts(
+            os.fsencode(request.before), configuration.text, os.fsencode(request.after)
+        )
+        self.texts = self._with_settled_report(self.given)
+        if request.copies:
+            return ()
+        try:
+            if request.old is None:
+                self.databases = databases_of(self.texts, self.path, self._settings)
+            opened = [open_database(*names) for names in zip(SIDES, self.databases)]
+            check_age(opened[1], request.max_age)
+            opened += [open_database(*names) for names in zip(TRUSTED_SIDES, request.trusted)]
+            return opened
+        except Fault:
+            # What the program refuses in a configuration that names them is told first.
+            if request.old is None and self._settings(self.texts) is None:
+                raise self._refusal()
+            raise
+
+    def compare(self, opened: Sequence[Opened]) -> Comparison:
+        """Compares the databases. What ends it is told by the status and the fault, never by an
+        exception."""
+        try:
+            self._copy(opened)
+            if self.request.wants_lines:
+                lines = self._lines()
+                report = None
+            else:
+                lines = None
+                report = self._report()
+            return self._ended(lines, report)
+        except FAILURES as error:
+            return self.failed(error)
+
+    def failed(self, error: BaseException) -> Comparison:
+        """The comparison, which an exception has ended."""
+        return self._comparison(None, None).failed(error)
+
+    def _refusal(self) -> Refusal:
+        """The program has refused the texts or the databases."""
+        hints = hints_of(self.answer.errors, self.asked, self.path, self.copies)
+        return Refusal(self.answer, hints)
+
+    def _ended(self, lines: Lines | None, report: int | None) -> Comparison:
+        skipped = skipped_in(self.answer.errors, self.compared)
+        self.notes += self.given.misspelt(self.path, lambda name: defines_group(self.given, name))
+        self.notes += notes_of(skipped)
+        return self._comparison(lines, report)._replace(skipped=skipped)
+
+    def _comparison(self, lines: Lines | None, report: int | None) -> Comparison:
+        return Comparison(
+            request=self.request,
+            texts=self.texts,
+            old=self.databases.old,
+            new=self.databases.new,
+            time=int(time.time()),
+            status=self.answer.status,
+            fault=None,
+            errors=self.answer.errors,
+            hints=(),
+            notes=self.notes,
+            doubts=(),
+            warnings=self.warnings,
+            copies=self.copies,
+            compared=self.compared,
+            left_out=self.left_out,
+            skipped={},
+            lines=lines,
+            report=report,
+        )
+
+    def _with_settled_report(self, texts: Texts) -> Texts:
+        """The texts that the program reads; a Refusal if the configuration is not right. If -A
+        gives options, a line for a report to standard output settles those of the report: it is
+        taken out of the file, and what it has settled is said before -A."""
+        if not texts.after or not URLS.search(texts.config):
+            return texts
+        if self._settings(texts) is None:
+            raise self._refusal()
+        settings = self._settings(texts._replace(after=b""))
+        if settings is None:
+            return texts
+        return texts.replaced(URLS, b"")._replace(after=options_in(settings) + texts.after)
+
+    def _settings(self, texts: Texts) -> Settings | None:
+        """What the program says of texts, None if it refuses them."""
+        question = Question(texts)
+        self._note_answer(question.answer, texts)
+        return question.settings
+
+    def _note_answer(self, answer: Answer, texts: Texts) -> None:
+        self.answer = answer
+        self.asked = texts
+
+    def _copy(self, opened: Sequence[Opened]) -> None:
+        """Makes private copies, without the entries that are left out."""
+        for database in opened:
+            self.copies[database.side] = copy_opened(database, self.request.max_size)
+        self.copies.update(self.request.copies)
+        for side, copy in self.copies.items():
+            self.compared[side] = copy.fd
+            # What is left out is no change, whatever the trusted pair has.
+            if self.request.exclusions and side in SIDES:
+                self._leave_out(side, self.request.exclusions)
+
+    def _leave_out(self, side: str, exclusions: Exclusions) -> None:
+        """What is compared is a copy without some entries. Digests are of the whole database, so
+        that it can be accepted."""
+        cut = cut_copy(self.compared[side], exclusions)
+        self.compared[side] = cut.fd
+        self.left_out[side] = cut.left_out
+        if side == "old":
+            self.warnings += cut.left_out.warnings()
+
+    def _lines(self) -> Lines:
+        """The lines of aide_lines, of which those beyond a limit are only counted."""
+        target = nameless() if self.request.target is None else self.request.target
+        program = find_installed(LINES)
+        limit = max(self.request.max_report, MIN_LINES)
+        drain = Drain(limit, lambda data: write_all(target, data))
+        tail = Tail(END_BYTES)
+
+        def take(block: bytes) -> None:
+            drain.take(block)
+            tail.take(block)
+
+        answer = ask_for_changes(program, self.texts, self.compared, take)
+        self._note_answer(answer, self.texts)
+        if answer.status > 7:
+            raise self._refusal()
+        try:
+            summary = Reader(io.BytesIO(os.pread(target, HEAD_BYTES, 0))).summary
+            end = end_of(json.loads(tail.last_line()))
+        except (Refused, *ODD):
+            raise odd_answer(program, answer) from None
+        if end.status != answer.status:
+            raise odd_answer(program, answer)
+        self._keep_digests(summary)
+        return Lines(target, drain.size, drain.is_cut, summary, end)
+
+    def _keep_digests(self, summary: Fields) -> None:
+        """The program has read what it has compared, so it knows the digests of whole databases."""
+        for side, copy in self.copies.items():
+            if side not in self.left_out:
+                self.copies[side] = copy.with_digest(summary[side]["sha256"])
+
+    def _report(self) -> int:
+        report = write_report(self.texts, _pair(self.compared), self.request.max_report)
+        self._note_answer(report.answer, self.texts)
+        if report.answer.status > 7:
+            raise self._refusal()
+        return report.known_descriptor()
+
+
+def _pair(compared: Mapping[str, int]) -> dict[str, int]:
+    """What the report is of: it knows nothing of a trusted pair."""
+    return {side: compared[side] for side in SIDES}
+
+
+def compare(request: Request) -> Comparison:
+    """Compares two databases. What ends it is told by the status and the fault, never by an
+    exception."""
+    work = Work(request)
+    try:
+        opened = work.open_databases()
+    except FAILURES as error:
+        return work.failed(error)
+    return work.compare(opened)
+
+
+def failed_comparison(error: BaseException) -> Comparison:
+    """The comparison of a run that an exception has ended before it could begin."""
+    return Work(Request(old="", new="")).failed(error)
+
+
+def report_of(comparison: Comparison) -> int:
+    """The descriptor of the program's own report, which is written now if it was not yet. A Fault
+    if it does not say what the lines have said."""
+    if comparison.report is not None:
+        return comparison.report
+    limit = comparison.request.max_report
+    report = write_report(comparison.texts, _pair(comparison.compared), limit)
+    if report.answer.status > 7:
+        path = comparison.request.configuration_path
+        hints = hints_of(report.answer.errors, comparison.texts, path, comparison.copies)
+        raise Refusal(report.answer, hints)
+    if report.answer != Answer(comparison.status, comparison.errors):
+        raise report.odd_answer()
+    return report.known_descriptor()
+
+
+def named_databases(request: Request) -> Databases:
+    """The databases that the configuration of a request names."""
+    path = request.configuration_path
+    texts = Texts(b"", without_includes(path).text, b"")
+    return databases_of(texts, path, lambda each: Question(each).settings)
+
+
+def check_age(opened: Opened, limit: int) -> None:
+    """Refuses a new database that is older than a limit in seconds or newer than now: AIDE may no
+    longer write one."""
+    if not limit:
+        return
+    if opened.written is None:
+        why = "is not a regular file, so --max-age does not know its age"
+        raise Fault(Status.DEVICE, f"{opened.words} {why}")
+    age = int(time.time() - opened.written)
+    words = age_in_words(abs(age))
+    if age < -MAX_CLOCKS_DIFFER:
+        why = f"was written {words} in the future: is a clock wrong?"
+        raise Fault(Status.DEVICE, f"{opened.words} {why}")
+    if age > limit:
+        why = f"is {words} old, more than --max-age allows: does AIDE still run?"
+        raise Fault(Status.DEVICE, f"{opened.words} {why}")

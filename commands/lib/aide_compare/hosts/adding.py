@@ -1,0 +1,201 @@
+"""A host that is added: its key, its first database, and what is kept of both after a question."""
+from __future__ import annotations
+
+import base64
+import os
+import re
+import shlex
+from contextlib import suppress
+from hashlib import sha256
+from typing import NamedTuple
+
+from aide_compare.base.ending import Fault, Status, failing, write_all
+from aide_compare.base.escapes import shown
+from aide_compare.base.files import read_file, refuse_other_kinds, reopened
+from aide_compare.base.replacement import NewFile
+from aide_compare.base.directories import closed_after, open_directory
+from aide_compare.base.processes import run
+from aide_compare.compare.soundness import refuse_unsound
+from aide_compare.compare.unpack import Opened, copy_opened
+from aide_compare.hosts.fetching import COMMAND, DATABASE, MAX_SENT, NOT_ALLOWED, transfer
+from aide_compare.hosts.store import BASELINE, CAUSE, NEW, HostDirectory, write_cause
+
+# Where ssh writes the key of a host that it did not know, in the directory of the host.
+NEW_KEY = "known_hosts.new"
+MAX_ANSWER = 1 << 16
+MAX_KEY = 1 << 16
+MAX_HOSTS_FILE = 16 << 20
+# A line of known_hosts as ssh writes it: whose key it is, its kind, and the key.
+KEY_LINE = re.compile(r"([!-~]+) ([a-z0-9@.-]+) ([A-Za-z0-9+/]+=*)")
+APPEND = os.O_RDWR | os.O_CREAT | os.O_APPEND | os.O_NOFOLLOW | os.O_NONBLOCK | os.O_CLOEXEC
+HOST_KEYS = {"ssh-ed25519": "ed25519", "ssh-rsa": "rsa"}
+LEFT = "fetch its database first, and see aide-compare hosts accept --help"
+
+
+class SshSettings(NamedTuple):
+    """What ssh does for a host by its configuration."""
+
+    known_hosts: list[str]
+    identities: list[str]
+
+
+class Offer(NamedTuple):
+    """What a new host answers with. `key` is a line of known_hosts; "" if the key is known
+    already."""
+
+    key: str
+    sha256: str
+    part: NewFile
+
+
+def ssh_settings(host: str) -> SshSettings:
+    """Asks ssh which files it takes for a host."""
+    answer = bytearray()
+
+    def take(block: bytes) -> None:
+        answer.extend(block)
+        if len(answer) > MAX_ANSWER:
+            raise Fault(Status.DEVICE, f"the settings of ssh have more than {MAX_ANSWER} bytes")
+
+    if run(["ssh", "-G", host], {1: take}) != 0:
+        raise Fault(
+            Status.DEVICE, f"ssh -G {host} has failed; is ssh there, and its configuration?"
+        )
+    known_hosts: list[str] = []
+    identities: list[str] = []
+    for line in answer.decode("utf-8", "surrogateescape").split("\n"):
+        name, _, value = line.partition(" ")
+        if name == "userknownhostsfile":
+            known_hosts += value.split(" ")
+        elif name == "identityfile":
+            identities.append(os.path.expanduser(value))
+    return SshSettings(known_hosts, identities)
+
+
+def quoted(path: str) -> str:
+    """A path as a value of an option of ssh, which knows blanks, quotes and percent signs."""
+    if '"' in path or "\\" in path:
+        raise Fault(Status.USAGE, f"ssh cannot take a path with a quote: {shown(path)}")
+    escaped = path.replace("%", "%%")
+    return f'"{escaped}"'
+
+
+def offered(directory: HostDirectory, settings: SshSettings, part: NewFile) -> Offer:
+    """Fetches a database into a part. A key that ssh did not know is kept aside; another one than
+    it knows is a Fault."""
+    directory.remove(NEW_KEY)
+    files = " ".join(map(quoted, [directory.file(NEW_KEY), *settings.known_hosts]))
+    options = ["-o", "StrictHostKeyChecking=accept-new", "-o", f"UserKnownHostsFile={files}"]
+    options += ["-o", "HashKnownHosts=no", "-o", "CheckHostIP=no", "-o", "UpdateHostKeys=no"]
+    try:
+        transfer(directory, part, min(MAX_SENT, directory.room(1)), options)
+        copy = copy_opened(Opened("new", DATABASE, reopened(part.fd, os.O_RDONLY)), 4 << 30)
+        refuse_unsound(copy)
+        return Offer(new_key(directory), copy.sha256, part)
+    finally:
+        directory.remove(NEW_KEY)
+
+
+def new_key(directory: HostDirectory) -> str:
+    """The key that ssh has kept aside; "" if it knew the key of the host."""
+    if not directory.has(NEW_KEY):
+        return ""
+    text = read_file(directory.file(NEW_KEY), MAX_KEY).decode("ascii", "replace")
+    lines = text.split("\n")
+    if len(lines) != 2 or not KEY_LINE.fullmatch(lines[0]):
+        raise directory.fault("ssh has written no key of it that is understood")
+    return lines[0]
+
+
+def key_words(key: str) -> str:
+    """A key as ssh-keygen(1) prints it, without its number of bits: "SHA256:47DEQpj8HBSa
+    (ssh-ed25519)"."""
+    match = KEY_LINE.fullmatch(key)
+    assert match is not None
+    digest = sha256(base64.b64decode(match.group(3) + "==")).digest()
+    return f"SHA256:{base64.b64encode(digest).decode().rstrip('=')} ({match.group(2)})"
+
+
+def key_file(key: str) -> str:
+    """The file that has this key on the host."""
+    kind = key.split(" ")[1]
+    return f"/etc/ssh/ssh_host_{HOST_KEYS.get(kind, 'ecdsa')}_key.pub"
+
+
+def hint_for_key(settings: SshSettings) -> str:
+    """What lets the caller in: the line for authorized_keys of the host, or how to make a key."""
+    for path in settings.identities:
+        with suppress(Fault):
+            public = read_file(path + ".pub", MAX_KEY).decode("utf-8", "replace").strip()
+            line = f'restrict,command="{COMMAND}" {shown(public)}'
+            return f"put this line into /root/.ssh/authorized_keys there:\n{line}"
+    return "this user has no key yet: ssh-keygen -t ed25519"
+
+
+def ends_with_newline(descriptor: int) -> bool:
+    """Whether a new line can follow the last one of a file; also if there is none."""
+    size = os.fstat(descriptor).st_size
+    return size == 0 or os.pread(descriptor, 1, size - 1) == b"\n"
+
+
+def append_line(path: str, line: str, mode: int) -> None:
+    """Adds a line at the end of a file, which is made if it is missing. No link is followed."""
+    with failing(f"cannot write {shown(path)}"):
+        with open_directory(os.path.dirname(path) or ".", make=True) as directory:
+            if not directory.is_safe():
+                raise OSError(0, "another user can write in its directory or above it")
+            name = os.path.basename(path)
+            with closed_after(os.open(name, APPEND, mode, dir_fd=directory.fd)) as descriptor:
+                refuse_other_kinds(os.fstat(descriptor).st_mode)
+                if not ends_with_newline(descriptor):
+                    write_all(descriptor, b"\n")
+                write_all(descriptor, os.fsencode(f"{line}\n"))
+                os.fsync(descriptor)
+
+
+def is_listed(host: str, path: str) -> bool:
+    """Whether a file of hosts has a name already."""
+    if not os.path.lexists(path):
+        return False
+    lines = read_file(path, MAX_HOSTS_FILE, "the file of hosts ").split(b"\n")
+    return host.encode() in [line.strip() for line in lines]
+
+
+def keep(directory: HostDirectory, offer: Offer, settings: SshSettings, hosts_file: str) -> None:
+    """Does what the answer allows. The baseline comes last, so that all can be done once more if
+    something fails."""
+    if offer.key:
+        if not settings.known_hosts:
+            raise Fault(Status.DEVICE, "ssh keeps no keys of hosts (UserKnownHostsFile)")
+        append_line(settings.known_hosts[0], offer.key, 0o600)
+    if not is_listed(directory.host, hosts_file):
+        append_line(hosts_file, directory.host, 0o644)
+    keep_first(directory, offer.part)
+
+
+def keep_first(directory: HostDirectory, part: NewFile | None = None) -> None:
+    """Makes what was fetched, or what a part has, the first baseline."""
+    if part is not None:
+        part.put(NEW)
+        directory.remove(CAUSE)
+    try:
+        directory.copy(NEW, BASELINE, over=False)
+    except FileExistsError:
+        raise directory.fault("has a baseline already; nothing was accepted", Status.DATABASE)
+    except OSError as error:
+        raise directory.fault(f"cannot keep its baseline: {write_cause(error)}")
+
+
+def refused_words(fault: Fault, settings: SshSettings) -> tuple[str, ...]:
+    """What helps if a host lets nobody in."""
+    if NOT_ALLOWED not in fault.text:
+        return ()
+    return tuple(hint_for_key(settings).split("\n"))
+
+
+def commands_on_host(key: str) -> list[str]:
+    """The commands that print on the host what it should have answered with."""
+    commands = [f"zcat -f {DATABASE} | sha256sum"]
+    if key:
+        commands.insert(0, f"ssh-keygen -lf {shlex.quote(key_file(key))}")
+    return commands

@@ -1,0 +1,172 @@
+"""The changes of a host that are not silent: judged one after the other, kept within a limit, and
+read again.
+
+The file has an object in each line: what was compared; each change that is kept, as aide_lines
+writes it, with its severity; and at the end how many there were. Of changes that do not fit the
+limit the most severe ones are kept, so that nobody hides a change behind a million others.
+"""
+from __future__ import annotations
+
+import json
+import os
+from array import array
+from typing import BinaryIO, Iterator, NamedTuple
+
+from aide_compare.base.ending import Fault, Status, write_blocks
+from aide_compare.base.escapes import shown
+from aide_compare.base.paths import key_of_path
+from aide_compare.base.words import SEVERITIES
+from aide_compare.changes.entries import OrderedDatabase
+from aide_compare.changes.severity import Severity
+from aide_compare.compare.comparison import Comparison
+from aide_compare.lines.change import Change, Counts, Fields, Standing, change_of
+from aide_compare.lines.reader import BLOCK, ENCODE, LINE_LIMIT, ODD, with_members
+from aide_compare.lines.reader import Reader, Refused, reader_over
+
+FORMAT = 1
+# What a line gets beside what aide_lines has written: its severity.
+BESIDE = 24
+SILENT = len(SEVERITIES)
+LEVELS = {severity: level for level, severity in enumerate(SEVERITIES)}
+
+
+class Judgement(NamedTuple):
+    """The standings of the changes of a host: their counts, and the level of each change in the
+    order of the lines, a place in SEVERITIES or SILENT. By level: how many bytes their lines
+    have."""
+
+    counts: Counts
+    levels: array[int]
+    sizes: list[int]
+
+
+class Databases:
+    """The entries of both databases, which are asked for in the order of paths."""
+
+    def __init__(self, old: int, new: int) -> None:
+        self.old = OrderedDatabase(old, "old")
+        self.new = OrderedDatabase(new, "new")
+        self.severity = Severity()
+
+    def level(self, change: Change) -> int:
+        """The severity of a change, as its place in SEVERITIES."""
+        key = key_of_path(change.path)
+        old = self.old.entry_at(self.old.find(key))
+        new = self.new.entry_at(self.new.find(key))
+        if (old is not None, new is not None) != (change.kind != "added", change.kind != "removed"):
+            text = f"the lines are not of these databases: {shown(change.path, 300)}"
+            raise Fault(Status.DATABASE, text)
+        return LEVELS[self.severity.of(change.path, old, new).level]
+
+
+def judge(comparison: Comparison) -> Judgement:
+    """Judges the changes of a comparison, in little memory however many there are."""
+    databases = Databases(comparison.compared["old"], comparison.compared["new"])
+    numbers = dict.fromkeys(Counts._fields, 0)
+    levels = array("B")
+    sizes = [0] * len(SEVERITIES)
+    try:
+        for line, change in reader_over(comparison.known_lines().fd):
+            numbers[change.standing.value] += 1
+            if change.standing.is_silent:
+                levels.append(SILENT)
+                continue
+            level = databases.level(change)
+            numbers[f"{Standing.OPEN.value}_{SEVERITIES[level]}"] += 1
+            levels.append(level)
+            sizes[level] += len(line) + BESIDE
+    except Refused as refused:
+        raise Fault(Status.DEVICE, f"the lines of aide_lines are not understood: {refused}")
+    return Judgement(Counts(**numbers), levels, sizes)
+
+
+def kept_lines(comparison: Comparison, judgement: Judgement, limit: int) -> Iterator[bytes]:
+    """Yields the lines that are kept, which have at most about `limit` bytes."""
+    reader = reader_over(comparison.known_lines().fd)
+    yield ENCODE({"format": FORMAT, **databases_of(reader)}).encode() + b"\n"
+    rooms = rooms_of(judgement.sizes, limit)
+    listed = 0
+    for level, (line, _) in zip(judgement.levels, reader):
+        if level == SILENT:
+            continue
+        size = len(line) + BESIDE
+        if size <= rooms[level]:
+            rooms[level] -= size
+            listed += 1
+            yield with_members(line, {"severity": SEVERITIES[level]})
+        else:
+            rooms[level] = 0
+    yield end_line(judgement.counts, listed)
+
+
+def databases_of(reader: Reader) -> Fields:
+    return {side: {"sha256": reader.summary[side]["sha256"]} for side in ("old", "new")}
+
+
+def rooms_of(sizes: list[int], limit: int) -> list[int]:
+    """How many bytes the changes of each severity may have: the most severe ones come first."""
+    rooms = []
+    for size in sizes:
+        rooms.append(min(size, limit))
+        limit -= rooms[-1]
+    return rooms
+
+
+def end_line(counts: Counts, listed: int) -> bytes:
+    return ENCODE({"end": True, "listed": listed, **counts._asdict()}).encode() + b"\n"
+
+
+def write_findings(target: int, comparison: Comparison, limit: int) -> Counts | None:
+    """Writes the lines of a comparison to a file. None, and then no line, if they were cut
+    before."""
+    if comparison.known_lines().is_cut:
+        return None
+    judgement = judge(comparison)
+    write_blocks(target, kept_lines(comparison, judgement, limit))
+    return judgement.counts
+
+
+class Findings:
+    """The changes that were kept of a host. Each is the object of its line; after the last one
+    `told` says how many there were that are not silent. What cannot be read is a Refused."""
+
+    def __init__(self, descriptor: int) -> None:
+        self.file: BinaryIO = open(os.dup(descriptor), "rb", BLOCK)
+        self.file.seek(0)
+        self.listed = 0
+        self.told = 0
+        if self._next().get("format") != FORMAT:
+            raise Refused(1, "another format")
+
+    def __iter__(self) -> Iterator[Fields]:
+        while "end" not in (fields := self._next()):
+            try:
+                change = change_of(fields)
+            except ODD:
+                raise Refused(0, "this is no change") from None
+            if change.standing is not Standing.OPEN or change.severity not in SEVERITIES:
+                raise Refused(0, "a change of another standing or severity")
+            self.listed += 1
+            yield fields
+        self._take_end(fields)
+
+    def _take_end(self, fields: Fields) -> None:
+        try:
+            counts = Counts(**{name: fields[name] for name in Counts._fields})
+            is_sound = counts.fits(counts.total) and fields["listed"] == self.listed <= counts.told
+        except ODD:
+            is_sound = False
+        if not is_sound or self.file.read(1):
+            raise Refused(0, "the end does not fit the lines before it")
+        self.told = counts.told
+
+    def _next(self) -> Fields:
+        """The object of the next line."""
+        line = self.file.readline(LINE_LIMIT)
+        try:
+            fields = json.loads(line)
+        except (ValueError, RecursionError):
+            fields = None
+        if not line.endswith(b"\n") or not isinstance(fields, dict):
+            raise Refused(0, "a line is cut or damaged")
+        return fields

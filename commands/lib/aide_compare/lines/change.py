@@ -1,0 +1,221 @@
+"""A change that a line says, as a value, with its standing, and the counts of all standings.
+
+Only a proved line makes a change silent, by its member `same_as`. What a package's records on the
+host say makes it `recorded`, which shortens what people read and silences nothing.
+"""
+from __future__ import annotations
+
+from enum import Enum
+from typing import Any, Dict, Iterable, NamedTuple, Tuple, Union
+
+from aide_compare.base.words import KINDS, SEVERITIES, counted
+from aide_compare.lines.attributes import NUMBERS
+
+Value = Union[int, str, bytes, None]
+VALUE_TYPES = frozenset((int, str, type(None)))  # As a line has them.
+# The exact values of one side by the labels of attributes.
+Values = Dict[str, Value]
+# What people read in place of the values of one side, by the same labels.
+Texts = Dict[str, str]
+# The object of a line.
+Fields = Dict[str, Any]
+
+
+class Standing(Enum):
+    """How a change stands. The words are those of every text, page, line and state file."""
+
+    SAME = "same"  # The entry is as it was, but for times and what the file system makes of it.
+    TRUSTED = "trusted"  # The entry is as on a machine, or in a signed archive, that is trusted.
+    RECORDED = "recorded"  # A package's records on the host have this content, unsigned.
+    OPEN = "open"  # All else.
+
+    @property
+    def is_silent(self) -> bool:
+        return self in (Standing.SAME, Standing.TRUSTED)
+
+
+# What the member `same_as` of a proved line means.
+BY_PROOF = {"old": Standing.SAME, "trusted": Standing.TRUSTED}
+
+
+def bytes_of(fields: Fields, key: str) -> bytes:
+    """The bytes that an object has as text, or in base 16 where they are not UTF-8."""
+    if key + "_hex" in fields:
+        return bytes.fromhex(fields[key + "_hex"])
+    text: str = fields[key]
+    return text.encode("utf-8")
+
+
+def values_of(fields: Fields, side: str) -> Values:
+    """The exact values of a side: numbers, texts, and bytes where these are not UTF-8; a ValueError
+    or AttributeError if there is any other."""
+    values: Values = {}
+    for name, value in fields.get(side, {}).items():
+        if type(value) not in VALUE_TYPES:
+            raise ValueError("a value is a number or a text")
+        if name.endswith("_hex"):
+            values[name[: -len("_hex")]] = bytes.fromhex(value)
+        elif isinstance(value, str) and name in NUMBERS:  # A number of more than 53 bits.
+            values[name] = int(value)
+        else:
+            values[name] = value
+    return values
+
+
+def texts_in(fields: Fields, key: str) -> Texts:
+    """The texts for people that a line has for a side; a ValueError if they are none."""
+    texts: Texts = fields.get(key, {})
+    if not isinstance(texts, dict) or not all(isinstance(text, str) for text in texts.values()):
+        raise ValueError("texts of another form")
+    return texts
+
+
+class Change(NamedTuple):
+    """An entry that came, went or changed."""
+
+    path: bytes
+    kind: str  # One of KINDS.
+    type: str  # In words, such as "File"; "Entry" if it is not known.
+    letters: str  # The summary string of a report.
+    old: Values
+    new: Values
+    standing: Standing
+    severity: str  # One of SEVERITIES; "" if it is silent, or if nobody has judged it.
+    package: str  # The name and the version of a recorded one's package.
+    # The texts for people that its line has already, and whether it says the standing in a word.
+    old_texts: Texts
+    new_texts: Texts
+    says_standing: bool
+
+    @property
+    def sides(self) -> Tuple[Values, Values]:
+        return self.old, self.new
+
+
+def standing_of(fields: Fields) -> Standing:
+    """The standing that a line says; a ValueError if it says one that no proof has given."""
+    proof = fields.get("same_as")
+    if proof is not None:
+        standing = BY_PROOF[proof]
+    elif fields.get("standing") == Standing.RECORDED.value:
+        standing = Standing.RECORDED
+    else:
+        standing = Standing.OPEN
+    if fields.get("standing", standing.value) != standing.value:
+        raise ValueError("a standing that no proof has given")
+    return standing
+
+
+def _text_of(fields: Fields, key: str, default: str) -> str:
+    """A member that is a text; a ValueError if it is none."""
+    text = fields.get(key, default)
+    if not isinstance(text, str):
+        raise ValueError(f"{key} is no text")
+    return text
+
+
+def change_of(fields: Fields) -> Change:
+    """The change that the object of a line says; a ValueError, KeyError, TypeError or
+    AttributeError if it says none."""
+    path = bytes_of(fields, "path")
+    severity = _text_of(fields, "severity", "")
+    if fields["kind"] not in KINDS or not path.startswith(b"/"):
+        raise ValueError("no change")
+    if severity not in ("", *SEVERITIES):
+        raise ValueError("a severity of another form")
+    return Change(
+        path=path,
+        kind=fields["kind"],
+        type=_text_of(fields, "type", "Entry"),
+        letters=_text_of(fields, "summary", ""),
+        old=values_of(fields, "old"),
+        new=values_of(fields, "new"),
+        standing=standing_of(fields),
+        severity=severity,
+        package=_text_of(fields, "package", ""),
+        old_texts=texts_in(fields, "old_text"),
+        new_texts=texts_in(fields, "new_text"),
+        says_standing="standing" in fields,
+    )
+
+
+class Counts(NamedTuple):
+    """How many changes have which standing, and of those that are not silent, which severity."""
+
+    same: int = 0
+    trusted: int = 0
+    recorded: int = 0
+    open: int = 0
+    open_high: int = 0
+    open_medium: int = 0
+    open_low: int = 0
+    recorded_high: int = 0
+    recorded_medium: int = 0
+    recorded_low: int = 0
+
+    @property
+    def silent(self) -> int:
+        return self.same + self.trusted
+
+    @property
+    def told(self) -> int:
+        """How many changes somebody has to read."""
+        return self.recorded + self.open
+
+    @property
+    def total(self) -> int:
+        return self.silent + self.told
+
+    def of_severity(self, severity: str) -> int:
+        """How many changes that are not silent have this severity."""
+        return self.of(Standing.OPEN, severity) + self.of(Standing.RECORDED, severity)
+
+    def of(self, standing: Standing, severity: str = "") -> int:
+        """How many changes have this standing, and this severity if one is given."""
+        name = standing.value
+        if severity:
+            name += f"_{severity}"
+        return int(getattr(self, name))
+
+    def fits(self, changes: int) -> bool:
+        """Whether these can be the counts of so many changes."""
+        for standing in (Standing.OPEN, Standing.RECORDED):
+            by_severity = sum(self.of(standing, severity) for severity in SEVERITIES)
+            if by_severity != self.of(standing):
+                return False
+        return min(self) >= 0 and self.total == changes
+
+    def words(self) -> str:
+        """As in "3 open (1 high), 41 recorded of 512 changes"."""
+        changes = counted(self.total, "change")
+        parts = [self._part(standing) for standing in (Standing.OPEN, Standing.RECORDED)]
+        text = ", ".join(part for part in parts if part)
+        if text:
+            return f"{text} of {changes}"
+        return f"{changes}, all silent"
+
+    def _part(self, standing: Standing) -> str:
+        """As in "3 open (1 high)"; "" if no change has this standing."""
+        count = self.of(standing)
+        if not count:
+            return ""
+        high = self.of(standing, SEVERITIES[0])
+        if high:
+            return f"{count} {standing.value} ({high} high)"
+        return f"{count} {standing.value}"
+
+    def line(self) -> str:
+        """As in "open=3 recorded=41 trusted=0 same=468 high=1 medium=40 low=3"."""
+        standings = [f"{each.value}={self.of(each)}" for each in reversed(Standing)]
+        severities = [f"{each}={self.of_severity(each)}" for each in SEVERITIES]
+        return " ".join(standings + severities)
+
+
+def counts_of(standings: Iterable[Tuple[Standing, str]]) -> Counts:
+    """The Counts of changes, each given by its standing and its severity."""
+    numbers = dict.fromkeys(Counts._fields, 0)
+    for standing, severity in standings:
+        numbers[standing.value] += 1
+        if not standing.is_silent:
+            numbers[f"{standing.value}_{severity}"] += 1
+    return Counts(**numbers)

@@ -1,0 +1,71 @@
+"""The changes of a comparison, judged and written for people and for programs."""
+from __future__ import annotations
+
+from typing import Iterator, NamedTuple, Optional
+
+from aide_compare.base import progress
+from aide_compare.base.ending import why_of
+from aide_compare.changes.judged import Judged
+from aide_compare.changes.packages import records_of_host
+from aide_compare.compare.comparison import Comparison
+from aide_compare.lines.reader import Refused, reader_over
+from aide_compare.show.added import added_lines, full_members
+from aide_compare.show.brief import brief
+
+
+class Reviewed(NamedTuple):
+    """A comparison with the standings of its changes, and these; None if they are not known."""
+
+    comparison: Comparison
+    judged: Optional[Judged]
+
+
+def judge(comparison: Comparison, is_of_host: bool = True) -> Reviewed:
+    """Judges the changes of a comparison. If they cannot be judged, a doubt says why: the
+    comparison stands as it is, and without standings every change is an alarm. `is_of_host`:
+    packages' records of this machine group its changes."""
+    try:
+        judged = _judged(comparison)
+    except Refused as refused:
+        why = str(refused)
+    except Exception as error:  # A fault here must not cost the alarm.
+        why = why_of(error)
+    else:
+        if is_of_host and judged.findings:
+            comparison = _grouped(judged, comparison)
+        progress.note_step("the changes are judged")
+        return Reviewed(comparison._replace(standings=judged.counts), judged)
+    return Reviewed(comparison.doubtful(f"the changes are not judged: {why}"), None)
+
+
+def _judged(comparison: Comparison) -> Judged:
+    lines = comparison.known_lines()
+    if lines.is_cut:
+        limit = comparison.request.max_report
+        raise Refused(0, f"its lines have more than {limit} bytes; --max-report allows more")
+    compared = comparison.compared
+    return Judged(reader_over(lines.fd), compared["old"], compared["new"])
+
+
+def _grouped(judged: Judged, comparison: Comparison) -> Comparison:
+    """Groups the changes by the packages' records of this machine. If these cannot be read, a doubt
+    says why, and each change stays open."""
+    try:
+        records = records_of_host()
+        if records:
+            judged.group_by(records)
+    except Exception as error:
+        return comparison.doubtful(f"no package groups the changes: {why_of(error)}")
+    return comparison
+
+
+def judged_lines(judged: Judged, comparison: Comparison) -> Iterator[bytes]:
+    """All lines, as aide-compare json --full writes them, with the standings."""
+    reader = reader_over(comparison.known_lines().fd)
+    members = full_members(reader.summary, comparison)
+    return added_lines(reader, comparison, members, judged=judged)
+
+
+def brief_of(judged: Optional[Judged]) -> bytes:
+    """The bytes of what people read first; nothing if the changes were not judged."""
+    return brief(judged).encode("utf-8", "backslashreplace") if judged else b""

@@ -1,0 +1,74 @@
+"""The result of a comparison in words, as its state file has it."""
+from __future__ import annotations
+
+from typing import NamedTuple, Optional
+
+from aide_compare.base.words import SEVERITIES, age_in_words, minute_of
+from aide_compare.compare.state import State, not_compared
+from aide_compare.lines.change import Counts, Standing
+
+
+class KindCounts(NamedTuple):
+    """How many entries were added, removed and changed, as a text each."""
+
+    added: str
+    removed: str
+    changed: str
+
+
+def kind_counts(state: State, unknown: str) -> KindCounts:
+    """The counts of the kinds, each as the text `unknown` if there are none."""
+    if state.counts is None:
+        return KindCounts(unknown, unknown, unknown)
+    added, removed, changed = state.counts
+    return KindCounts(str(added), str(removed), str(changed))
+
+
+def result_text(state: State) -> str:
+    """What a comparison found, in words."""
+    if state.status > 7:
+        return f"no comparison, status {state.status}: {state.error}"
+    text = "no difference"
+    if state.status:
+        counts = kind_counts(state, "?")
+        text = f"{counts.added} added, {counts.removed} removed, {counts.changed} changed"
+        if state.standings:
+            text = f"{state.standings.words()}: {text}"
+    if state.skipped:
+        text += f"; {not_compared(state.skipped_names)}"
+    return text
+
+
+def result_numbers(state: State) -> str:
+    """What a comparison found, as numbers for graphs, each with a blank behind it; "" if nothing
+    was compared."""
+    if state.status > 7:
+        return ""
+    counts = kind_counts(state, "U")
+    numbers = f"added={counts.added} removed={counts.removed} changed={counts.changed} "
+    if state.standings:
+        numbers += f"{state.standings.line()} "
+    return numbers
+
+
+def time_text(state: State, max_age: int) -> str:
+    """When the last comparison was, as in "2026-11-25 06:25 UTC, 3 hours ago", and whether that is
+    too long."""
+    minute = minute_of(state.time)
+    if state.age is None:
+        return f"{minute}, which is in the future: is a clock wrong?"
+    text = f"{minute}, {age_in_words(state.age)} ago"
+    if state.age > max_age:
+        text += f": there should have been one in the last {age_in_words(max_age)}"
+    return text
+
+
+def known_counts(counts: Optional[Counts]) -> dict[str, int]:
+    """The numbers of all standings and severities by their words; none if nobody has judged the
+    changes."""
+    if counts is None:
+        return {}
+    numbers = {standing.value: counts.of(standing) for standing in Standing}
+    for severity in SEVERITIES:
+        numbers[severity] = counts.of_severity(severity)
+    return numbers
