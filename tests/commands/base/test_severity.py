@@ -1,0 +1,234 @@
+"""Severities: what each test of a line fits, the shipped table, and tables that are refused."""
+from __future__ import annotations
+
+import base64
+import os
+
+from tests.commands.base.calls import ModuleTest, outcome
+
+from aide_compare.changes import severity
+from aide_compare.changes.severity import Severity
+from aide_compare.changes.entries import Entry
+
+COLUMNS = ("attr", "perm", "uid", "gid", "acl", "capabilities", "e2fsattrs")
+PLACES = {column: place for place, column in enumerate(COLUMNS)}
+HAS_OWNERS = 1 << 3 | 1 << 4
+ANNA = 1000
+SETUID = b"cap_setuid=ep"
+# What AIDE writes of an entry without a list: the mode again, and nothing for new files.
+OF_MODE = b"user::rw-\ngroup::r--\nother::r--\n"
+TO_ANNA = b"user::rwx\nuser:anna:rwx\ngroup::r-x\nmask::rwx\nother::r-x\n"
+ANNA_READS = b"user::rwx\nuser:anna:r-x\ngroup::r-x\nmask::r-x\nother::r-x\n"
+MASKED = b"user::rwx\nuser:anna:rwx\ngroup::r-x\nmask::r-x\nother::r-x\n"
+FILE, PROGRAM, DIRECTORY = 0o100644, 0o100755, 0o40755
+
+
+def acl_field(access: bytes, default: bytes = b"") -> bytes:
+    parts = (base64.b64encode(text) if text else b"0" for text in (access, default))
+    return b"POSIX," + b",".join(parts)
+
+
+def entry(
+    mode: int,
+    uid: int | None = 0,
+    gid: int = 0,
+    acl: bytes = b"0",
+    capabilities: bytes = b"",
+    flags: bytes = b"524288",
+) -> Entry:
+    """An entry with these rights. Without an owner its rule did not ask for one."""
+    fields = [
+        b"%d" % (HAS_OWNERS if uid is not None else 0),
+        b"%o" % mode,
+        b"%d" % (uid or 0),
+        b"%d" % gid,
+        acl,
+        base64.b64encode(capabilities) or b"0",
+        flags,
+    ]
+    return Entry(fields, PLACES)
+
+# A change of rights wherever it is: the entry before, the entry now, and the level below /srv.
+RIGHTS: list[tuple[str, Entry | None, Entry | None, str]] = [
+    ("a new file", None, entry(FILE), "medium"),
+    ("a file that went", entry(FILE), None, "medium"),
+    ("a set-user-ID file that came", None, entry(0o104755), "high"),
+    ("a set-group-ID file that came", None, entry(0o102755), "high"),
+    ("a set-user-ID bit", entry(PROGRAM), entry(0o104755), "high"),
+    ("a set-user-ID bit beside another", entry(0o102755), entry(0o106755), "high"),
+    ("a set-user-ID file with other content", entry(0o104755), entry(0o104755), "high"),
+    ("a set-user-ID file that went", entry(0o104755), None, "high"),
+    ("a directory whose group new files get", None, entry(0o42755), "medium"),
+    ("a pipe that is a set-user-ID file now", entry(0o14755), entry(0o104755), "high"),
+    ("capabilities", entry(PROGRAM), entry(PROGRAM, capabilities=SETUID), "high"),
+    ("a file that came with capabilities", None, entry(FILE, capabilities=SETUID), "high"),
+    (
+        "the same capabilities",
+        entry(PROGRAM, capabilities=SETUID),
+        entry(PROGRAM, capabilities=SETUID),
+        "high",
+    ),
+    ("a link to a file with capabilities", None, entry(0o120777, capabilities=SETUID), "medium"),
+    ("a list for anna", entry(FILE), entry(FILE, acl=acl_field(TO_ANNA)), "high"),
+    (
+        "more in a list",
+        entry(FILE, acl=acl_field(ANNA_READS)),
+        entry(FILE, acl=acl_field(TO_ANNA)),
+        "high",
+    ),
+    (
+        "less in a list",
+        entry(FILE, acl=acl_field(TO_ANNA)),
+        entry(FILE, acl=acl_field(ANNA_READS)),
+        "medium",
+    ),
+    (
+        "a wider mask",
+        entry(FILE, acl=acl_field(MASKED)),
+        entry(FILE, acl=acl_field(TO_ANNA)),
+        "high",
+    ),
+    ("a list that says the mode", entry(FILE), entry(FILE, acl=acl_field(OF_MODE)), "medium"),
+    ("a list of an unknown form", entry(FILE), entry(FILE, acl=b"odd"), "high"),
+    (
+        "a list for new files",
+        entry(DIRECTORY),
+        entry(DIRECTORY, acl=acl_field(b"", TO_ANNA)),
+        "high",
+    ),
+    ("a file that all can write", entry(FILE), entry(0o100666), "high"),
+    ("a file that came so", None, entry(0o100666), "high"),
+    ("a file that was so", entry(0o100666), entry(0o100666), "medium"),
+    ("a directory that all can write", entry(DIRECTORY), entry(0o40777), "high"),
+    ("a sticky directory now", entry(DIRECTORY), entry(0o41777), "high"),
+    ("a sticky directory that came", None, entry(0o41777), "medium"),
+    ("a link that came", None, entry(0o120777), "medium"),
+    ("root's file given away", entry(FILE), entry(FILE, uid=ANNA), "high"),
+    ("a file given to root", entry(FILE, uid=ANNA), entry(FILE), "medium"),
+    ("root's file for a group", entry(FILE), entry(0o100664, gid=ANNA), "high"),
+    ("root's file for root's group", entry(FILE), entry(0o100664), "medium"),
+    ("root's file for another group", entry(0o100664, gid=5), entry(0o100664, gid=ANNA), "high"),
+    ("root's file for the same group", entry(0o100664, gid=5), entry(0o100660, gid=5), "medium"),
+    (
+        "what anna does with her file",
+        entry(FILE, uid=ANNA),
+        entry(0o100664, uid=ANNA, gid=5),
+        "medium",
+    ),
+    ("a file whose owner is not known", entry(FILE, uid=None), entry(FILE, uid=ANNA), "medium"),
+    ("another type", entry(FILE), entry(0o120777), "high"),
+    ("names in a directory", entry(DIRECTORY), entry(DIRECTORY), "low"),
+    ("a flag of a directory that grew", entry(DIRECTORY), entry(DIRECTORY, flags=b"528384"), "low"),
+    ("the group of a directory", entry(DIRECTORY), entry(DIRECTORY, gid=ANNA), "medium"),
+    ("the mode of a directory", entry(DIRECTORY), entry(0o40700), "medium"),
+]
+# Other rights on a directory are like those of the files in it.
+DIRECTORIES = {
+    b"/etc": entry(DIRECTORY, uid=ANNA),
+    b"/usr/bin": entry(0o40775, gid=ANNA),
+    b"/var": entry(DIRECTORY, acl=acl_field(TO_ANNA)),
+    b"/usr/sbin": entry(0o41777),
+    b"/usr/local/bin": entry(0o40700),
+    b"/etc/cron.d": entry(0o40700),
+    b"/": entry(0o40777),
+}
+SHIPPED = {
+    "high": """
+        /etc/passwd /etc/passwd- /etc/shadow /etc/group /etc/sudoers.d/x /etc/ld.so.preload
+        /etc/pam.d/x /etc/ssh/sshd_config /home/a/.ssh/authorized_keys /etc/cron.d/x
+        /var/spool/cron/crontabs/root /etc/systemd/system/x.service
+        /usr/lib/systemd/system/x.service /usr/lib/modules/6/kernel/x.ko /usr/local/bin/x
+        /usr/local/lib/libm.so.6 /usr/local/lib/libm.so /etc/alternatives/editor
+        /usr/local/lib/x86_64-linux-gnu/libm.so.6 /usr/lib/aarch64-linux-gnu/libm.so
+        /usr/lib64/libm.so.6 /etc/ssl/certs/ca-certificates.crt /etc/ca-certificates.conf
+        /usr/local/share/ca-certificates/x.crt /etc/aide/aide.conf /etc/aide-compare/without
+        /etc/aide-compare /usr/lib/aide-compare/python/x.py /usr/local/libexec/aide-compare/aide
+        /usr/libexec/aide-compare/aide /run/systemd/system/x.service
+        /run/systemd/system/ssh.service.d/x.conf /run/systemd/generator/x.service
+        /run/systemd/system/multi-user.target.wants/x.service /run/udev/rules.d/0.rules
+        /run/tmpfiles.d/x.conf /run/modprobe.d/x.conf /run/polkit-1/rules.d/0.rules
+        /run/systemd/transient/x.service /run/systemd/user/x.service
+        /usr/lib/python3/dist-packages/x.pth /run/user/1000/systemd/user/x.service
+        /etc/rc2.d/S01x /var/lib/dpkg/info/x.postinst
+        """,
+    "medium": """
+        /usr/bin/x /opt/x /srv/x /usr/local/lib/libm.a /etc/ssl/openssl.cnf
+        /usr/local/lib/python3.11/libm.so /usr/lib/x86_64-linux-gnu/perl/libm.so
+        """,
+    "low": """
+        /run/user/1000/systemd/units/x /var/log/x /usr/share/doc/x /var/cache/x /run/x
+        /run/systemd/units/x /var/backups/x
+        """,
+}
+TABLE = b"low added,link /opt/*\nhigh any /opt/*\n"
+
+
+class SeverityTest(ModuleTest):
+    def test_rights(self) -> None:
+        """What is given to whom decides, wherever it is; and each line of such rights is seen by
+        itself."""
+        table = Severity()
+        for label, old, new, wanted in RIGHTS:
+            self.expect(f"severity of {label}", table.of(b"/srv/x", old, new).level, wanted)
+        for label, old, new, wanted in RIGHTS:
+            if wanted == "high":
+                found = table.of(b"/usr/share/doc/x", old, new).level
+                self.expect(f"severity of {label} among texts", found, "high")
+
+    def test_directories(self) -> None:
+        table = Severity()
+        for path, new in DIRECTORIES.items():
+            level = table.of(path, entry(DIRECTORY), new).level
+            self.expect(f"other rights on {path.decode()}", level, "high")
+        names = table.of(b"/usr/bin", entry(DIRECTORY), entry(DIRECTORY)).level
+        self.expect("names in /usr/bin", names, "low")
+
+    def test_shipped(self) -> None:
+        table = Severity()
+        for wanted, paths in SHIPPED.items():
+            for path in paths.split():
+                level = table.of(os.fsencode(path), None, entry(FILE)).level
+                self.expect(f"a file {path}", level, wanted)
+        for path in (b"/usr/bin/x", b"/var/log/x", b"/run/x", b"/var/cache/x"):
+            level = table.of(path, None, entry(PROGRAM)).level
+            self.expect(f"a program {path.decode()}", level, "high")
+
+    def test_order(self) -> None:
+        """Rights come first, then what logs in, starts or loads code, then programs, then all else."""
+        table = Severity()
+        ranks = [
+            table.of(b"/srv/x", None, entry(FILE, capabilities=SETUID)).rank,
+            table.of(b"/etc/passwd", entry(FILE), entry(FILE)).rank,
+            table.of(b"/etc/cron.d/x", None, entry(FILE)).rank,
+            table.of(b"/usr/bin/x", None, entry(PROGRAM)).rank,
+            table.of(b"/var/lib/dpkg/info/x.postinst", None, entry(PROGRAM)).rank,
+            table.of(b"/srv/x", None, entry(FILE)).rank,
+            table.of(b"/var/log/x", None, entry(FILE)).rank,
+        ]
+        self.expect("the order of severities", ranks, sorted(set(ranks)))
+
+    def test_tables(self) -> None:
+        """Another table, those that are no tables, and a shipped one that is missing."""
+        path = os.path.join(self.folder, "table")
+
+        def table_of(text: bytes) -> Severity:
+            with open(path, "wb") as file:
+                file.write(text)
+            return Severity(path)
+
+        link = entry(0o120777)
+        levels = [table_of(TABLE).of(name, None, link).level for name in (b"/opt/a", b"/srv/a")]
+        self.expect("another table", levels, ["low", "medium"])
+        self.expect("its second line", table_of(TABLE).of(b"/opt/a", None, entry(FILE)).level, "high")
+        for text in (
+            b"urgent any /opt/*\n",
+            b"low /opt/*\n",
+            b"low odd /opt/*\n",
+            b"low any opt\n",
+            b"low\n",
+        ):
+            self.expect_fault(f"the table {text!r}", outcome(table_of, text), 15, "table, line 1: ")
+        shipped = severity.SHIPPED
+        severity.SHIPPED = ("nowhere",)
+        self.expect_fault("no shipped table", outcome(Severity), 18, "severity.conf is missing")
+        severity.SHIPPED = shipped

@@ -1,0 +1,207 @@
+"""Escapes, times, the command line, the state file, statuses, and how a command ends."""
+import argparse
+import json
+import os
+import subprocess
+import sys
+
+from tests.commands.base import TOP
+from tests.commands.base.calls import ModuleTest, outcome
+from tests.oracle.configuration import BOOL_OPTIONS, SET_OPTIONS
+
+from aide_compare import VERSION
+from aide_compare.base import ending, escapes, kinds, words
+from aide_compare.base.parser import Parser
+from aide_compare.compare import configuration, state
+from aide_compare.lines import attributes, reader
+from aide_compare.changes import entries
+from aide_compare.show import brief
+
+ESCAPED = (
+    (b"a b", "a b"),
+    (b"\n\x1b\x7f\\", r"\012\033\177\134"),
+    (b"\x80\xff\xc3", r"\200\377\303"),
+    ("é\U0001f600", "é\U0001f600"),
+    ("\x9b", r"\302\233"),
+    ("\u202e\u2066\u200f\u061c", r"\342\200\256\342\201\246\342\200\217\330\234"),
+    ("\u2028\u2029", r"\342\200\250\342\200\251"),
+    ("\udcff", r"\377"),
+    ("\ud800\udcff", r"\355\240\200\377"),
+    ("\u200b\u00ad\ufeff\U000e0041", r"\342\200\213\302\255\357\273\277\363\240\201\201"),
+)
+TIMES = (
+    ("0", 0),
+    ("90", 90),
+    ("08", 8),
+    ("010", 10),
+    ("90s", 90),
+    ("15m", 900),
+    ("26h", 93600),
+    ("3d", 259200),
+    ("30d", 2592000),
+)
+NO_TIMES = ("", "x", "h", "1h2", "1.5h", "-1", "+1", " 1", "1 ", "1_0", "\u0663", "31d", "721h", "2592001", "9" * 10)
+
+END = """import sys
+sys.path.insert(0, %r)
+from aide_compare.base.ending import *
+import os
+def main(arguments):
+    %s
+os._exit(command("name", main))"""
+
+
+class TextsTest(ModuleTest):
+    def test_tables(self) -> None:
+        """The tables of attributes say the same: each digest is in the order of strength, in databases and in the schema. The
+        options of the definitions are none that is misspelt."""
+        labels = [label for label, form in attributes.FORMS.items() if form == "digest"]
+        columns = sorted(label.lower().replace("-", "_").replace("/", "_") for label in labels)
+        with open(os.path.join(TOP, "contrib", "json", "aide-compare-lines.schema.json"), encoding="utf-8") as file:
+            schema = json.load(file)
+        self.expect("digests by strength", sorted(attributes.STRENGTH), sorted(labels))
+        self.expect("digests of databases", sorted(attributes.DIGEST_COLUMNS), columns)
+        names = [name for name in schema["$defs"]["side"]["properties"] if not name.endswith("_hex")]
+        self.expect("attributes of the schema", names, list(attributes.FORMS))
+        names = {name.encode() for name in ["report_level", "report_url", "report_format"] + BOOL_OPTIONS + SET_OPTIONS}
+        self.expect("options of the report", sorted(names - configuration.OPTIONS), [])
+
+    def test_escapes(self) -> None:
+        for text, want in ESCAPED:
+            self.expect("shown %r" % text, escapes.shown(text), want)
+        self.expect("a cut", escapes.shown("é" * 9, 5), "é" * 5 + "...")
+        self.expect("no cut", escapes.shown("é" * 5, 5), "é" * 5)
+        self.expect("a cut of bytes", escapes.shown("\U0001f600".encode() * 9, 8), "\U0001f600" * 8 + "...")
+        self.expect("lines", escapes.shown_lines(b"a\\012\tb\n\r\x1b\xff"), "a\\012\tb\n\\015\\033\\377")
+        self.expect("a line of ours", escapes.guarded("\\012\n\t\u202e"), "\\012\\012\\011\\342\\200\\256")
+
+    def test_times(self) -> None:
+        for text, want in [*TIMES, *((text, None) for text in NO_TIMES)]:
+            try:
+                found = kinds.duration(text)
+            except argparse.ArgumentTypeError:
+                found = None
+            self.expect("the time %r" % text, found, want)
+        self.expect("a date", words.date_of(1795602777), "2026-11-25T10:32:57Z")
+        self.expect("no date", words.date_of(1 << 62), "@%d" % (1 << 62))
+        self.expect("a minute", words.minute_of(1795602777), "2026-11-25 10:32 UTC")
+        self.expect("no minute", words.minute_of(1 << 62), "@%d" % (1 << 62))
+        for seconds, want in (
+            (119, "119 seconds"),
+            (120, "2 minutes"),
+            (7199, "119 minutes"),
+            (7200, "2 hours"),
+            (259199, "71 hours"),
+            (259200, "3 days"),
+        ):
+            self.expect("the age %d" % seconds, words.age_in_words(seconds), want)
+
+    def test_words(self) -> None:
+        """When an entry came or changed: the time of its inode, then its own, if it is another one than before."""
+        columns = ("perm", "uid", "gid", "size", "mtime", "ctime", "bcount")
+        places = {name: place for place, name in enumerate(columns)}
+        old, kept, back, gone, moved = (
+            entries.Entry([b"100644", b"0", b"0", *fields], places)
+            for fields in (
+                (b"5", b"1795600000", b"1795600000", b"8"),
+                (b"6", b"1795600000", b"1795600000", b"8"),
+                (b"6", b"1795600000", b"1795602777", b"8"),
+                (b"6", b"1795602777", b"0", b"8"),
+                (b"6", b"1795600000", b"1795600000", b"16"),
+            )
+        )
+        for label, pair, want in (
+            ("came", (None, back), "-rw-r--r-- root:root 6 bytes, 2026-11-25 10:32 UTC"),
+            ("went", (back, None), "-rw-r--r-- root:root 6 bytes"),
+            ("changed, its time set back", (old, back), "size 5 -> 6, 2026-11-25 10:32 UTC"),
+            ("changed, without the time of its inode", (old, gone), "size 5 -> 6, 2026-11-25 10:32 UTC"),
+            ("changed with the times of before", (old, kept), "size 5 -> 6"),
+            ("has other blocks", (moved, kept), "blocks"),
+        ):
+            self.expect("what %s, and when" % label, brief.entry_words(*pair), want)
+
+    def test_options(self) -> None:
+        parser = Parser("name", "What it does.")
+        parser.add_argument("operands", nargs="*")
+        parser.add_argument("--max-size", type=kinds.size)
+        parser.add_argument("--max-age", type=kinds.duration)
+        parser.add_argument("--text", type=kinds.some_text)
+        given = parser.parse(["a", "--max-size", "2k", "b", "--max-age=2h"])
+        self.expect("options between operands", (given.operands, given.max_size, given.max_age), (["a", "b"], 2048, 7200))
+        for words in (
+            ["--max-siz", "1"],
+            ["--odd"],
+            ["--max-size", "1x"],
+            ["--max-size", ""],
+            ["--max-age", "31d"],
+            ["--text="],
+            ["--max-size"],
+        ):
+            self.expect_fault("the words %r" % words, outcome(parser.parse, words), 15)
+        with open(os.path.join(TOP, "VERSION")) as file:
+            self.expect("VERSION", VERSION, file.read().strip())
+
+    def test_state(self) -> None:
+        good = state.State(7, 1795602777, 1, 2, 3, "a" * 64, "b" * 64, "o\\012", "n", 5, None, "", {"weekly": "3"})
+        text = good.text().decode()
+        self.expect("a state read again", state.parse_state(text.encode()).text().decode(), text)
+        self.expect("the first lines",
+            text.split("\n")[:4],
+            ["format=2", "status=7", "time=1795602777", "date=2026-11-25T10:32:57Z"],
+        )
+        for written in (-(1 << 63), -(10**18), 1 - 10**18, (1 << 63) - 1):
+            early = state.State(0, 1, 0, 0, 0, old_written=written).text()
+            self.expect("a file that was written at %d" % written, outcome(lambda: state.parse_state(early).old_written), written
+            )
+        self.expect("further keys", state.parse_state(text.encode()).more, {"weekly": "3"})
+        self.expect("a newline in a value", state.State(18, 1, error="a\nb").text().count(b"\n"), 14)
+        self.expect("a status by its name", b"\nstatus=18\n" in state.State(ending.Status.DEVICE, 1).text(), True)
+        for old, new in (
+            ("format=2", "format=3"),
+            ("status=7", "status=5"),
+            ("status=7", "status="),
+            ("status=7", "status=0"),
+            ("added=1", "added="),
+            ("added=1", "added=x"),
+            ("added=1", "added=-1"),
+            ("error=", "error"),
+            ("error=", "old=x\nerror="),
+            ("removed=2\n", ""),
+            ("a" * 64, "a" * 63),
+            ("a" * 64, "A" * 64),
+            ("time=1795602777", "time=" + "9" * 30),
+            ("weekly=3\n", "weekly=3"),
+            ("weekly=3", "weekly=" + "3" * 65536),
+        ):
+            try:
+                found = state.parse_state(text.replace(old, new, 1).encode()).text()
+            except (ValueError, KeyError):
+                found = "refused"
+            self.expect("a state with %.40r for %.40r" % (new, old), found, "refused")
+
+    def test_statuses(self) -> None:
+        given = [reader.status_of(counts) for counts in ((0, 0, 0), (9, 0, 0), (0, 9, 0), (0, 0, 9), (1, 1, 1))]
+        self.expect("statuses", given, [0, 1, 2, 4, 7])
+
+    def test_ends(self) -> None:
+        for body, status, errors in (
+            ("return 7", 7, ""),
+            ("raise Fault(15, 'a\\nb', 'c')", 15, "name: a\\012b\nname: c\n"),
+            ("raise MemoryError", 22, "name: out of memory\n"),
+            ("raise Done", 0, ""),
+            ("sys.exit(2)", 18, "name: a fault of this command: SystemExit: 2\n"),
+            ("return None", 18, ""),
+            ("open('/no\\n')", 18, "name: a call of the system failed: /no\\012: No such file or directory\n"),
+            ("main(arguments)", 18, None),
+            ("raise KeyboardInterrupt", 18, None),
+            ("1 / 0", 18, None),
+            ("os.kill(os.getpid(), 2)", -2, ""),
+            ("os.kill(os.getpid(), 15)", -15, ""),
+            ("print('x'); os.close(1); return 0", 18, None),
+        ):
+            done = subprocess.run(
+                [sys.executable, "-I", "-S", "-c", END % (os.path.join(TOP, "commands", "lib"), body)], stdout=subprocess.PIPE, stderr=subprocess.PIPE
+            )
+            given = done.stderr.decode()
+            good = done.returncode == status and (given == errors if errors is not None else "Traceback" not in given)
+            self.holds("the end by %r" % body, good, [repr(done)])

@@ -1,0 +1,222 @@
+"""A directory of its own in which the commands are tried, and the databases of these tests."""
+from __future__ import annotations
+
+import atexit
+import contextlib
+import functools
+import gzip
+import hashlib
+import os
+import shutil
+import subprocess
+import sys
+import tempfile
+import unittest
+
+from tests.lib.apart import has_own_mounts
+from tests.lib.byte_code import compile_modules
+from tests.lib.programs import find_program, lines_program_of, reason_without
+from tests.lib.scratch import TOP as HERE, Scratch
+
+# Only for a tool that hangs: on a machine with much other work a run may take minutes.
+TIME_LIMIT = 300
+NOBODY = 65534
+# The Python of the machine, which the commands name.
+PYTHON = "/usr/bin/python3"
+
+# What a child does before it becomes the tool: it gives up the rights of root, has another umask, or cannot write much.
+UMASK = "os.umask(0o%o)"
+SMALL_FILES = "resource.setrlimit(resource.RLIMIT_FSIZE, (%d, %d))"
+BECOME = """import os, resource, signal, sys
+signal.signal(signal.SIGPIPE, signal.SIG_DFL)
+%s
+os.execvp(sys.argv[1], sys.argv[1:])"""
+
+# The command in the directory of a test: the product's own, after whose imports a test may give names other values.
+FRONT = """#!/usr/bin/python3 -IS
+import os, sys
+from _frozen_importlib_external import PathFinder
+
+def text_of(name):
+    with open(os.path.dirname(os.path.dirname(os.path.realpath(__file__))) + name) as file:
+        return file.read()
+
+class Replacing:
+    replaced = eval(text_of("/replaced"))
+
+    @classmethod
+    def find_spec(cls, name, path=None, target=None):
+        if name not in cls.replaced:
+            return None
+        spec = PathFinder.find_spec(name, path, target)
+        execute = spec.loader.exec_module
+
+        def exec_module(module):
+            execute(module)
+            exec(cls.replaced[name], module.__dict__)
+
+        spec.loader.exec_module = exec_module
+        return spec
+
+sys.meta_path.insert(0, Replacing)
+exec(compile(text_of("/front"), __file__, "exec"))
+"""
+
+
+def as_user(number):
+    return "os.setgroups([]); os.setgid(%d); os.setuid(%d)" % (number, number)
+
+
+AS_NOBODY = as_user(NOBODY)
+
+
+def after(before, command):
+    """A command that does something else before it starts. (`preexec_fn` is not safe in a process with threads.)"""
+    return [sys.executable, "-c", BECOME % before] + command if before else command
+
+
+HEAD = b"@@begin_db\n@@db_spec name attr perm size\n"
+END = b"@@end_db\n"
+OLD = HEAD + b"/b 36 40755 4096\n/c 36 100644 10\n/d 36 100644 1\n" + END
+NEW = HEAD + b"/a 36 100644 5\n/c 36 100600 7\n/d 36 100644 2\n" + END
+DIFFER = [b"aide-compare: old database: ", b"aide-compare: new database: "]
+COUNTS = {"added": "1", "removed": "1", "changed": "2"}
+
+
+def sha256(text):
+    return hashlib.sha256(text).hexdigest()
+
+
+class Answer:
+    """What a tool answered: two texts and a status."""
+
+    def __init__(self, output, errors, status):
+        self.output, self.errors, self.status = output, errors, status
+
+    def __repr__(self):
+        return "status %d, output %.400r, errors %.600r" % (self.status, self.output, self.errors)
+
+
+@functools.lru_cache(maxsize=None)
+def compiled_commands() -> str:
+    """A copy of the commands with their byte code, made once for the tests of this process."""
+    directory = tempfile.mkdtemp(prefix="aide-compare-commands-")
+    atexit.register(shutil.rmtree, directory, True)
+    for name in ("bin", "lib", "share"):
+        without = shutil.ignore_patterns("__pycache__")
+        shutil.copytree(os.path.join(HERE, "commands", name), os.path.join(directory, name), ignore=without)
+    compile_modules(os.path.join(directory, "lib"))
+    return directory
+
+
+class CommandTest(Scratch, unittest.TestCase):
+    """A test of the commands, with a directory of its own: the commands beside the program, a directory for what is
+    unpacked, and the databases OLD and NEW in two forms."""
+
+    def __init__(self, name: str = "runTest") -> None:
+        unittest.TestCase.__init__(self, name)
+
+    def setUp(self) -> None:
+        program = find_program()
+        if program is None:
+            self.skipTest(reason_without())
+        self.make("aide-compare-test-")
+        self.addCleanup(self.remove)
+        self.room = self.path("room")
+        for name in ("stubs", "room", "empty"):
+            os.mkdir(self.path(name))
+        os.chmod(self.room, 0o1777)
+        os.makedirs(self.path("libexec/aide-compare"))
+        self.program = shutil.copy(program, self.path("libexec/aide-compare/aide"))
+        self.lines_program = shutil.copy(lines_program_of(program), self.path("libexec/aide-compare/aide_lines"))
+        for name in ("bin", "lib", "share"):
+            shutil.copytree(os.path.join(compiled_commands(), name), self.path(name))
+        os.rename(self.path("bin/aide-compare"), self.path("front"))
+        self.write("bin/aide-compare", FRONT, 0o755)
+        os.symlink("aide-compare", self.path("bin/check_aide_compare"))
+        self.replaced = {}
+        # The records of packages and the administrator's directory are those of the test, never those of this machine.
+        self.set_names("changes.packages", DPKG=self.path("dpkg"), DPKG_LOG=self.path("dpkg.log"))
+        self.after_import("changes.packages", "Dpkg.__init__.__defaults__ = (DPKG,)\n")
+        self.set_names("base.parser", DIRECTORY=self.path("etc"))
+        for name, text in (("old", OLD), ("new", NEW)):
+            self.write(name + ".db", text)
+            self.write(name + ".db.gz", gzip.compress(text))
+
+    def read(self, name):
+        with open(self.path(name), "rb") as file:
+            return file.read()
+
+    def set_names(self, module, **values):
+        """Names of a module of the commands have other values in each command that this test starts. They have to be there."""
+        self.after_import(module, "".join(f"{name}\n{name} = {value!r}\n" for name, value in values.items()))
+
+    def after_import(self, module, statements):
+        """Statements that a command of this test executes in a module when it has been imported."""
+        self.replaced[f"aide_compare.{module}"] = self.replaced.get(f"aide_compare.{module}", "") + statements
+        self.write("replaced", repr(self.replaced))
+
+    @contextlib.contextmanager
+    def mounted(self, name, *words):
+        """What `mount` puts on a file or folder with these words, for a while. Yields whether it is there: it is mounted only
+        where nobody else sees it."""
+        path = self.path(name)
+        is_there = has_own_mounts() and subprocess.call(["mount", *words, path], stderr=subprocess.DEVNULL) == 0
+        try:
+            yield is_there
+        finally:
+            if is_there:
+                subprocess.call(["umount", path])
+
+    def command(self, tool, *words):
+        """The words of a tool, such as aide-compare json, and those that follow."""
+        name, *subcommand = tool.split(" ")
+        return [self.path("bin/" + name), *subcommand, *words]
+
+    def environment(self, **more):
+        return {**os.environ, "TMPDIR": self.room, "PATH": self.path("stubs") + ":" + os.environ["PATH"], **more}
+
+    def start(self, tool, *words, environment=None, before=None, **more):
+        """Starts a tool in this folder, without waiting for it."""
+        more = {"stdin": subprocess.DEVNULL, "stdout": subprocess.PIPE, "stderr": subprocess.PIPE, **more}
+        command = after(before, self.command(tool, *words))
+        return subprocess.Popen(command, cwd=self.root, env=self.environment(**(environment or {})), **more)
+
+    def call(self, tool, *words, text=None, environment=None, limit=TIME_LIMIT, **more):
+        """What a tool answers in this folder, in so many seconds. `text` is its standard input."""
+        if text is not None:
+            more["stdin"] = subprocess.PIPE
+        process = self.start(tool, *words, environment=environment, **more)
+        try:
+            output, errors = process.communicate(text, timeout=limit)
+        except subprocess.TimeoutExpired:
+            process.kill()
+            output, errors = process.communicate()
+            errors = (errors or b"") + b"\nit did not end\n"
+        return Answer(output or b"", errors or b"", process.returncode)
+
+    def leftovers(self):
+        return os.listdir(self.room)
+
+    def holds(self, label, good, got=""):
+        """Something is so; `got` is shown if it is not."""
+        with self.subTest(label):
+            self.assertTrue(good, got)
+
+    def expect(self, label, answer, status, output=None, errors=None):
+        """An answer has a status, these texts where they are given (a list: each is in it), and leaves nothing behind."""
+        with self.subTest(label):
+            self.assertEqual(answer.status, status, answer)
+            for text, want in ((answer.output, output), (answer.errors, errors)):
+                if want == b"":
+                    self.assertEqual(text, b"", answer)
+                for part in [want] if isinstance(want, bytes) else want or []:
+                    self.assertIn(part, text, answer)
+            self.assertEqual(self.leftovers(), [])
+
+    def state(self, name="state"):
+        """A state file as a map, which keeps the order of its lines; nothing where there is none."""
+        if not os.path.exists(self.path(name)):
+            return {}
+        lines = self.read(name).decode("utf-8", "surrogateescape").split("\n")
+        return dict(line.split("=", 1) for line in lines if "=" in line)

@@ -1,0 +1,49 @@
+"""What AIDE's own user meets: tests that root runs once more with the rights of a user who is not root."""
+from __future__ import annotations
+
+import os
+import shutil
+import subprocess
+
+from tests.lib.program_test import slow
+from tests.lib.copies import copy_sources
+from tests.lib.programs import VARIABLE
+
+from .sandbox import AS_NOBODY, PYTHON, CommandTest, after
+
+TESTS = (
+    "test_mail.MailTest.test_texts",
+    "test_mail.MailTest.test_refusals",
+    "test_mail.MailTest.test_queue",
+    "test_run.RunTest.test_state",
+    "test_run.RunTest.test_state_faults",
+    "test_accept.AcceptTest.test_digests",
+    "test_accept.AcceptTest.test_modes",
+    "test_accept_partly.AcceptPartlyTest.test_open",
+    "test_faults.FaultsTest.test_rooms",
+    "test_hands.HandsTest.test_defaults",
+)
+
+
+@slow
+class OwnUserTest(CommandTest):
+    def test_as_another_user(self) -> None:
+        if os.geteuid() != 0:
+            self.skipTest("it needs root")
+        directory = self.path("repository")
+        copy_sources(directory)
+        os.mkdir(self.path("programs"))
+        program = shutil.copy(self.program, self.path("programs/aide"))
+        shutil.copy(self.lines_program, self.path("programs/aide_lines"))
+        words = [PYTHON, "-m", "unittest", *("tests.commands." + name for name in TESTS)]
+        done = subprocess.run(
+            after(AS_NOBODY, words),
+            cwd=directory,
+            env={**os.environ, VARIABLE: program, "TMPDIR": self.room},
+            stdin=subprocess.DEVNULL,
+            stdout=subprocess.PIPE,
+            stderr=subprocess.STDOUT,
+            check=False,
+        )
+        self.assertEqual(done.returncode, 0, done.stdout.decode("utf-8", "replace"))
+        self.assertIn(b"\nOK\n", done.stdout)

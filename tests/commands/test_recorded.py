@@ -1,0 +1,264 @@
+"""What packages' records on the host have: which changes they group, and which they never do."""
+from __future__ import annotations
+
+import os
+import random
+import re
+from typing import Any, Dict, Tuple
+
+from tests.commands.made_up import (
+    DIRECTORY_BITS,
+    MORE_ACL,
+    Host,
+    Package,
+    acl_of,
+    base64_of,
+    fields_of,
+    standings_of,
+)
+from tests.commands.sandbox import CommandTest
+
+ONE, TWO, EVIL = b"one", b"two, of the upgraded package", b"EVIL"
+BIN, LIB = b"/usr/bin/", b"/usr/lib/"
+INFO = b"/var/lib/dpkg/info/"
+OPEN, RECORDED = "open", "recorded tool 2"
+
+Wanted = Dict[Tuple[str, bytes], str]
+
+
+def expect(sandbox: CommandTest, label: str, host: Host, wanted: Dict[bytes, str]) -> None:
+    """Checks the standing of paths, and the package of each recorded one."""
+    _, objects = host.ask(sandbox)
+    found = standings_of(objects, ("standing", "package"))
+    for path, want in wanted.items():
+        got = found.get(path, "no change")
+        sandbox.assertEqual(got, want, (f"{label}: {path!r}", (got, want)))
+
+
+def upgraded(content: bytes, **more: Any) -> Host:
+    """A host on which a file of a package has this content now."""
+    host = Host()
+    host.old.file(BIN + b"tool", ONE, mode=0o100755)
+    host.new.file(BIN + b"tool", content, mode=0o100755, **more)
+    host.packages.append(Package("tool", "2", {BIN + b"tool": TWO}))
+    return host
+
+
+def bytes_of_digest(fields: Dict[str, Any]) -> str:
+    """The SHA-256 of an entry in base 16."""
+    import base64
+
+    return base64.b64decode(fields["sha256"]).hex()
+
+
+class RecordedTest(CommandTest):
+    def test_content(self) -> None:
+        """The content that the records have is recorded, and no other one; times and inode do not matter."""
+        expect(self, "the package's", upgraded(TWO, inode=7), {BIN + b"tool": RECORDED})
+        expect(self, "another one", upgraded(EVIL), {BIN + b"tool": OPEN})
+        host = upgraded(TWO)
+        host.packages = []
+        expect(self, "no records", host, {BIN + b"tool": OPEN})
+        host = upgraded(TWO)
+        host.packages = [Package("tool", "2", {BIN + b"other": TWO})]
+        expect(self, "of another path", host, {BIN + b"tool": OPEN})
+        host = upgraded(TWO)
+        host.packages = [Package("tool", "2", {BIN + b"tool": TWO}, state="deinstall ok config-files")]
+        expect(self, "of a package that is not there", host, {BIN + b"tool": OPEN})
+        host = upgraded(TWO)
+        host.packages = [Package("tool", "2", {}, conffiles={BIN + b"tool": TWO})]
+        expect(self, "a conffile", host, {BIN + b"tool": RECORDED})
+
+    def test_new(self) -> None:
+        """A new file or directory is recorded only if it is root's alone, and gives nobody a right."""
+        rows: Dict[str, Tuple[Dict[str, Any], str]] = {
+            "root's": ({}, RECORDED),
+            "another user's": ({"uid": 33}, OPEN),
+            "another group's": ({"gid": 33}, OPEN),
+            "one that everybody can write": ({"perm": "100666"}, OPEN),
+            "one that its group can write": ({"perm": "100664"}, OPEN),
+            "a set-ID one": ({"perm": "104755"}, OPEN),
+            "one with capabilities": ({"capabilities": base64_of(b"cap_setuid=ep")}, OPEN),
+            "one with an access list": ({"acl": acl_of(MORE_ACL)}, OPEN),
+            "one with attributes": ({"xattrs": "1,user.x,eA=="}, OPEN),
+            "one whose owner was not measured": ({"attr": DIRECTORY_BITS & ~8}, OPEN),
+        }
+        for label, (more, want) in rows.items():
+            host = Host()
+            host.new.file(LIB + b"new", TWO, **more)
+            host.packages.append(Package("tool", "2", {LIB + b"new": TWO}))
+            expect(self, f"a new file, {label}", host, {LIB + b"new": want})
+        for label, perm, want in (
+            ("root's", 0o40755, RECORDED),
+            ("one that everybody can write", 0o41777, OPEN),
+        ):
+            host = Host()
+            host.new.directory(LIB + b"new", perm)
+            host.packages.append(Package("tool", "2", {}, listed=(LIB + b"new",)))
+            expect(self, f"a new directory, {label}", host, {LIB + b"new": want})
+
+    def test_other_rights(self) -> None:
+        """Records know no mode, owner or list: a change of one stays open, also with the right content."""
+        rows: Dict[str, Dict[str, Any]] = {
+            "owner": {"uid": 33},
+            "group": {"gid": 33},
+            "mode": {"perm": "104755"},
+            "access list": {"acl": acl_of(MORE_ACL)},
+            "capabilities": {"capabilities": base64_of(b"cap_setuid=ep")},
+            "flags": {"e2fsattrs": "524304"},
+            "links": {"lcount": 2},
+        }
+        for label, more in rows.items():
+            expect(self, f"another {label}", upgraded(TWO, **more), {BIN + b"tool": OPEN})
+
+    def test_names(self) -> None:
+        """Diversions are followed, and so are directories that are links to those in /usr."""
+        host = upgraded(TWO)
+        host.both(lambda night: night.link(b"/bin", b"usr/bin"))
+        host.packages = [Package("tool", "2", {b"/bin/tool": TWO})]
+        expect(self, "a merged directory", host, {BIN + b"tool": RECORDED})
+        host = upgraded(TWO)
+        host.packages = [Package("tool", "2", {b"/bin/tool": TWO})]
+        expect(self, "one that is not merged", host, {BIN + b"tool": OPEN})
+        host = upgraded(TWO)
+        host.packages = [Package("tool", "2", {BIN + b"there": TWO})]
+        host.diversions = BIN + b"there\n" + BIN + b"tool\nother\n"
+        expect(self, "a diversion", host, {BIN + b"tool": RECORDED})
+
+    def test_links(self) -> None:
+        """A link is recorded if a package lists it, and what it points to."""
+        for target, want in ((b"tool.so.2", RECORDED), (b"/tmp/evil", OPEN), (b"missing", OPEN)):
+            host = Host()
+            host.old.link(LIB + b"tool.so", b"tool.so.1")
+            host.new.link(LIB + b"tool.so", target)
+            listed = (LIB + b"tool.so",)
+            host.packages.append(Package("tool", "2", {LIB + b"tool.so.2": TWO}, listed=listed))
+            expect(self, f"a link to {target!r}", host, {LIB + b"tool.so": want})
+
+    def test_made(self) -> None:
+        """What scripts of packages make is open, and has one line for a directory; what a package has with
+        another content has a line of its own, and so has a compiled file whose source did not change."""
+        host = Host()
+        cache = LIB + b"python3/__pycache__/"
+        for name in (b"one", b"two"):
+            source, compiled = LIB + b"python3/%s.py" % name, cache + b"%s.cpython-311.pyc" % name
+            host.old.file(source, ONE).file(compiled, ONE)
+            host.new.file(source, TWO).file(compiled, TWO)
+            host.packages.append(Package(f"python-{name.decode()}", "2", {source: TWO}))
+        host.old.file(cache + b"three.cpython-311.pyc", ONE)
+        host.new.file(cache + b"three.cpython-311.pyc", TWO)
+        host.old.file(LIB + b"python3/evil.py", ONE)
+        host.new.file(LIB + b"python3/evil.py", EVIL)
+        files = {LIB + b"python3/evil.py": TWO, LIB + b"python3/three.py": TWO}
+        host.packages.append(Package("tool", "2", files))
+        text = host.brief(self)
+        made = "  medium  made     /usr/lib/python3/__pycache__: 2 files, by packages\n"
+        self.assertEqual(text.count(made), 1, ("one line for a directory", text))
+        for name in ("evil.py", "__pycache__/three.cpython-311.pyc"):
+            line = f"  medium  changed  /usr/lib/python3/{name}: content"
+            self.assertEqual(text.count(line), 1, (f"a line of its own: {name}", text))
+        self.holds("compiled files are open", text.startswith("4 open, 2 recorded of 6"), text)
+
+    def test_named(self) -> None:
+        """Packages that came, went or fell to an older version are named before all else."""
+        host = Host()
+        names = {"came": "1", "fell": "1", "rose": "3", "stayed": "1"}
+        for name, version in names.items():
+            host.packages.append(Package(name, version, {}))
+        for name in ("fell", "rose", "went"):
+            host.old.file(INFO + name.encode() + b".list", ONE)
+        for name in ("came", "fell", "rose"):
+            host.new.file(INFO + name.encode() + b".list", TWO)
+        log = "2026-11-26 06:00:01 status installed fell:amd64 2\n"
+        log += "2026-11-26 06:00:01 upgrade fell:amd64 2 1\n2026-11-26 06:00:02 upgrade rose:amd64 2 3\n"
+        self.write("dpkg.log", log)
+        lines = host.brief(self).split("\n")
+        wanted = [
+            "New packages: came 1",
+            "Removed packages: went",
+            "Downgraded packages: fell 1, which was 2",
+        ]
+        self.assertEqual(lines[1:4], wanted, ("the packages", lines[:6]))
+        os.remove(self.path("dpkg.log"))
+        lines = host.brief(self).split("\n")
+        self.holds("without a log", lines[1:3] == wanted[:2] and not lines[3], lines[:6])
+        host = Host()
+        for number in range(60):
+            name = f"new-{number:02}"
+            host.new.file(INFO + f"{name}.list".encode(), ONE)
+            host.packages.append(Package(name, "1", {}))
+        text = host.brief(self)
+        head = re.sub(r"\s+", " ", text.partition("\n\n")[0])
+        missing = [number for number in range(60) if f"new-{number:02} 1" not in head]
+        self.assertFalse(missing, ("all of many", (missing, text[:900])))
+
+    def test_read(self) -> None:
+        """Without the digest that a record has, the file on this machine needs that and the database's."""
+        path = self.path("there").encode()
+        for label, content, measured, want in (
+            ("the package's content", TWO, TWO, RECORDED),
+            ("another content on this machine", EVIL, TWO, OPEN),
+            ("another content in the database", TWO, EVIL, OPEN),
+        ):
+            host = Host()
+            host.new.columns = host.old.columns = tuple(
+                column for column in host.new.columns if column != "md5"
+            )
+            host.new.file(path, measured)
+            host.packages.append(Package("tool", "2", {path: TWO}))
+            with open(path, "wb") as file:
+                file.write(content)
+            expect(self, label, host, {path: want})
+
+    def test_damage(self) -> None:
+        """Damaged records group less, and end nothing."""
+        draw = random.Random(7)
+        host = upgraded(TWO)
+        host.write(self)
+        files = host.records()
+        for number in range(40):
+            name = draw.choice(sorted(files))
+            text = bytearray(files[name])
+            for _ in range(draw.randint(1, 4)):
+                place = draw.randrange(len(text) + 1)
+                text[place : place + draw.randint(0, 3)] = draw.choice([b"", b"\n", b"\0", b"\xff", b"/", b":"])
+            self.write(f"dpkg/{name}", bytes(text))
+            answer = self.call("aide-compare", "host-old.db", "host-new.db")
+            good = answer.status == 4 and b"a fault of" not in answer.errors and b"1 " in answer.output
+            self.holds(f"damaged records, {number}", good, answer)
+            self.write(f"dpkg/{name}", files[name])
+
+    def test_rpm(self) -> None:
+        """What rpm says of its packages, by a program in rpm's place."""
+        os.makedirs(self.path("rpmdb"), exist_ok=True)
+        self.set_names("changes.packages", RPM=self.path("stubs/rpm"), RPM_DATABASES=(self.path("rpmdb"),))
+        host = upgraded(TWO)
+        host.packages = []
+        host.new.link(LIB + b"tool.so", b"tool.so.2").file(LIB + b"ghost", TWO)
+        host.new.link(LIB + b"evil.so", b"/tmp/evil")
+        digest = bytes_of_digest(fields_of(b"/x", 0o100644, TWO, b""))
+        rows = ["P\ttool\t1:2-3\t8"]
+        rows.append(f"F\t/usr/bin/tool\t{digest}\t\t0")
+        rows.append("F\t/usr/lib/tool.so\t\ttool.so.2\t0")
+        rows.append("F\t/usr/lib/evil.so\t\ttool.so.2\t0")
+        rows.append(f"F\t/usr/lib/ghost\t{digest}\t\t1")
+        self.write("rpm.said", "".join(row + "\n" for row in rows))
+        self.stub("rpm", f'[ "$1 $2" = "-qa --dbpath" ] && cat "{self.path("rpm.said")}"')
+        wanted = {
+            BIN + b"tool": "recorded tool 1:2-3",
+            LIB + b"tool.so": "recorded tool 1:2-3",
+            LIB + b"evil.so": OPEN,
+            LIB + b"ghost": OPEN,
+        }
+        expect(self, "rpm's records", host, wanted)
+        brief = host.brief(self)
+        line = "  tool 1:2-3: 2 files, as rpm's records have them"
+        self.assertIn(line, brief, "their line")
+        self.stub("rpm", "exit 1")
+        answer = self.call("aide-compare", "host-old.db", "host-new.db")
+        want = b"no package groups the changes: rpm did not say which packages there are"
+        self.expect("an rpm that fails", answer, 5, b"4 open", want)
+        self.stub("rpm", "exec cat /dev/zero")
+        self.set_names("changes.packages", MAX_ALL=1 << 20)
+        answer = self.call("aide-compare", "host-old.db", "host-new.db")
+        self.expect("an rpm without end", answer, 5, b"4 open", b"rpm has said more than 1048576 bytes")

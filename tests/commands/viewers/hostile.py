@@ -1,0 +1,151 @@
+"""Entries with names and values that could be taken for something else: for a part of a report, or for markup."""
+from collections import namedtuple
+
+from tests.oracle.attributes import ATTRIBUTES
+from tests.program.random_texts.databases import LINKS, MODES, NUMBERS, OPAQUE, random_digest
+
+Database = namedtuple("Database", "entries skipped", defaults=((),))
+NAMES = [
+    b"a",
+    b"b",
+    b"etc",
+    b"x y",
+    b"a : b",
+    b"File: /a",
+    b"added: /a",
+    b"f+++++++++++++++++: /a",
+    b"-" * 51,
+    b"Added entries:",
+    b"\n",
+    b"\n\n" + b"-" * 51 + b"\n",
+    b"a\nThe attributes of the databases:\n",
+    b"\\",
+    b"\\012",
+    b"\\\\",
+    b" ",
+    b"a ",
+    b" a",
+    b"a | b",
+    b"\0",
+    b"\x01",
+    b"\x7f",
+    b"\t",
+    b"\r",
+    b"\xff",
+    b"\xc3",
+    b"\xc3\xa9",
+    b"\xe2\x80\xae" + b"txt.exe",
+    b"\xe2\x81\xa6",
+    b"\xe2\x80\xa8",
+    b"\xef\xbb\xbf",
+    b"\xe3\x85\xa4",
+    b"\xd7\x90",
+    b"<script>alert(1)</script>",
+    b"</script>",
+    b"</noscript>",
+    b"<!--",
+    b"-->",
+    b'<b class="added">added',
+    b"\"'><img src=x onerror=alert(1)>",
+    b"&lt;",
+    b"&#60;script",
+    b"{{x}}",
+    b"%3Cscript",
+    b"<!-- STYLE -->",
+    b"\\u003c",
+    b"\xed\xa0\x80",
+    b"\xf4\x90\x80\x80",
+    b"x" * 300,
+]
+TARGETS = (
+    LINKS
+    + NAMES
+    + [
+        b"abc ",
+        b"abc" + b" " * 40,
+        b" ",
+        b" " * 32,
+        b" " * 33,
+        b" " * 70,
+        b"x" * 32 + b" ",
+        b"x" * 31 + b" ",
+        b"x" * 30 + b"\n",
+        b"\\" * 20,
+        b"\xff" * 40,
+        b" | " * 20,
+        b"x" * 31 + b"\n",
+        b"x" * 29 + b"\n",
+        b"a" + b"\\" * 20,
+        b"ab" + b"\\" * 20,
+        b"abc" + b"\n" * 20,
+        b" lead",
+        b"a" + b" " * 31,
+        b"a" + b" " * 63,
+    ]
+)
+VALUES = OPAQUE + [
+    b"<script>",
+    b"</script>",
+    b'"',
+    b"|",
+    b"\xff" * 33,
+    b"\\" * 33,
+    b"a" + b"\\" * 33,
+    b"ab" + b"\\" * 33,
+    b"abc" + b"\\" * 33,
+    b"\xe2\x80\xae",
+    b"a" * 200,
+    b"-" * 51,
+]
+TYPES = [mode & 0o170000 for mode in MODES if mode & 0o170000]
+
+
+def random_value(pick, form):
+    if form == "type":
+        return pick.choice(TYPES)
+    if form == "perm":
+        return pick.choice(MODES) & 0o7777
+    if form in ("number", "time"):
+        return pick.choice(NUMBERS) if pick.random() < 0.5 else pick.randint(-(2**40), 2**40)
+    if form == "link":
+        return pick.choice(TARGETS)
+    if form == "opaque":
+        return pick.choice(VALUES)
+    while True:
+        digest = random_digest(pick, *form)
+        if digest is not None:
+            return digest
+
+
+def random_entry(pick, most):
+    attributes = pick.sample(ATTRIBUTES, pick.randint(0, most))
+    return {attribute.name: random_value(pick, attribute.form) for attribute in ATTRIBUTES if attribute in attributes}
+
+
+def edited(pick, entry):
+    """An entry with some attributes changed, added or removed; sometimes with all of them added or removed."""
+    if pick.random() < 0.15:
+        every = {attribute.name: random_value(pick, attribute.form) for attribute in ATTRIBUTES}
+        return pick.choice([{}, every, {**every, "ftype": entry.get("ftype", 0o100000)}])
+    entry = dict(entry)
+    for attribute in ATTRIBUTES:
+        if pick.random() < 0.3:
+            entry.pop(attribute.name, None)
+        if pick.random() < 0.3:
+            entry[attribute.name] = random_value(pick, attribute.form)
+    return entry
+
+
+def random_databases(pick):
+    """Two maps of entries, and texts to take the digests of."""
+    old, new = {}, {}
+    most = pick.choice([0, 3, 12, 33])
+    for _ in range(pick.choice([0, 1, 3, 8, 20])):
+        path = b"".join(b"/" + pick.choice(NAMES) for _ in range(pick.randint(1, 4)))
+        entry = random_entry(pick, most)
+        kind = pick.choice(["old", "new", "both", "both", "both", "same"])
+        if kind != "new":
+            old[path] = entry
+        if kind != "old":
+            new[path] = entry if kind == "same" else edited(pick, entry) if kind == "both" else entry
+    return [Database(old), Database(new)], [b"%d" % pick.getrandbits(64) for _ in range(2)]
