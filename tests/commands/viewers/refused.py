@@ -1,0 +1,104 @@
+"""Lines with changes of all kinds, and what can be done to them so that they have to be refused."""
+import json
+import re
+
+from tests.oracle.configuration import DEFAULTS
+from tests.oracle.lines import lines_of
+
+from .hostile import Database
+
+OLD = {
+    b"/etc": {"ftype": 0o040000, "p": 0o755, "m": 1700000000},
+    b"/etc/gone": {"ftype": 0o100000, "s": 7, "sha256": bytes(32)},
+    b"/etc/link": {"ftype": 0o120000, "l": b"abc"},
+    b"/etc/more": {"ftype": 0o100000, "s": 1},
+    b"/etc/shadow": {"ftype": 0o100000, "s": 900, "p": 0o640, "m": 1600000000, "acl": b"\\" * 20, "sha256": b"\x01" * 32},
+    b"/gone": {"ftype": 0o010000, "u": 3},
+}
+NEW = {
+    b"/a": {"ftype": 0o100000, "s": 5, "m": -3},
+    b"/etc": {"ftype": 0o040000, "p": 0o755, "m": 1800000000},
+    b"/etc/link": {"ftype": 0o120000, "l": b"x" * 70},
+    b"/etc/more": {"ftype": 0o100000, "s": 1, "p": 0o600},
+    b"/etc/new : one": {"ftype": 0o100000, "s": 0},
+    b"/etc/shadow": {"ftype": 0o100000, "s": 950, "p": 0o644, "m": 1600000001, "acl": b"\\" * 21, "sha256": b"\x02" * 32},
+}
+
+
+def rich_lines(changes=None):
+    """The proved lines of these databases, with some settings."""
+    settings = {**DEFAULTS, "database_in": b"/var/old.db", "database_new": b"/var/new.db", **(changes or {})}
+    return lines_of(Database(OLD), Database(NEW), [b"old", b"new"], settings)[0]
+
+
+def changed_line(number, **fields):
+    """Changes an object of a text of lines; a field that is Ellipsis is taken out."""
+
+    def edit(text):
+        lines = text.split(b"\n")
+        known = {**json.loads(lines[number]), **fields}
+        lines[number] = json.dumps({name: value for name, value in known.items() if value is not ...}).encode()
+        return b"\n".join(lines)
+
+    return edit
+
+
+def line_moved(first, second):
+    def edit(text):
+        lines = text.split(b"\n")
+        lines[first], lines[second] = lines[second], lines[first]
+        return b"\n".join(lines)
+
+    return edit
+
+
+LINE_EDITS = {
+    "no summary": lambda text: text[text.index(b"\n") + 1 :],
+    "two summaries": lambda text: text[: text.index(b"\n") + 1] + text,
+    "an entry less": lambda text: re.sub(rb'\n{"kind":[^\n]*', b"", text, count=1),
+    "an entry twice": lambda text: re.sub(rb'(\n{"kind":[^\n]*)', rb"\1\1", text, count=1),
+    "entries exchanged": line_moved(1, 2),
+    "no end": lambda text: text[: text.rindex(b"\n", 0, -1) + 1],
+    "two ends": lambda text: text + text[text.rindex(b"\n", 0, -1) + 1 :],
+    "text after the end": lambda text: text + b"{}\n",
+    "another format": changed_line(0, format=1),
+    "another count": changed_line(-2, added=77),
+    "a count that is a text": changed_line(-2, added="<b>"),
+    "a count below nought": changed_line(-2, total=-1),
+    "another count of what is silent": changed_line(-2, same_as_old=5),
+    "another count of what is not": changed_line(-2, others=1),
+    "no count of what is not": changed_line(-2, others=...),
+    "a proof in words": changed_line(1, same_as="<b>"),
+    "a proof that is not counted": changed_line(1, same_as="old"),
+    "a standing without a proof": changed_line(1, standing="same"),
+    "a standing that is none": changed_line(1, standing="<b>"),
+    "a severity that is none": changed_line(1, severity="<b>"),
+    "a package that is a number": changed_line(1, package=5),
+    "a digest of a database that is none": changed_line(0, old={"path": "/a", "sha256": "<b>", "skipped": []}),
+    "a database without a path": changed_line(0, new={"sha256": "00" * 32, "skipped": []}),
+    "columns in words": changed_line(0, new={"path": "/a", "sha256": "00" * 32, "skipped": "<b>"}),
+    "no kind": changed_line(1, kind=...),
+    "another kind": changed_line(1, kind="<b>"),
+    "a path without a slash": changed_line(1, path="etc"),
+    "a path that is a number": changed_line(1, path=3),
+    "a path of half a character": changed_line(1, path="/\ud800"),
+    "a path in a wrong base": changed_line(1, path_hex="2f6"),
+    "a short summary string": changed_line(1, summary="f++"),
+    "no summary string": changed_line(1, summary=...),
+    "values in a list": changed_line(1, new=["Size"]),
+    "a type in a list": changed_line(1, type=["File"]),
+    "an unknown attribute": changed_line(1, new={"<b>": 5}),
+    "a value in a list": changed_line(1, new={"Size": [5]}),
+    "a value that is true": changed_line(1, new={"Size": True}),
+    "a number in words": changed_line(1, new={"Size": "<b>"}),
+    "a value in a wrong base": changed_line(1, new={"ACL_hex": "0"}),
+    "permissions that are none": changed_line(1, new={"Perm": "<b>"}),
+    "permissions that are a number": changed_line(1, new={"Perm": 644}),
+    "a text that is a number": changed_line(1, new_text={"Mtime": 5}),
+    "texts in a list": changed_line(1, new_text=["<b>"]),
+    "another status": changed_line(-2, status=1),
+    "another count at the end": changed_line(-2, changed=1),
+    "no object": lambda text: text.replace(b"\n", b"\n[]\n", 1),
+    "no JSON": lambda text: text.replace(b"\n", b"\n{\n", 1),
+    "deep JSON": lambda text: text.replace(b"\n", b"\n" + b"[" * 100000 + b"\n", 1),
+}
