@@ -1,0 +1,1 @@
+"""What tests share: counting, running a program, libraries loaded before it."""

@@ -1,0 +1,64 @@
+"""Libraries that are loaded into a program before the C library, built from C that includes no header."""
+import os
+import shutil
+import subprocess
+import threading
+
+from tests.lib.tally import run
+
+FOLDER = os.path.join(os.path.dirname(os.path.abspath(__file__)), "..", "program")
+NAMES = ["cc", "gcc", "clang"]
+FLAGS = ["-O1", "-shared", "-fPIC", "-nostdlib"]
+
+
+def compilers():
+    """The commands that may build a library: the machine's own, and that of the toolchain, with its linker."""
+    found = [[path] for path in map(shutil.which, NAMES) if path]
+    rt = shutil.which("rt")
+    if rt:
+        tools = os.path.join(os.path.dirname(os.path.dirname(os.path.realpath(rt))), "toolchain", "bin")
+        clang, linker = os.path.join(tools, "clang"), os.path.join(tools, "ld.lld")
+        if os.access(clang, os.X_OK) and os.access(linker, os.X_OK):
+            found.append([clang, "--ld-path=" + linker])
+    return found
+
+
+def built(name, folder):
+    """Builds a library of the trials of the program: its path, or nothing and what every compiler has against it."""
+    library, faults = os.path.join(folder, os.fsencode(name) + b".so"), []
+    for compiler in compilers():
+        done = subprocess.run(
+            compiler + FLAGS + ["-o", library, os.path.join(FOLDER, name)],
+            stdin=subprocess.DEVNULL,
+            stdout=subprocess.DEVNULL,
+            stderr=subprocess.PIPE,
+        )
+        if done.returncode == 0:
+            return library, []
+        faults.append("%s: %s" % (compiler[0], done.stderr.decode("utf-8", "replace")))
+    return None, faults or ["no C compiler is here, neither one of %s nor that of the toolchain" % ", ".join(NAMES)]
+
+
+def run_with(library, program, words, form, variable, **settings):
+    """What a program answers with a library loaded before it, and the notes of the library in a form.
+
+    The library is told the settings and, by a variable, the descriptor to which it writes its notes.
+    """
+    reading, writing = os.pipe()
+    surroundings = dict(
+        os.environ,
+        LD_PRELOAD=os.fsdecode(library),
+        **{variable: str(writing)},
+        **{name: str(number) for name, number in settings.items()},
+    )
+    notes = bytearray()
+    with open(reading, "rb") as pipe:
+        collector = threading.Thread(target=lambda: notes.extend(pipe.read()))
+        collector.start()
+        try:
+            answer = run(program, words, env=surroundings, pass_fds=[writing])
+        finally:
+            os.close(writing)
+            collector.join()
+    whole = len(notes) // form.size * form.size
+    return answer, list(form.iter_unpack(bytes(notes[:whole])))

@@ -1,0 +1,50 @@
+"""Tests of the built programs: each answer is compared with the wanted one."""
+from __future__ import annotations
+
+import os
+import random
+import unittest
+
+from tests.lib.programs import find_program, lines_program_of, reason_without
+from tests.lib.tally import difference
+
+QUICK = "AIDE_QUICK"
+# For tests that take long: `tools/quick` leaves them out.
+slow = unittest.skipIf(bool(os.environ.get(QUICK)), "it takes long")
+# For tests that take many minutes, which nobody runs but by hand.
+thorough = unittest.skipUnless(os.environ.get("AIDE_THOROUGH"), "only with AIDE_THOROUGH=1: it takes many minutes")
+
+
+def new_seed() -> int:
+    """The seed of random tests: another one each time, or that of AIDE_SEED, to repeat a failure, which names it."""
+    return int(os.environ.get("AIDE_SEED") or random.SystemRandom().randrange(10**9))
+
+
+class AnswerTest(unittest.TestCase):
+    """A test of answers."""
+
+    def add(self, label, faults):
+        """No fault was found."""
+        with self.subTest(label):
+            if faults:
+                self.fail("\n".join(faults))
+
+    def check(self, label, got, want):
+        """The answer of a program is the wanted one."""
+        self.add(label, difference(got, want))
+
+    def holds(self, label, good, got=""):
+        """Something is so; `got` is shown if it is not."""
+        with self.subTest(label):
+            self.assertTrue(good, got)
+
+
+class ProgramTest(AnswerTest):
+    """A test of the programs that were built."""
+
+    def setUp(self) -> None:
+        program = find_program()
+        if program is None:
+            self.skipTest(reason_without())
+        self.program = os.fsencode(program)
+        self.lines_program = os.fsencode(lines_program_of(program))

@@ -1,0 +1,28 @@
+"""The built programs that tests run: those of the environment variable AIDE_PROGRAM, or those of this repository."""
+from __future__ import annotations
+
+import os
+
+from tests.lib.scratch import TOP
+
+VARIABLE = "AIDE_PROGRAM"
+BUILT = os.path.join(TOP, "crates", "aide", "out", "aide")
+
+
+def find_program() -> str | None:
+    """The whole path of the program `aide`, if it is there."""
+    path = os.path.abspath(os.environ.get(VARIABLE) or BUILT)
+    return path if os.access(path, os.X_OK) else None
+
+
+def lines_program_of(program: str) -> str:
+    """The whole path of the program of lines that goes with a program `aide`: in the directory of its own crate, or beside it."""
+    directory, name = os.path.split(os.path.abspath(program))
+    if directory.endswith("/crates/aide/out"):
+        directory = os.path.join(directory, "..", "..", "aide_lines", "out")
+    return os.path.abspath(os.path.join(directory, "aide_lines" + name[len("aide") :]))
+
+
+def reason_without() -> str:
+    """Why a test is skipped that needs the program."""
+    return f"no program: {VARIABLE} names none, and {os.path.relpath(BUILT, TOP)} was not built"

@@ -1,0 +1,35 @@
+"""A folder of its own, in which a trial writes files and puts commands in place of others."""
+import os
+import shutil
+import tempfile
+
+TOP = os.path.dirname(os.path.dirname(os.path.dirname(os.path.abspath(__file__))))
+
+
+class Scratch:
+    def __init__(self, prefix):
+        self.make(prefix)
+
+    def make(self, prefix):
+        os.umask(0o022)  # Others have to read what root makes here, whatever umask the caller has.
+        self.root = tempfile.mkdtemp(prefix=prefix)
+        os.chmod(self.root, 0o755)
+
+    def path(self, *names):
+        return os.path.join(self.root, *names)
+
+    def write(self, name, text, mode=0o644):
+        """Writes a file. A link that a trial has left there is not followed: root would write a file of the machine."""
+        path = self.path(name)
+        os.makedirs(os.path.dirname(path), exist_ok=True)
+        with open(path, "wb", opener=lambda path, flags: os.open(path, flags | os.O_NOFOLLOW, 0o644)) as file:
+            file.write(text if isinstance(text, bytes) else text.encode())
+        os.chmod(path, mode)
+        return path
+
+    def stub(self, name, body, folder="stubs"):
+        """A command of the trials, found before that of the machine."""
+        return self.write(os.path.join(folder, name), "#!/bin/sh\n%s\n" % body, 0o755)
+
+    def remove(self):
+        shutil.rmtree(self.root, ignore_errors=True)
