@@ -1,0 +1,184 @@
+#!/usr/bin/env python3
+"""Nights of booted Debian machines with each mail system, by hand: what differs, and what is
+mailed.
+
+For each machine: `aide-compare setup`, then one night after the other. A night is an event,
+Debian's own daily check, and the units of the package. DIR keeps one file for each night, and the
+databases. It needs root, mmdebstrap and systemd-nspawn.
+"""
+from __future__ import annotations
+
+import json
+import re
+import shutil
+import sys
+import time
+from pathlib import Path
+
+from tools.lib.arguments import parser_of
+from tests.nights.machine import MAILERS, SUITES, Machine, make_base
+
+HERE = Path(__file__).parent
+NEW = "/var/lib/aide/aide.db.new"
+BASELINE = "/var/lib/aide/aide.db"
+WITHOUT = "/etc/aide-compare/without"
+QUEUE = "/var/tmp/mail"
+COUNTS = ("status", "added", "removed", "changed", "same", "recorded", "open", "open_high")
+LOG_IN = (
+    "ssh -q -i /root/.ssh/id_ed25519 -o StrictHostKeyChecking=no -o UserKnownHostsFile=/dev/null"
+)
+DAILY = """
+logger -p auth.info 'nights: a line'; logger -p mail.info 'nights: a line'; logger 'nights: a line'
+printf 'Subject: cron\\n\\na job said something\\n' | sendmail -oi root
+for unit in logrotate apt-daily man-db dpkg-db-backup systemd-tmpfiles-clean exim4-base; do
+    systemctl start $unit.service
+done
+for job in dpkg logrotate man-db exim4-base; do
+    [ ! -x /etc/cron.daily/$job ] || /etc/cron.daily/$job
+done
+for queue in 'exim4 -q' 'postqueue -f' 'dma -q'; do
+    command -v ${queue%% *} && $queue
+done
+sleep 3
+"""
+EVENTS = {
+    "first": "true",
+    "idle": DAILY,
+    "rotation": DAILY + "logrotate -f /etc/logrotate.conf\n" + DAILY,
+    "boot": "true",
+    "login": f"for user in anna root; do {LOG_IN} $user@127.0.0.1 'id; sleep 1'; done",
+    "install": "apt-get install -y nginx-light jq tree",
+    "upgrade": "unattended-upgrade -v",
+}
+NIGHTS = "first idle idle rotation rotation boot idle login install upgrade idle".split()
+MAIL_SECONDS = 60
+
+
+class Nights:
+    """The nights of one machine, and what came of them."""
+
+    def __init__(self, machine: Machine, results: Path, with_intruder: bool) -> None:
+        self.machine = machine
+        self.results = results
+        self.with_intruder = with_intruder
+        results.mkdir(parents=True, exist_ok=True)
+
+    def prepare(self, package: Path, debian: str) -> None:
+        """Everything that the events need later, so that no night needs a network."""
+        machine = self.machine
+        suite = SUITES[debian]
+        source = f"deb http://deb.debian.org/debian-security {suite}-security main\n"
+        machine.write("etc/apt/sources.list.d/security.list", source)
+        machine.chroot("apt-get", "update")
+        machine.chroot("apt-get", "install", "-y", "-d", "nginx-light", "jq", "tree")
+        machine.chroot("apt-get", "upgrade", "-y", "-d")
+        shutil.copy(package, machine.root / "var/tmp/aide-compare.deb")
+        machine.chroot("dpkg", "-i", "/var/tmp/aide-compare.deb")
+        machine.chroot("ssh-keygen", "-q", "-t", "ed25519", "-N", "", "-f", "/root/.ssh/id_ed25519")
+        (machine.root / QUEUE[1:]).mkdir()
+        for home, owner in (("root", "root"), ("home/anna", "anna")):
+            key = (machine.root / "root/.ssh/id_ed25519.pub").read_text()
+            machine.write(f"{home}/.ssh/authorized_keys", key, 0o600)
+            machine.chroot("chown", "-R", owner, f"/{home}/.ssh")
+            machine.chroot("chmod", "700", f"/{home}/.ssh")
+        machine.write("root/intruder.sh", (HERE / "intruder.sh").read_text(), 0o755)
+        # One digest instead of eleven: a check takes seconds then, and says as much.
+        machine.chroot("sed", "-i", "s/^Checksums = H$/Checksums = sha256/", "/etc/aide/aide.conf")
+
+    def set_up(self) -> None:
+        # What a machine has done on its first day, and never again.
+        self.machine.inside("systemctl", "start", "apt-listchanges.service")
+        done = self.machine.inside("aide-compare", "setup")
+        (self.results / "setup.txt").write_bytes(done.stdout + done.stderr)
+        if done.returncode:
+            raise RuntimeError(f"setup ended with {done.returncode}: {done.stderr!r}")
+
+    def night(self, number: int, event: str) -> None:
+        """One night, and its twin with an intruder; then the clean night is the baseline."""
+        if event == "boot":
+            self.machine.power_off()
+            self.machine.boot()
+        name = f"{number:02}-{event}"
+        done = self.machine.shell(EVENTS[event])
+        (self.results / f"{name}.event").write_bytes(done.stdout + done.stderr)
+        self.report(name, self.check())
+        kept = self.results / f"{name}.db"
+        shutil.copy(self.path(NEW), kept)
+        if self.with_intruder and event != "first":
+            marks = self.machine.inside("/root/intruder.sh", "plant").stdout.decode().split()
+            self.report(f"{name}-intruder", self.check(), marks)
+            self.machine.inside("/root/intruder.sh", "undo")
+        self.path(BASELINE).write_bytes(kept.read_bytes())
+
+    def path(self, name: str) -> Path:
+        return self.machine.root / name[1:]
+
+    def check(self) -> dict[str, str]:
+        """Debian's daily check, the comparison, and its mail. Returns the state as words."""
+        inside = self.machine.inside
+        inside("systemctl", "reset-failed")  # A check may start once in two hours.
+        if inside("systemctl", "start", "dailyaidecheck.service").returncode:
+            raise RuntimeError("AIDE's daily check was not started")
+        inside("systemctl", "start", "aide-compare.service")
+        time.sleep(3)
+        limit = time.monotonic() + MAIL_SECONDS
+        while time.monotonic() < limit:
+            if b"inactive" in inside("systemctl", "is-active", "aide-compare-mail.service").stdout:
+                break
+            time.sleep(1)
+        text = self.path("/var/lib/aide-compare/daily/state").read_text()
+        return dict(line.split("=", 1) for line in text.splitlines() if "=" in line)
+
+    def report(self, name: str, state: dict[str, str], marks: list[str] | None = None) -> None:
+        """Keeps the changes as lines and as the mail, and prints one line."""
+        inside = self.machine.inside
+        words = ["json", "--exclude-from", WITHOUT, BASELINE, NEW]
+        (self.results / f"{name}.json").write_bytes(inside("aide-compare", *words).stdout)
+        status = inside("aide-compare", "mail", "--queue", QUEUE).returncode
+        texts = sorted(self.path(QUEUE).glob("*.mail"))
+        text = texts[-1].read_text().partition("\n\n")[2] if texts else ""
+        for path in texts:
+            path.unlink()
+        (self.results / f"{name}.mail").write_text(text)
+        counts = {key: state[key] for key in COUNTS if state.get(key, "0") not in ("", "0")}
+        lines = len(text.splitlines())
+        said = f"{self.machine.name} {name}: {json.dumps(counts)}, mail {status}, {lines} lines"
+        if marks is not None:
+            first = "\n".join(text.splitlines()[:40])
+            missing = [
+                mark for mark in marks if not re.search(re.escape(mark) + r"(?![\w/.])", first)
+            ]
+            said += (
+                f", {len(marks)} marks, not in the first 40 lines: {' '.join(missing) or 'none'}"
+            )
+        print(said, flush=True)
+
+
+def main() -> int:
+    parser = parser_of("tests.nights.nights", __doc__)
+    parser.add_argument("--work", type=Path, required=True, help="a directory for the machines")
+    parser.add_argument("--package", type=Path, required=True, help="the package of aide-compare")
+    parser.add_argument("--debian", choices=SUITES, required=True)
+    parser.add_argument("--mailer", choices=MAILERS, required=True)
+    parser.add_argument("--intruder", action="store_true", help="each night has a twin")
+    parser.add_argument("--nights", nargs="+", choices=EVENTS, default=NIGHTS)
+    args = parser.parse_args()
+    make_base(args.work / f"base-{args.debian}", args.debian)
+    name = f"d{args.debian}-{args.mailer}"
+    machine = Machine(args.work / name, name)
+    nights = Nights(machine, args.work / "results" / name, args.intruder)
+    machine.make(args.work / f"base-{args.debian}", args.mailer)
+    try:
+        nights.prepare(args.package, args.debian)
+        machine.boot()
+        nights.set_up()
+        for number, event in enumerate(args.nights):
+            nights.night(number, event)
+    finally:
+        machine.power_off()
+        shutil.rmtree(machine.root, ignore_errors=True)
+    return 0
+
+
+if __name__ == "__main__":
+    sys.exit(main())

@@ -1,0 +1,23 @@
+"""A mail server for one machine: it takes each mail on port 2525, and throws it away."""
+import socketserver
+
+ANSWERS = {b"DATA": b"354 go on\r\n", b"QUIT": b"221 bye\r\n"}
+
+
+class Session(socketserver.StreamRequestHandler):
+    """One client, until it goes."""
+
+    def handle(self) -> None:
+        self.wfile.write(b"220 sink\r\n")
+        is_text = False
+        for line in self.rfile:
+            if is_text and line != b".\r\n":
+                continue
+            is_text = line[:4].upper() == b"DATA"
+            self.wfile.write(ANSWERS.get(line[:4].upper(), b"250 taken\r\n"))
+
+
+def serve() -> None:
+    """Serves clients until somebody ends it."""
+    socketserver.ThreadingTCPServer.allow_reuse_address = True
+    socketserver.ThreadingTCPServer(("127.0.0.1", 2525), Session).serve_forever()
