@@ -1,0 +1,51 @@
+"""What accounts for a change: the old entry, that of a trusted machine, or nothing."""
+from .attributes import ATTRIBUTES
+
+# What each machine has of its own. The size and the link count of a directory follow from the names in it.
+OWN = frozenset(["a", "m", "c", "i", "b"])
+OWN_OF_DIRECTORIES = OWN | {"s", "n"}
+DIGESTS = frozenset(attribute.name for attribute in ATTRIBUTES if isinstance(attribute.form, tuple))
+# The digests of at least 256 bits by which two files may be the same. The ways to attack GOST are known.
+STRONG = frozenset(
+    ["sha256", "sha512", "whirlpool", "stribog256", "stribog512", "sha512_256", "sha3_256", "sha3_512"]
+)
+
+
+def type_bits(entry):
+    """The bits of the file type of an entry, None where it has no type."""
+    return entry["ftype"] >> 12 if "ftype" in entry else None
+
+
+def same_kept(first, second, kind):
+    """Whether two entries have the same in all that is neither a digest nor a machine's own."""
+    own = OWN_OF_DIRECTORIES if kind == 0o04 else OWN
+    kept = [attribute.name for attribute in ATTRIBUTES if attribute.name not in own | DIGESTS]
+    return all(
+        (name in first) == (name in second) and first.get(name) == second.get(name) for name in kept
+    )
+
+
+def agree(first, second):
+    """Whether two entries differ only in what each machine has of its own, and in digests that one lacks."""
+    kind = type_bits(first)
+    if kind is None or kind != type_bits(second):
+        return False
+    common = [name for name in DIGESTS if name in first and name in second]
+    if any(first[name] != second[name] for name in common):
+        return False
+    if kind == 0o10 and not STRONG.intersection(common):
+        return False
+    if kind == 0o12 and (first.get("l") is None or second.get("l") is None):
+        return False
+    return same_kept(first, second, kind)
+
+
+def same_as(old, new, trusted_old=None, trusted_new=None):
+    """What accounts for a change: 'old', 'trusted' or None. An argument is an entry, or None for no entry."""
+    if old is not None and new is not None and agree(old, new):
+        return "old"
+    if new is not None and trusted_new is not None and agree(new, trusted_new):
+        return "trusted"
+    if old is not None and new is None and trusted_old is not None and trusted_new is None:
+        return "trusted"
+    return None

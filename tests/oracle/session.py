@@ -1,0 +1,184 @@
+"""What a session answers: standard output, standard error and a status."""
+from collections import namedtuple
+
+from . import configuration
+from .database import database_of, first_fault
+from .report import report_of
+from .texts import printed
+
+CONFIGURATION_LIMIT = 4194304
+USAGE, BAD_CONFIGURATION, BAD_DEVICE, NO_MEMORY, BAD_DATABASE = 15, 17, 18, 22, 24
+USAGE_LINE = b"aide: usage: aide (-E | -D) -c FILE [-B TEXT] [-A TEXT]"
+CONFIGURATION_WORDS = {
+    "BadDirective": "unknown directive",
+    "LeftOut": "left out of this profile",
+    "StrayElse": "@@else without a block",
+    "StrayEndif": "@@endif without a block",
+    "MissingEndif": "missing @@endif",
+    "TooDeep": "blocks nested too deep",
+    "BadName": "bad name",
+    "UnknownAttribute": "unknown attribute",
+    "BadExpression": "bad expression",
+    "BadValue": "bad value",
+    "BadUrl": "bad database URL",
+    "LineTooLong": "line too long",
+    "ValueTooLong": "value too long",
+    "TooMany": "too many definitions",
+    "BadLine": "line not understood",
+    "NoOldDatabase": "no old database",
+    "NoNewDatabase": "no new database",
+}
+DATABASE_WORDS = {
+    "LineTooLong": "line too long",
+    "NoBegin": "no @@begin_db",
+    "BadDirective": "unexpected directive",
+    "BadSpec": "bad @@db_spec",
+    "NoSpec": "no @@db_spec",
+    "FieldCount": "wrong number of fields",
+    "BadName": "bad name",
+    "OutOfOrder": "entry out of path order",
+    "BadNumber": "bad number in column",
+    "BadTime": "bad time in column",
+    "BadDigest": "bad digest in column",
+    "NoEnd": "no @@end_db",
+    "TooManyBytes": "too many bytes",
+}
+LETTERS = {"E": "compare", "D": "config-check", "c": "config", "B": "before", "A": "after"}
+OPTIONS = list(LETTERS.values())
+FLAGS = ["compare", "config-check"]
+TRUSTED = ["trusted-old", "trusted-new"]
+
+Answer = namedtuple("Answer", "output errors status")
+
+
+class Unread:
+    """In place of the bytes of a file that opens and cannot be read, as a folder."""
+
+
+def option_of(word, known):
+    """The options that a word names, and the value that it brings along or None; no options where it is out of form."""
+    if word.startswith(b"--"):
+        name, sign, value = word[2:].partition(b"=")
+        name = name.decode("latin-1")
+        return ([name], value if sign else None) if name in known else ([], None)
+    names = []
+    for index in range(1, len(word)):
+        name = LETTERS.get(chr(word[index]))
+        if name not in known:
+            return [], None
+        names.append(name)
+        if name not in FLAGS:
+            value = word[index + 1 :]
+            return names, (value[1:] if value.startswith(b"=") else value) if value else None
+    return names, None
+
+
+def options_of(words, known):
+    """The known options of a command line as a map, None where it is not understood. A value may not begin with a hyphen."""
+    given, rest = {}, list(words)
+    while rest:
+        word = rest.pop(0)
+        if word == b"--" and not rest:
+            break
+        names, value = option_of(word, known) if len(word) > 1 and word.startswith(b"-") and word != b"--" else ([], None)
+        if not names or names[-1] in FLAGS and value is not None:
+            return None
+        if names[-1] not in FLAGS and value is None:
+            if not rest or len(rest[0]) > 1 and rest[0].startswith(b"-"):
+                return None
+            value = rest.pop(0)
+        for name in names:
+            if name in given:
+                return None
+            given[name] = value
+    return given
+
+
+def job_of(words):
+    """The options of a command line of `aide`, None where it is not understood."""
+    job = options_of(words, OPTIONS)
+    if job is None or "config" not in job:
+        return None
+    return job if ("compare" in job) != ("config-check" in job) else None
+
+
+def job_beside(words):
+    """The options of a command line that may name a trusted pair: both databases of it, and then only for a comparison."""
+    job = options_of(words, OPTIONS + TRUSTED)
+    if job is None or not any(name in job for name in TRUSTED):
+        return job_of(words)
+    is_whole = all(name in job for name in ["compare", "config", *TRUSTED])
+    return job if is_whole and "config-check" not in job else None
+
+
+def refused(line, status):
+    return Answer(b"", b"aide: " + line + b"\n", status)
+
+
+def read_database(name, path, files):
+    """The text of a database by its name, or the answer to its first fault."""
+    text = files(path)
+    if text is None:
+        return refused(b"cannot open the %s database %s" % (name, printed(path)), BAD_DEVICE)
+    if text is Unread:
+        return refused(b"%s database:1: read failed" % name, BAD_DEVICE)
+    fault = first_fault(text)
+    if fault is None:
+        return text
+    words = DATABASE_WORDS[fault.kind] + (" %d" % fault.column if fault.column else "")
+    return refused(b"%s database:%d: %s" % (name, fault.line, words.encode()), BAD_DATABASE)
+
+
+def compare(settings, files, written):
+    """The answer of a comparison under good settings: `written` gives what goes out, and the status.
+
+    The first fault counts, of the old database, then of the new one, and then of a trusted pair if one is named.
+    """
+    paths = [(b"old", settings["database_in"]), (b"new", settings["database_new"])]
+    paths += zip((b"trusted old", b"trusted new"), settings["trusted"])
+    texts = []
+    for name, path in paths:
+        texts.append(read_database(name, path, files))
+        if isinstance(texts[-1], Answer):
+            return texts[-1]
+    old, new = (database_of(text) for text in texts[:2])
+    output, status = written(old, new, texts, settings)
+    errors = b"".join(
+        b"aide: %s database: column %d skipped\n" % (side, column)
+        for side, database in ((b"old", old), (b"new", new))
+        for column in database.skipped
+    )
+    return Answer(output, errors, status)
+
+
+def says_nothing(settings):
+    return b""
+
+
+def answer_of(words, files, written=report_of, checked=says_nothing, read=job_of):
+    """The answer to the words of a command line, the program's name aside.
+
+    `files` gives the bytes of a path, None for a file that is not there, and `Unread` for one that cannot be read. A
+    comparison puts out what `written` gives, and a check of the configuration what `checked` gives. `read` reads the words.
+    """
+    try:
+        for word in words:
+            word.decode("utf-8")
+    except UnicodeDecodeError:
+        return refused(b"out of memory", NO_MEMORY)
+    job = read(words)
+    if job is None:
+        return Answer(b"", USAGE_LINE + b"\n", USAGE)
+    text = files(job["config"])
+    if text is None or text is Unread:
+        return refused(b"cannot read the configuration " + printed(job["config"]), BAD_DEVICE)
+    if len(text) > CONFIGURATION_LIMIT:
+        return refused(b"the configuration is longer than %d bytes" % CONFIGURATION_LIMIT, BAD_CONFIGURATION)
+    settings = configuration.read(job.get("before", b""), text, job.get("after", b""), "compare" in job)
+    if isinstance(settings, configuration.Fault):
+        words_of_fault = CONFIGURATION_WORDS[settings.kind]
+        return refused(("%s:%d: %s" % (settings.text, settings.line, words_of_fault)).encode(), BAD_CONFIGURATION)
+    if "compare" not in job:
+        return Answer(checked(settings), b"", 0)
+    trusted = [job[name] for name in TRUSTED if name in job]
+    return compare({**settings, "trusted": trusted}, files, written)
