@@ -1,0 +1,142 @@
+"""A copy of what is installed from, a folder to install to, and the counts."""
+import hashlib
+import os
+import shutil
+import stat
+import subprocess
+
+from tests.lib.scratch import TOP as HERE, Scratch
+from tests.lib.tally import Tally, lines_program_of
+
+PARTS = [
+    "commands",
+    "contrib",
+    "docs",
+    "examples/small_tree",
+    "man",
+    "README.md",
+    "CHANGELOG.md",
+    "SECURITY.md",
+    "VERSION",
+    "packaging",
+]
+NOBODY = 65534
+# What the scripts may need: the base system without a compiler, git, dpkg-deb or rt.
+NEEDED = """[ awk basename cat chmod cmp comm cp cut date dirname env find grep gzip head id ln ls md5sum mkdir mktemp mv printf
+python3 readlink rm rmdir sed sh sha256sum sort tail tar touch tr uniq wc xargs""".split()
+
+
+class Trial(Scratch, Tally):
+    """Each trial installs below a folder of its own from a copy that it may change."""
+
+    def __init__(self, program):
+        Scratch.__init__(self, "try-install-")
+        Tally.__init__(self)
+        self.program = self.copied_programs(program, "built programs", "aide")
+        self.newer = [self.make_newer(one) for one in (self.program, lines_program_of(self.program))]
+        self.source = self.copy("source")
+        with open(os.path.join(self.source, "VERSION")) as file:
+            self.version = file.read().strip()
+        self.plain_path = self.make_plain_path()
+
+    def copied_programs(self, program, folder, name):
+        """The path of a copy of the program in a new folder, with the program of lines beside it."""
+        os.mkdir(self.path(folder))
+        shutil.copy(lines_program_of(program), self.path(folder, name.replace("aide", "aide_lines")))
+        return shutil.copy(program, self.path(folder, name))
+
+    def make_newer(self, program):
+        """A program beside another that stands for its build for newer processors, with the record of a proof."""
+        with open(program, "rb") as file:
+            data = file.read() + bytes(1)
+        digest = hashlib.sha256(data).hexdigest()
+        self.write(program + "-v3.proved", "sha256=%s\nkit=a kit\n" % digest)
+        with open(program + "-v3", "wb") as file:
+            file.write(data)
+        os.chmod(program + "-v3", 0o755)
+        return program + "-v3"
+
+    def copy(self, name):
+        """A copy of the parts of the repository that are installed or that install."""
+        target = self.path(name)
+        for part in PARTS:
+            source = os.path.join(HERE, part)
+            os.makedirs(os.path.dirname(os.path.join(target, part)), exist_ok=True)
+            if os.path.isdir(source):
+                shutil.copytree(source, os.path.join(target, part), ignore=shutil.ignore_patterns("__pycache__"))
+            else:
+                shutil.copy2(source, os.path.join(target, part))
+        subprocess.run(["chmod", "-R", "a+rX", target], check=True)
+        return target
+
+    def make_plain_path(self):
+        """A folder for PATH with few programs: neither rt nor dpkg-deb is found through it."""
+        folder = self.path("programs")
+        os.makedirs(folder)
+        for name in NEEDED:
+            found = shutil.which(name)
+            if found:
+                os.symlink(found, os.path.join(folder, name))
+        return folder
+
+    def skip(self, what):
+        print("skipped:", what)
+
+    def run(self, words, **more):
+        """The status and both outputs of a command."""
+        done = subprocess.run(words, stdin=subprocess.DEVNULL, stdout=subprocess.PIPE, stderr=subprocess.PIPE, **more)
+        return done.returncode, done.stdout.decode(errors="replace"), done.stderr.decode(errors="replace")
+
+    def install(self, *words, source=None, shell=("sh",), **more):
+        """Runs packaging/install of a copy, in a folder that is not the repository."""
+        script = os.path.join(source or self.source, "packaging", "install")
+        return self.run([*shell, script, *words], cwd=self.root, **more)
+
+    def installed(self, name, *words):
+        """Installs the program below a new folder, and gives what lies there."""
+        folder = self.path(name)
+        done = self.install("--destdir", folder, "--program", self.program, *words)
+        self.holds("install into " + name, done[0] == 0 and done[2] == "", done)
+        return tree(folder)
+
+    def plain(self):
+        return dict(os.environ, PATH=self.plain_path)
+
+
+def tree(folder):
+    """Every path below a folder: its permissions, with its bytes if it is a file."""
+    found = {}
+    for above, folders, files in os.walk(folder):
+        for name in folders + files:
+            path = os.path.join(above, name)
+            mode = stat.S_IMODE(os.lstat(path).st_mode)
+            if os.path.isdir(path):
+                found[os.path.relpath(path, folder)] = (mode, None)
+            else:
+                with open(path, "rb") as file:
+                    found[os.path.relpath(path, folder)] = (mode, file.read())
+    return found
+
+
+def files(found):
+    return {path: kept for path, kept in found.items() if kept[1] is not None}
+
+
+def texts(found):
+    """The files that are text, as text."""
+    result = {}
+    for path, (_, data) in sorted(files(found).items()):
+        if b"\0" not in data:
+            result[path] = data.decode(errors="replace")
+    return result
+
+
+def rights():
+    """For a child process that is to have no more rights than nobody."""
+    return {"preexec_fn": as_nobody} if os.getuid() == 0 else {}
+
+
+def as_nobody():
+    os.setgroups([])
+    os.setgid(NOBODY)
+    os.setuid(NOBODY)
