@@ -1,0 +1,125 @@
+#!/usr/bin/env python3
+"""Writes what the definitions answer into stored cases: whole sessions, each in one file, with their answers.
+
+A case begins with a sentence that says what it shows. Then come sections, each under a line `-- NAME --`: `words` (the
+arguments, with blanks between), files of the folder in which the case is run (`conf`, `old`, `new`), and the right answer:
+`stdout` and `stderr`, which are left out where they are empty, and a line `-- status NUMBER --`. `/@DIR@` is replaced by
+the folder. A section `NAME (escaped)` is read as one line, with backslashes as in C. So is each argument.
+"""
+import glob
+import os
+import re
+import tempfile
+from collections import namedtuple
+
+from tests.oracle.session import Answer
+from tools.lib.arguments import parser_of
+from tests.lib.tally import wanted, wanted_lines
+
+HEADER = re.compile(r"^-- (\w+)( \(escaped\)| \d+)? --$")
+ANSWERS = ["stdout", "stderr", "status"]
+FOLDER = os.path.join(os.path.dirname(os.path.abspath(__file__)), "cases")
+# The cases of the program of lines, beside those of the report.
+LINES = "cases_of_lines"
+DIR = b"/@DIR@"
+
+Case = namedtuple("Case", "title sections")
+
+
+def lines_of(text):
+    return re.findall(r"[^\n]*\n|[^\n]+", text)
+
+
+def unescaped(text):
+    return text.encode("ascii").decode("unicode_escape").encode("latin-1")
+
+
+def escaped(text):
+    return text.decode("latin-1").encode("unicode_escape").decode()
+
+
+def parse(text):
+    """The title of a case and its sections as bytes."""
+    title, sections, name = [], {}, None
+    for line in lines_of(text):
+        found = HEADER.match(line.rstrip("\n"))
+        if found:
+            name, more = found.group(1), found.group(2) or ""
+            is_escaped = more == " (escaped)"
+            sections[name] = more.encode() if name == "status" else b""
+        elif name is None:
+            title.append(line)
+        else:
+            sections[name] += unescaped(line.rstrip("\n")) if is_escaped else line.encode()
+    return Case("".join(title), sections)
+
+
+def is_plain(text):
+    """Whether a text stands in a case as it is."""
+    try:
+        lines = text.decode("utf-8").split("\n")
+    except UnicodeDecodeError:
+        return False
+    return lines[-1] == "" and all(line.replace("\t", "").isprintable() and not HEADER.match(line) for line in lines)
+
+
+def printed(case):
+    parts = [case.title]
+    for name, text in case.sections.items():
+        if name == "status":
+            parts.append("-- status %d --\n" % int(text))
+        elif is_plain(text):
+            parts.append("-- %s --\n%s" % (name, text.decode()))
+        else:
+            lines = [line.encode("latin-1") for line in lines_of(text.decode("latin-1"))]
+            parts.append("-- %s (escaped) --\n%s" % (name, "".join(escaped(line) + "\n" for line in lines)))
+    return "".join(parts)
+
+
+def answers_in(case, folder, answer):
+    """Runs a case in a folder: `answer` is asked for its words."""
+    for name, text in case.sections.items():
+        if name not in ANSWERS + ["words"]:
+            with open(os.path.join(folder, name.encode()), "wb") as file:
+                file.write(text.replace(DIR, folder) if name == "conf" else text)
+    return answer([unescaped(word).replace(DIR, folder) for word in case.sections["words"].decode().split()])
+
+
+def stored(case, folder):
+    output, errors, status = (case.sections.get(name, b"").replace(DIR, folder) for name in ANSWERS)
+    return Answer(output, errors, int(status))
+
+
+def read(path):
+    with open(path, encoding="utf-8") as file:
+        return parse(file.read())
+
+
+def write(path):
+    """Writes what the definitions answer into a case, those of lines if it is one of these."""
+    case = read(path)
+    with tempfile.TemporaryDirectory() as folder:
+        folder = folder.encode()
+        is_of_lines = os.path.basename(os.path.dirname(os.path.abspath(path))) == LINES
+        answer = answers_in(case, folder, wanted_lines if is_of_lines else wanted)
+        sections = {name: text for name, text in case.sections.items() if name not in ANSWERS}
+        texts = [answer.output, answer.errors, b"%d" % answer.status]
+        sections.update((name, text.replace(folder, DIR)) for name, text in zip(ANSWERS, texts) if text)
+        case = Case(case.title, sections)
+    with open(path, "w", encoding="utf-8") as file:
+        file.write(printed(case))
+
+
+def all_cases():
+    return sorted(glob.glob(os.path.join(FOLDER, "*", "*.case")))
+
+
+def main():
+    parser = parser_of("tests.program.cases", __doc__)
+    parser.add_argument("cases", nargs="+", metavar="CASE", help="a stored case, into which the answers are written")
+    for path in parser.parse_args().cases:
+        write(path)
+
+
+if __name__ == "__main__":
+    main()

@@ -1,0 +1,73 @@
+"""Random sessions: a configuration, a command line and two databases. Session NUMBER of a seed is always the same one."""
+import collections
+import os
+import random
+import shutil
+import tempfile
+
+from tests.program.random_texts.configurations import random_configuration, random_words
+from tests.program.random_texts.databases import random_pair
+from tests.program.random_texts.trusted import random_four, random_words_beside
+from tests.lib.tally import difference, run, side_by_side, wanted
+
+
+def write(path, text):
+    with open(path, "wb") as file:
+        file.write(text)
+
+
+def make_session(seed, number, folder):
+    """Writes the files of a session and gives its words."""
+    pick = random.Random("%d %d" % (seed, number))
+    bad = pick.choice([0, 0, 0, 0.1, 0.5])
+    config = os.path.join(folder, b"conf")
+    write(config, random_configuration(pick, folder, bad))
+    for name, text in zip((b"old", b"new"), random_pair(pick)):
+        if pick.random() < 0.99:
+            write(os.path.join(folder, name), text)
+    return random_words(pick, config if pick.random() < 0.99 else config + b"x", bad)
+
+
+def make_session_beside(seed, number, folder):
+    """Writes the files of a session of four databases, of which two are trusted, and gives its words."""
+    pick = random.Random("%d %d beside" % (seed, number))
+    bad = pick.choice([0, 0, 0, 0, 0.3])
+    config = os.path.join(folder, b"conf")
+    write(config, random_configuration(pick, folder, bad))
+    for name, text in zip((b"old", b"new", b"trusted_old", b"trusted_new"), random_four(pick)):
+        if pick.random() < 0.997:
+            write(os.path.join(folder, name), text)
+    return random_words_beside(pick, folder, config, bad)
+
+
+def beside_definitions(program, words):
+    """The status that is wanted, and what is not as wanted."""
+    want = wanted(words)
+    return want.status, difference(run(program, words), want)
+
+
+def try_session(check, seed, number, top, make):
+    """The status that is wanted of a session, and what is not as wanted; `check` gives both for words."""
+    folder = os.path.join(top, b"%d" % number)
+    os.mkdir(folder)
+    words = make(seed, number, folder)
+    status, faults = check(words)
+    if not faults:
+        shutil.rmtree(folder)
+    else:
+        faults.append("its files are in %s, its words are %r" % (os.fsdecode(folder), words))
+    return status, faults
+
+
+def try_sessions(check, seed, numbers, jobs, tally, make=make_session):
+    """Tries so many sessions, which `make` writes; the files of those that went wrong are kept. Gives how many wanted
+    which status."""
+    top = tempfile.mkdtemp(prefix="sessions-").encode()
+    statuses = collections.Counter()
+    results = side_by_side(jobs, lambda number: try_session(check, seed, number, top, make), numbers)
+    for number, (status, faults) in zip(numbers, results):
+        tally.add("seed %d, session %d" % (seed, number), faults)
+        statuses[status] += 1
+    if not os.listdir(top):
+        os.rmdir(top)
+    return statuses

@@ -1,0 +1,202 @@
+"""Random configurations and command lines over three texts: before, the file and after."""
+from tests.oracle.attributes import EMPTY_NAMES, GROUPS, NAMES
+from tests.oracle.configuration import BOOL_OPTIONS, LEVELS, SET_OPTIONS, WITHOUT_EFFECT
+
+VARIABLES = [b"A", b"B", b"LEVEL", b"V_1", b"x" * 64]
+OWN_GROUPS = [b"mine", b"times", b">", b"L", b"E", b"g1"]
+BAD_LINES = [
+    b"hello",
+    b"p = s",
+    b"S=p",
+    b"a b = p",
+    b"@@foo",
+    b"@@",
+    b"@@ define A",
+    b"@@include /x",
+    b"@@ifhost h",
+    b"@@x_include /x",
+    b"@@if version_ge 1",
+    b"@@if",
+    b"@@if not",
+    b"@@if defined",
+    b"@@if defined A B",
+    b"@@if not not defined A",
+    b"@@ifdef",
+    b"@@ifdef A B",
+    b"@@ifdef A.B",
+    b"@@undef",
+    b"@@define",
+    b"@@define A=x",
+    b"@@define " + b"x" * 65 + b" 1",
+    b"@@define A " + b"y" * 4097,
+    b"@@else",
+    b"@@endif",
+    b"@@ifdef A",
+    b"@@iffoo",
+    b"report_quiet=",
+    b"report_quiet=YES",
+    b"grouped=",
+    b"grouped=no",
+    b"report_level=7",
+    b"report_format=json",
+    b"report_format=xml",
+    b"database_in=old",
+    b"database_in=stdin",
+    b"database_new=stdin:",
+    b"database=fd:3",
+    b"database_in=file://x/y",
+    b"database_new=http://x",
+    b"database_in=file:/\xff",
+    b"database_in=file:/" + b"p" * 4096,
+    b"mine = nope",
+    b"mine = p+",
+    b"mine =",
+    b"mine = p q",
+    b"mine = +p",
+    b"mine = p+-s",
+    b"report_force_attrs=p+nope",
+    b"report_force_attrs=p,s",
+    b"@@{A}@@define B x",
+    b"/" + b"x" * 65536,
+    b"database_out=",
+    b"log_level=",
+    b"@@{A",
+    b"verbose",
+    b"\xff\xfe=p",
+    b"a\r=p",
+    b"@@undef A B",
+    b"@@endifx",
+    b"@@Define A b",
+]
+
+
+def random_expression(pick):
+    names = NAMES + list(GROUPS) + EMPTY_NAMES + (["mine", "times"] if pick.random() < 0.05 else [])
+    text = pick.choice(names)
+    for _ in range(pick.choice([0, 0, 1, 2, 5])):
+        text += pick.choice(["+", "+", "-", " + ", "\t-"]) + pick.choice(names)
+    return text.encode()
+
+
+def random_option(pick):
+    name = pick.choice(["report_level", "report_level"] + BOOL_OPTIONS + SET_OPTIONS + SET_OPTIONS + ["other"])
+    if name == "report_level":
+        return b"report_level", pick.choice(LEVELS + LEVELS[4:]).encode()
+    if name in BOOL_OPTIONS:
+        return name.encode(), pick.choice([b"yes", b"no", b"true", b"false"])
+    if name in SET_OPTIONS:
+        return name.encode(), random_expression(pick)
+    return pick.choice(
+        [
+            (b"report_format", b"plain"),
+            (b"report_url", b"stdout"),
+            (b"report_url", b"syslog:LOG_AUTH"),
+            (pick.choice(WITHOUT_EFFECT).encode(), b"anything = at all"),
+        ]
+    )
+
+
+def random_line(pick):
+    """A line that mostly is good."""
+    way = pick.random()
+    if way < 0.5:
+        return pick.choice([b"=", b" = ", b"\t= "]).join(random_option(pick))
+    if way < 0.6:
+        return pick.choice(OWN_GROUPS) + b" = " + random_expression(pick)
+    if way < 0.65:
+        return b"@@define LEVEL " + pick.choice(LEVELS).encode()
+    if way < 0.75:
+        value = pick.choice([b"minimal", b"", b"summary", b"@@{A}", b"x @@{B} y", b"p+s", b"@@{NOPE}", b"yes", b"@@{A"])
+        return b"@@define " + pick.choice(VARIABLES) + b" " + value
+    if way < 0.8:
+        return b"@@undef " + pick.choice(VARIABLES)
+    if way < 0.9:
+        return pick.choice(
+            [b"", b"# comment", b"/etc R", b"!/tmp", b"=/x p", b"-x", b" \t", b"@@{NOPE}", b"@@{NOPE}# x", b"/@@{A}"]
+        )
+    if way < 0.99:
+        return pick.choice(
+            [b"@@{NOPE}report_grouped=no", b"report_level = @@{NOPE}summary", b"report_force_attrs = s@@{NOPE}+p"]
+        )
+    return pick.choice(
+        [b"report_level=@@{LEVEL}", b"report_quiet=@@{A}", b"@@{B}report_grouped=no", b"report_force_attrs=@@{V_1}+s"]
+    )
+
+
+def random_block(pick, depth=0):
+    """Lines with blocks among them."""
+    lines = []
+    for _ in range(pick.choice([0, 1, 2, 4])):
+        if pick.random() < 0.25 and depth < 4:
+            word = pick.choice([b"@@ifdef ", b"@@ifndef ", b"@@if defined ", b"@@if not defined ", b"@@if\tnot  defined\t"])
+            lines.append(word + pick.choice(VARIABLES + [b"NOPE"]))
+            lines += random_block(pick, depth + 1)
+            if pick.random() < 0.5:
+                lines += [pick.choice([b"@@else", b" @@else x"])] + random_block(pick, depth + 1)
+            lines.append(pick.choice([b"@@endif", b"\t@@endif x y "]))
+        else:
+            lines.append(random_line(pick))
+    return lines
+
+
+def random_text(pick, bad):
+    lines = random_block(pick)
+    if pick.random() < bad:
+        lines.insert(pick.randint(0, len(lines)), pick.choice(BAD_LINES))
+    if pick.random() < bad / 8:
+        opening = pick.choice([b"@@ifdef A", b"@@ifndef A", b"@@if defined A", b"@@if not defined NOPE"])
+        depth = pick.choice([32, 33])
+        lines = [opening] * depth + lines + [b"@@endif"] * depth
+    return b"\n".join(lines) + pick.choice([b"\n", b"\n", b""])
+
+
+def random_configuration(pick, folder, bad):
+    """The text of a configuration file that names two databases of a folder."""
+    named = [b"database_in=file:" + folder + b"/old", b"database_new = file://" + folder + b"/new"]
+    if pick.random() < 0.1:
+        named = [b"@@define DIR " + folder, b"database=file:@@{DIR}/old", b"database_new=file:@@{DIR}/./new"]
+    if pick.random() < 0.03:
+        del named[pick.randrange(len(named))]
+    text = random_text(pick, bad)
+    named = b"\n".join(named) + b"\n"
+    return named + text if pick.random() < 0.7 else text + b"\n" + named
+
+
+def random_words(pick, path, bad):
+    """A command line that reads the configuration at a path."""
+    compares = pick.random() < 0.93
+    flag = pick.choice([[b"-E"], [b"--compare"]] if compares else [[b"-D"], [b"--config-check"]])
+    config = pick.choice([[b"-c", path], [b"-c" + path], [b"--config", path], [b"--config=" + path], [b"-c=" + path]])
+    parts = [flag, config]
+    for short, long in ((b"-B", b"--before"), (b"-A", b"--after")):
+        if pick.random() < 0.4:
+            text = random_text(pick, bad / 4)
+            parts.append(pick.choice([[short + b"=" + text], [long + b"=" + text], [short, text], [long, text]]))
+    if pick.random() < bad / 4:
+        parts.append(
+            pick.choice(
+                [
+                    [b"-E"],
+                    [b"-D"],
+                    [b"extra"],
+                    [b"--help"],
+                    [b"-V"],
+                    [b"--limit", b"x"],
+                    [b"-B"],
+                    [b""],
+                    [b"--"],
+                    [b"-B", b"-x"],
+                    [b"-c", path],
+                    [b"--conf", path],
+                    [b"-A", b"-"],
+                    [b"-A="],
+                    [b"--compare=x"],
+                    [b"\xff"],
+                ]
+            )
+        )
+    pick.shuffle(parts)
+    is_short = len(flag[0]) == 2 and config[0].startswith(b"-c")
+    if is_short and parts[:2] == [flag, config] and pick.random() < 0.3:
+        parts[:2] = [[flag[0] + config[0][1:]] + config[1:]]
+    return [word for part in parts for word in part]

@@ -1,0 +1,307 @@
+"""Random pairs of databases: all columns, all forms of fields, edits between the two, and faults of every kind."""
+import base64
+
+from tests.oracle.attributes import ATTRIBUTES
+from tests.oracle.database import order_of
+
+PIECES = [
+    b"",
+    b"a",
+    b"b",
+    b"a-b",
+    b"a.b",
+    b"ab",
+    b"B",
+    b"etc",
+    b"%41",
+    b"%zz",
+    b"#x",
+    b"@",
+    b"a b",
+    b"\xc3\xa9",
+    b"\xff",
+    b"\x01",
+    b"\n",
+    b"\\",
+    b"\x7f",
+    b"0",
+]
+NUMBERS = [0, 1, -1, 7, 10, 4096, 1234567890, 2**31, 2**63 - 1, 2**63, 2**64 - 1, -(2**63)]
+MODES = [
+    0o100644,
+    0o100755,
+    0o100600,
+    0o40755,
+    0o120777,
+    0o20600,
+    0o60660,
+    0o10644,
+    0o140755,
+    0o644,
+    0o100000,
+    0o4100755,
+    0o170644,
+    0o37777777777,
+    0,
+]
+BITS = [0, 0, 2**64 - 1, 4095, 4094, 316, 2**40 + 36, 32]
+LINKS = [
+    None,
+    None,
+    b"",
+    b"0",
+    b"0-",
+    b"00",
+    b"target",
+    b"../x y",
+    b"%41",
+    b"\xff",
+    b"a\nb",
+    b"\\",
+    b"x" * 32,
+    b"x" * 33,
+    b"-",
+]
+OPAQUE = [
+    b"1",
+    b"abc",
+    b"0-",
+    b"POSIX\\x",
+    b"\xc3\xa9",
+    b"\x01\x02",
+    b"x" * 31,
+    b"x" * 32,
+    b"x" * 33,
+    b"#",
+    b"%41",
+    b"POSIX,dXNlcg==,0",
+]
+UNKNOWN = [b"foo", b"caps", b"ftype", b"Size", b"linkcount", b"foo", b"l", b"%6eame"]
+BAD_FIELDS = {
+    "number": [b"18446744073709551616", b"-9223372036854775809", b"+1", b"-", b"x", b"1x", b"1.0", b"--1", b"0x1"],
+    "mode": [b"40000000000", b"8", b"-1", b"0o7", b"x", b"100648"],
+    "time": [
+        b"x!",
+        b"MTA",
+        b"MTA==",
+        b"MTB=",
+        b"1x",
+        b"-",
+        b"18446744073709551616",
+        b"TVRBPQ==",
+        b"=",
+        b"MDAwMDAwMDAwMDAwMDAwMDAwMDAwMDAwMDAwMDAwMDAwMDE=",
+    ],
+    "digest": [b"1", b"00", b"AAA", b"AAAA!", b"AAB=", b"====", b"QQ", b"A" * 43 + b"=A", b"A" * 92],
+}
+BREAKS = [
+    "cut",
+    "byte",
+    "drop",
+    "double",
+    "exchange",
+    "field",
+    "field",
+    "field",
+    "field",
+    "field",
+    "field",
+    "order",
+    "more",
+    "less",
+    "name",
+    "spec",
+    "stray",
+    "long",
+]
+BAD_SPECS = [b"", b" size", b" name name", b" name size size", b" name" + b" x" * 64, b" Name size"]
+STRAYS = [b"@@begin_db", b"@@db_spec name", b"@@foo", b"@@", b"@@end_dbx", b"@@end_db", b"@ x", b"/a", b"x"]
+
+
+def random_path(pick):
+    return b"/" + b"/".join(pick.choice(PIECES) for _ in range(pick.randint(1, 3)))
+
+
+def random_digest(pick, least, most):
+    if pick.random() < 0.3:
+        return None
+    size = pick.randint(least, most)
+    return pick.choice([bytes(size), b"\xab" * size, bytes(pick.getrandbits(8) for _ in range(size))])
+
+
+def random_value(pick, form):
+    """A value of a form, and None where an entry has none."""
+    if form in ("type", "perm"):
+        return pick.choice(MODES)
+    if form in ("number", "time"):
+        return pick.choice(NUMBERS)
+    if form == "link":
+        return pick.choice(LINKS)
+    if form == "opaque":
+        return pick.choice([None] + OPAQUE)
+    return random_digest(pick, *form)
+
+
+def escaped(pick, name):
+    """One of the spellings of a name."""
+    often = pick.choice([0, 0, 0.3])
+    must = b" \t\n%"
+    return b"".join(b"%%%02x" % byte if byte in must or pick.random() < often else bytes([byte]) for byte in name)
+
+
+def spelled_number(pick, number):
+    digits = b"%d" % abs(number)
+    noughts = b"0" * (5000 if pick.random() < 0.002 else pick.choice([0, 0, 0, 1, 2, 25]))
+    return (b"-" if number < 0 or number == 0 and pick.random() < 0.1 else b"") + noughts + digits
+
+
+def spelled(pick, form, value):
+    """One of the spellings of a value."""
+    if form in ("type", "perm"):
+        return b"0" * pick.choice([0, 0, 1, 20]) + b"%o" % value
+    if form == "number":
+        return spelled_number(pick, value)
+    if form == "time":
+        number = spelled_number(pick, value)
+        text = base64.b64encode(number)
+        return text if pick.random() < 0.6 and len(text) <= 44 else number
+    if form == "link":
+        if not value:
+            return b"0" if value is None else b"0-"
+        return b"0" + escaped(pick, value) if value.startswith(b"0") else escaped(pick, value)
+    if form == "opaque" or value is None:
+        return value or b"0"
+    return base64.b64encode(value)
+
+
+def random_row(pick, columns):
+    """Values for the columns that have a form."""
+    return {column: random_value(pick, form) for column, form in columns if form not in ("name", "attr", "unknown")}
+
+
+def random_columns(pick):
+    """The columns of a database as (column, form) pairs, the name's form being 'name'."""
+    known = {attribute.column.encode(): attribute.form for attribute in ATTRIBUTES}
+    count = pick.choice([0, 1, 2, 4, 8, len(known)])
+    columns = pick.sample(sorted(known.items()), count) + [(b"name", "name")]
+    if pick.random() < 0.6:
+        columns.append((b"attr", "attr"))
+    if pick.random() < 0.2:
+        columns += [(name, "unknown") for name in pick.sample(UNKNOWN, pick.randint(1, 4))]
+    if pick.random() < 0.8:
+        pick.shuffle(columns)
+    return columns
+
+
+def random_entries(pick, columns):
+    """A map from paths to rows of values."""
+    bits = pick.choice(BITS)
+    entries = {}
+    for _ in range(pick.choice([0, 1, 2, 3, 6, 10])):
+        row = random_row(pick, columns)
+        row[b"attr"] = bits if pick.random() < 0.8 else pick.getrandbits(12)
+        entries[random_path(pick)] = row
+    return entries
+
+
+def edited(pick, columns, entries):
+    """The same entries, some of them changed, gone or new."""
+    few = pick.choice([0, 0.1, 0.4])
+    kept = {path: dict(row) for path, row in entries.items() if pick.random() >= few}
+    kept.update((path, row) for path, row in random_entries(pick, columns).items() if pick.random() < few)
+    for row in kept.values():
+        for column, form in columns:
+            if form == "attr" and pick.random() < few:
+                row[b"attr"] = row[b"attr"] ^ 1 << pick.randrange(13)
+            elif form not in ("name", "attr", "unknown") and pick.random() < few:
+                row[column] = random_value(pick, form)
+    return kept
+
+
+def line_of(pick, columns, path, row):
+    fields = []
+    for column, form in columns:
+        if form == "name":
+            fields.append(escaped(pick, path))
+        elif form == "attr":
+            fields.append(b"%d" % row[b"attr"])
+        else:
+            fields.append(pick.choice([b"x", b"0", b"\xff"]) if form == "unknown" else spelled(pick, form, row[column]))
+    blank = pick.choice([b" ", b" ", b" ", b"\t", b"  \t"])
+    return pick.choice([b"", b"", b"", b" "]) + blank.join(fields) + pick.choice([b"", b"", b" ", b"\t"])
+
+
+def lines_of_database(pick, columns, entries):
+    lines = [b"@@begin_db" + pick.choice([b"", b"", b" now"])]
+    lines.append(b"@@db_spec " + b" ".join(column for column, _ in columns))
+    lines += [line_of(pick, columns, path, entries[path]) for path in sorted(entries, key=order_of)]
+    lines.append(pick.choice([b"@@end_db", b"@@end_db", b" @@end_db x"]))
+    for _ in range(pick.choice([0, 0, 0, 1, 3])):
+        lines.insert(pick.randint(0, len(lines)), pick.choice([b"", b" \t", b"# comment", b"\t#", b"#"]))
+    return lines
+
+
+def bad_field(pick, columns, lines):
+    """The lines with a field that has not its column's form."""
+    whole = [place for place, line in enumerate(lines) if b"/" in line and not line.strip().startswith((b"@", b"#"))]
+    place, column = pick.choice(whole or [0]), pick.randrange(len(columns))
+    fields, form = lines[place].split(), columns[column][1]
+    if form in ("type", "perm"):
+        form = "mode"
+    elif isinstance(form, tuple):
+        form = "digest"
+    if len(fields) == len(columns):
+        fields[column] = pick.choice(BAD_FIELDS.get(form, BAD_FIELDS["number"]))
+        lines[place] = b" ".join(fields)
+
+
+def broken(pick, columns, lines, text, way):
+    """A text with something done to it that mostly makes it faulty."""
+    place, other = pick.randrange(len(lines)), pick.randrange(len(lines))
+    if way == "cut":
+        return text[: pick.randint(0, len(text))]
+    if way == "byte":
+        at = pick.randrange(len(text))
+        return text[:at] + pick.choice([b"\n", b" ", b"@", b"#", b"/", b"\0", b"%", b"0", b"\r", b"="]) + text[at + 1 :]
+    if way == "drop":
+        del lines[place]
+    elif way == "double":
+        lines.insert(place, lines[place])
+    elif way == "exchange":
+        lines[place], lines[other] = lines[other], lines[place]
+    elif way == "field":
+        bad_field(pick, columns, lines)
+    elif way == "order":
+        pick.shuffle(lines)
+    elif way == "more":
+        lines[place] += b" 0"
+    elif way == "less":
+        lines[place] = lines[place].rpartition(b" ")[0]
+    elif way == "name":
+        lines[place] = lines[place].replace(b"/", pick.choice([b"%2f", b"a", b"%2"]), 1)
+    elif way == "spec":
+        lines = [b"@@db_spec" + pick.choice(BAD_SPECS) if line.startswith(b"@@db_spec") else line for line in lines]
+    elif way == "stray":
+        lines.insert(place, pick.choice(STRAYS))
+    elif way == "long":
+        length = pick.choice([1048573, 1048574, 1048575, 1048576, 70000])
+        lines.insert(place, pick.choice([b"#", b"/a "]) + b"x" * length)
+    return b"\n".join(lines) + b"\n"
+
+
+def random_pair(pick):
+    """The texts of an old and a new database."""
+    columns = random_columns(pick)
+    entries = random_entries(pick, columns)
+    later = columns if pick.random() < 0.7 else random_columns(pick)
+    rows = {path: {**random_row(pick, later), **row} for path, row in entries.items()}
+    texts = []
+    for side, known in ((columns, entries), (later, edited(pick, later, rows))):
+        lines = lines_of_database(pick, side, known)
+        text = b"\n".join(lines) + pick.choice([b"\n", b"\n", b"", b"\nrest\n@@begin_db\n"])
+        if pick.random() < 0.15:
+            text = broken(pick, side, lines, text, pick.choice(BREAKS))
+        texts.append(text)
+    if pick.random() < 0.3:
+        texts.reverse()
+    return texts if pick.random() < 0.95 else [texts[0], texts[0]]

@@ -1,0 +1,100 @@
+"""Random databases of a trusted machine beside a random pair: its entries are often those of the pair, in its own state."""
+import os
+
+from tests.oracle.attributes import ATTRIBUTES
+
+from .configurations import random_words
+from .databases import (
+    BREAKS,
+    broken,
+    edited,
+    lines_of_database,
+    random_columns,
+    random_entries,
+    random_row,
+    random_value,
+)
+
+FORMS = {attribute.column.encode(): attribute.form for attribute in ATTRIBUTES}
+DIGESTS = [column for column, form in FORMS.items() if isinstance(form, tuple)]
+# What each machine has of its own, and what a directory has besides.
+OWN = [b"atime", b"mtime", b"ctime", b"inode", b"bcount"]
+OF_DIRECTORIES = [b"size", b"lcount"]
+# Columns without which few entries agree.
+USUAL = [b"perm", b"sha256", b"mtime"]
+MODES = [0o100644, 0o100644, 0o100755, 0o40755, 0o120777, 0o20600]
+CONTENTS = [bytes([number] * 32) for number in range(3)]
+
+
+def usual_columns(pick):
+    """Columns of which most have a type, a strong digest and a time."""
+    columns = random_columns(pick)
+    known = [column for column, _ in columns]
+    for column in USUAL:
+        if column not in known and pick.random() < 0.9:
+            columns.append((column, FORMS[column]))
+    return columns
+
+
+def usual_entries(pick, columns):
+    """Entries with modes that machines have, and with contents of which there are few."""
+    entries = random_entries(pick, columns)
+    for row in entries.values():
+        row[b"perm"] = pick.choice(MODES)
+        if pick.random() < 0.9:
+            row[b"sha256"] = pick.choice(CONTENTS)
+        if row[b"perm"] >> 12 == 0o12:
+            row[b"lname"] = pick.choice([b"target", b"other", None])
+    return entries
+
+
+def in_own_state(pick, columns, entries):
+    """The same entries as another machine has them: with its own times, inodes and sizes of directories."""
+    restated = {}
+    for path, row in entries.items():
+        row = dict(row)
+        own = OWN + (OF_DIRECTORIES if row.get(b"perm", 0) >> 12 == 0o4 else [])
+        for column in own:
+            if column in row and pick.random() < 0.5:
+                row[column] = random_value(pick, FORMS[column])
+        for column in DIGESTS:
+            if column in row and pick.random() < 0.05:
+                row[column] = None
+        restated[path] = row
+    return restated
+
+
+def text_of(pick, columns, entries, often):
+    """The text of a database, which has a fault that often."""
+    rows = {path: {**random_row(pick, columns), **row} for path, row in entries.items()}
+    lines = lines_of_database(pick, columns, rows)
+    text = b"\n".join(lines) + b"\n"
+    return broken(pick, columns, lines, text, pick.choice(BREAKS)) if pick.random() < often else text
+
+
+def random_four(pick):
+    """The texts of an old and a new database, and of those of a trusted machine."""
+    columns = usual_columns(pick)
+    old = usual_entries(pick, columns)
+    new = edited(pick, columns, old)
+    new.update(in_own_state(pick, columns, {path: row for path, row in new.items() if pick.random() < 0.3}))
+    trusted = [in_own_state(pick, columns, edited(pick, columns, side)) for side in (old, new)]
+    other = columns if pick.random() < 0.8 else usual_columns(pick)
+    often = pick.choice([0, 0, 0.1])
+    texts = [text_of(pick, columns, side, often) for side in (old, new)]
+    return texts + [text_of(pick, other, side, often) for side in trusted]
+
+
+def random_words_beside(pick, folder, config, bad):
+    """A command line that mostly names a trusted pair in a folder too."""
+    trusted = []
+    for name in (b"old", b"new"):
+        option, path = b"--trusted-" + name, os.path.join(folder, b"trusted_" + name)
+        if pick.random() < 0.01:
+            path += b"x"
+        if pick.random() < 0.98:
+            trusted += pick.choice([[option, path], [option + b"=" + path]])
+    if pick.random() < bad / 4:
+        trusted += pick.choice([[b"--trusted-old"], [b"--trusted-new", b"x"], [b"--trusted"], [b"--trusted-old="], [b"-t"]])
+    words = random_words(pick, config, bad)
+    return trusted + words if pick.random() < 0.3 else words + trusted

@@ -1,0 +1,57 @@
+"""A folder with a configuration and two databases, and the program run in it."""
+import os
+import shutil
+import tempfile
+
+from tests.lib.tally import run, wanted
+
+OLD = b"@@begin_db\n@@db_spec name attr perm size\n/b 36 40755 4096\n/c 36 100644 10\n@@end_db\n"
+NEW = b"@@begin_db\n@@db_spec name attr perm size\n/a 36 100644 5\n/c 36 100600 7\n@@end_db\n"
+SKIPPING = b"@@begin_db\n@@db_spec name size foo\n/a 1 x\n@@end_db\n"
+
+
+def names(count):
+    """A database of so many names."""
+    return b"@@begin_db\n@@db_spec name\n" + b"".join(b"/%06d\n" % number for number in range(count)) + b"@@end_db\n"
+
+
+class Folder:
+    """Files for one trial after another; taken away at the end."""
+
+    def __enter__(self):
+        self.path = tempfile.mkdtemp(prefix="aide-").encode()
+        return self
+
+    def __exit__(self, *_):
+        shutil.rmtree(self.path, ignore_errors=True)
+
+    def at(self, name):
+        return os.path.join(self.path, name.encode())
+
+    def write(self, name, text):
+        with open(self.at(name), "wb") as file:
+            file.write(text)
+
+    def pair(self, old=OLD, new=NEW, options=b""):
+        """Writes two databases and a configuration that names them."""
+        self.write("conf", b"database_in=file:%s/old\ndatabase_new=file:%s/new\n%s" % (self.path, self.path, options))
+        self.write("old", old)
+        self.write("new", new)
+
+    def trusted(self, old=OLD, new=NEW):
+        """Writes the two databases of a trusted pair."""
+        self.write("trusted_old", old)
+        self.write("trusted_new", new)
+
+    def words_beside(self, *more):
+        """The words of a comparison beside the trusted pair."""
+        return self.words(b"--trusted-old", self.at("trusted_old"), b"--trusted-new", self.at("trusted_new"), *more)
+
+    def words(self, *more):
+        return [b"-E", b"-c", self.at("conf")] + list(more)
+
+    def wanted(self, *more):
+        return wanted(self.words(*more))
+
+    def run(self, program, *more, **streams):
+        return run(program, self.words(*more), **streams)

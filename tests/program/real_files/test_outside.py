@@ -1,0 +1,201 @@
+"""Limits from outside: memory, descriptors, sizes of files, pipes, devices, files of 2 GB."""
+import os
+import resource
+import subprocess
+
+from tests.lib.program_test import ProgramTest, slow, thorough
+from tests.oracle.session import Answer
+from tests.lib.tally import difference, run, side_by_side
+
+from .test_fifos import Feeder
+from .folder import NEW, OLD, Folder, names
+from .watch import Watch
+
+MEGABYTE, GIGABYTE = 2**20, 2**30
+MINIMAL = b"report_level=minimal\n"
+NO_MEMORY, NOT_WRITTEN = b"aide: out of memory\n", b"aide: cannot write the report\n"
+TOO_LARGE = b"aide: the configuration is longer than 4194304 bytes\n"
+DEVICES = [
+    ("old", "/dev/zero", b"line too long"),
+    ("new", "/dev/zero", b"line too long"),
+    ("old", "/dev/full", b"line too long"),
+    ("old", "/dev/null", b"no @@begin_db"),
+]
+# A line may have a megabyte. The program and the FIFO have room for some of the bytes after it.
+MOST_TAKEN = 2 * MEGABYTE
+KINDS = RIGHT, TOLD, UNBORN = "right", "told", "unborn"
+JOBS = 2
+# Limits of memory in kB: the steps in which the range is looked for, the last one, and the steps through the range.
+COARSE, MOST_MEMORY, PAGE = 64, 16 * 1024, 4
+LIMITED = b'ulimit -v $0; exec "$@"'
+
+
+def limited(what, most):
+    return lambda: resource.setrlimit(what, (most, most))
+
+
+def is_unborn(answer, has_opened):
+    """Whether the system could not start the program: it ended before it opened a file, and not by its own words."""
+    is_ended = answer.status < 0 or answer.status in (126, 127)
+    return not has_opened and is_ended and answer.output == b"" and not answer.errors.startswith(b"aide: ")
+
+
+def kind_of(answer, want, has_opened):
+    """What less memory has led to: the right answer, want of memory, no start, or else what it was."""
+    if answer == want:
+        return RIGHT
+    if answer == Answer(b"", NO_MEMORY, 22):
+        return TOLD
+    return UNBORN if is_unborn(answer, has_opened) else repr(answer)
+
+
+def kinds_in_turn(program, limits):
+    """What becomes of the program under limits of its memory, in kB."""
+    with Folder() as folder:
+        folder.pair()
+        want, kinds = folder.wanted(), {}
+        for most in limits:
+            with Watch(folder.at("conf")) as watch:
+                answer = run(b"/bin/sh", [b"-c", LIMITED, b"%d" % most, program] + folder.words())
+                kinds[most] = kind_of(answer, want, watch.has_opened())
+        return kinds
+
+
+def kinds_by_limit(program, limits):
+    """The same, several at a time."""
+    parts = side_by_side(JOBS, lambda part: kinds_in_turn(program, part), [limits[job::JOBS] for job in range(JOBS)])
+    return {most: kind for part in parts for most, kind in part.items()}
+
+
+def check_file_sizes(program, test, step=1):
+    """A report that goes to a file which may not grow over so many bytes: the last write before is cut short."""
+    with Folder() as folder:
+        folder.pair()
+        want = folder.wanted()
+        for most in [*range(0, len(want.output), step), len(want.output)]:
+            with open(folder.at("out"), "wb") as out:
+                answer = folder.run(
+                    program, stdout=out, restore_signals=False, preexec_fn=limited(resource.RLIMIT_FSIZE, most)
+                )
+            with open(folder.at("out"), "rb") as out:
+                given = Answer(out.read(), answer.errors, answer.status)
+            whole = most == len(want.output)
+            test.check("a file of little room", given, want if whole else Answer(want.output[:most], NOT_WRITTEN, 18))
+
+
+def sparse(folder, name, front, size):
+    """A file that begins with some bytes and goes on with NUL bytes that take no room."""
+    folder.write(name, front)
+    os.truncate(folder.at(name), size)
+
+
+@slow
+class OutsideTest(ProgramTest):
+    def test_file_sizes(self) -> None:
+        check_file_sizes(self.program, self, 31)
+
+    @thorough
+    def test_all_file_sizes(self) -> None:
+        check_file_sizes(self.program, self, 1)
+
+    def test_memory(self) -> None:
+        """Less and less memory, a page at a time between no start and the right answer: nothing else comes but 22."""
+        coarse = kinds_by_limit(self.program, range(COARSE, MOST_MEMORY, COARSE))
+        born = min(most for most, kind in coarse.items() if kind != UNBORN)
+        works = max(most for most, kind in coarse.items() if kind != RIGHT)
+        fine = kinds_by_limit(self.program, range(born - COARSE, works + COARSE, PAGE))
+        for kinds in (coarse, fine):
+            for most, kind in sorted(kinds.items()):
+                self.add("little memory", [] if kind in KINDS else ["%d kB gave %s" % (most, kind)])
+        seen = set(KINDS) & set(fine.values())
+        self.add("little memory, all answers", [] if len(seen) == len(KINDS) else ["saw only %r" % (seen,)])
+
+    def test_descriptors(self) -> None:
+        """So few descriptors that not both databases can be open: of four, three are taken."""
+        with Folder() as folder:
+            folder.pair()
+            few = Answer(b"", b"aide: cannot open the new database %s\n" % folder.at("new"), 18)
+            for most in range(4, 9):
+                want = few if most == 4 else folder.wanted()
+                answer = folder.run(self.program, preexec_fn=limited(resource.RLIMIT_NOFILE, most))
+                self.check("few descriptors", answer, want)
+
+    @thorough
+    def test_pipes(self) -> None:
+        """A reader that goes away after some bytes of a long report."""
+        with Folder() as folder:
+            folder.pair(OLD, names(30000))
+            want = folder.wanted()
+            for most in (1, 100, 4096, 65536, 100000):
+                process = subprocess.Popen(
+                    [self.program] + folder.words(), stdin=subprocess.DEVNULL, stdout=subprocess.PIPE, stderr=subprocess.PIPE
+                )
+                front = process.stdout.read(most)
+                process.stdout.close()
+                errors = process.stderr.read()
+                process.stderr.close()
+                given = Answer(front, errors, process.wait())
+                self.check("a pipe whose reader goes", given, Answer(want.output[:most], NOT_WRITTEN, 18))
+
+    def test_devices(self) -> None:
+        """Devices as files: the null device is empty, the others never end a line or give anything."""
+        with Folder() as folder:
+            for name, device, words in DEVICES:
+                folder.pair()
+                os.unlink(folder.at(name))
+                os.symlink(device, folder.at(name))
+                line = b"aide: %s database:1: %s\n" % (name.encode(), words)
+                self.check("a device as a database", folder.run(self.program), (b"", line, 24))
+                os.unlink(folder.at(name))
+            folder.pair()
+            answer = run(self.program, [b"-E", b"-c", b"/dev/zero"])
+            self.check("a device as a configuration", answer, (b"", TOO_LARGE, 17))
+
+    def test_long_lines(self) -> None:
+        """Sparse files of 2 GB that have one line, and FIFOs with a line of 32 MB: no more is read than shows that it is too long."""
+        with Folder() as folder:
+            begun = b"@@begin_db\n@@db_spec name\n"
+            for front, line in ((b"", 1), (begun, 3), (begun + b"/a", 3), (b"@@begin_db\n#", 2)):
+                folder.pair(options=MINIMAL)
+                sparse(folder, "old", front, 2 * GIGABYTE)
+                want = Answer(b"", b"aide: old database:%d: line too long\n" % line, 24)
+                self.check("a line of 2 GB", folder.run(self.program), want)
+                with Feeder(folder.at("old"), [front + b"\0" * (32 * MEGABYTE)]) as feeder:
+                    answer = folder.run(self.program)
+                faults = difference(answer, want)
+                if not 0 < feeder.given < MOST_TAKEN:
+                    faults.append("it took %d bytes" % feeder.given)
+                self.add("a line of 32 MB", faults)
+
+    def test_twenty_megabytes(self) -> None:
+        """A database of 20 MB, most of it comments, whose last entry is compared and whose whole is hashed."""
+        comments = (b"#" * 999999 + b"\n") * 20
+        with Folder() as folder:
+            for old, new in ((OLD, NEW), (NEW, OLD)):
+                long = new[: -len(b"@@end_db\n")] + comments + b"/z 36 100644 1\n@@end_db\n"
+                folder.pair(old, long, b"report_level=database_attributes\n")
+                self.check("a new database of 20 MB", folder.run(self.program), folder.wanted())
+                folder.pair(long, old, b"report_level=database_attributes\n")
+                self.check("an old database of 20 MB", folder.run(self.program), folder.wanted())
+
+    @thorough
+    def test_large_files(self) -> None:
+        """Sparse files of 2 GB, which are read whole or as far as a configuration may reach."""
+        with Folder() as folder:
+            folder.pair(NEW, NEW, MINIMAL)
+            sparse(folder, "old", NEW, 2 * GIGABYTE)
+            answer = folder.run(self.program, preexec_fn=limited(resource.RLIMIT_AS, 64 * MEGABYTE))
+            self.check("2 GB behind the end", answer, (b"AIDE found NO differences between the two databases.\n", b"", 0))
+            sparse(folder, "conf", b"", 2 * GIGABYTE)
+            answer = folder.run(self.program, preexec_fn=limited(resource.RLIMIT_AS, 64 * MEGABYTE))
+            self.check("a configuration of 2 GB", answer, (b"", TOO_LARGE, 17))
+
+    def test_surroundings(self) -> None:
+        """No environment, no standard input, a working folder that is gone."""
+        with Folder() as folder:
+            folder.pair()
+            gone = folder.at("gone")
+            os.mkdir(gone)
+            self.check("other surroundings", folder.run(self.program, env={}), folder.wanted())
+            self.check("other surroundings", folder.run(self.program, preexec_fn=lambda: os.close(0)), folder.wanted())
+            self.check("other surroundings", folder.run(self.program, cwd=gone, preexec_fn=lambda: os.rmdir(gone)), folder.wanted())

@@ -1,0 +1,31 @@
+"""Whole sessions with little stack."""
+import os
+import resource
+import tempfile
+
+from tests.lib.program_test import ProgramTest, slow
+from tests.program import cases
+from tests.lib.tally import run
+
+from .test_examples import EXAMPLES, LEVELS, folders_of_aide, words_at
+from .test_outside import limited
+
+STACK = 64 * 1024
+
+
+@slow
+class StackTest(ProgramTest):
+    def test_stack(self) -> None:
+        """Every stored session, and the examples at each level, with 64 kB of stack, the arguments among them."""
+        settings = {"preexec_fn": limited(resource.RLIMIT_STACK, STACK), "env": {}}
+        for path in cases.all_cases():
+            case = cases.read(path)
+            with tempfile.TemporaryDirectory() as folder:
+                folder = os.fsencode(folder)
+                answer = cases.answers_in(case, folder, lambda words: run(self.program, words, **settings))
+                self.check("%s with little stack" % os.path.relpath(path, cases.FOLDER), answer, cases.stored(case, folder))
+        for folder in folders_of_aide():
+            for level in LEVELS:
+                words = words_at(folder, "report_level=" + level)
+                label = "%s at %s with little stack" % (os.path.relpath(folder, EXAMPLES), level)
+                self.check(label, run(self.program, words, **settings), run(self.program, words))

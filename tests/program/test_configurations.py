@@ -1,0 +1,207 @@
+"""Tries the built program over configurations: refused ones, those that are only just allowed, and random ones.
+
+The tables in configurations/ say where and why a configuration is refused, or what it sets. The definitions have to say
+the same. Of random configurations with blocks and variables the definitions alone know the answer. The last line is 'N
+passed, M failed'.
+"""
+import base64
+import collections
+import re
+
+from tests.lib.program_test import ProgramTest, new_seed
+from tests.program.configurations import accepted, limits, names, refused
+from tests.program.configurations.random_blocks import random_texts
+from tests.oracle.attributes import ATTRIBUTES
+from tests.oracle.session import CONFIGURATION_WORDS, Answer
+from tests.program.real_files.folder import NEW, OLD, Folder
+from tests.lib.tally import difference, run, shown, wanted
+
+DIFFERENT = b"AIDE found differences between the two databases.\n"
+SAME = b"AIDE found NO differences between the two databases.\n"
+ACCEPTED = Answer(b"", b"", 0)
+
+# An entry in which nothing but the owner changed: the details have a further line only if one is forced.
+OWNED = b"@@begin_db\n@@db_spec name attr perm size uid\n/c 44 100644 10 %d\n@@end_db\n"
+FORCED_LINES = {"Perm": b"  Perm      : 0644 ", "Size": b"  Size      : 10 "}
+
+# Fields of an entry that has every attribute.
+DETAIL = re.compile(rb"^  (\S+?) *: ", re.M)
+VALUES = {"type": b"120644", "perm": b"120644", "number": b"7", "time": base64.b64encode(b"7"), "link": b"x", "opaque": b"x"}
+
+# What random texts are refused for: in so many configurations each of these has to come.
+ENOUGH = 1000
+EXPECTED = {
+    CONFIGURATION_WORDS[kind]
+    for kind in (
+        "BadDirective",
+        "LeftOut",
+        "StrayElse",
+        "StrayEndif",
+        "MissingEndif",
+        "BadName",
+        "UnknownAttribute",
+        "BadExpression",
+        "BadValue",
+        "BadUrl",
+        "BadLine",
+        "NoOldDatabase",
+        "NoNewDatabase",
+    )
+}
+
+
+def refusal(said):
+    return Answer(b"", b"aide: %s\n" % said.encode(), 17)
+
+
+def with_all(**more):
+    """A database of one entry with all attributes, and these other fields."""
+    fields = {
+        each.column: VALUES[each.form] if each.form in VALUES else base64.b64encode(bytes(each.form[0])) for each in ATTRIBUTES
+    }
+    bits = sum(1 << each.bit for each in ATTRIBUTES if each.bit)
+    fields.update({"name": b"/c", "attr": b"%d" % bits, **more})
+    lines = (b"@@begin_db", b"@@db_spec " + " ".join(fields).encode(), b" ".join(fields.values()), b"@@end_db")
+    return b"".join(line + b"\n" for line in lines)
+
+
+class ConfigurationTest(ProgramTest):
+    """One configuration after another, each in the place of the last."""
+
+    def setUp(self) -> None:
+        super().setUp()
+        self.folder = Folder().__enter__()
+        self.addCleanup(self.folder.__exit__)
+
+    def words(self, flag, text, before=b"", after=b""):
+        self.folder.write("conf", text)
+        return [flag, b"-c", self.folder.at("conf"), b"-B", before, b"-A", after]
+
+    def check_words(self, label, words, want):
+        """The program and the definitions answer what is wanted."""
+        self.check(label, run(self.program, words), want)
+        self.agree(label, words, want)
+
+    def agree(self, label, words, answer):
+        """The definitions give this answer."""
+        self.add("the definitions at " + label, difference(wanted(words), answer))
+
+    def compared(self, text, before=b"", after=b""):
+        """The words that compare the databases of the folder."""
+        named = b"database_in=file:%s/old\ndatabase_new=file:%s/new\n" % (self.folder.path, self.folder.path)
+        return self.words(b"-E", text, named + before, after)
+
+    def pair(self, old, new):
+        self.folder.write("old", old)
+        self.folder.write("new", new)
+
+    def sets(self, label, texts, different, same):
+        """What three texts answer to two different databases, and to the same one twice."""
+        before, text, after = texts
+        self.pair(OLD, NEW)
+        self.check_words(label, self.compared(text, before, after), different)
+        self.pair(OLD, OLD)
+        self.check_words(label + ", the same database", self.compared(text, before, after), same)
+
+
+def quiet_texts():
+    """All that set `report_quiet`, as three texts."""
+    alone = accepted.QUIET + [front + line + back for front, back in accepted.AROUND for line in accepted.PASSED_OVER]
+    return [(b"", text, b"") for text in alone] + accepted.QUIET_TEXTS
+
+
+def detail_names(answer):
+    """The names in the details of a report."""
+    details = answer.output.partition(b"Detailed information")[2].partition(b"The attributes of the databases")[0]
+    return {name.decode() for name in DETAIL.findall(details)}
+
+
+class ConfigurationsTest(ConfigurationTest):
+    def test_refused(self) -> None:
+        for line, said, text in refused.ALL + limits.REFUSED:
+            self.check_words(shown(text), self.words(b"-D", text), refusal("config:%d: %s" % (line, said)))
+        for flag, rows in ((b"-D", refused.CHECKED_TEXTS), (b"-E", refused.COMPARED_TEXTS)):
+            for said, before, text, after in rows:
+                self.check_words(shown(text), self.words(flag, text, before, after), refusal(said))
+
+    def test_limits(self) -> None:
+        for text in limits.ACCEPTED:
+            self.check_words(shown(text), self.words(b"-D", text), ACCEPTED)
+        for text in limits.WHOLE:
+            self.check(shown(text), run(self.program, self.words(b"-D", text)), ACCEPTED)
+
+    def test_accepted(self) -> None:
+        self.pair(OLD, NEW)
+        usual = run(self.program, self.compared(b""))
+        self.agree("a configuration of no lines", self.compared(b""), usual)
+        for texts in quiet_texts():
+            self.sets(shown(texts[1]), texts, usual, ACCEPTED)
+        for text in accepted.MINIMAL:
+            self.sets(shown(text), (b"", text, b""), Answer(DIFFERENT, b"", 7), Answer(SAME, b"", 0))
+
+    def test_forced(self) -> None:
+        self.pair(OWNED % 0, OWNED % 1)
+        for name, text in accepted.FORCED:
+            words = self.compared(text)
+            answer = run(self.program, words)
+            forced = [other for other, line in FORCED_LINES.items() if line in answer.output]
+            self.add(shown(text), [] if forced == [name] else ["forced are %r" % forced])
+            self.agree(shown(text), words, answer)
+
+    def test_forms(self) -> None:
+        """Which names a variable and a group may have, and what each is in an expression."""
+        for name, is_variable, is_group, fault in names.NAMES:
+            for line, is_good in ((b"@@undef " + name, is_variable), (name + b" = p", is_group)):
+                if is_good is not None:
+                    self.check_words(shown(line), self.words(b"-D", line), ACCEPTED if is_good else refusal("config:1: bad name"))
+            line = b"my = " + name
+            self.check_words(shown(line), self.words(b"-D", line), refusal("config:1: " + fault) if fault else ACCEPTED)
+
+    def test_names(self) -> None:
+        """What predefined names and expressions force: what is shown whether the owner or the group has changed."""
+        for before, rows in ((b"", accepted.NAMES), (accepted.OWN_GROUPS, accepted.EXPRESSIONS)):
+            for text, names_shown in rows:
+                words = self.compared(before + b"report_force_attrs=" + text)
+                shown_of = []
+                for changed in ("uid", "gid"):
+                    self.pair(with_all(), with_all(**{changed: b"1"}))
+                    answer = run(self.program, words)
+                    self.agree(shown(text), words, answer)
+                    shown_of.append(detail_names(answer))
+                got = shown_of[0] & shown_of[1]
+                self.add(shown(text), [] if got == set(names_shown) else ["forced are %r" % sorted(got)])
+
+    def test_levels(self) -> None:
+        """Whether a report of each level has lists and details."""
+        self.pair(OLD, NEW)
+        for level, has_lists, has_details in accepted.LEVELS:
+            words = self.compared(b"report_level=" + level)
+            answer = run(self.program, words)
+            got = b"\nf < p             : /c\n" in answer.output, b"\nDetailed information" in answer.output
+            self.add(shown(level), [] if got == (has_lists, has_details) else ["lists and details: %r" % (got,)])
+            self.agree(shown(level), words, answer)
+
+    def test_paths(self) -> None:
+        """Which paths the databases have: one that is not there is named."""
+        self.pair(OLD, NEW)
+        for before, text, side, path in accepted.PATHS:
+            said = b"aide: cannot open the %s database %s\n" % (side, path)
+            self.check_words(shown(text), self.compared(text, before), Answer(b"", said, 18))
+
+    def test_random(self) -> None:
+        """Random texts, checked and compared."""
+        seed = new_seed()
+        seen = collections.Counter()
+        self.pair(OLD, NEW)
+        for number in range(ENOUGH):
+            before, text, after = random_texts(seed, number)
+            label = "seed %d, texts %d" % (seed, number)
+            for words in (
+                self.words(b"-D", text, before, after),
+                self.words(b"-E", text, before, after),
+                self.compared(text, before, after),
+            ):
+                want = wanted(words)
+                self.check(label, run(self.program, words), want)
+                seen[want.errors.decode().strip().rpartition(": ")[2]] += 1
+        self.add("what was seen", ["never: " + words for words in sorted(EXPECTED - set(seen))])

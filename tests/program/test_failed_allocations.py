@@ -1,0 +1,264 @@
+"""Makes each allocation of the built program fail in turn, over whole sessions.
+
+The program asks the C library for memory, by malloc and realloc. A library that is loaded before the C library (fail_allocation.c)
+refuses the n-th of these calls, for every n until the session asks for no more: only the n-th, and the n-th with all later
+ones. After each refusal the program has to end with status 22, the one line `aide: out of memory` and no output. A session
+without a refusal answers what the definitions say.
+
+Two kinds of calls may be refused without an effect, so that the answer is the whole one: those of the C library itself, and
+those of a command line that is not understood. There the parser looks for names that are close, which are never printed.
+The sessions are the stored cases, the examples at each report level, long arguments, paths and configurations, and random
+ones.
+
+The same is done with the program that writes lines of JSON, over the examples at one level, the long and the random sessions,
+and random ones of four databases, of which two are trusted.
+Another program, crates/aide_in_memory, runs sessions over files in memory. Each call that is refused memory has to say so, and
+is made once more. So with one refusal the program has to print what is stored beside it; with all later ones refused too it has
+to end with status 22 behind a front of that.
+
+The library is built by a C compiler of the machine or by that of the toolchain; with neither the test fails.
+"""
+import os
+import shutil
+import struct
+import tempfile
+from collections import Counter, namedtuple
+
+from tests.lib.program_test import ProgramTest, new_seed, slow
+from tests.lib.scratch import TOP
+from tests.program import cases
+from tests.oracle.session import NO_MEMORY, USAGE, Answer, refused
+from tests.lib.preload import built, run_with
+from tests.program.random_sessions import make_session, make_session_beside
+from tests.program.real_files.test_examples import LEVELS, folders_of_aide, words_at
+from tests.program.real_files.folder import NEW, OLD, SKIPPING, names
+from tests.lib.tally import difference, side_by_side, wanted, wanted_lines
+
+SESSIONS = 20  # Random ones.
+NOTES = struct.Struct("3l")
+STARVED = refused(b"out of memory", NO_MEMORY)
+# The calls of a session in memory that take memory, and how many of their allocations fail at least.
+IN_MEMORY = {b"push": 70, b"add": 20, b"read_words": 300, b"point": 10, b"session": 500}
+WAYS = {"only one allocation fails": lambda first: first, "one allocation and all later ones fail": lambda first: 2**31 - 1}
+SHOWN = 3
+NAME_LIMIT, PATH_LIMIT, FOLDER_NAME = 64, 4095, b"f" * 200
+
+Refusal = namedtuple("Refusal", "answer calls own others")
+
+
+class Refuser:
+    """A program, the library that refuses it memory, and what is wanted of it over real files."""
+
+    def __init__(self, program, library, wanted=None):
+        self.program, self.library, self.wanted = program, library, wanted
+
+    def run(self, words, first=0, last=0):
+        """What the program answers where the calls for memory with these numbers are refused, and what was counted."""
+        answer, notes = run_with(
+            self.library, self.program, words, NOTES, "GROWTHS_NOTES", GROWTHS_FIRST=first, GROWTHS_LAST=last
+        )
+        return Refusal(answer, *(notes[0] if notes else (0, 0, 0)))
+
+
+def faults_of(refusal, whole):
+    """What is not as wanted of a run in which memory was refused."""
+    if not refusal.own + refusal.others:
+        return ["no memory was refused"] + difference(refusal.answer, whole)
+    may_go_on = not refusal.own or whole.status == USAGE
+    return difference(refusal.answer, whole if may_go_on and refusal.answer == whole else STARVED)
+
+
+def faults_of_whole(free, whole):
+    """What is not as wanted of a run in which all memory was there."""
+    faults = ["memory was refused"] if free.own + free.others else []
+    faults += [] if free.calls else ["no memory was asked for"]
+    return faults + difference(free.answer, whole)
+
+
+def try_session(refuser, words):
+    """How often what became of a refusal, and the faults of a session by what was refused."""
+    whole = refuser.wanted(words)
+    free = refuser.run(words)
+    counts, found = Counter(), {"nothing refused": faults_of_whole(free, whole)}
+    for way, last_of in WAYS.items():
+        found[way] = []
+        for first in range(1, free.calls + 1):
+            refusal = refuser.run(words, first, last_of(first))
+            counts.update(refused=1, not_felt=refusal.answer == whole != STARVED, of_others=not refusal.own)
+            found[way] += ["growth %d: %s" % (first, fault) for fault in faults_of(refusal, whole)]
+        found[way] += faults_of_whole(refuser.run(words, free.calls + 1, last_of(free.calls + 1)), whole)
+    return counts, found
+
+
+def made(folder, **files):
+    """Writes files into a new folder; a word `/@DIR@` of theirs stands for it."""
+    os.makedirs(folder)
+    for name, text in files.items():
+        with open(os.path.join(folder, name.encode()), "wb") as file:
+            file.write(text.replace(cases.DIR, folder))
+    return os.path.join(folder, b"conf")
+
+
+def stored_sessions(top):
+    for number, path in enumerate(cases.all_cases()):
+        folder = os.path.join(top, b"case-%d" % number)
+        os.mkdir(folder)
+        yield os.path.relpath(path, cases.FOLDER), cases.answers_in(cases.read(path), folder, list)
+
+
+def example_sessions(levels):
+    """What AIDE has written, with every attribute too, at these report levels."""
+    for folder in folders_of_aide():
+        for level in levels:
+            yield "%s at %s" % (os.path.basename(folder), level), words_at(folder, "report_level=" + level)
+
+
+def definitions_of_each_length():
+    """A configuration with variables, blocks and groups whose names have each length up to the longest."""
+    lines = [b"Base = p", b"@@define FIRST s"]
+    for length in range(1, NAME_LIMIT + 1):
+        variable, group = b"v" * length, b"g" * length
+        lines += [
+            b"@@define %s %s@@{FIRST}" % (variable, b"x" * length),
+            b"@@if defined " + variable,
+            b"%s = Base+@@{FIRST}-n" % group,
+            b"/%s@@{%s} %s" % (group, variable, group),
+            b"@@else",
+            b"no statement",
+            b"@@endif",
+        ]
+        lines += [b"@@undef " + variable] if length % 3 == 0 else []
+    return b"\n".join(lines) + b"\n"
+
+
+def long_sessions(top):
+    """Many definitions, and long words, configurations and paths."""
+    pair = b"database_in=file:/@DIR@/old\ndatabase_new=file:/@DIR@/new\n"
+    conf = made(os.path.join(top, b"long"), conf=pair + definitions_of_each_length(), old=OLD, new=NEW)
+    yield "many words", [b"-E", b"-c", conf] + [b"word"] * 40
+    yield "long words", [b"-D", b"-c", conf, b"-B", b"#" * 9000, b"-A", b"\n" * 30000]
+    yield "many definitions, checked", [b"-D", b"-c", conf, b"-B", b"@@define A x", b"-A", b"mine = gggg+p"]
+    yield "many definitions, compared", [b"-E", b"-c", conf, b"-A", b"report_ignore_changed_attrs=gg"]
+    yield "a fault behind many definitions", [b"-E", b"-c", conf, b"-A", b"mine = nope"]
+    lines = pair + b"/a line without effect @@{A}\n" * 1000
+    conf = made(os.path.join(top, b"lines"), conf=lines, old=SKIPPING, new=SKIPPING)
+    yield "a long configuration", [b"-E", b"-c", conf, b"-B", b"@@define A x"]
+    yield "a long configuration that is not there", [b"-E", b"-c", conf + b"\\\n" + b"n" * 4000]
+    deep = top
+    while len(deep) + len(FOLDER_NAME) + len(b"/conf") < PATH_LIMIT - len(FOLDER_NAME):
+        deep = os.path.join(deep, FOLDER_NAME)
+    conf = made(deep, conf=pair, old=OLD, new=NEW)
+    yield "long paths", [b"-E", b"-c", conf]
+    after = b"database_new=file:%s/none" % deep
+    yield "a database that is not there, on a long path", [b"-E", b"-c", conf, b"-A", after]
+
+
+def random_sessions(top, seed, count, name=b"random", make=make_session):
+    for number in range(count):
+        folder = os.path.join(top, b"%s-%d" % (name, number))
+        os.mkdir(folder)
+        yield "seed %d, %s session %d" % (seed, name.decode(), number), make(seed, number, folder)
+
+
+def long_sessions_beside(top):
+    """Trusted databases on long paths, and of many names."""
+    pair = b"database_in=file:/@DIR@/old\ndatabase_new=file:/@DIR@/new\n"
+    folder = os.path.join(top, b"beside", FOLDER_NAME, FOLDER_NAME)
+    files = {"old": OLD, "new": NEW, "trusted_old": names(3000), "trusted_new": SKIPPING}
+    conf = made(folder, conf=pair, **files)
+    trusted = [b"--trusted-old", os.path.join(folder, b"trusted_old"), b"--trusted-new", os.path.join(folder, b"trusted_new")]
+    yield "beside a long trusted database", [b"-E", b"-c", conf] + trusted
+    yield "beside no trusted database", [b"-E", b"-c", conf] + trusted[:3] + [trusted[3] + b"x" * 200]
+    yield "a trusted pair in part", [b"-E", b"-c", conf] + trusted[:2]
+
+
+def sessions(top, seed, count):
+    """The labels and words of all sessions, with their files below a folder."""
+    yield from stored_sessions(top)
+    yield from example_sessions(LEVELS)
+    yield from long_sessions(top)
+    yield from random_sessions(top, seed, count)
+
+
+def sessions_of_lines(top, seed, count):
+    """Those for the program of lines, which knows no levels."""
+    os.mkdir(top)
+    yield from example_sessions(LEVELS[-1:])
+    yield from long_sessions(top)
+    yield from random_sessions(top, seed, count)
+    yield from long_sessions_beside(top)
+    yield from random_sessions(top, seed, count, b"beside", make_session_beside)
+
+
+def try_sessions(refuser, known, jobs, tally):
+    """Tries sessions."""
+    for (label, _), (_, found) in zip(known, side_by_side(jobs, lambda one: try_session(refuser, one[1]), known)):
+        for way, faults in found.items():
+            rest = ["and %d faults more" % (len(faults) - SHOWN)] if len(faults) > SHOWN else []
+            tally.add("%s, %s" % (label, way), faults[:SHOWN] + rest)
+
+
+def refused_call(refusal):
+    """The name of the call that was refused memory, if the one line on standard error tells it."""
+    told = refusal.answer.errors.partition(b"refused: ")[2]
+    name = told.partition(b"\n")[0]
+    return name if refusal.answer.errors == b"refused: %s\n" % name and name in IN_MEMORY else None
+
+
+def faults_in_memory(alone, onwards, free):
+    """What is not as wanted where a growth of the sessions in memory is refused: only this one, and all later ones too."""
+    faults = [] if refused_call(alone) else ["no call told of it: %r" % alone.answer.errors]
+    faults += [] if alone.own == 1 and not alone.others else ["%d refused, %d of others" % (alone.own, alone.others)]
+    faults += difference(alone.answer, free.answer._replace(errors=alone.answer.errors))
+    if onwards.answer.status != NO_MEMORY or onwards.answer.errors != alone.answer.errors:
+        faults.append("with all later ones: %r" % (onwards.answer,))
+    if not free.answer.output.startswith(onwards.answer.output):
+        faults.append("with all later ones it printed %r" % onwards.answer.output[-200:])
+    return faults
+
+
+def try_in_memory(refuser, stored, jobs, tally):
+    """Refuses each growth of the sessions over files in memory, alone and with all later ones."""
+    with open(stored, "rb") as file:
+        whole = Answer(file.read(), b"", 0)
+    free = refuser.run([])
+    tally.add("sessions in memory", faults_of_whole(free, whole))
+    counts = Counter()
+
+    def both(first):
+        return refuser.run([], first, first), refuser.run([], first, 2**31 - 1)
+
+    numbers = range(1, free.calls + 1)
+    for first, (alone, onwards) in zip(numbers, side_by_side(jobs, both, numbers)):
+        counts[refused_call(alone)] += 1
+        tally.add("sessions in memory, growth %d refused" % first, faults_in_memory(alone, onwards, free))
+    for name, least in IN_MEMORY.items():
+        few = ["%d refused, fewer than %d" % (counts[name], least)] if counts[name] < least else []
+        tally.add("sessions in memory, allocations of " + name.decode(), few)
+
+
+@slow
+class FailedAllocationsTest(ProgramTest):
+    def setUp(self) -> None:
+        super().setUp()
+        directory = tempfile.mkdtemp(prefix="aide-failed-allocations-")
+        self.addCleanup(shutil.rmtree, directory, True)
+        self.directory = os.fsencode(directory)
+        self.library, faults = built("fail_allocation.c", self.directory)
+        if self.library is None:
+            self.fail("\n".join(faults))
+
+    def test_report(self) -> None:
+        known = list(sessions(self.directory, new_seed(), SESSIONS))
+        try_sessions(Refuser(self.program, self.library, wanted), known, 2, self)
+
+    def test_lines(self) -> None:
+        known = list(sessions_of_lines(os.path.join(self.directory, b"lines"), new_seed(), SESSIONS))
+        try_sessions(Refuser(self.lines_program, self.library, wanted_lines), known, 2, self)
+
+    def test_sessions_in_memory(self) -> None:
+        program = os.path.join(TOP, "crates", "aide_in_memory", "out", "aide_in_memory")
+        if not os.access(program, os.X_OK):
+            self.skipTest("not built: crates/aide_in_memory/out/aide_in_memory")
+        stored = os.path.join(TOP, "crates", "aide_in_memory", "stdout")
+        try_in_memory(Refuser(os.fsencode(program), self.library), stored, 2, self)

@@ -1,0 +1,219 @@
+"""Makes each call go wrong by which the built program opens, closes, reads or writes a file, one call in a run.
+
+A library that is loaded before the C library (fail_call.c) makes the n-th call of a kind fail, take nothing or move half of
+its bytes, for every n. All later calls work again. So a failure that the program ignores, or a call that it makes once more,
+shows in its answer. The right answer to each run is exact: which file could not be opened, in which line of which database
+reading failed, and which bytes had gone out before. The openings of each undisturbed run are compared too.
+The program that writes lines of JSON is tried over a trusted pair too.
+
+The library is built by a C compiler of the machine or by that of the toolchain; with neither the test fails.
+"""
+import os
+import shutil
+import struct
+import tempfile
+from collections import Counter, namedtuple
+
+from tests.lib.program_test import ProgramTest, slow
+from tests.oracle.session import BAD_DEVICE, Answer, refused
+from tests.lib.preload import built, run_with
+from tests.program.real_files.folder import NEW, OLD, SKIPPING, Folder, names
+from tests.lib.tally import difference, side_by_side, wanted, wanted_lines
+
+NOTE = struct.Struct("3l")
+OPEN, CLOSE, READ, WRITE = range(1, 5)
+KINDS = {OPEN: "opening", CLOSE: "closing", READ: "reading", WRITE: "writing"}
+FAILS, DOES_NOTHING, IS_SHORT = range(1, 4)
+WAYS = {OPEN: [FAILS], CLOSE: [FAILS], READ: [FAILS, IS_SHORT], WRITE: [FAILS, DOES_NOTHING, IS_SHORT]}
+WORDS = {FAILS: "fails", DOES_NOTHING: "takes nothing", IS_SHORT: "is short"}
+OUTPUT, ERRORS = 1, 2
+NOT_WRITTEN = refused(b"cannot write the report", BAD_DEVICE).errors
+LONG, SHOWN = 6000, 3
+
+# Of a session: its words, its whole answer, the calls that it makes undisturbed, and the texts of its files.
+Session = namedtuple("Session", "words whole calls files")
+Call = namedtuple("Call", "kind descriptor result")
+# How often the sides are opened where the words ask for a comparison, and both texts are sound.
+OPENINGS = {
+    "a report of all parts": 6,
+    "a report of several pages": 3,
+    "columns that are skipped": 2,
+    "lines beside a trusted pair": 2,
+    "lines of several pages beside a trusted pair": 2,
+    "no change beside a trusted pair": 2,
+}
+# Lines are written in one pass, behind one that reads.
+MOST_OPENINGS, MOST_OF_LINES = 6, 2
+# The databases by the names of their files, in the order in which they are opened, and what a fault calls them.
+FILES = ["old", "new", "trusted_old", "trusted_new"]
+NAMES = [b"old", b"new", b"trusted old", b"trusted new"]
+
+
+def sessions(folder):
+    """The labels of the sessions, their words, and the texts of the configuration and of both databases."""
+    texts = {
+        "a report of all parts": (OLD, NEW, b""),
+        "a report of several pages": (OLD, names(LONG), b"report_grouped=no"),
+        "columns that are skipped": (SKIPPING, SKIPPING, b""),
+        "an old database that is cut": (OLD[:60], NEW, b""),
+        "a new database that is cut": (OLD, NEW[:60], b""),
+        "a bad configuration": (OLD, NEW, b"nonsense"),
+    }
+    for number, (label, (old, new, options)) in enumerate(texts.items()):
+        files = Folder()
+        files.path = os.path.join(folder, b"%d" % number)
+        os.mkdir(files.path)
+        files.pair(old, new, options)
+        with open(files.at("conf"), "rb") as file:
+            yield label, files.words(), (file.read(), old, new)
+        if not number:
+            yield "a check of the configuration", [b"-D", b"-c", files.at("conf")], (b"", b"", b"")
+    yield "a usage error", [b"-E"], (b"", b"", b"")
+
+
+def sessions_of_lines(folder):
+    """Those of the program of lines, some of which have a trusted pair, so that the texts are those of four databases."""
+    yield from sessions(folder)
+    texts = {
+        "lines beside a trusted pair": (OLD, NEW, OLD, NEW),
+        "lines of several pages beside a trusted pair": (OLD, names(LONG), SKIPPING, names(LONG)),
+        "no change beside a trusted pair": (SKIPPING, SKIPPING, NEW, OLD),
+        "a trusted old database that is cut": (OLD, NEW, OLD[:60], NEW),
+        "a trusted new database that is cut": (OLD, NEW, OLD, NEW[:60]),
+    }
+    for number, (label, four) in enumerate(texts.items()):
+        files = Folder()
+        files.path = os.path.join(folder, b"beside-%d" % number)
+        os.mkdir(files.path)
+        files.pair(*four[:2])
+        files.trusted(*four[2:])
+        with open(files.at("conf"), "rb") as file:
+            yield label, files.words_beside(), (file.read(), *four)
+
+
+def opened_as(session, number):
+    """Which of the files an opening opens: the configuration, and then all databases by turns."""
+    return 0 if number == 1 else 1 + (number - 2) % (len(session.files) - 1)
+
+
+def file_of(session, index):
+    """Which file the call at an index reads, and how many of its bytes were read since it was opened."""
+    opened, taken, calls = 0, 0, session.calls
+    for number, call in enumerate(calls[:index]):
+        if call.kind == OPEN and call.result == calls[index].descriptor:
+            opened, taken = sum(1 for before in calls[: number + 1] if before.kind == OPEN), 0
+        if call.kind == READ and call.descriptor == calls[index].descriptor:
+            taken += call.result
+    return opened_as(session, opened), taken
+
+
+def written_before(calls, index, descriptor):
+    return sum(call.result for call in calls[:index] if call.kind == WRITE and call.descriptor == descriptor)
+
+
+def config_of(session):
+    return session.words[session.words.index(b"-c") + 1]
+
+
+def unopened(session, file):
+    if file == 0:
+        return refused(b"cannot read the configuration " + config_of(session), BAD_DEVICE)
+    path = os.path.join(os.path.dirname(config_of(session)), FILES[file - 1].encode())
+    return refused(b"cannot open the %s database %s" % (NAMES[file - 1], path), BAD_DEVICE)
+
+
+def unread(session, file, taken):
+    if file == 0:
+        return unopened(session, 0)
+    line = session.files[file][:taken].count(b"\n") + 1
+    return refused(b"%s database:%d: read failed" % (NAMES[file - 1], line), BAD_DEVICE)
+
+
+def answer_where(session, kind, number, way):
+    """What is wanted where the call of a kind with a number goes wrong in a way."""
+    calls, whole = session.calls, session.whole
+    index = [index for index, call in enumerate(calls) if call.kind == kind][number - 1]
+    front = whole.output[: written_before(calls, index, OUTPUT)]
+    if kind == OPEN:
+        return unopened(session, opened_as(session, number))._replace(output=front)
+    if kind == CLOSE or way == IS_SHORT:
+        return whole
+    if kind == READ:
+        return unread(session, *file_of(session, index))._replace(output=front)
+    if calls[index].descriptor == OUTPUT:
+        return Answer(front, NOT_WRITTEN, BAD_DEVICE)
+    lost = written_before(calls, index, ERRORS)
+    return whole._replace(errors=whole.errors[:lost])
+
+
+def openings_of(calls):
+    """How often a file was opened, how many were open at most at a time, and how many were left open."""
+    at_once, most = 0, 0
+    for call in calls:
+        at_once += (call.kind == OPEN and call.result >= 0) - (call.kind == CLOSE)
+        most = max(most, at_once)
+    return sum(1 for call in calls if call.kind == OPEN), most, at_once
+
+
+class Stumbler:
+    """A program, its sessions and what is wanted of them, and the library that lets its calls go wrong."""
+
+    def __init__(self, program, library, tried):
+        self.program, self.library = program, library
+        self.wanted, self.most_openings, self.sessions = tried
+
+    def run(self, words, kind=0, number=0, way=0):
+        answer, notes = run_with(
+            self.library, self.program, words, NOTE, "FAIL_NOTES", FAIL_KIND=kind, FAIL_NUMBER=number, FAIL_WAY=way
+        )
+        return answer, [Call(*note) for note in notes]
+
+
+def try_one(stumbler, session, kind, number, way):
+    answer, _ = stumbler.run(session.words, kind, number, way)
+    faults = difference(answer, answer_where(session, kind, number, way))
+    return ["%s %d that %s: %s" % (KINDS[kind], number, WORDS[way], fault) for fault in faults]
+
+
+def try_session(stumbler, label, words, files, jobs, tally):
+    """Lets each call of a session go wrong in each way. How many calls of which kind there are."""
+    whole = stumbler.wanted(words)
+    answer, calls = stumbler.run(words)
+    tally.check(label, answer, whole)
+    openings, most, left = openings_of(calls)
+    sides = len(files) - 1
+    known = 1 + sides * min(OPENINGS.get(label, 0), stumbler.most_openings)
+    is_right = most <= sides and left == 0 and (label not in OPENINGS or openings == known)
+    tally.add(label + ", openings", [] if is_right else ["%d, %d at a time, %d left" % (openings, most, left)])
+    session, counts = Session(words, whole, calls, files), Counter(call.kind for call in calls)
+    tasks = [(kind, number, way) for kind in KINDS for number in range(1, counts[kind] + 1) for way in WAYS[kind]]
+    for (kind, _, way), faults in zip(tasks, side_by_side(jobs, lambda task: try_one(stumbler, session, *task), tasks)):
+        tally.add("%s, a %s that %s" % (label, KINDS[kind], WORDS[way]), faults)
+    return counts
+
+
+def try_calls(stumbler, top, jobs, tally):
+    """Tries all sessions, with their files in a folder."""
+    counts = Counter()
+    for label, words, files in stumbler.sessions(top):
+        counts.update(try_session(stumbler, label, words, files, jobs, tally))
+    tally.add("calls of each kind", [] if all(counts[kind] > 1 for kind in KINDS) else ["are %r" % (counts,)])
+
+
+@slow
+class FailedCallsTest(ProgramTest):
+    def setUp(self) -> None:
+        super().setUp()
+        directory = tempfile.mkdtemp(prefix="aide-failed-calls-")
+        self.addCleanup(shutil.rmtree, directory, True)
+        self.directory = os.fsencode(directory)
+        self.library, faults = built("fail_call.c", self.directory)
+        if self.library is None:
+            self.fail("\n".join(faults))
+
+    def test_report(self) -> None:
+        try_calls(Stumbler(self.program, self.library, (wanted, MOST_OPENINGS, sessions)), self.directory, 2, self)
+
+    def test_lines(self) -> None:
+        how = (wanted_lines, MOST_OF_LINES, sessions_of_lines)
+        try_calls(Stumbler(self.lines_program, self.library, how), self.directory, 2, self)
