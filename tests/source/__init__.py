@@ -1,0 +1,1 @@
+"""Checks of the source: its layout, its pages, its must-fail edits."""

@@ -1,0 +1,207 @@
+"""Checks what the pages of this repository name: links, files, code that was copied in, clauses, tables of files.
+
+- Each link of a page leads to a file of the repository.
+- Each file that a page names in backquotes exists: below the top, a crate, or a crate's src/. Built files (`out/`) and
+  names with `NAME` in them are left out.
+- A block of code below `<!-- from: FILE -->` is FILE, letter for letter.
+- Each file of a crate's specs/ is reached from the contract of a public call, as tools/source/public_specs.py finds, or
+  cited by the laws of the crate. No file of specs/code/ is reached from a call that a crate of a program makes.
+- Each clause that docs/LIBRARY.md names for a call is a clause of this call.
+- docs/HEADLINE.md and docs/HEADLINE_LINES.md are what tools/source/headline_page.py prints of the definitions.
+- Each block of a page whose blocks no trial runs has a mark: run by hand, no command, or copied from a file. In README.md,
+  examples/README.md and the manual tests.pages.try_commands asks for a row of each, and in the recipes tests.pages.try_recipes
+  for a mark.
+- Each text that CONTRIBUTING.md gives for a kind of change stands in a file.
+
+Prints what fails and, at the end, `N passed, M failed`.
+"""
+import glob
+import os
+import re
+import subprocess
+import sys
+
+from tools.lib.arguments import parser_of
+from tests.lib.tally import Tally
+from tests.pages.page_blocks.pages import INDENT, MARKDOWN, paragraphs
+from tests.pages.recipes.page import PAGES
+from tools.source import headline_page, public_specs
+from tools.source.compare_promises import Revision, records_of
+
+TOP = public_specs.TOP
+MARK = re.compile(r"<!-- (by hand|no command|from): ")
+ENDINGS = r"(?:rt|antt|py|md|sh|c|txt|conf|edit|[15])"
+NAMED = re.compile(r"`((?:[\w.-]+/)*[\w.-]+\.%s)`" % ENDINGS)
+BELOW = re.compile(r"`((?:tests|tools|packaging|commands|docs|crates|examples|contrib|man|bench)/[\w./-]*)`")
+
+
+class Kinds(Tally):
+    """What was checked, by kind: a kind of which nothing is found has failed."""
+
+    def __init__(self):
+        super().__init__()
+        self.kinds = {}
+
+    def is_so(self, kind, name, good):
+        self.kinds[kind] = self.kinds.get(kind, 0) + 1
+        self.holds("%s: %s" % (kind, name), good)
+
+    def status_of(self, kinds):
+        for kind in kinds:
+            if not self.kinds.get(kind):
+                self.is_so(kind, "nothing was found to check", False)
+        return self.status()
+
+
+def read(name):
+    with open(os.path.join(TOP, name), encoding="utf-8") as file:
+        return file.read()
+
+
+def tracked():
+    """The files of the repository, by git where there is one."""
+    done = subprocess.run(["git", "-C", TOP, "ls-files"], stdout=subprocess.PIPE, stderr=subprocess.DEVNULL)
+    names = done.stdout.decode().split("\n")[:-1]
+    if done.returncode == 0 and names:
+        return names
+    return [os.path.relpath(name, TOP) for name in glob.glob(os.path.join(TOP, "**"), recursive=True)]
+
+
+def is_there(name, page):
+    """Whether a page may name a file so: from the top, beside the page, from a crate, from a crate's src/."""
+    folders = [
+        "",
+        os.path.dirname(page),
+        "crates",
+        "tests",
+        "tools",
+        "bench",
+        "man",
+        "contrib",
+        "commands",
+        "commands/bin",
+        "commands/lib/aide_compare",
+        "commands/lib/aide_compare/*",
+        "crates/*",
+        "crates/*/src",
+        "crates/*/src/*",
+        "crates/*/proofs",
+        "crates/*/specs",
+        "tests/*",
+        "tools/*",
+        "tests/program/*",
+        "tests/pages/*",
+        "tests/commands/*",
+        "packaging",
+        "examples/*",
+    ]
+    # packaging/install puts the folders of contrib/ that are examples into examples/ beside the documents.
+    installed = name.replace("examples/", "contrib/", 1)
+    return any(glob.glob(os.path.join(TOP, folder, each)) for folder in folders for each in (name, installed))
+
+
+def check_names(page, text, tally):
+    for target in re.findall(r"\]\(([^)#]+?)(?:#[^)]*)?\)", text):
+        if "://" not in target:
+            tally.is_so("link", page + ": " + target, os.path.exists(os.path.join(TOP, os.path.dirname(page), target)))
+    plain = re.sub(r"```.*?```", "", text, flags=re.S)
+    for name in sorted(set(NAMED.findall(plain)) | set(BELOW.findall(plain))):
+        if "NAME" in name or "/out/" in name:
+            continue
+        tally.is_so("file", page + ": " + name, is_there(name.rstrip("/"), page))
+
+
+def check_copies(page, text, tally):
+    for name, block in re.findall(r"<!-- from: (\S+) -->\n```\w*\n(.*?)```\n", text, re.S):
+        tally.is_so("copied code", page + ": " + name, block == read(name))
+
+
+def check_blocks(page, text, tally):
+    if page in MARKDOWN + [headline_page.PAGE, headline_page.LINES_PAGE] + ["docs/" + name for name in PAGES]:
+        return
+    before = ""
+    for part in paragraphs(text):
+        if ("```" in part or part.startswith(INDENT)) and "```mermaid" not in part:
+            tally.is_so("block", "%s: %s" % (page, part[:60]), MARK.search(part) or MARK.search(before))
+        before = part
+
+
+def check_promised(tally):
+    """A folder `specs/` has just the files that public contracts reach or laws cite, and `specs/code/` has the others.
+
+    What one crate takes from the inside of another one may cite `specs/code/`.
+    """
+    found = public_specs.met(public_specs.crates())
+    needed = public_specs.met(public_specs.crates_of_programs(), public_specs.names_for_programs)
+    for crate in public_specs.crates():
+        folder, proofs = os.path.join(TOP, "crates", crate, "specs"), os.path.join(TOP, "crates", crate, "proofs")
+        cited = "\n".join(map(read, sorted(glob.glob(os.path.join(proofs, "*Laws.antt")))))
+        reached = found.get(crate, [])
+        promised = set(reached) | set(re.findall(r"^use Rattle\.%s\.specs\.(\w+)\." % crate, cited, re.M))
+        for path in sorted(glob.glob(os.path.join(folder, "**", "*.antt"), recursive=True)):
+            name = os.path.relpath(path, folder)[: -len(".antt")].replace(os.sep, ".")
+            if name not in ("Lib", "code.Lib", "code"):
+                holds = name not in needed.get(crate, []) if name.startswith("code.") else name in promised
+                tally.is_so("place of a definition", "%s: %s" % (crate, name), holds)
+
+
+def check_changes(tally):
+    """Each kind of change in CONTRIBUTING has texts that files of the repository have."""
+    page = read("CONTRIBUTING.md")
+    part = page[page.index("| Kind of change |") :].split("\n\n")[0]
+    found = [read_text(name) for name in tracked() if name != "CONTRIBUTING.md"]
+    for kind, texts in re.findall(r"^\| ([^|]+) \| (`[^|]+`) \|", part, re.M):
+        for text in re.findall(r"`([^`]+)`", texts):
+            tally.is_so("kind of change", "%s: a file has %s" % (kind, text), any(text in one for one in found))
+
+
+def read_text(name):
+    """The text of a file, and nothing for one that is no text."""
+    try:
+        return read(name)
+    except (UnicodeDecodeError, IsADirectoryError, FileNotFoundError):
+        return ""
+
+
+def promised_by(call: str, source: str) -> set[str]:
+    """The names of what a call promises: its clauses, and the fields of the records that these cite."""
+    text = read(source)
+    contract = text[text.index(f"pub fn {call}<") :].split("\n{\n")[0]
+    names = set(re.findall(r"ensures (\w+) \{", contract))
+    records = records_of(Revision(None))
+    for word in set(re.findall(r"\w+", contract)):
+        names |= {field.split(" ")[0] for field in records.get(word, [])}
+    return names
+
+
+def check_clauses(tally):
+    sources = {"run": "crates/aide_report/src/comparison.rt", "session": "crates/aide_session/src/program.rt"}
+    parts = re.split(r"\n### What a caller of `(\w+)` may rely on\n", read("docs/LIBRARY.md"))
+    for call, part in zip(parts[1::2], parts[2::2]):
+        promised = promised_by(call, sources[call])
+        for row in re.findall(r"^\| .* \| ((?:`\w+`(?:, )?)+) \|$", part, re.M):
+            for clause in re.findall(r"`(\w+)`", row):
+                tally.is_so("clause", "%s of %s" % (clause, call), clause in promised)
+
+
+def main():
+    parser_of("tests.source.check_docs", __doc__).parse_args()
+    tally = Kinds()
+    for page in tracked():
+        if page.endswith(".md"):
+            text = read(page)
+            check_names(page, text, tally)
+            check_copies(page, text, tally)
+            check_blocks(page, text, tally)
+    for name, text in headline_page.pages().items():
+        tally.is_so("written page", name, read_text(name) == text)
+    check_promised(tally)
+    check_clauses(tally)
+    check_changes(tally)
+    return tally.status_of(
+        ["link", "file", "copied code", "block", "written page", "place of a definition", "clause", "kind of change"]
+    )
+
+
+if __name__ == "__main__":
+    sys.exit(main())

@@ -1,0 +1,229 @@
+"""Compares the must-fail edits with the public functions: each public function has an edit in its own code.
+
+A public function is one that a crate's lib.rt exports, or a method of an exported type, its own or of a trait of this
+repository. An edit belongs to a function if it changes a line of the function's body, or of a private function or a
+constant that no other public function names. Four kinds need no edit; docs/CONTRACTS.md says why:
+
+  no contract   it promises nothing, so no edit can be refused
+  maker         takes no `self`, and its body is one literal of its type
+  reader        its body is a field of `self`, or a call without arguments on one
+  passes on     its body hands what it was given to what it wraps, or lets it go
+
+An edit has a name that says what the edited code does, so the words of the function's own name are not enough. A crate of
+laws has no code: its edits change a definition.
+
+Prints each public function that has no edit and needs one, each edit that changes no line of code or whose text does not
+stand exactly once in its file, and each that is only named after what it changes. The last line is `N passed, M failed`.
+"""
+import os
+import pathlib
+import re
+import sys
+
+from tools.lib.arguments import parser_of
+
+HERE = os.path.dirname(os.path.dirname(os.path.dirname(os.path.abspath(__file__))))
+CRATES = os.path.join(HERE, "crates")
+# Where fewer are found, the search itself is broken.
+FEWEST_FUNCTIONS = 160
+FEWEST_EDITS = 150
+
+FUNCTION = re.compile(r"^( *)(pub )?(?:pub\([a-z]+\) )?(?:const |unsafe )*fn (\w+)")
+CONSTANT = re.compile(r"^ *(?:pub(?:\([a-z]+\))? )?(?:const|static) (\w+):")
+IMPL = re.compile(r"^impl(?:<[^>]*(?:<[^>]*>[^>]*)*>)? (?:(\w+)(?:<.*>)? for )?([\w\[&]+)")
+EXPORT = re.compile(r"^pub use ([\w:]+?)::(?:\{([^}]*)\}|(\w+));", re.MULTILINE)
+TRAIT = re.compile(r"^pub trait (\w+)", re.MULTILINE)
+CLAUSE = re.compile(r"^\s*(requires|ensures|decreases)\b")
+PARTS = r"let \w+ \{ [^}]* \} = \w+; "
+FIELD = rf"(&?self(\.\w+)+(\(\))?|{PARTS}\w+(\.\w+\(\))?)"
+PASSED = rf"({PARTS})?(self\.\w+\.\w+\(\w+\);?|let _ = \w+;)"
+
+
+def read_lines(*path):
+    with open(os.path.join(CRATES, *path), encoding="utf-8") as file:
+        return file.read().split("\n")
+
+
+class Item:
+    """A function or a constant, and the lines of its code."""
+
+    def __init__(self, name, owner, trait, is_pub, begin, first, last, text):
+        self.name, self.owner, self.trait, self.is_pub = name, owner, trait, is_pub
+        self.begin, self.first, self.last = begin, first, last
+        head = text[begin:first]
+        self.is_promised = trait is not None or any(CLAUSE.match(line) for line in head)
+        self.takes_self = re.search(r"\(\s*&?(mut )?self\b", " ".join(head)) is not None
+        self.body = " ".join(" ".join(line.split("//")[0] for line in text[first:last]).split())
+
+    def title(self):
+        return f"{self.owner}::{self.name}" if self.owner else self.name
+
+    def words(self):
+        """The words of its name and of its type's name."""
+        return set(re.findall(r"[a-z0-9]+", re.sub(r"(?<=[a-z0-9])(?=[A-Z])", "_", self.title()).lower()))
+
+    def kind(self):
+        """The kind of function that needs no edit, if it is of one."""
+        if not self.is_promised:
+            return "no contract"
+        if re.fullmatch(FIELD, self.body):
+            return "reader"
+        if re.fullmatch(PASSED, self.body):
+            return "passes on"
+        literal = rf"({self.owner}|Self) \{{[^{{}}]*\}}"
+        if self.owner and not self.takes_self and re.fullmatch(literal, self.body):
+            return "maker"
+        return None
+
+
+def code_of(text, begin, indent):
+    """The lines between the braces of the function that begins at a line, or None if it has no body."""
+    depth = 0
+    for at in range(begin, len(text)):
+        line = text[at].split("//")[0].rstrip()
+        if depth > 0 or CLAUSE.match(line):
+            depth += line.count("{") - line.count("}")
+        elif line == indent + "{" or line.endswith(" {"):
+            last = next(to for to in range(at + 1, len(text)) if text[to].startswith(indent + "}"))
+            return at + 1, last
+        elif line.endswith(";") or line.endswith("{}"):
+            return None
+    return None
+
+
+def items_of(text):
+    """The functions and constants of a file."""
+    owner = trait = None
+    for at, line in enumerate(text):
+        if line.startswith("}"):
+            owner = trait = None
+        head, function, constant = IMPL.match(line), FUNCTION.match(line), CONSTANT.match(line)
+        if head:
+            trait, owner = head.groups()
+        elif function:
+            indent, is_pub, name = function.groups()
+            code = code_of(text, at, indent)
+            if code:
+                yield Item(name, owner, trait, is_pub is not None, at, *code, text)
+        elif constant:
+            last = next(to for to in range(at, len(text)) if text[to].endswith(";"))
+            yield Item(constant.group(1), owner, trait, False, at, at, last + 1, text)
+
+
+def sources_of(folder):
+    """The files of a crate's code, as paths below this folder. Tests in a folder of their own are left out."""
+    files = (path.relative_to(folder).as_posix() for path in pathlib.Path(folder).rglob("*.rt"))
+    return sorted(file for file in files if "/" not in file or "tests" not in file)
+
+
+class Crate:
+    """The code of a crate, its public functions, and which edits belong to what."""
+
+    def __init__(self, name):
+        self.name = name
+        self.files = sources_of(os.path.join(CRATES, name, "src"))
+        self.texts = {"src/" + file: read_lines(name, "src", file) for file in self.files}
+        self.items = [(file, item) for file, text in self.texts.items() for item in items_of(text)]
+        self.exports = set()
+        for module, several, one in EXPORT.findall("\n".join(self.texts.get("src/lib.rt", []))):
+            self.exports |= {(f"src/{module}.rt", kept.strip()) for kept in (several or one).split(",")}
+        self.types = {kept for _, kept in self.exports}
+
+    def traits(self):
+        return {name for text in self.texts.values() for name in TRAIT.findall("\n".join(text))}
+
+    def is_public(self, file, item, traits):
+        if item.owner is None:
+            return item.is_pub and (file, item.name) in self.exports
+        return item.owner in self.types and (item.is_pub if item.trait is None else item.trait in traits)
+
+    def text_of(self, file):
+        """The lines of a file of the crate, which an edit may name beside those of `src/`."""
+        return self.texts[file] if file in self.texts else read_lines(self.name, *file.split("/"))
+
+    def edits(self):
+        """Each edit: its name, the lines, as file and number, that it changes, and how often each old text is there."""
+        folder = os.path.join(CRATES, self.name, "must-fail")
+        for name in sorted(os.listdir(folder)) if os.path.isdir(folder) else []:
+            lines, file, counts = [], None, []
+            for line in read_lines(self.name, "must-fail", name):
+                word, _, rest = line.partition(": ")
+                if word == "file":
+                    file = rest
+                elif word == "old":
+                    found = [(file, at) for at, code in enumerate(self.text_of(file)) if rest in code]
+                    counts.append(sum(self.text_of(file)[at].count(rest) for _, at in found))
+                    lines += found
+            yield name[: -len(".edit")], lines, counts
+
+    def edits_of_items(self):
+        """The names of the edits of each item, and why other edits are wrong."""
+        of_item, wrong = {}, {}
+        for name, lines, counts in self.edits():
+            changed = [
+                item
+                for file, item in self.items
+                if any(file == source and item.first <= at < item.last for source, at in lines)
+            ]
+            for item in changed:
+                of_item.setdefault(id(item), []).append(name)
+            if any(count != 1 for count in counts):
+                wrong[name] = "has an old text that does not stand exactly once in its file"
+            elif not changed and self.items:
+                wrong[name] = "changes no line of code"
+            elif set(name.split("_")) <= set().union(*(item.words() for item in changed)):
+                wrong[name] = "is named after what it changes, and not after what the edited code does"
+        return of_item, wrong
+
+    def own_code(self, public):
+        """Of each public function the items that are its code: itself, and what it alone names."""
+        ids = {id(item) for _, item in public}
+        private = {}
+        for _, item in self.items:
+            if id(item) not in ids:
+                private.setdefault(item.name, []).append(item)
+        named = {id(item): set(re.findall(r"\b\w+\b", item.body)) & set(private) for _, item in public}
+        for file, item in public:
+            others = set().union(*(names for key, names in named.items() if key != id(item)))
+            own = [private[name][0] for name in named[id(item)] - others if len(private[name]) == 1]
+            yield file, item, [item] + own
+
+
+def judge(crate, traits, lists):
+    """How many public functions and edits are right, and how many are not, each of which is printed."""
+    of_item, wrong = crate.edits_of_items()
+    public = [(file, item) for file, item in crate.items if crate.is_public(file, item, traits)]
+    passed = failed = 0
+    for file, item, code in crate.own_code(public):
+        edits = sorted({name for part in code for name in of_item.get(id(part), [])})
+        good = bool(edits or item.kind())
+        passed, failed = passed + good, failed + (not good)
+        if lists:
+            print(f"{crate.name}/{file}: {item.title()}: {', '.join(edits) or item.kind() or 'no edit'}")
+        if not good:
+            print(f"FAILED: crates/{crate.name}/{file}:{item.begin + 1}: {item.title()} has no must-fail edit")
+    for name, why in wrong.items():
+        print(f"FAILED: crates/{crate.name}/must-fail/{name}.edit {why}")
+    return passed, failed + len(wrong), sum(1 for _ in crate.edits())
+
+
+def main():
+    parser = parser_of("tests.source.check_edits", __doc__)
+    parser.add_argument("--list", action="store_true", help="print every public function with its edits or its kind")
+    given = parser.parse_args()
+    names = sorted(name for name in os.listdir(CRATES) if os.path.isdir(os.path.join(CRATES, name, "src")))
+    crates = [Crate(name) for name in names]
+    traits = set().union(*(crate.traits() for crate in crates))
+    passed = failed = edits = 0
+    for crate in crates:
+        good, bad, tried = judge(crate, traits, given.list)
+        passed, failed, edits = passed + good, failed + bad, edits + tried
+    if passed + failed < FEWEST_FUNCTIONS or edits < FEWEST_EDITS:
+        print(f"FAILED: only {passed + failed} functions and {edits} edits were found")
+        failed += 1
+    print(f"{passed} passed, {failed} failed")
+    return 0 if failed == 0 else 1
+
+
+if __name__ == "__main__":
+    sys.exit(main())
