@@ -5,7 +5,7 @@ import shutil
 import subprocess
 
 from tools.gate.counting import TOP
-from tools.lib.tally import side_by_side
+from tests.lib.tally import side_by_side
 from tools.source.checker import kit
 
 
@@ -23,14 +23,12 @@ def crates():
 
 
 def faults():
-    """What `rt fmt` and black would change, where they are there."""
+    """What `rt fmt` would change, where it is there."""
     found = []
     if shutil.which("rt"):
         words = [os.path.join(kit(), "bin", "rattle"), "fmt", "--check"]
         for faults in side_by_side(4, lambda crate: said([*words, *crate[1]], crate[0]), crates()):
             found += faults
-    if shutil.which("black"):
-        found += said(["black", "--quiet", "--check", "commands", "tools", "bench"], TOP)
     return found
 
 

@@ -4,10 +4,12 @@ The very last line is 'N passed, M failed' of all together; the status is 1 if s
 in `out/cost.json`.
 """
 import os
+import subprocess
 import sys
 
 from tools.gate import cost, parts
 from tools.gate.counting import TOP, Count
+from tools.gate.second_builds import NEWER
 from tools.lib.arguments import parser_of
 
 
@@ -30,12 +32,15 @@ def prove(count):
         if os.path.lexists(os.path.join(TOP, name)):
             os.remove(os.path.join(TOP, name))
     os.environ.setdefault("RT_JOBS", str(jobs()))
-    ci, *others = parts.proofs()
     with cost.Watch() as watch:
-        count.run(ci)
-    for part in others:
-        count.run(part)
+        count.run(parts.PROOFS)
     return watch.crates()
+
+
+def runs_here(program):
+    """Whether this machine's processor runs a build. One that lacks an instruction is answered with status 127."""
+    words = [os.path.join(TOP, program), "-D", "-c", "/dev/null"]
+    return os.access(words[0], os.X_OK) and subprocess.call(words) != 127
 
 
 def main():
@@ -49,8 +54,14 @@ def main():
         count.run(part)
     crates = prove(count)
     if all(os.access(os.path.join(TOP, name), os.X_OK) for name in (parts.PROGRAM, parts.LINES)):
-        for part in parts.trials(parts.PROGRAM, parts.LINES, parts.IN_MEMORY):
+        count.run(parts.SECOND_BUILDS)
+        for part in parts.trials(parts.PROGRAM, parts.LINES):
             count.run(part)
+        if runs_here(parts.PROGRAM + NEWER):
+            for part in parts.newer_trials(parts.PROGRAM + NEWER, parts.LINES + NEWER):
+                count.run(part)
+        else:
+            print("skipped: this processor does not run the builds for newer ones", flush=True)
     else:
         count.fail("the programs were not built")
     cost.keep(crates, count.spent)

@@ -1,1 +1,1 @@
-"""What trials share: counting, running a program, libraries loaded before it."""
+"""What tools share: their arguments, and small mistakes in a text."""

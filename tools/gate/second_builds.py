@@ -1,0 +1,88 @@
+"""Builds both programs for newer processors too, and notes which files are proved builds.
+
+`rt ci` and `rt run` build a program for x86-64-v2. Over the libraries that they have proved, this checks the one function of
+a program's own crate again and compiles the whole for x86-64-v3: `crates/NAME/out/NAME-v3`. Such a program ends with status
+127 on a processor that lacks an instruction of it; the commands then run the other build.
+
+Beside each proved build stands a record, `NAME.proved` or `NAME-v3.proved`: the SHA-256 of the file, and the toolchain. It is
+written at once after the proof. With --ran-now the builds for x86-64-v2, which the caller has just proved, get theirs too.
+The last line is 'N passed, M failed'.
+"""
+import hashlib
+import os
+import subprocess
+import sys
+from typing import Dict, List
+
+from tools.lib.arguments import parser_of
+from tests.lib.tally import Tally
+from tools.source import checker
+
+PROGRAMS = ("aide", "aide_lines")
+NEWER = "-v3"
+PROCESSOR = "x86-64-v3"
+
+
+def path_of(crate: str, ending: str = "") -> str:
+    """The file of a program, which need not be there."""
+    return os.path.join(checker.TOP, "crates", crate, "out", crate + ending)
+
+
+def write_record(program: str) -> None:
+    """Notes that this very file is a proved build."""
+    with open(program, "rb") as file:
+        digest = hashlib.sha256(file.read()).hexdigest()
+    toolchain = subprocess.run(["rt", "version"], stdout=subprocess.PIPE, check=True, text=True)
+    with open(program + ".proved", "w", encoding="utf-8") as file:
+        file.write(f"sha256={digest}\nkit={toolchain.stdout.splitlines()[0]}\n")
+
+
+def is_proved(said: str) -> bool:
+    """Whether a build says of itself that it is proved, for this processor."""
+    words = [line.split() for line in said.splitlines() if line.startswith("logic=")]
+    return [line[0] for line in words] == ["logic=proved"] and f"cpu={PROCESSOR}" in words[0]
+
+
+def build(crate: str, uses: Dict[str, List[str]]) -> List[str]:
+    """Proves and builds a program for newer processors. Returns what went wrong."""
+    kit, program = checker.kit(), path_of(crate, NEWER)
+    for old in (program, program + ".proved"):
+        if os.path.lexists(old):
+            os.remove(old)
+    words = checker.words_of(crate, uses, "")[:-2]
+    words[1] = "build"
+    words += ["--links", f"{crate}=", "--cpu", PROCESSOR, "--backend", "llvm"]
+    words += ["--toolchain", os.path.join(kit, "toolchain"), "-o", f"{program}.o"]
+    folder = os.path.join(checker.TOP, "crates", crate)
+    proved = subprocess.run(words, cwd=folder, stdout=subprocess.PIPE, stderr=subprocess.STDOUT, check=False)
+    said = proved.stdout.decode("utf-8", "replace")
+    if proved.returncode or not is_proved(said):
+        return [f"it was not proved: {said[-2000:]}"]
+    words = [os.path.join(kit, "bin", "rattle-link"), "--target", "x86_64-unknown-linux-gnu"]
+    words += ["--toolchain", os.path.join(kit, "toolchain"), "-o", program, f"{program}.o"]
+    words += [os.path.join(kit, "c", name) for name in ("libos_c.a", "liblibc_c.a")]
+    linked = subprocess.run(words, stdout=subprocess.PIPE, stderr=subprocess.STDOUT, check=False)
+    if linked.returncode:
+        return [f"it was not linked: {linked.stdout.decode('utf-8', 'replace')[-2000:]}"]
+    write_record(program)
+    return []
+
+
+def main() -> None:
+    """Builds the programs that were named, or both."""
+    parser = parser_of("tools.gate.second_builds", __doc__)
+    parser.add_argument("names", nargs="*", metavar="NAME", help="one of %s (both)" % " and ".join(PROGRAMS))
+    parser.add_argument("--ran-now", action="store_true", help="the caller has just proved the builds that are there")
+    given = parser.parse_args()
+    if not set(given.names) <= set(PROGRAMS):
+        parser.error("no program of this name: " + " ".join(sorted(set(given.names) - set(PROGRAMS))))
+    tally, uses = Tally(), checker.libraries()
+    for crate in given.names or PROGRAMS:
+        if given.ran_now:
+            write_record(path_of(crate))
+        tally.add(crate + NEWER, build(crate, uses))
+    sys.exit(tally.status())
+
+
+if __name__ == "__main__":
+    main()

@@ -1,1 +1,0 @@
-"""What tools/packaging/try_install.py tries, a file for each part of it."""

@@ -1,1 +1,0 @@
-"""What tools/pages/try_recipes.py tries: the recipes, the days of a watched host, the faults, many hosts."""
