@@ -58,7 +58,8 @@ def records_of(revision):
     found = {}
     for path in revision.paths():
         if path.endswith(".antt"):
-            text = "\n".join(line.split("--")[0].rstrip() for line in revision.text(path).split("\n")) + "\n"
+            lines = [line for line in revision.text(path).split("\n") if not line.lstrip().startswith("--")]
+            text = "\n".join(line.split("--")[0].rstrip() for line in lines) + "\n"
             for name, fields in RECORD.findall(text):
                 found[name] = [joined(field) for field in re.split(r"^  pub ", fields, flags=re.M) if field.strip()]
     return found

@@ -3,7 +3,7 @@ that it rests on, with the sentence over it.
 
 From the contracts of `aide_headline` this follows each name to its definition, and from there to the definitions that it
 uses, as tools/source/public_specs.py does for all public calls. A definition stands before those that it uses. With --write
-the pages are written; tools/source/check_docs.py compares them with the definitions.
+the pages are written; tests/source/check_docs.py compares them with the definitions.
 """
 import os
 import re
@@ -18,7 +18,9 @@ COMPARE = "crates/aide_headline/src/comparison.rt"
 PROGRAM = "crates/aide_headline/src/program.rt"
 COMPARE_LINES = "crates/aide_headline/src/lines.rt"
 PROGRAM_LINES = "crates/aide_headline/src/lines_program.rt"
+PROGRAM_BESIDE = "crates/aide_headline/src/beside_program.rt"
 RUN = "crates/aide_report/src/comparison.rt"
+RUN_BY = "crates/aide_report/specs/RunBy.antt"
 WIDTH = 138
 # Lines of a definition that are no longer than this share a line.
 SHORT = 48
@@ -32,6 +34,7 @@ TRAITS = {
 }
 # What a configuration means and what arguments ask for are premises of the second call. Their definitions are not printed.
 PREMISES = [("aide_conf", "ReadResult", "ReadsAs"), ("aide_words", "Job", "job_of")]
+PREMISES_BESIDE = [("aide_words", "BesideJob", "beside_job_of")]
 # The words of the toolchain's library that say more than their names do, and of other crates all: what each means.
 MEANINGS = {
     "Appends": "known bytes have grown by exactly these. If the bytes of a device are not known, it says nothing",
@@ -50,7 +53,7 @@ MEANINGS = {
 INTRO = """\
 # The headline, and what it rests on
 
-This page is written by `python3 -m tools.source.headline_page --write`. `tools/source/check_docs.py`, a part of the tests, compares it with
+This page is written by `python3 -m tools.source.headline_page --write`. `tests/source/check_docs.py`, a part of the tests, compares it with
 the definitions. It is all that has to be read to know what the headline of the [README](../README.md) says of two databases. How it was proved
 need not be read: the toolchain has checked that. Of the whole program it has all but what arguments and configurations mean.
 
@@ -73,7 +76,12 @@ changes, the summary string, what arguments ask for. Here stand only those that 
 ASKED = """\
 Its premise also says which job the arguments ask for, and that the configuration is accepted with these settings. What that means is not
 printed here:"""
-FILES = "The files of a machine tell contracts no bytes, so no clause above speaks of them. Two clauses of `run` do:"
+OF_TWO = "Two databases"
+OF_PROGRAM = "The whole program, by arguments and files"
+OF_PAIR = "The whole program, if its arguments name a trusted pair"
+FILES = """\
+The files of a machine tell contracts no bytes, so no clause above speaks of them. Two fields of the record that `run` promises do. In them
+`w` is `as_report`, `a` and `b` are the sources before and after the call, and `o` and `p` the output:"""
 WORDS = "All words of other crates, and those of the library that say more than their names do:"
 PLAIN = "The other words of the library mean what their names say: "
 
@@ -89,10 +97,10 @@ def contract_of(text, name):
     return text[begin : text.index("\n{\n", begin)]
 
 
-def clauses_of(contract, names):
-    """The clauses of a contract by their names."""
-    parts = re.split(r"\n(?=    (?:ensures|requires|//))", contract)
-    return [part for part in parts if any(part.startswith("    ensures %s {" % name) for name in names)]
+def fields_of(text: str, names: list[str]) -> list[str]:
+    """The fields of a record by their names."""
+    fields = re.findall(r"^  pub (\w+)( :.*(?:\n      .*)*)", text, re.MULTILINE)
+    return [name + rest for name, rest in fields if name in names]
 
 
 class Page:
@@ -101,6 +109,7 @@ class Page:
     def __init__(self, definitions, intro, printed=()):
         self.definitions = definitions
         self.lines, self.printed, self.outside = intro.split("\n")[:-1], list(printed), []
+        self.known = list(printed)
 
     def add(self, *lines):
         self.lines += lines
@@ -186,7 +195,8 @@ def shown(definition):
     lines = [line for group in groups for line in laid_out(group)]
     lines = [re.sub(r"^( *)(?:(?:abbrev|unfoldable|pub) )+", r"\1", line) for line in lines]
     rest, indent = [line.strip() for line in lines[1:]], "  " if definition.is_group() else ""
-    are_short = indent and len("; ".join(rest)) <= WIDTH or all(len(line) <= SHORT for line in rest)
+    goes_on = not indent and any(line.startswith(" ") for line in lines[1:])
+    are_short = indent and len("; ".join(rest)) <= WIDTH or not goes_on and all(len(line) <= SHORT for line in rest)
     if are_short and not any("--" in line for line in rest):
         lines[1:] = filled(rest, indent)
     if len(lines[0]) + 4 + len(definition.sentence) <= WIDTH:
@@ -213,6 +223,40 @@ def members_of(contracts):
     return lines
 
 
+def parts_of(text: str, name: str) -> list[str]:
+    """The variants of an enum, or the fields of a struct that others see, in their order."""
+    found = re.search(rf"pub (?:struct|enum) {name}\b[^;{{(]*\{{\n(.*?)\n\}}", text, re.S)
+    if not found:
+        return []
+    lines = [line for line in found.group(1).split("\n") if not re.match(r" *(//|#|ghost )", line)]
+    return re.findall(r"^    (?:pub )?(\w+)(?=[:,( {])", "\n".join(lines), re.M)
+
+
+def aliases_of(page: Page) -> dict[tuple[str, str, str], str]:
+    """The names under which the files of a page import variants, by crate, type and variant. Two names end the program."""
+    found: dict[tuple[str, str, str], str] = {}
+    for file in {place[:2] for place in page.printed if place not in page.known}:
+        for alias, target in page.definitions.files[file].imports.items():
+            if ".TheVariants" in target[1] and alias[0].isupper():
+                place = target[0], type_of(target)[2], target[2]
+                if found.setdefault(place, alias) != alias:
+                    sys.exit(f"{place} has two names: {found[place]}, {alias}")
+    return found
+
+
+def constants_of(outside: list[tuple[str, str, str]]) -> list[str]:
+    """Lines about the constants of the code that definitions name."""
+    lines = []
+    for crate, file, name in sorted(set(outside)):
+        if ".TheConstants." in file:
+            _, module, owner = type_of((crate, file, name))
+            path = f"crates/{crate}/src/{module}.rt"
+            above = re.search(rf"((?: +/// .*\n)+) +pub const {name}: \[{owner};", read(path))
+            words = " ".join(above.group(1).replace("/// ", "").split()).rstrip(".")
+            lines.append(f"`{name}` is `{owner}::{name}` of `{path}`: {words}.")
+    return lines
+
+
 def type_of(target):
     """The type of the code that a name is of: its crate, the path of its module, its name."""
     parts = [part for part in target[1].split(".")[1:] if part not in ("TheConstants", "TheVariants")]
@@ -220,17 +264,25 @@ def type_of(target):
     return target[0], "/".join(modules), [part for part in parts if not part[0].islower()][0]
 
 
-def types_of(outside):
-    """A table of the types of the code that definitions name."""
-    own = crates()
-    found = sorted({type_of(each) for each in outside if each[1].startswith("declared.") and each[0] in own})
-    lines = ["| Type | Is | File |", "|---|---|---|"]
+def types_of(page: Page, known: list[tuple[str, str, str]]) -> list[str]:
+    """The types of the code that a page names, with the variants or fields of each, and the constants; those that are `known`
+    from another page are left out."""
+    own, aliases = crates(), aliases_of(page)
+    declared = [each for each in page.outside if each[1].startswith("declared.") and each[0] in own and each not in known]
+    found = sorted({type_of(each) for each in declared} - {type_of(each) for each in known if each[1].startswith("declared.")})
+    lines = ["| Type | Is | Has | File |", "|---|---|---|---|"]
     for crate, module, name in found:
-        file = "crates/%s/src/%s.rt" % (crate, module)
-        above = re.search(r"((?:/// .*\n)+)(?:#\[.*\]\n)*pub (?:struct|enum|trait) %s\b" % name, read(file))
+        file = f"crates/{crate}/src/{module}.rt"
+        above = re.search(rf"((?:/// .*\n)+)(?:#\[.*\]\n)*pub (?:struct|enum|trait) {name}\b", read(file))
         words = " ".join(above.group(1).replace("/// ", "").split()) if above else ""
-        lines.append("| `%s` | %s | `%s` |" % (name, words.split(". ")[0].rstrip("."), file))
-    return lines
+        parts = []
+        for part in parts_of(read(file), name):
+            alias = aliases.get((crate, name, part), part)
+            parts.append(f"`{part}`" + (f" (above `{alias}`)" if alias != part else ""))
+        sentence = words.split(". ")[0].rstrip(".")
+        lines.append(f"| `{name}` | {sentence} | {', '.join(parts)} | `{file}` |")
+    constants = constants_of(declared)
+    return ["", "## Types of the code", "", *lines, *([""] if constants else []), *constants]
 
 
 def library_words(outside, known=()):
@@ -245,7 +297,7 @@ def library_words(outside, known=()):
     for name, means in MEANINGS.items():
         for crate, file in [each[:2] for each in of_library if each[2] == name][:1]:
             lines.append("| `%s` | `%s`, `%s` | %s |" % (name, crate, file, means))
-    plain = sorted({name for _, file, name in of_library if name not in MEANINGS and "declared" not in file})
+    plain = sorted({name for _, _, name in of_library if name not in MEANINGS})
     return ["", "## Words of the toolchain's library", "", WORDS, "", *lines, "", *wrapped(PLAIN + listed(plain) + ".", "")]
 
 
@@ -253,10 +305,10 @@ def listed(names):
     return ", ".join("`%s`" % name for name in names)
 
 
-def premises(definitions):
-    """What the premises of the second call are, in lines of a list."""
+def premises(definitions, places):
+    """What the premises of a call over arguments are, in lines of a list."""
     lines = [ASKED, ""]
-    for place in PREMISES:
+    for place in places:
         order = definitions.reached([place])[0]
         count = sum(len(definitions.definition(each).lines) for each in order)
         files = len({each[:2] for each in order})
@@ -265,11 +317,12 @@ def premises(definitions):
     return lines + [""]
 
 
-def begun(intro, definitions, compared, program, printed=()):
-    """A page with its introduction and the clauses of two calls, each of which is its file and its name; and both contracts."""
+def begun(intro, definitions, calls, printed=()):
+    """A page with its introduction and the clauses of these calls, each with what it is about, its file and its name; and their
+    contracts."""
     made, contracts = Page(definitions, intro, printed), []
     made.add("", "## The clauses")
-    for words, (file, name) in (("Two databases", compared), ("The whole program, by arguments and files", program)):
+    for words, file, name in calls:
         contracts.append(contract_of(read(file), name))
         made.add("", "%s (`%s`):" % (words, file), "")
         made.block("rust", contracts[-1])
@@ -279,19 +332,24 @@ def begun(intro, definitions, compared, program, printed=()):
 def pages():
     """The texts of both pages, by their names."""
     definitions, run = Definitions(crates()), read(RUN)
-    made, (compare, program) = begun(INTRO, definitions, (COMPARE, "compare_databases"), (PROGRAM, "run_program"))
-    told = "\n".join(clauses_of(contract_of(run, "run"), ["consistent", "opens_told"]))
+    calls = [(OF_TWO, COMPARE, "compare_databases"), (OF_PROGRAM, PROGRAM, "run_program")]
+    made, (compare, program) = begun(INTRO, definitions, calls)
+    told = "\n".join(fields_of(read(RUN_BY), ["consistent", "opens_told"]))
     made.part("What the first call rests on", [], compare, imports_of(read(COMPARE)))
-    made.part("What the second call has besides", premises(definitions), program, imports_of(read(PROGRAM)), PREMISES)
+    made.part("What the second call has besides", premises(definitions, PREMISES), program, imports_of(read(PROGRAM)), PREMISES)
     printed = list(made.printed)
-    made.part("Only for files that tell no bytes", [FILES, "", "```rust", told, "```", ""], told, imports_of(run))
+    made.part("Only for files that tell no bytes", [FILES, "", "```text", told, "```", ""], told + " as_report", imports_of(run))
     made.add("", "## What contracts see of the sources, the site and the sinks", "", *members_of([compare, program]))
-    made.add("", "## Types of the code", "", *types_of(made.outside))
+    made.add(*types_of(made, []))
     made.add(*library_words(made.outside))
-    calls = (COMPARE_LINES, "compare_as_lines"), (PROGRAM_LINES, "run_lines_program")
-    lines, (compare, program) = begun(INTRO_OF_LINES, definitions, *calls, printed)
+    calls = [(OF_TWO, COMPARE_LINES, "compare_as_lines"), (OF_PROGRAM, PROGRAM_LINES, "run_lines_program")]
+    calls.append((OF_PAIR, PROGRAM_BESIDE, "run_beside_program"))
+    lines, (compare, program, beside) = begun(INTRO_OF_LINES, definitions, calls, printed)
     imports = {**imports_of(read(COMPARE_LINES)), **imports_of(read(PROGRAM_LINES))}
-    lines.part("What both calls have besides", [], compare + program, imports, PREMISES)
+    lines.part("What the first two calls have besides", [], compare + program, imports, PREMISES)
+    of_beside = premises(definitions, PREMISES_BESIDE)
+    lines.part("What the third call has besides", of_beside, beside, imports_of(read(PROGRAM_BESIDE)), PREMISES + PREMISES_BESIDE)
+    lines.add(*types_of(lines, made.outside))
     lines.add(*library_words(lines.outside, made.outside))
     return {PAGE: "\n".join(made.lines) + "\n", LINES_PAGE: "\n".join(lines.lines) + "\n"}
 

@@ -3,12 +3,18 @@
 From the contracts of all public functions and traits this follows each name to its definition, and from there to the
 definitions that it uses. Prints a line for each crate: its name and the files of its specs/ that were met.
 """
+import glob
 import os
 import re
 import sys
 
 from tools.lib.arguments import parser_of
 from tools.source.definitions import TOP, WORD, Definitions, crates, imports_of
+
+# What is built of the crates, and whose calls are promised to others.
+PROGRAMS = ("aide", "aide_lines", "aide_headline")
+# A crate that goes on with the inside of another one. What it takes of it is promised to nobody else.
+INSIDE = {"aide_trusted": "aide_report"}
 
 
 def public_names(crate):
@@ -19,6 +25,44 @@ def public_names(crate):
     with open(root, encoding="utf-8") as file:
         text = file.read()
     return {name for use in re.findall(r"^pub use ([^;]+);", text, re.M) for name in WORD.findall(use)}
+
+
+def crates_of_programs():
+    """The crates that the programs and the headline are built of, by crates.txt."""
+    uses = {}
+    with open(os.path.join(TOP, "crates.txt"), encoding="utf-8") as file:
+        for line in file:
+            name, colon, used = line.partition(":")
+            if colon and not line.startswith("#"):
+                uses[name] = used.split()
+    found, more = set(), list(PROGRAMS)
+    while more:
+        name = more.pop()
+        if name in uses and name not in found:
+            found.add(name)
+            more += uses[name]
+    return sorted(found)
+
+
+def names_used(crate, users):
+    """The names of a crate that other crates import."""
+    used = set()
+    for user in users:
+        source = os.path.join(TOP, "crates", user, "src")
+        for path in glob.glob(os.path.join(source, "**", "*.rt"), recursive=True):
+            with open(path, encoding="utf-8") as file:
+                text = file.read()
+            for names in re.findall(rf"^use {crate}::([^;]+);", text, re.MULTILINE):
+                used |= set(WORD.findall(names))
+    return used
+
+
+def names_for_programs(crate):
+    """The names that the root of a crate hands on and that a program's crate imports."""
+    if crate in PROGRAMS:
+        return public_names(crate)
+    users = [user for user in crates_of_programs() if user != crate and INSIDE.get(user) != crate]
+    return public_names(crate) & names_used(crate, users)
 
 
 def owner_of(head):
@@ -48,11 +92,11 @@ def public_contracts(text, public):
     return "\n".join(kept)
 
 
-def met(names):
-    """The files of specs/ that the public contracts reach, by crate."""
+def met(names, handed_on=public_names):
+    """The files of specs/ that the contracts of what the crates hand on reach, by crate."""
     definitions, first = Definitions(names), []
     for crate in names:
-        public = public_names(crate)
+        public = handed_on(crate)
         for path, _, inside in os.walk(os.path.join(TOP, "crates", crate, "src")):
             for file in inside:
                 if file.endswith(".rt") and "tests" not in os.path.relpath(path, TOP) and file != "tests.rt":

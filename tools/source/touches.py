@@ -7,7 +7,7 @@ import re
 import sys
 
 from tools.lib.arguments import parser_of
-from tools.source.check_docs import read_text, tracked
+from tests.source.check_docs import read_text, tracked
 from tools.source.checker import below, libraries
 
 TESTS = ("aide_faults", "aide_in_memory", "aide_report_runs", "aide_runs")
@@ -15,15 +15,11 @@ KINDS = (
     ("Definitions and what they stand for in code", r"crates/[^/]+/specs/"),
     ("Code", r"crates/[^/]+/src/"),
     ("Proofs: the prover says which of them no longer fit", r"crates/[^/]+/proofs/"),
-    (
-        "Must-fail edits and wrong bodies: tools.source.check_edits and tools.wrong_bodies.check name those",
-        "must-fail|wrong bodies",
-    ),
+    ("Must-fail edits: tests.source.check_edits names those", "must-fail"),
     ("Crates of tests, with their stored answers", "tests"),
-    ("The plain definitions", r"tools/oracle/"),
-    ("Stored cases", r"tools/program/cases/|examples/|crates/aide(_lines)?/"),
-    ("Planted bugs: tools.source.check_planted names those that no longer fit", r"tools/\w+/planted/"),
-    ("Trials and tools", r"tools/|bench/"),
+    ("The plain definitions", r"tests/oracle/"),
+    ("Stored cases", r"tests/program/cases/|examples/|crates/aide(_lines)?/"),
+    ("Tests and tools", r"tests/|tools/|bench/"),
     ("Commands", r"commands/"),
     ("Completions, units, schemas", r"contrib/|packaging/"),
     ("Pages", r"man/|docs/|[A-Z]+\.md"),
@@ -43,8 +39,6 @@ def kind_of(name):
         name = "tests"
     elif "must-fail" in parts:
         name = "must-fail"
-    elif name.startswith("tools/wrong_bodies/") and len(parts) > 3:
-        name = "wrong bodies"
     return next(at for at, (_, pattern) in enumerate(KINDS) if re.match(pattern, name))
 
 

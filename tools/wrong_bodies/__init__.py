@@ -1,1 +1,0 @@
-"""Wrong bodies of the proved functions, and how the prover refuses each."""
