@@ -64,29 +64,55 @@ class Bench:
                 taken[name].append(self.once(words, source, target))
         for name, all_runs in taken.items():
             seconds, memory = min(one[0] for one in all_runs), max(one[1] for one in all_runs)
-            print("| %s | %s | %.3f | %.1f | %d |" % (entries, name, seconds, memory / 1024, runs), flush=True)
+            print(
+                "| %s | %s | %.3f | %.1f | %d |" % (entries, name, seconds, memory / 1024, runs),
+                flush=True,
+            )
 
 
 def rows_of(bench, entries):
     """The rows of one number of entries: the program, the comparison, and what works on its report."""
-    subprocess.run([sys.executable, "-c", MAKE, os.path.join(HERE, "bench"), bench.folder, str(entries)], check=True)
+    subprocess.run(
+        [sys.executable, "-c", MAKE, os.path.join(HERE, "bench"), bench.folder, str(entries)],
+        check=True,
+    )
     old, new, report, lines = (bench.path(name) for name in ("old", "new", "report", "lines"))
     lines_after = "database_in=file:%s\ndatabase_new=file:%s\n%s" % (old, new, LEVEL[1])
     run = ["aide-compare", old, new, *LEVEL]
     with_state = ["aide-compare", "--state", bench.path("state"), *run[1:]]
-    without = [*with_state[:3], "--exclude-from", os.path.join(HERE, "contrib", "aide", "debian.without"), *run[1:]]
+    without = [
+        *with_state[:3],
+        "--exclude-from",
+        os.path.join(HERE, "contrib", "aide", "debian.without"),
+        *run[1:],
+    ]
     nightly = ["aide-compare", "mail", "--queue", bench.path("queue"), *without[1:5], *run[1:]]
     os.makedirs(bench.path("queue"), exist_ok=True)
     bench.rows(
         entries,
         bench.runs,
-        ("`aide-compare`, the program alone", ["aide-compare", "-E", "-c", "/dev/null", "-A", lines_after], None, None),
+        (
+            "`aide-compare`, the program alone",
+            ["aide-compare", "-E", "-c", "/dev/null", "-A", lines_after],
+            None,
+            None,
+        ),
         ("`aide-compare OLD NEW`", run, None, report),
         ("`aide-compare --state FILE OLD NEW`", with_state, None, None),
         ("the same with `--exclude-from debian.without`", without, None, None),
-        ("`aide-compare mail` with all of these and `--queue`, as the unit calls it", nightly, None, None),
+        (
+            "`aide-compare mail` with all of these and `--queue`, as the unit calls it",
+            nightly,
+            None,
+            None,
+        ),
         ("`aide-compare json OLD NEW`", ["aide-compare", "json", old, new], None, lines),
-        ("`aide-compare page`, of these lines", ["aide-compare", "page", lines], None, bench.path("page")),
+        (
+            "`aide-compare page`, of these lines",
+            ["aide-compare", "page", lines],
+            None,
+            bench.path("page"),
+        ),
         ("`aide-compare sort`, of a database in order", ["aide-compare", "sort", old], None, None),
         ("`sha256sum` of both databases", ["/usr/bin/sha256sum", old, new], None, None),
     )
@@ -111,18 +137,31 @@ def fixed_cost(bench):
 
 
 def main():
-    parser = argparse.ArgumentParser(description=__doc__, formatter_class=argparse.RawDescriptionHelpFormatter)
+    parser = argparse.ArgumentParser(
+        description=__doc__, formatter_class=argparse.RawDescriptionHelpFormatter
+    )
     parser.add_argument("program", metavar="PROGRAM", help="the built program")
     parser.add_argument(
-        "--entries", default="100000,1000000", help="how many entries a database has, separated by commas; none if empty"
+        "--entries",
+        default="100000,1000000",
+        help="how many entries a database has, separated by commas; none if empty",
     )
     parser.add_argument("--runs", type=int, default=3, help="how often each command runs")
     given = parser.parse_args()
     sizes = [int(one) for one in given.entries.split(",") if one]
     folder = tempfile.mkdtemp(prefix="bench-commands-")
     try:
-        words = ["--prefix", os.path.join(folder, "installed"), "--program", os.path.abspath(given.program)]
-        subprocess.run([os.path.join(HERE, "packaging", "install"), *words], check=True, stdout=subprocess.DEVNULL)
+        words = [
+            "--prefix",
+            os.path.join(folder, "installed"),
+            "--program",
+            os.path.abspath(given.program),
+        ]
+        subprocess.run(
+            [os.path.join(HERE, "packaging", "install"), *words],
+            check=True,
+            stdout=subprocess.DEVNULL,
+        )
         bench = Bench(folder, given.runs)
         fixed_cost(bench)
         print("" if not sizes else "\n" + HEAD, flush=True)

@@ -46,7 +46,9 @@ class Memory(threading.Thread):
 
     def run(self):
         while not self.ended:
-            self.most = max(self.most, sum(map(self.size, filter(str.isdigit, os.listdir("/proc")))))
+            self.most = max(
+                self.most, sum(map(self.size, filter(str.isdigit, os.listdir("/proc"))))
+            )
             time.sleep(0.05)
 
     def size(self, number):
@@ -77,8 +79,13 @@ def put_hosts(root, asked):
             file.write(text)
     os.mkdir(root + "/stubs")
     with open(root + "/stubs/ssh", "w") as file:
-        file.write('#!/bin/sh\nwhile [ "${1#-}" != "$1" ]; do [ "$1" = -o ] && shift; shift; done\n')
-        file.write('[ $((1${1#host} %% %d)) -ne 0 ] || exec cat "%s/databasechanged"\n' % (asked.differ, root))
+        file.write(
+            '#!/bin/sh\nwhile [ "${1#-}" != "$1" ]; do [ "$1" = -o ] && shift; shift; done\n'
+        )
+        file.write(
+            '[ $((1${1#host} %% %d)) -ne 0 ] || exec cat "%s/databasechanged"\n'
+            % (asked.differ, root)
+        )
         file.write('exec cat "%s/database"\n' % root)
     os.chmod(root + "/stubs/ssh", 0o755)
     with open(root + "/hosts", "w") as file:
@@ -100,11 +107,23 @@ def measured(root, words, target):
     run.wait()
     seconds, after = time.monotonic() - start, resource.getrusage(resource.RUSAGE_CHILDREN)
     memory.ended = True
-    return seconds, after.ru_utime + after.ru_stime - before.ru_utime - before.ru_stime, memory.most / 1024
+    return (
+        seconds,
+        after.ru_utime + after.ru_stime - before.ru_utime - before.ru_stime,
+        memory.most / 1024,
+    )
 
 
 def compare(root, jobs, hosts):
-    words = [root + "/usr/local/bin/aide-compare", "hosts", "compare", "--jobs", str(jobs), "--store", root + "/store"]
+    words = [
+        root + "/usr/local/bin/aide-compare",
+        "hosts",
+        "compare",
+        "--jobs",
+        str(jobs),
+        "--store",
+        root + "/store",
+    ]
     with open(root + "/lines", "w+") as target:
         seconds, used, memory = measured(root, words + [root + "/hosts"], target)
         target.seek(0)
@@ -117,12 +136,21 @@ def compare(root, jobs, hosts):
 
 
 def report(root, form, hosts):
-    words = [root + "/usr/local/bin/aide-compare", "hosts", "report", "--store", root + "/store"] + form
+    words = [
+        root + "/usr/local/bin/aide-compare",
+        "hosts",
+        "report",
+        "--store",
+        root + "/store",
+    ] + form
     with open(root + "/report", "w+") as target:
         seconds, used, memory = measured(root, words + [root + "/hosts"], target)
         size = os.fstat(target.fileno()).st_size
         target.seek(0)
-        changes = sum(re.match('{"record":"change"|(added|removed|changed) on', line) is not None for line in target)
+        changes = sum(
+            re.match('{"record":"change"|(added|removed|changed) on', line) is not None
+            for line in target
+        )
     print(
         "aide-compare hosts report %-6s: %6.1f s, %.4f processor seconds a host, %5.0f MB; %d changes in %.1f MB"
         % (" ".join(form), seconds, used / hosts, memory, changes, size / 1e6),
@@ -131,7 +159,9 @@ def report(root, form, hosts):
 
 
 def main():
-    parser = argparse.ArgumentParser(description=__doc__, formatter_class=argparse.RawDescriptionHelpFormatter)
+    parser = argparse.ArgumentParser(
+        description=__doc__, formatter_class=argparse.RawDescriptionHelpFormatter
+    )
     parser.add_argument("--hosts", type=int, default=1000)
     parser.add_argument("--entries", type=int, default=2000)
     parser.add_argument("--jobs", default="1,2,4,8,16,32")

@@ -1,318 +1,221 @@
 #!/usr/bin/env python3
-"""Measures the program beside `sha256sum` of both databases and, if AIDE is installed, beside `aide --compare`.
+"""Counts the instructions of the programs, compared with `sha256sum` and, if it is installed, AIDE.
 
-It makes pairs of databases that differ in one way each and prints a table in Markdown, the worst row first. An opening
-is one reading of both databases: the report at `minimal` takes two, and every other report one more for each list of
-entries and one for the details. `sha256sum` reads both databases as often as the program opens them.
+It makes pairs of databases that differ in one way each and prints one table in Markdown, the worst
+row first. An opening is one reading of both databases: the report at `minimal` and the lines of
+JSON take two, and every other report one more for each list of entries and one for the details.
+`sha256sum` reads both databases as often as the program opens them.
 
-With --lines PROGRAM is the one that writes lines of JSON, which takes two openings.
-
-With --instructions, valgrind's cachegrind counts the instructions of the program and of `sha256sum`. The counts are the
-same in every run, and the rows are ordered by their ratio. Without it they are ordered by the ratio of times. With --counts
-they are all that is measured but for the greatest memory, so the table is the same beside any other work.
-
-To measure times, the program and `sha256sum` run at the same time on one processor, again and again for some seconds. The
-system switches between them every few milliseconds. So a change of the machine's speed affects both, and the ratio of their
-processor times (user and system) is much the same in every run. The table has the median of these ratios with the
-quartiles, the least processor time, and the greatest memory. For the comparison with AIDE the program and AIDE run one
-after the other, each alone on one processor, and the least times count: of 9 runs of the program, of 3 of AIDE.
+valgrind's cachegrind counts instructions, which are the same in every run, so other work on the
+machine changes nothing. If AIDE is installed, its processor time (user and system, the least of
+the runs) is divided by that of the program, each measured alone.
 """
+from __future__ import annotations
+
 import argparse
 import datetime
 import os
 import platform
 import re
 import shutil
-import statistics
 import subprocess
 import sys
 import tempfile
-import time
+from collections.abc import Iterator
+from typing import NamedTuple, Optional
 
 from databases import PAIRS, write_pair
 
-DEFAULT, WHOLE = "changed_attributes", "added_removed_entries"
-# The pairs with the lengths of their lines, in bytes, and the levels at which they are compared.
-CASES = [
-    ("none changed", (77, 138), ("minimal", DEFAULT)),
-    ("0.1 % changed", (165, 259), ("minimal", DEFAULT)),
-    ("a few of each", (165, 259), (DEFAULT, WHOLE)),
-    ("1 % changed", (165,), ("minimal", DEFAULT)),
-    ("10 % changed", (77, 138, 165, 259), ("minimal", DEFAULT)),
-    ("100 % changed", (77, 138, 165, 259), ("minimal", DEFAULT)),
-    ("10 % added", (165, 259), (WHOLE,)),
-    ("100 % added", (77, 138, 165, 259), (WHOLE,)),
-    ("100 % removed", (77, 138, 165, 259), (WHOLE,)),
-    ("a column more", (77, 165, 259), ("minimal", DEFAULT)),
-    ("an upgrade", (165, 259), ("minimal", DEFAULT)),
-]
-# The same for the program of lines, which knows no levels.
+DETAILS = "changed_attributes"
+ENTRIES = "added_removed_entries"
 LINES = "lines"
-CASES_OF_LINES = [
-    ("none changed", (77, 138), (LINES,)),
-    ("0.1 % changed", (165, 259), (LINES,)),
-    ("10 % changed", (165, 259), (LINES,)),
-    ("100 % changed", (77, 138, 165, 259, 653), (LINES,)),
-    ("100 % added", (77, 138, 165, 259, 653), (LINES,)),
-    ("100 % removed", (165,), (LINES,)),
+# The pairs, the lengths of their lines in bytes, and the levels at which they are compared.
+CASES = [
+    ("none changed", (77, 138, 165, 259, 1000), ("minimal", LINES)),
+    ("0.1 % changed", (165, 259), (DETAILS, LINES)),
+    ("a few of each", (165, 259), (DETAILS, ENTRIES)),
+    ("10 % changed", (165, 259), (DETAILS, LINES)),
+    ("100 % changed", (77, 138, 165, 259, 653), (DETAILS, LINES)),
+    ("100 % added", (77, 138, 165, 259, 653), (ENTRIES, LINES)),
+    ("100 % removed", (165,), (ENTRIES, LINES)),
+    ("a column more", (165, 259), ("minimal", DETAILS)),
+    ("an upgrade", (165, 259), (DETAILS, LINES)),
 ]
-# The pairs that are measured with more entries too, and those that AIDE compares.
-LARGER = ("a few of each", "100 % changed")
-WITH_AIDE = ("0.1 % changed", "a few of each", "10 % changed", "100 % changed")
-HEADINGS = [
-    "Pair",
-    "Line, bytes",
-    "Entries",
-    "Level",
-    "Openings",
-    "Instructions, millions",
-    "Instructions, times `sha256sum`",
-    "Processor, s",
-    "Time, times `sha256sum`",
-    "Quartiles",
-    "Runs",
-    "Written, MB",
-    "MB a second",
-    "MB a second, without hashing",
-    "AIDE, s",
-    "AIDE, times",
-    "Peak, MB",
-]
+BUILDS = {"x86-64-v2": "", "x86-64-v3": "-v3"}
 AIDE = shutil.which("aide")
-PROCESSORS = sorted(os.sched_getaffinity(0))
-# One text for the program and for AIDE, which compares only the entries that a line selects.
+# AIDE reads this configuration too, and compares only the entries that a line selects.
 CONFIGURATION = """database_in=file:@@{DIR}/old
 database_new=file:@@{DIR}/new
 report_level=@@{LEVEL}
+report_format=@@{FORM}
 report_url=stdout
 Every = p+ftype+l+u+g+s+b+m+c+i+n+md5+sha256+X
 / Every
 """
 
 
-class Running:
-    """A running process: what it has used is asked all along.
+class Usage(NamedTuple):
+    """What a run took: processor seconds, the greatest memory in MB, and the bytes it wrote."""
 
-    What the system tells of its memory at the end counts that of this process too, from which it was forked.
-    """
-
-    def __init__(self, words):
-        self.words, self.memory, self.seconds = words, 0, None
-        self.process = subprocess.Popen(words, stdin=subprocess.DEVNULL, stdout=subprocess.DEVNULL, stderr=subprocess.DEVNULL)
-
-    def is_running(self):
-        """Asks for the greatest memory so far (KiB) and, once the process has ended, for its processor seconds."""
-        self.memory = max(self.memory, peak_of(self.process.pid))
-        done, status, usage = os.wait4(self.process.pid, os.WNOHANG)
-        if done:
-            self.process.returncode = status
-            self.seconds = usage.ru_utime + usage.ru_stime
-            if not os.WIFEXITED(status) or os.WEXITSTATUS(status) > 7:
-                sys.exit("%s ended with %d" % (self.words[0], status))
-        return not done
+    seconds: float
+    memory: float
+    written: int
+    signal: int
 
 
-def peak_of(pid):
-    """The greatest memory of a running process so far in KiB, 0 where the system does not tell."""
-    try:
-        with open("/proc/%d/status" % pid) as file:
-            return next((int(line.split()[1]) for line in file if line.startswith("VmHWM")), 0)
-    except OSError:
-        return 0
+class Row(NamedTuple):
+    """One pair at one level, with the instructions of each build and of `sha256sum`."""
 
+    name: str
+    length: int
+    entries: int
+    level: str
+    openings: int
+    builds: list[int]
+    hashed: int
+    usage: Usage
+    aide: str
 
-def run_at_once(*commands):
-    """Runs commands at once on the last processor, and looks after them from the others."""
-    os.sched_setaffinity(0, PROCESSORS[-1:])
-    started = [Running(words) for words in commands]
-    os.sched_setaffinity(0, PROCESSORS[:-1] or PROCESSORS)
-    running = started
-    while running:
-        time.sleep(0.0005)
-        running = [each for each in running if each.is_running()]
-    return started
+    def ratio(self) -> float:
+        return self.builds[0] / self.hashed
 
-
-def run_often(given, *commands):
-    """The runs of commands that run at once, for some seconds: whichever starts second had the first turn before."""
-    runs, begin = [], time.monotonic()
-    while len(runs) < given.least_runs or time.monotonic() < begin + given.seconds:
-        turn = 1 if len(runs) % 2 else -1
-        runs.append(run_at_once(*commands[::turn])[::turn])
-    return runs
-
-
-def least_seconds(words, runs):
-    """The least processor time of some runs, one after another."""
-    return min(run_at_once(words)[0].seconds for _ in range(runs))
-
-
-def instructions_of(words):
-    """How many instructions a command takes, as cachegrind counts them."""
-    done = subprocess.run(
-        ["valgrind", "--tool=cachegrind", "--cache-sim=no", "--cachegrind-out-file=/dev/null"] + words,
-        stdin=subprocess.DEVNULL,
-        stdout=subprocess.DEVNULL,
-        stderr=subprocess.PIPE,
-        check=False,
-    )
-    found = re.search(r"I +refs: +([0-9,]+)", done.stderr.decode())
-    if not found:
-        sys.exit("valgrind did not count the instructions of %s" % words[0])
-    return int(found[1].replace(",", ""))
-
-
-def written_by(words):
-    """How many bytes a command writes to its standard output."""
-    return len(
-        subprocess.run(words, stdin=subprocess.DEVNULL, stdout=subprocess.PIPE, stderr=subprocess.DEVNULL, check=False).stdout
-    )
-
-
-def compare(executable, folder, level):
-    return [
-        executable,
-        "--compare",
-        "--config",
-        os.path.join(folder, "conf"),
-        "--before",
-        "@@define DIR %s\n@@define LEVEL %s" % (folder, DEFAULT if level == LINES else level),
-    ]
-
-
-class Row:
-    """A pair of databases at a level: what the program takes there, beside `sha256sum`, and beside AIDE."""
-
-    def __init__(self, name, form, entries, level):
-        self.name, self.form, self.entries, self.level = name, form, entries, level
-        self.openings = PAIRS[name].openings(level)
-        self.instructions = self.hashed = self.aide = self.alone = None
-        self.runs, self.ratios = [], []
-
-    def measure(self, given, folder):
-        program = compare(given.program, folder, self.level)
-        hashes = ["sha256sum"] + [os.path.join(folder, side) for side in ("old", "new")] * self.openings
-        if given.instructions:
-            self.instructions, self.hashed = instructions_of(program), instructions_of(hashes)
-        self.written = written_by(program)
-        if given.counts:
-            self.memory = run_at_once(program)[0].memory
-            return
-        self.runs = run_often(given, program, hashes)
-        self.seconds = min(run[0].seconds for run in self.runs)
-        self.ratios = statistics.quantiles((run[0].seconds / run[1].seconds for run in self.runs), n=4)
-        # the seconds of the program beside those of the hashing, which `sha256sum` tells
-        self.unhashed = statistics.median(run[0].seconds - run[1].seconds for run in self.runs)
-        self.memory = max(run[0].memory for run in self.runs)
-        if AIDE and self.level == DEFAULT and self.name in WITH_AIDE and self.entries <= given.aide_up_to:
-            self.aide = least_seconds(compare(AIDE, folder, self.level), 3)
-            self.alone = least_seconds(program, 9)
-
-    def badness(self):
-        return self.instructions / self.hashed if self.instructions else self.ratios[1]
-
-    def cells(self):
-        counted, timed = self.instructions is not None, bool(self.runs)
+    def cells(self) -> list[str]:
+        counts = [f"{count / 1e6:.1f} | {count / self.hashed:.2f}" for count in self.builds]
         return [
             self.name,
-            self.form,
-            self.entries,
-            "`%s`" % self.level,
-            self.openings,
-            "%.1f" % (self.instructions / 1e6) if counted else "",
-            "%.2f" % (self.instructions / self.hashed) if counted else "",
-            "%.3f" % self.seconds if timed else "",
-            "%.2f" % self.ratios[1] if timed else "",
-            "%.2f to %.2f" % (self.ratios[0], self.ratios[2]) if timed else "",
-            len(self.runs) if timed else "",
-            "%.1f" % (self.written / 1e6),
-            "%.0f" % (self.written / 1e6 / self.seconds) if timed else "",
-            "%.0f" % (self.written / 1e6 / self.unhashed) if timed and self.unhashed > 0 else "",
-            "%.2f" % self.aide if self.aide else "",
-            "%.0f" % (self.aide / self.alone) if self.aide else "",
-            "%.1f" % (self.memory / 1024),
+            str(self.length),
+            str(self.entries),
+            f"`{self.level}`",
+            str(self.openings),
+            *counts,
+            f"{self.usage.written / 1e6:.1f}",
+            f"{self.usage.memory:.1f}",
+            self.aide,
         ]
 
 
-def measured_rows(given, name, form, entries, levels):
-    """The rows of one pair of databases, which are made first."""
-    with tempfile.TemporaryDirectory(dir=given.folder) as folder:
-        write_pair(os.path.join(folder, "old"), os.path.join(folder, "new"), form, PAIRS[name], entries)
-        with open(os.path.join(folder, "conf"), "w") as file:
-            file.write(CONFIGURATION)
-        for level in levels:
-            row = Row(name, form, entries, level)
-            row.measure(given, folder)
-            print("measured: %s, %d bytes, %d entries, %s" % (name, form, entries, level), file=sys.stderr, flush=True)
-            yield row
-
-
-def all_rows(given):
-    for name, forms, levels in CASES_OF_LINES if given.lines else CASES:
-        for form in forms:
-            yield from measured_rows(given, name, form, given.entries, levels)
-            if given.larger and name in LARGER and form in (165, 653):
-                yield from measured_rows(given, name, form, given.larger, levels)
-
-
-def line_of_file(path, begin):
-    with open(path) as file:
-        return next((line.split(":", 1)[1].strip() for line in file if line.startswith(begin)), "unknown")
-
-
-def output_of(*words):
-    try:
-        done = subprocess.run(words, stdout=subprocess.PIPE, stderr=subprocess.STDOUT, check=False)
-        return done.stdout.decode().splitlines()[0]
-    except (OSError, IndexError):
-        return "not installed"
-
-
-def print_table(rows):
-    """Prints the rows in Markdown, without the columns that have nothing in any row."""
-    cells = [[str(cell) for cell in row.cells()] for row in rows]
-    filled = [index for index in range(len(HEADINGS)) if any(row[index] for row in cells)]
-    print("| %s |\n|%s" % (" | ".join(HEADINGS[index] for index in filled), "---|" * len(filled)))
-    for row in cells:
-        print("| %s |" % " | ".join(row[index] for index in filled))
-
-
-def print_head(program):
-    print(
-        "Measured on %s: %s, %d processors, %s."
-        % (datetime.date.today(), line_of_file("/proc/cpuinfo", "model name"), os.cpu_count(), platform.platform())
+def instructions_of(command: list[str]) -> int:
+    """How many instructions a command takes, as cachegrind counts them."""
+    tool = ["valgrind", "--tool=cachegrind", "--cache-sim=no", "--cachegrind-out-file=/dev/null"]
+    done = subprocess.run(
+        tool + command,
+        stdin=subprocess.DEVNULL,
+        stdout=subprocess.DEVNULL,
+        stderr=subprocess.PIPE,
+        text=True,
+        check=False,
     )
-    print(
-        "Program built with %s, %d bytes; %s; AIDE: %s.\n"
-        % (
-            output_of("rt", "version"),
-            os.path.getsize(program),
-            output_of("sha256sum", "--version"),
-            output_of("aide", "--version"),
+    found = re.search(r"I +refs: +([0-9,]+)", done.stderr)
+    if not found:
+        sys.exit(f"valgrind did not count the instructions of {command[0]}")
+    return int(found[1].replace(",", ""))
+
+
+def usage_of(command: list[str], directory: str) -> Usage:
+    """Runs a command by GNU time, which is small: a child of this process begins with its memory."""
+    output = os.path.join(directory, "output")
+    figures = os.path.join(directory, "figures")
+    with open(output, "wb") as target:
+        subprocess.run(
+            ["/usr/bin/time", "-q", "-o", figures, "-f", "%U %S %M %x", *command],
+            stdin=subprocess.DEVNULL,
+            stdout=target,
+            stderr=subprocess.DEVNULL,
+            check=False,
         )
+    with open(figures) as file:
+        user, system, memory, status = file.read().split()[-4:]
+    signal = max(0, int(status) - 128)
+    return Usage(float(user) + float(system), int(memory) / 1024, os.path.getsize(output), signal)
+
+
+def compare(executable: str, directory: str, level: str) -> list[str]:
+    """The command that compares the pair of a directory at a level."""
+    form = "json" if level == LINES else "plain"
+    defined = f"@@define DIR {directory}\n@@define FORM {form}\n@@define LEVEL "
+    defined += ENTRIES if level == LINES else level
+    configuration = os.path.join(directory, "conf")
+    return [executable, "--compare", "--config", configuration, "--before", defined]
+
+
+def aide_of(program: str, directory: str, level: str, runs: int) -> str:
+    """How many times as long as the program AIDE takes, or the signal that ended it."""
+    if not AIDE:
+        return ""
+    theirs = [usage_of(compare(AIDE, directory, level), directory) for _ in range(runs)]
+    if theirs[0].signal:
+        return f"ended by signal {theirs[0].signal}"
+    ours = [usage_of(compare(program, directory, level), directory) for _ in range(runs)]
+    least = min(usage.seconds for usage in theirs)
+    return f"{least:.2f} s, {least / max(0.01, min(usage.seconds for usage in ours)):.0f} times"
+
+
+def measured(args: argparse.Namespace, directory: str, name: str, length: int, level: str) -> Row:
+    """Measures the pair that lies in a directory."""
+    openings = PAIRS[name].openings(level)
+    sides = [os.path.join(directory, side) for side in ("old", "new")]
+    program = args.program
+    if level == LINES:
+        program = program.replace("/aide/", "/aide_lines/") + "_lines"
+    commands = [compare(program + suffix, directory, level) for suffix in BUILDS.values()]
+    print(f"measuring {name}, {length} bytes, {level}", file=sys.stderr, flush=True)
+    return Row(
+        name,
+        length,
+        args.entries,
+        level,
+        openings,
+        [instructions_of(command) for command in commands],
+        instructions_of(["sha256sum", *sides * openings]),
+        usage_of(commands[0], directory),
+        aide_of(program, directory, level, args.runs),
     )
 
 
-def main():
-    parser = argparse.ArgumentParser(description=__doc__, formatter_class=argparse.RawDescriptionHelpFormatter)
-    parser.add_argument("program")
-    parser.add_argument("--entries", type=int, default=10000, help="how many entries a database has")
-    parser.add_argument("--larger", type=int, default=100000, help="how many it has in a few rows; 0 leaves these out")
-    parser.add_argument("--seconds", type=float, default=5, help="how long each row of the program is measured")
-    parser.add_argument("--least-runs", type=int, default=3, help="how often each row is measured at least")
-    parser.add_argument("--lines", action="store_true", help="PROGRAM writes lines of JSON")
-    parser.add_argument("--instructions", action="store_true", help="count instructions by valgrind")
-    parser.add_argument("--counts", action="store_true", help="count instructions, and measure no times")
-    parser.add_argument("--aide-up-to", type=int, default=100000, help="the greatest number of entries that AIDE gets")
-    parser.add_argument("--folder", help="where the databases are made")
-    given = parser.parse_args()
-    given.program = os.path.abspath(given.program)
-    given.instructions = given.instructions or given.counts
-    if given.instructions and not shutil.which("valgrind"):
-        parser.error("--instructions and --counts need valgrind")
-    rows = sorted(all_rows(given), key=Row.badness, reverse=True)
-    print_head(given.program)
-    print_table(rows)
+def all_rows(args: argparse.Namespace) -> Iterator[Row]:
+    for name, lengths, levels in CASES:
+        for length in lengths:
+            with tempfile.TemporaryDirectory(dir=args.directory) as directory:
+                sides = [os.path.join(directory, side) for side in ("old", "new")]
+                write_pair(sides[0], sides[1], length, PAIRS[name], args.entries)
+                with open(os.path.join(directory, "conf"), "w") as file:
+                    file.write(CONFIGURATION)
+                for level in levels:
+                    yield measured(args, directory, name, length, level)
+
+
+def first_line(*command: str) -> str:
+    done = subprocess.run(
+        command, stdout=subprocess.PIPE, stderr=subprocess.STDOUT, text=True, check=False
+    )
+    return done.stdout.splitlines()[0]
+
+
+def processor() -> Optional[str]:
+    with open("/proc/cpuinfo") as file:
+        return next((line.split(": ")[1].strip() for line in file if "model name" in line), None)
+
+
+def main() -> None:
+    parser = argparse.ArgumentParser(
+        description=__doc__, formatter_class=argparse.RawDescriptionHelpFormatter
+    )
+    parser.add_argument("program", help="the built program, crates/aide/out/aide")
+    parser.add_argument("--entries", type=int, default=5000, help="entries of a database")
+    parser.add_argument("--runs", type=int, default=3, help="runs of AIDE and of the program")
+    parser.add_argument("--directory", help="where the databases are made")
+    args = parser.parse_args()
+    args.program = os.path.abspath(args.program)
+    rows = sorted(all_rows(args), key=Row.ratio, reverse=True)
+    aide = f"; {first_line(AIDE, '--version')}" if AIDE else ""
+    print(f"Measured on {datetime.date.today()}: {processor()}, {platform.release()};", end=" ")
+    print(f"{first_line('rt', 'version')}; {first_line('sha256sum', '--version')}{aide}.\n")
+    counts = [f"{build}, millions | times" for build in BUILDS]
+    headings = ["Pair", "Line, bytes", "Entries", "Level", "Openings", *counts]
+    headings += ["Written, MB", "Peak, MB", "AIDE"]
+    print(f"| {' | '.join(headings)} |\n|{'---|' * (len(headings) + len(BUILDS))}")
+    for row in rows:
+        print(f"| {' | '.join(row.cells())} |")
 
 
 if __name__ == "__main__":
