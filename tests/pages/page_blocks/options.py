@@ -30,7 +30,7 @@ def named_in(text):
 def try_defaults(holds):
     """The page of a comparison names the options that the administrator's file may have for it."""
     page = read("man/aide-compare-compare.1")
-    text = page.partition(".Sh DEFAULTS\n")[2].partition("from there")[0].partition(" takes ")[2]
+    text = page.partition(".Sh DEFAULTS\n")[2].partition("from there")[0].partition("\ntakes\n")[2]
     code = "import sys; sys.path.insert(0, sys.argv[1]); from aide_compare.base import options; "
     code += "print(*(option.name for option in options.COMPARISON_DEFAULTS))"
     done = subprocess.run([sys.executable, "-c", code, HERE + "/commands/lib"], stdout=subprocess.PIPE)
