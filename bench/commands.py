@@ -1,174 +1,153 @@
 #!/usr/bin/env python3
 """Measures what the installed commands take, by the number of entries of the databases.
 
-A tenth of the entries of 165 bytes are changed. PROGRAM and the commands are installed below a folder of this run, as
-packaging/install does it. The commands run in turn, several times, and print nothing to a terminal. Prints tables in
-Markdown: the least processor seconds (user and system) of a command with all programs that it starts, and the peak memory
-of the largest one of its processes. The first table is the fixed cost: what `aide-compare` takes for the two small
-databases of examples/small_tree, with byte code and without it, beside Python itself, which does nothing.
+Some of the entries of 165 bytes are changed. PROGRAM and the commands are installed below a
+directory of this run, as packaging/install does it. The commands run in turn, several times, and
+print nothing to a terminal. Prints a table in Markdown: the least processor seconds (user and
+system) of a command with all programs that it starts, how many times that of the program alone,
+and the peak memory of the largest of its processes. The first table is the fixed cost, for the two
+small databases of examples/small_tree, beside Python itself, which does nothing.
 """
+from __future__ import annotations
+
 import argparse
 import os
 import resource
-import shutil
 import subprocess
 import sys
 import tempfile
-import time
+from typing import NamedTuple, Optional
 
-from run import peak_of
-
-HERE = os.path.dirname(os.path.dirname(os.path.abspath(__file__)))
-# A process of its own makes the databases, so that this one stays small: a child begins with its parent's memory.
-MAKE = """
-import sys
-sys.path.insert(0, sys.argv[1])
 from databases import PAIRS, write_pair
-write_pair(sys.argv[2] + "/old", sys.argv[2] + "/new", 165, PAIRS["10 % changed"], int(sys.argv[3]))
-"""
-HEAD = "| Entries | Command | Processor, s | Peak, MB | Runs |\n|---|---|---|---|---|"
-LEVEL = ["-A", "report_level=changed_attributes"]
+
+TOP = os.path.dirname(os.path.dirname(os.path.abspath(__file__)))
+HEAD = (
+    "| Entries | Changed | Command | Processor, s | times | Peak, MB |\n|---|---|---|---|---|---|"
+)
+
+
+class Command(NamedTuple):
+    """A command, and its name in the table."""
+
+    name: str
+    words: list[str]
 
 
 class Bench:
-    def __init__(self, folder, runs):
-        self.folder, self.runs = folder, runs
-        self.bin = os.path.join(folder, "installed", "bin")
+    """A directory with the installed commands, and how often each is measured."""
 
-    def path(self, name):
-        return os.path.join(self.folder, name)
+    def __init__(self, directory: str, runs: int) -> None:
+        self.directory = directory
+        self.runs = runs
 
-    def once(self, words, source, target):
-        """The processor seconds of a command and of what it starts, and the peak memory in KiB."""
-        with open(source or os.devnull, "rb") as given, open(target or os.devnull, "wb") as taken:
-            process = subprocess.Popen(words, stdin=given, stdout=taken, stderr=subprocess.DEVNULL)
-        memory, done = 0, 0
-        while not done:
-            memory = max(memory, peak_of(process.pid))
-            done, status, usage = os.wait4(process.pid, os.WNOHANG)
-            time.sleep(0 if done else 0.002)
-        process.returncode = status
-        if not os.WIFEXITED(status) or os.WEXITSTATUS(status) > 7:
-            sys.exit("%s ended with %d" % (words[0], status))
-        # What the system tells counts the memory of this process too, from which the command was forked.
-        if usage.ru_maxrss > resource.getrusage(resource.RUSAGE_SELF).ru_maxrss:
-            memory = usage.ru_maxrss
-        return usage.ru_utime + usage.ru_stime, memory
+    def path(self, name: str) -> str:
+        return os.path.join(self.directory, name)
 
-    def rows(self, entries, runs, *commands):
+    def once(self, command: Command) -> tuple[float, float]:
+        """The processor seconds of a command and of what it starts, and its peak memory in MB.
+
+        GNU time starts it, which is small: a child of this process begins with its memory."""
+        figures = self.path("figures")
+        before = resource.getrusage(resource.RUSAGE_CHILDREN)
+        done = subprocess.run(
+            ["/usr/bin/time", "-q", "-o", figures, "-f", "%M", *command.words],
+            stdin=subprocess.DEVNULL,
+            stdout=subprocess.DEVNULL,
+            stderr=subprocess.DEVNULL,
+            check=False,
+        )
+        if not 0 <= done.returncode <= 7:
+            sys.exit(f"{command.name} ended with {done.returncode}")
+        after = resource.getrusage(resource.RUSAGE_CHILDREN)
+        seconds = after.ru_utime - before.ru_utime + after.ru_stime - before.ru_stime
+        with open(figures) as file:
+            return seconds, int(file.read().split()[-1]) / 1024
+
+    def rows(self, entries: str, changed: str, runs: int, *commands: Command) -> None:
         """Runs commands in turn, again and again, and prints a row of the table for each."""
-        taken = {row[0]: [] for row in commands}
-        for _ in range(runs):
-            for name, words, source, target in commands:
-                words = [os.path.join(self.bin, words[0]), *words[1:]]
-                taken[name].append(self.once(words, source, target))
-        for name, all_runs in taken.items():
-            seconds, memory = min(one[0] for one in all_runs), max(one[1] for one in all_runs)
-            print(
-                "| %s | %s | %.3f | %.1f | %d |" % (entries, name, seconds, memory / 1024, runs),
-                flush=True,
-            )
+        taken = [[self.once(command) for command in commands] for _ in range(runs)]
+        first: Optional[float] = None
+        for command, results in zip(commands, zip(*taken)):
+            seconds = min(result[0] for result in results)
+            memory = max(result[1] for result in results)
+            first = first or seconds or 0.01
+            cells = [entries, changed, command.name, f"{seconds:.3f}", f"{seconds / first:.2f}"]
+            print(f"| {' | '.join(cells)} | {memory:.1f} |", flush=True)
 
 
-def rows_of(bench, entries):
-    """The rows of one number of entries: the program, the comparison, and what works on its report."""
-    subprocess.run(
-        [sys.executable, "-c", MAKE, os.path.join(HERE, "bench"), bench.folder, str(entries)],
-        check=True,
-    )
-    old, new, report, lines = (bench.path(name) for name in ("old", "new", "report", "lines"))
-    lines_after = "database_in=file:%s\ndatabase_new=file:%s\n%s" % (old, new, LEVEL[1])
-    run = ["aide-compare", old, new, *LEVEL]
-    with_state = ["aide-compare", "--state", bench.path("state"), *run[1:]]
-    without = [
-        *with_state[:3],
-        "--exclude-from",
-        os.path.join(HERE, "contrib", "aide", "debian.without"),
-        *run[1:],
-    ]
-    nightly = ["aide-compare", "mail", "--queue", bench.path("queue"), *without[1:5], *run[1:]]
+def rows_of(bench: Bench, entries: int, pair: str) -> None:
+    """The rows of one pair: the program, the comparison, and what is made of its lines."""
+    old, new, lines = bench.path("old"), bench.path("new"), bench.path("lines")
+    write_pair(old, new, 165, PAIRS[pair], entries)
+    level = ["-A", "report_level=changed_attributes"]
+    program = bench.path("installed/libexec/aide-compare/aide")
+    settings = f"database_in=file:{old}\ndatabase_new=file:{new}\n{level[1]}"
+    compare = bench.path("installed/bin/aide-compare")
+    state = ["--state", bench.path("state")]
+    without = ["--exclude-from", os.path.join(TOP, "contrib", "aide", "debian.without")]
+    queue = ["--queue", bench.path("queue")]
     os.makedirs(bench.path("queue"), exist_ok=True)
+    with open(lines, "wb") as file:
+        subprocess.run([compare, "json", old, new], stdout=file, check=False)
     bench.rows(
-        entries,
+        str(entries),
+        pair,
         bench.runs,
-        (
-            "`aide-compare`, the program alone",
-            ["aide-compare", "-E", "-c", "/dev/null", "-A", lines_after],
-            None,
-            None,
+        Command("the program alone", [program, "-E", "-c", "/dev/null", "-A", settings]),
+        Command("`aide-compare OLD NEW`", [compare, old, new, *level]),
+        Command("the same with `--state FILE`", [compare, *state, old, new, *level]),
+        Command("the same with `--quiet`", [compare, "-q", *state, old, new, *level]),
+        Command(
+            "`aide-compare mail`, as the unit calls it",
+            [compare, "mail", *queue, *state, *without, old, new, *level],
         ),
-        ("`aide-compare OLD NEW`", run, None, report),
-        ("`aide-compare --state FILE OLD NEW`", with_state, None, None),
-        ("the same with `--exclude-from debian.without`", without, None, None),
-        (
-            "`aide-compare mail` with all of these and `--queue`, as the unit calls it",
-            nightly,
-            None,
-            None,
-        ),
-        ("`aide-compare json OLD NEW`", ["aide-compare", "json", old, new], None, lines),
-        (
-            "`aide-compare page`, of these lines",
-            ["aide-compare", "page", lines],
-            None,
-            bench.path("page"),
-        ),
-        ("`aide-compare sort`, of a database in order", ["aide-compare", "sort", old], None, None),
-        ("`sha256sum` of both databases", ["/usr/bin/sha256sum", old, new], None, None),
+        Command("`aide-compare json OLD NEW`", [compare, "json", old, new]),
+        Command("`--json FILE`", [compare, "-q", "--json", bench.path("json"), old, new]),
+        Command("`--page FILE`", [compare, "-q", "--page", bench.path("page"), old, new]),
+        Command("`aide-compare page`, of lines", [compare, "page", lines]),
+        Command("`aide-compare sort`, of a database in order", [compare, "sort", old]),
+        Command("`sha256sum` of both databases", ["/usr/bin/sha256sum", old, new]),
     )
 
 
-def fixed_cost(bench):
-    """What `aide-compare` takes whatever it compares, with byte code and without it."""
-    tree = os.path.join(HERE, "examples", "small_tree")
-    words = ["aide-compare", tree + "/old.db", tree + "/new.db"]
-    print(HEAD, flush=True)
-    nothing = ("`python3 -IS -c pass`", ["/usr/bin/python3", "-IS", "-c", "pass"], None, None)
-    bench.rows("few", 40, nothing, ("`aide-compare OLD NEW`", words, None, None))
-    modules = os.path.join(bench.folder, "installed", "lib", "aide-compare", "python")
-    for above, folders, _ in os.walk(modules):
-        if "__pycache__" in folders:
-            os.rename(os.path.join(above, "__pycache__"), os.path.join(above, "away"))
-            folders.remove("__pycache__")
-    bench.rows("few", 40, ("the same without byte code", words, None, None))
-    for above, folders, _ in os.walk(modules):
-        if "away" in folders:
-            os.rename(os.path.join(above, "away"), os.path.join(above, "__pycache__"))
+def fixed_cost(bench: Bench) -> None:
+    """What the commands take whatever they compare."""
+    tree = os.path.join(TOP, "examples", "small_tree")
+    compare = bench.path("installed/bin/aide-compare")
+    pair = [f"{tree}/old.db", f"{tree}/new.db"]
+    state = ["--state", bench.path("state")]
+    bench.rows(
+        "few",
+        "",
+        25,
+        Command("`python3 -IS -c pass`", ["/usr/bin/python3", "-IS", "-c", "pass"]),
+        Command("`aide-compare OLD NEW`", [compare, *pair]),
+        Command("the same with `--state FILE`", [compare, *state, *pair]),
+        Command("`aide-compare status`", [compare, "status", bench.path("state")]),
+    )
 
 
-def main():
+def main() -> None:
     parser = argparse.ArgumentParser(
         description=__doc__, formatter_class=argparse.RawDescriptionHelpFormatter
     )
     parser.add_argument("program", metavar="PROGRAM", help="the built program")
     parser.add_argument(
-        "--entries",
-        default="100000,1000000",
-        help="how many entries a database has, separated by commas; none if empty",
+        "--entries", default="100000", help="entries of a database, separated by commas"
     )
     parser.add_argument("--runs", type=int, default=3, help="how often each command runs")
-    given = parser.parse_args()
-    sizes = [int(one) for one in given.entries.split(",") if one]
-    folder = tempfile.mkdtemp(prefix="bench-commands-")
-    try:
-        words = [
-            "--prefix",
-            os.path.join(folder, "installed"),
-            "--program",
-            os.path.abspath(given.program),
-        ]
-        subprocess.run(
-            [os.path.join(HERE, "packaging", "install"), *words],
-            check=True,
-            stdout=subprocess.DEVNULL,
-        )
-        bench = Bench(folder, given.runs)
+    args = parser.parse_args()
+    with tempfile.TemporaryDirectory(prefix="bench-commands-") as directory:
+        prefix = os.path.join(directory, "installed")
+        words = ["--prefix", prefix, "--program", os.path.abspath(args.program)]
+        install = os.path.join(TOP, "packaging", "install")
+        subprocess.run([install, *words], check=True, stdout=subprocess.DEVNULL)
+        bench = Bench(directory, args.runs)
+        print(HEAD, flush=True)
         fixed_cost(bench)
-        print("" if not sizes else "\n" + HEAD, flush=True)
-        for entries in sizes:
-            rows_of(bench, entries)
-    finally:
-        shutil.rmtree(folder, ignore_errors=True)
+        for entries in args.entries.split(","):
+            for pair in ("0.1 % changed", "100 % changed"):
+                rows_of(bench, int(entries), pair)
 
 
 if __name__ == "__main__":
