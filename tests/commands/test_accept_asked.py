@@ -61,11 +61,19 @@ class AcceptAskedTest(CommandTest):
         for answer in (b"y\n", b"yes\n", b" Y \n"):
             fresh(self)
             status, text = asked(self, answer)
-            self.assertEqual((status, contents(self)[:2]), (0, (NEW, OLD)), ("accepted by %r" % answer, text))
+            self.assertEqual(
+                (status, contents(self)[:2]), (0, (NEW, OLD)), ("accepted by %r" % answer, text)
+            )
             place = text.find(b"SHA-256 %s\nMake it" % sha256(NEW).encode())
             changes = text.find(b"  changed  /c: ")
-            self.holds("what differs is shown before the digest", 0 < changes < place < text.find(PROMPT), text)
-            self.assertIn(b"added 1, removed 1, changed 2\n", text, "the counts are those of this comparison")
+            self.holds(
+                "what differs is shown before the digest",
+                0 < changes < place < text.find(PROMPT),
+                text,
+            )
+            self.assertIn(
+                b"added 1, removed 1, changed 2\n", text, "the counts are those of this comparison"
+            )
         for answer in (b"\n", b"n\n", b"no\n", b"yesterday\n", b"y y\n", b"\x04"):
             fresh(self)
             before = contents(self)
@@ -93,23 +101,35 @@ class AcceptAskedTest(CommandTest):
         self.write("base/aide.db.new", OLDER, 0o600)
         terminal.type(b"y\n")
         status = terminal.end()
-        good = status == 24 and contents(self)[0] == OLD and b"is not the database that was reported" in terminal.text
+        good = (
+            status == 24
+            and contents(self)[0] == OLD
+            and b"is not the database that was reported" in terminal.text
+        )
         self.holds("a database that was exchanged", good, (status, terminal.text))
 
     def test_configuration(self) -> None:
         """Without names they are those of AIDE's configuration."""
         fresh(self)
-        lines = "database_in=file:%s\ndatabase_out=file:%s\n" % (self.path(FILES[1]), self.path(FILES[0]))
+        lines = "database_in=file:%s\ndatabase_out=file:%s\n" % (
+            self.path(FILES[1]),
+            self.path(FILES[0]),
+        )
         self.write("aide.conf", lines)
         self.set_names("compare.configuration", DEFAULTS=(self.path("aide.conf"),))
         terminal = Terminal(self)
         terminal.read(PROMPT)
         terminal.type(b"y\n")
         status = terminal.end()
-        self.assertEqual((status, contents(self)[0]), (0, NEW), ("the databases of the configuration", terminal.text))
+        self.assertEqual(
+            (status, contents(self)[0]),
+            (0, NEW),
+            ("the databases of the configuration", terminal.text),
+        )
 
     def test_refused(self) -> None:
-        """Without a terminal on both sides nobody is asked; and if nothing was compared, there is nothing to accept."""
+        """Without a terminal on both sides nobody is asked; and if nothing was compared, there is
+        nothing to accept."""
         fresh(self)
         answer = self.call("aide-compare accept", *FILES, text=b"y\n")
         self.expect("no terminal", answer, 15, b"", b"--sha256 DIGEST is needed")
@@ -130,6 +150,10 @@ class AcceptAskedTest(CommandTest):
         fresh(self, NOBODY)
         os.chown(self.path("base/aide.db"), NOBODY, NOBODY)
         status, text = asked(self, b"y\n")
-        good = status == 0 and contents(self)[0] == NEW and os.stat(self.path("base/aide.db")).st_uid == NOBODY
+        good = (
+            status == 0
+            and contents(self)[0] == NEW
+            and os.stat(self.path("base/aide.db")).st_uid == NOBODY
+        )
         self.holds("in another user's directory", good, (status, text))
         fresh(self)

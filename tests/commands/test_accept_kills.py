@@ -1,4 +1,5 @@
-"""aide-compare accept is killed before each of its calls, also on an old file system; and what is on the disk when."""
+"""aide-compare accept is killed before each of its calls, also on an old file system; and what is
+on the disk when."""
 import fcntl
 import os
 
@@ -12,7 +13,8 @@ MOST_CALLS = 1000
 
 
 def wait_for_child(sandbox):
-    """A child that works with the rights of another user holds the lock of the folder until it ends."""
+    """A child that works with the rights of another user holds the lock of the folder until it
+    ends."""
     folder = os.open(sandbox.path("base"), os.O_RDONLY)
     fcntl.flock(folder, fcntl.LOCK_EX)
     os.close(folder)
@@ -28,21 +30,30 @@ def kill_everywhere(sandbox, forms):
 
 
 def kill_at(sandbox, settings, number, form, owner, child, old):
-    """Whether the command was killed at a call, and the baseline is then whole. The next run is right."""
+    """Whether the command was killed at a call, and the baseline is then whole. The next run is
+    right."""
     fresh(sandbox, owner)
     mark = sandbox.path("marks/%s %d" % (form, number))
     os.makedirs(os.path.dirname(mark), exist_ok=True)
     os.chmod(os.path.dirname(mark), 0o777)
-    done = accept_at(sandbox, settings, AT_NUMBER=number, AT_WAY=KILLED, AT_CHILD=child, AT_OLD=old, AT_MARK=mark)
+    done = accept_at(
+        sandbox, settings, AT_NUMBER=number, AT_WAY=KILLED, AT_CHILD=child, AT_OLD=old, AT_MARK=mark
+    )
     if not os.path.isdir(mark):
         return False
     wait_for_child(sandbox)
     baseline, former, new, _ = contents(sandbox)
-    kept = former == OLDER or (baseline == NEW and former == OLD)  # Or the next run finds it, as is seen below.
+    kept = former == OLDER or (
+        baseline == NEW and former == OLD
+    )  # Or the next run finds it, as is seen below.
     path = sandbox.path(BASE + "aide.db")
-    whole = baseline in (OLD, NEW) and kept and new == NEW and os.stat(path).st_mode & 0o777 == 0o600
+    whole = (
+        baseline in (OLD, NEW) and kept and new == NEW and os.stat(path).st_mode & 0o777 == 0o600
+    )
     ended = done.status == (18 if child else -9)
-    sandbox.holds("killed %s before call %d" % (form, number), ended and whole, (done, baseline, former))
+    sandbox.holds(
+        "killed %s before call %d" % (form, number), ended and whole, (done, baseline, former)
+    )
     again = accept_at(sandbox, settings, AT_NUMBER=0)
     good = contents(sandbox) == (NEW, OLD, NEW, 3)
     sandbox.holds(
@@ -56,7 +67,8 @@ def kill_at(sandbox, settings, number, form, owner, child, old):
 @slow
 class AcceptKillsTest(CommandTest):
     def test_order(self) -> None:
-        """The new file is on the disk before it has a name, and the folder after the last name has changed."""
+        """The new file is on the disk before it has a name, and the folder after the last name has
+        changed."""
         settings = library(self)
         for old in (0, 1) if settings else ():
             fresh(self)
@@ -66,11 +78,19 @@ class AcceptKillsTest(CommandTest):
                 self.holds("the new file is written to the disk, old %d" % old, False, calls)
                 continue
             first, last = calls.index("fsync"), len(calls) - 1 - calls[::-1].index("fsync")
-            names = [place for place, call in enumerate(calls) if call in ("linkat", "renameat", "renameat2")]
+            names = [
+                place
+                for place, call in enumerate(calls)
+                if call in ("linkat", "renameat", "renameat2")
+            ]
             in_order = names and first < min(names) and max(names) < last
             self.holds("the order of fsync and names, old %d" % old, in_order, calls)
             found = contents(self)
-            self.holds("accepted, old %d" % old, done.status == 0 and found == (NEW, OLD, NEW, 3), (done, found))
+            self.holds(
+                "accepted, old %d" % old,
+                done.status == 0 and found == (NEW, OLD, NEW, 3),
+                (done, found),
+            )
 
     def test_kills(self) -> None:
         forms = [("in the caller's folder", None, 0, 0), ("on an old file system", None, 0, 1)]

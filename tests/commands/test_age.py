@@ -1,4 +1,5 @@
-"""aide-compare --max-age: a new database that AIDE wrote too long ago is refused, and all that reads the state says so."""
+"""aide-compare --max-age: a new database that AIDE wrote too long ago is refused, and all that
+reads the state says so."""
 import gzip
 import os
 import re
@@ -61,7 +62,11 @@ class AgeTest(CommandTest):
             "years.db",
             "730 days",
         )
-        self.write("conf", "database_in=file:%s\ndatabase_out=file:%s\n" % (self.path("old.db"), self.path("late.db")))
+        self.write(
+            "conf",
+            "database_in=file:%s\ndatabase_out=file:%s\n"
+            % (self.path("old.db"), self.path("late.db")),
+        )
         refused(
             self,
             "an old database of a configuration",
@@ -71,7 +76,11 @@ class AgeTest(CommandTest):
         write_aged(self, "minute.db", NEW, 100)
         answer = self.call(TOOL, "--max-age", "60", "old.db", "minute.db")
         line = re.escape(REFUSAL) % ("minute\\.db", r"1\d\d seconds")
-        self.holds("an age of seconds", answer.status == 18 and re.fullmatch(line, answer.errors.decode()), answer)
+        self.holds(
+            "an age of seconds",
+            answer.status == 18 and re.fullmatch(line, answer.errors.decode()),
+            answer,
+        )
         self.expect(
             "a missing database with --max-age",
             self.call(TOOL, "--max-age", "60", "old.db", "missing"),
@@ -81,14 +90,21 @@ class AgeTest(CommandTest):
         )
 
     def test_accepted(self) -> None:
-        """No limit, an age below it; a time in the future is refused; and the age of the old database does not matter."""
+        """No limit, an age below it; a time in the future is refused; and the age of the old
+        database does not matter."""
         write_aged(self, "years.old", OLD, 2 * 365 * 24 * HOUR)
         write_aged(self, "late.db", NEW, 3 * HOUR)
         write_aged(self, "fresh.db", NEW, 50)
         write_aged(self, "soon.db", NEW, -500)
         write_aged(self, "later.db", NEW, -90 * HOUR)
         answer = self.call(TOOL, "--max-age", "2h", "years.old", "later.db")
-        self.expect("a time in the future", answer, 18, b"", b"later.db was written 3 days in the future: is a clock wrong?")
+        self.expect(
+            "a time in the future",
+            answer,
+            18,
+            b"",
+            b"later.db was written 3 days in the future: is a clock wrong?",
+        )
         for label, words in (
             ("no limit", ["years.old", "late.db"]),
             ("--max-age 0", ["--max-age", "0", "years.old", "late.db"]),
@@ -99,7 +115,11 @@ class AgeTest(CommandTest):
         ):
             answer = self.call(TOOL, "--state", "state", *words)
             self.expect(label, answer, 7, b"Changed entries:         2", DIFFER)
-            self.assertEqual((self.state()["status"], self.state()["error"]), ("7", ""), ("the state, " + label, self.state()))
+            self.assertEqual(
+                (self.state()["status"], self.state()["error"]),
+                ("7", ""),
+                ("the state, " + label, self.state()),
+            )
 
     def test_links(self) -> None:
         """The age is that of the file, and not of a link to it."""
@@ -111,16 +131,30 @@ class AgeTest(CommandTest):
         answer = self.call(TOOL, "--state", "state", "--max-age", "7200", "old.db", "fresh link")
         refused(self, "a link to an old file", answer, "fresh link")
         self.expect(
-            "an old link to a fresh file", self.call(TOOL, "--max-age", "7200", "old.db", "late link"), 7, b"Changed", DIFFER
+            "an old link to a fresh file",
+            self.call(TOOL, "--max-age", "7200", "old.db", "late link"),
+            7,
+            b"Changed",
+            DIFFER,
         )
 
     def test_pipes(self) -> None:
-        """A pipe has no age: with a limit it is refused, and nobody waits for a writer. A redirected file has one."""
+        """A pipe has no age: with a limit it is refused, and nobody waits for a writer. A
+        redirected file has one."""
         for name, more in (("/dev/stdin", {"text": NEW}),):
-            answer = self.call(TOOL, "--state", "state", "--max-age", "7200", "old.db", name, **more)
-            line = "aide-compare: the new database %s is not a regular file, so --max-age does not know its age" % name
+            answer = self.call(
+                TOOL, "--state", "state", "--max-age", "7200", "old.db", name, **more
+            )
+            line = (
+                "aide-compare: the new database %s is not a regular file, so --max-age does not know its age"
+                % name
+            )
             self.expect("a pipe with --max-age, " + name, answer, 18, b"", line.encode())
-            self.assertEqual(self.state()["error"], line, ("the state of a pipe with --max-age, " + name, self.state()))
+            self.assertEqual(
+                self.state()["error"],
+                line,
+                ("the state of a pipe with --max-age, " + name, self.state()),
+            )
         self.expect(
             "a pipe with --max-age 0",
             self.call(TOOL, "--max-age", "0", "old.db", "/dev/stdin", text=NEW),
@@ -129,14 +163,22 @@ class AgeTest(CommandTest):
             DIFFER,
         )
         self.expect(
-            "an old pipe", self.call(TOOL, "--max-age", "7200", "/dev/stdin", "new.db", text=OLD), 7, b"Changed", DIFFER
+            "an old pipe",
+            self.call(TOOL, "--max-age", "7200", "/dev/stdin", "new.db", text=OLD),
+            7,
+            b"Changed",
+            DIFFER,
         )
         write_aged(self, "late.db", NEW, 3 * HOUR + 60)
         for name, status in (("late.db", 18), ("new.db", 7)):
             with open(self.path(name), "rb") as file:
                 answer = self.call(TOOL, "--max-age", "7200", "old.db", "/dev/stdin", stdin=file)
             self.expect(
-                "a redirected file, " + name, answer, status, None, b"/dev/stdin is 3 hours old" if status == 18 else DIFFER
+                "a redirected file, " + name,
+                answer,
+                status,
+                None,
+                b"/dev/stdin is 3 hours old" if status == 18 else DIFFER,
             )
 
     def test_values(self) -> None:
@@ -175,7 +217,13 @@ class AgeTest(CommandTest):
             [b"nothing was compared", reason],
             b"",
         )
-        answer = self.call("aide-compare status --format prometheus", "--state", "state", "metrics.prom")
+        answer = self.call(
+            "aide-compare status --format prometheus", "--state", "state", "metrics.prom"
+        )
         text = self.read("metrics.prom")
-        good = answer.status == 0 and re.search(rb"_status 18$", text, re.M) and b"_entries" not in text
+        good = (
+            answer.status == 0
+            and re.search(rb"_status 18$", text, re.M)
+            and b"_entries" not in text
+        )
         self.holds("the metrics of an old database", good, (answer, text))

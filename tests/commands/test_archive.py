@@ -1,5 +1,5 @@
-"""The database of a signed archive: what it agrees with, what it never does, and what is refused. The
-packages are built and signed here."""
+"""The database of a signed archive: what it agrees with, what it never does, and what is refused.
+The packages are built and signed here."""
 from __future__ import annotations
 
 import base64
@@ -108,7 +108,8 @@ class Place:
         self.built.append(built)
 
     def sign(self, key: str = "gpg", more: str = "", ending: str = "", **changed: bytes) -> None:
-        """Writes the index and its signed text; `changed` is another index in place of the signed one."""
+        """Writes the index and its signed text; `changed` is another index in place of the
+        signed one."""
         index = "\n".join(built.fields for built in self.built).encode()
         pack: Dict[str, Callable[[bytes], bytes]] = {".gz": gzip.compress, ".xz": lzma.compress}
         data = pack[ending](index) if ending else index
@@ -216,7 +217,9 @@ class ArchiveTest(CommandTest):
         place.sign()
         answer = place.ask()
         self.expect("a signed upgrade", answer, 0, errors=[b"applied: 2 packages, "])
-        self.assertIsNone(first_fault(answer.output), ("it is a sound database", answer.output[:300]))
+        self.assertIsNone(
+            first_fault(answer.output), ("it is a sound database", answer.output[:300])
+        )
         trusted = (
             TOOL,
             b"/usr/bin/true",

@@ -30,11 +30,14 @@ print(processes.stop(child), time.monotonic() - begin < 10)
 
 class BoundedTest(CommandTest):
     def test_no_end(self) -> None:
-        """What waits for a device gives up: a write that takes nothing three times, and the end of a child that was killed."""
+        """What waits for a device gives up: a write that takes nothing three times, and the end of
+        a child that was killed."""
         done = subprocess.run(
             [sys.executable, "-I", "-c", NO_END, self.path("lib")],
             stdout=subprocess.PIPE,
             stderr=subprocess.STDOUT,
             timeout=20,
         )
-        self.assertEqual(done.stdout, b"the device takes no bytes\nNone True\n", "nothing waits for ever")
+        self.assertEqual(
+            done.stdout, b"the device takes no bytes\nNone True\n", "nothing waits for ever"
+        )

@@ -1,5 +1,5 @@
-"""Many hosts beside a canary: what it has too is silent on the others, and is told on the canary. If it
-fails, the others are compared all the same."""
+"""Many hosts beside a canary: what it has too is silent on the others, and is told on the canary.
+If it fails, the others are compared all the same."""
 from __future__ import annotations
 
 import os
@@ -102,7 +102,8 @@ class CanaryTest(CommandTest):
         )
 
     def test_failed(self) -> None:
-        """A canary that cannot be compared, or is late, silences nothing, and that is said first."""
+        """A canary that cannot be compared, or is late, silences nothing, and that is said
+        first."""
         hosts = fleet(self, {"www3": EVIL})
         sound = self.read("remote/www1")
         for label, words, text, cause in (

@@ -1,5 +1,5 @@
-"""The changes that are kept of a host: the severe ones first, silent ones not at all, and lines that are
-cut, damaged or of another run are named."""
+"""The changes that are kept of a host: the severe ones first, silent ones not at all, and lines
+that are cut, damaged or of another run are named."""
 from __future__ import annotations
 
 import json
@@ -40,12 +40,15 @@ class CutLinesTest(CommandTest):
         status, output, errors = hosts.call("aide-compare hosts compare", "--one", "long")
         good = status == 1 and words in errors and "/zz/.ssh/authorized_keys\n" in output
         self.holds("a single host says so", good, (status, output[-300:], errors))
-        status, output, errors = hosts.call("aide-compare hosts compare", "--quiet", "--one", "long")
+        status, output, errors = hosts.call(
+            "aide-compare hosts compare", "--quiet", "--one", "long"
+        )
         good = status == 1 and output.count("\n") == 2 and not errors
         self.holds("with --quiet only its line", good, (output, errors))
 
     def test_each_byte(self) -> None:
-        """Lines that end at any byte before their end are unreadable, and give what is whole in them."""
+        """Lines that end at any byte before their end are unreadable, and give what is whole in
+        them."""
         hosts = four_hosts(self)
         text = self.read("store/hosts/www1/lines")
         lines = text.splitlines(keepends=True)
@@ -108,5 +111,7 @@ class CutLinesTest(CommandTest):
         good = [each["path"] for each in changes] == ["/d"] and found["calm"]["told"] == 0
         self.holds("only what is open is listed", good, (changes, found))
         text = hosts.report("--format=brief")[1]
-        first = "aide on 2 hosts: 1 differ, 0 not compared\n0 without differences, 1 with silent ones\n"
+        first = (
+            "aide on 2 hosts: 1 differ, 0 not compared\n0 without differences, 1 with silent ones\n"
+        )
         self.holds("the brief text", text.startswith(first), text)

@@ -218,9 +218,7 @@ class HostsAddTest(CommandTest):
         self.holds("80 columns", max(map(len, before.split("\n"))) <= 80, before)
         kept = {"known_hosts": f"www {KEY}\n", "etc-hosts": "www\n"}
         kept.update({"www/aide.db": OLD.decode(), "www/aide.db.new": OLD.decode()})
-        self.holds(
-            "what is kept", asked.status == 0 and files(self) == kept, (asked, files(self))
-        )
+        self.holds("what is kept", asked.status == 0 and files(self) == kept, (asked, files(self)))
         mode = os.stat(self.path("known_hosts")).st_mode & 0o777
         self.assertEqual(mode, 0o600, ("the mode of known_hosts", oct(mode)))
         asked = add(self, "www", "yes\n")
@@ -242,7 +240,9 @@ class HostsAddTest(CommandTest):
         asked = add(self, "db1", "yes\n")
         good = asked.status == 0 and "has the key that is known here" in asked.text
         self.holds("a key that is known", good and "ssh-keygen" not in asked.text, asked)
-        self.assertEqual(files(self)["etc-hosts"], "www\n# no end of line\ndb1\n", "the file of hosts")
+        self.assertEqual(
+            files(self)["etc-hosts"], "www\n# no end of line\ndb1\n", "the file of hosts"
+        )
         self.assertEqual(files(self)["known_hosts"], f"www {KEY}\n", "no key twice")
         done = fleet.call("aide-compare hosts compare", self.path("etc-hosts"))
         self.holds("then it is compared", done[0] == 0 and "db1 0 no differences" in done[1], done)
@@ -267,7 +267,12 @@ class HostsAddTest(CommandTest):
         fleet = prepare(self)
         self.write("key.pub", "ssh-ed25519 AAAA collector\n")
         for host, text, status, said in (
-            ("denied", OLD, 18, 'restrict,command="cat /var/lib/aide/aide.db.new" ssh-ed25519 AAAA'),
+            (
+                "denied",
+                OLD,
+                18,
+                'restrict,command="cat /var/lib/aide/aide.db.new" ssh-ed25519 AAAA',
+            ),
             ("changed", OLD, 18, "Host key verification failed"),
             ("empty", b"", 18, "sent nothing"),
             ("other", b"x\n" * 500, 24, "no sound database"),
@@ -282,7 +287,8 @@ class HostsAddTest(CommandTest):
             self.holds(f"the name {name!r}", good, (asked, files(self)))
 
     def test_sshd(self) -> None:
-        """Two hosts by real ssh: added, one down, one with another key, one that sends without end."""
+        """Two hosts by real ssh: added, one down, one with another key, one that sends without
+        end."""
         if os.geteuid() != 0 or not os.path.exists(SSHD) or not shutil.which("ssh"):
             self.skipTest("it needs root" if os.geteuid() else "not installed: sshd")
         prepare(self)
@@ -294,7 +300,9 @@ class HostsAddTest(CommandTest):
                 sshds.start(name, f"cat {self.path('remote/' + name)}")
                 asked = add(self, name, "yes\n")
                 words = ["ssh-keygen", "-lf", self.path(f"{name}.key.pub")]
-                printed = subprocess.run(words, stdout=subprocess.PIPE).stdout.decode().split(" ")[1]
+                printed = (
+                    subprocess.run(words, stdout=subprocess.PIPE).stdout.decode().split(" ")[1]
+                )
                 self.assertIn(printed, asked.text, (f"{name}: its fingerprint", (printed, asked)))
                 self.assertEqual(asked.status, 0, (f"{name}: added", asked))
             fleet_by_sshd(self, sshds)

@@ -53,7 +53,8 @@ def mailed(sandbox: CommandTest, hosts: Hosts) -> str:
 
 class HostsBriefTest(CommandTest):
     def test_selection(self) -> None:
-        """By severity, then turn by turn; a host that has used up its share comes after all others."""
+        """By severity, then turn by turn; a host that has used up its share comes after all
+        others."""
         flood: list[tuple[object, ...]] = [("high", [0])] * 10
         each = [("low", [1]), ("medium", [2]), ("high", [3])]
         others = [("high", [1]), ("high", [2])]
@@ -74,8 +75,18 @@ class HostsBriefTest(CommandTest):
                 [*flood, ("high", [0, 1])],
                 [[0, 1, 10], {"high": 8}, {"0": 8}],
             ),
-            ("a share", 16, [*flood, *flood, ("low", [1])], [[*range(15), 20], {"high": 5}, {"0": 5}]),
-            ("one that is unknown", 1, [("", [1]), ("medium", [2])], [[0], {"medium": 1}, {"2": 1}]),
+            (
+                "a share",
+                16,
+                [*flood, *flood, ("low", [1])],
+                [[*range(15), 20], {"high": 5}, {"0": 5}],
+            ),
+            (
+                "one that is unknown",
+                1,
+                [("", [1]), ("medium", [2])],
+                [[0], {"medium": 1}, {"2": 1}],
+            ),
             ("nothing lesser after what has no room", 80, [*nine, ("low", [9], 5)], ENDED),
         ):
             got = selected(self, room, list(changes))
@@ -141,7 +152,8 @@ class HostsBriefTest(CommandTest):
         self.assertIn("shadow</code>", page, ("/etc/shadow on the page", len(page)))
 
     def test_shape(self) -> None:
-        """At most 80 lines of 80 columns, whatever hosts there are and however long the names are."""
+        """At most 80 lines of 80 columns, whatever hosts there are and however long the names
+        are."""
         hosts = Hosts(self)
         old = database(line(b"/etc/shadow", b"old"))
         paths = [b"/d%02d/" % number + b"n" * (3 * number) for number in range(90)]
@@ -150,7 +162,9 @@ class HostsBriefTest(CommandTest):
         texts.update({"unknown%02d" % number: (old, new) for number in range(20)})
         hosts.compared(texts)
         with open(self.path("hosts"), "a") as file:
-            file.write("".join("never-compared-%s%02d\n" % ("x" * 150, number) for number in range(20)))
+            file.write(
+                "".join("never-compared-%s%02d\n" % ("x" * 150, number) for number in range(20))
+            )
         text = hosts.report("--format=brief")[1]
         rows = text.rstrip("\n").split("\n")
         command = rows.index("All changes with their values:")

@@ -1,4 +1,5 @@
-"""The report of many hosts: how much memory and how many open files it takes, and what is left when it is ended half way."""
+"""The report of many hosts: how much memory and how many open files it takes, and what is left when
+it is ended half way."""
 import contextlib
 import json
 import os
@@ -29,7 +30,8 @@ def waits_for(process, name):
 @slow
 class HostsEndsTest(CommandTest):
     def test_many_hosts(self) -> None:
-        """300 hosts with 200 changes each: few open files, and no more memory than 30 hosts take."""
+        """300 hosts with 200 changes each: few open files, and no more memory than 30 hosts
+        take."""
         hosts = Hosts(self)
         new = database(*(line(b"/n%04d" % number, b"%d" % number) for number in range(200)))
         hosts.compared({"first": (database(), new)})
@@ -37,20 +39,32 @@ class HostsEndsTest(CommandTest):
         for count in (30, 300):
             hosts.copies("first", ["h%d-%d" % (count, number) for number in range(count)])
             words = hosts.words("aide-compare hosts report", "--format=json", self.path("hosts"))
-            run = hosts.start(["sh", "-c", 'ulimit -n 40; exec "$@"', "sh", sys.executable, "-c", MEASURE] + words)
+            run = hosts.start(
+                ["sh", "-c", 'ulimit -n 40; exec "$@"', "sh", sys.executable, "-c", MEASURE] + words
+            )
             output, errors = run.communicate()
             sizes.append(int(errors.split()[-1]))
             lines = output.splitlines()
-            good = run.returncode == 1 and len(lines) == 1 + count + 200 and json.loads(lines[-1])["hosts"] == count
+            good = (
+                run.returncode == 1
+                and len(lines) == 1 + count + 200
+                and json.loads(lines[-1])["hosts"] == count
+            )
             self.holds("%d hosts" % count, good, (run.returncode, errors, output[:300]))
         self.holds("their memory", sizes[1] < sizes[0] + 8000 and sizes[1] < 60000, sizes)
 
     def test_ends(self) -> None:
-        """Ended by a signal, or without room: a status that is no comparison's, and nothing is left."""
+        """Ended by a signal, or without room: a status that is no comparison's, and nothing is
+        left."""
         hosts = four_hosts(self)
         for number in (signal.SIGTERM, signal.SIGINT, signal.SIGHUP):
-            lock = subprocess.Popen(["flock", self.path("store/hosts/www2/lock"), "sleep", "100"], start_new_session=True)
-            run = hosts.start(after(HEEDED, hosts.words("aide-compare hosts report", self.path("hosts"))))
+            lock = subprocess.Popen(
+                ["flock", self.path("store/hosts/www2/lock"), "sleep", "100"],
+                start_new_session=True,
+            )
+            run = hosts.start(
+                after(HEEDED, hosts.words("aide-compare hosts report", self.path("hosts")))
+            )
             until(lambda: waits_for(run.pid, "/www2/lock"))
             run.send_signal(number)
             try:
@@ -63,15 +77,23 @@ class HostsEndsTest(CommandTest):
             self.assertEqual(got, (-number, []), "signal %d" % number)
         self.set_names("base.spool", BLOCK=1)
         status, output, errors = hosts.report(before=["sh", "-c", 'ulimit -f 0; exec "$@"', "sh"])
-        self.holds("no room", status == 18 and not output and errors and not self.leftovers(), (status, output, errors))
-        run = hosts.start(hosts.words("aide-compare hosts report", self.path("hosts")), preexec_fn=None)
+        self.holds(
+            "no room",
+            status == 18 and not output and errors and not self.leftovers(),
+            (status, output, errors),
+        )
+        run = hosts.start(
+            hosts.words("aide-compare hosts report", self.path("hosts")), preexec_fn=None
+        )
         run.stdout.close()
         run.wait()
         self.holds("nobody reads", run.returncode > 7 or run.returncode < 0, run.returncode)
         os.chmod(self.path("store"), 0o777)
         status, output, _ = hosts.report()
         os.chmod(self.path("store"), 0o755)
-        self.holds("a store that everybody can write", status == 18 and "4 differ" not in output, output)
+        self.holds(
+            "a store that everybody can write", status == 18 and "4 differ" not in output, output
+        )
         shutil.rmtree(self.path("store"))
         status, output, _ = hosts.report()
         good = status == 18 and output.count(": its share is missing: there is no directory ") == 5
@@ -80,8 +102,13 @@ class HostsEndsTest(CommandTest):
     def test_no_mailer(self) -> None:
         """Without any sendmail, the system log says what the mail would have said."""
         four_hosts(self)
-        copy, script = self.path("without/aide_compare"), "import sys; sys.path.insert(0, sys.argv.pop(1)); "
-        script += "from aide_compare.base import ending; from aide_compare.commands import hosts_report\n"
+        copy, script = (
+            self.path("without/aide_compare"),
+            "import sys; sys.path.insert(0, sys.argv.pop(1)); ",
+        )
+        script += (
+            "from aide_compare.base import ending; from aide_compare.commands import hosts_report\n"
+        )
         script += "sys.exit(ending.command('aide-compare hosts report', hosts_report.main))"
         shutil.copytree(self.path("lib/aide_compare"), copy)
         with open(copy + "/mail/sending.py") as file:
@@ -108,5 +135,13 @@ class HostsEndsTest(CommandTest):
                 got = log.recv(10000)
             except socket.timeout:
                 got = b""
-        good = done.returncode == 18 and b"cannot find sendmail" in done.stderr and got.startswith(b"<33>")
-        self.holds("no sendmail", good and got.endswith(b"; aide on 5 hosts: 4 differ, 0 not compared"), (done, got))
+        good = (
+            done.returncode == 18
+            and b"cannot find sendmail" in done.stderr
+            and got.startswith(b"<33>")
+        )
+        self.holds(
+            "no sendmail",
+            good and got.endswith(b"; aide on 5 hosts: 4 differ, 0 not compared"),
+            (done, got),
+        )

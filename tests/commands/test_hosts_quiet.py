@@ -80,7 +80,9 @@ class HostsQuietTest(CommandTest):
         words = ["--sha256", sha256(NEW), "--keep-open", "/c", "h05"]
         done = fleet.call("aide-compare hosts accept", *words)
         self.holds(
-            "a part of a database", done[0] == 0 and "added 0, removed 0, changed 1" in done[1], done
+            "a part of a database",
+            done[0] == 0 and "added 0, removed 0, changed 1" in done[1],
+            done,
         )
         good = done[1].count("added 1, removed 1, changed 2") == 1 and "no counts" not in done[1]
         self.holds("the counts are told once", good, done[1])
@@ -106,7 +108,11 @@ class HostsQuietTest(CommandTest):
             self.assertIn(f"{cause}", fleet.state("h01"), "%s: its state" % label)
             os.remove(self.path("down/h01"))
         done = compare(fleet)
-        self.assertIn("h01 7 added 1, removed 1, changed 2: 4 open of 4 changes\n", done[1], ("it is there again", done))
+        self.assertIn(
+            "h01 7 added 1, removed 1, changed 2: 4 open of 4 changes\n",
+            done[1],
+            ("it is there again", done),
+        )
         os.mkdir(self.path("store/hosts/h01/not-fetched"))
         done = compare(fleet, "--no-fetch")
         good = "h01 18 it was not fetched the last time: its cause cannot be read" in done[1]

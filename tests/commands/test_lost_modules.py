@@ -1,4 +1,5 @@
-"""The commands without their modules, as after a copy of one file or a broken update: they say so, and report nothing."""
+"""The commands without their modules, as after a copy of one file or a broken update: they say so,
+and report nothing."""
 import os
 import shutil
 import subprocess
@@ -7,12 +8,21 @@ import tempfile
 from tests.commands.sandbox import CommandTest, HERE, TIME_LIMIT
 
 # The command, and the name by which monitoring calls it.
-FRONT, NAMES = os.path.join(HERE, "commands", "bin", "aide-compare"), ("aide-compare", "check_aide_compare")
+FRONT, NAMES = os.path.join(HERE, "commands", "bin", "aide-compare"), (
+    "aide-compare",
+    "check_aide_compare",
+)
 
 
 def started(path):
     """The status and both outputs of a command that is started without arguments."""
-    done = subprocess.run([path], stdin=subprocess.DEVNULL, stdout=subprocess.PIPE, stderr=subprocess.PIPE, timeout=TIME_LIMIT)
+    done = subprocess.run(
+        [path],
+        stdin=subprocess.DEVNULL,
+        stdout=subprocess.PIPE,
+        stderr=subprocess.PIPE,
+        timeout=TIME_LIMIT,
+    )
     return done.returncode, done.stdout, done.stderr
 
 
@@ -21,7 +31,11 @@ def check_one(sandbox, name, path, why):
     if name == NAMES[1]:
         wanted = status == 3 and output.startswith(b"AIDE UNKNOWN: ")
     else:
-        wanted = status == 18 and output == b"" and errors.startswith(name.encode() + b": cannot start: ")
+        wanted = (
+            status == 18
+            and output == b""
+            and errors.startswith(name.encode() + b": cannot start: ")
+        )
     sandbox.holds("%s, %s" % (name, why), wanted, (status, output, errors))
 
 

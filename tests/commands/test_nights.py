@@ -1,10 +1,10 @@
 """Real nights of a Debian 12, cut to some 40 to 100 entries each: the nights of an intruder among
 ordinary changes.
 
-The texts in tests/nights have lines of AIDE's databases and of dpkg's records as they were,
-those that are so in both nights once. A paragraph of dpkg's status and each other record is one line,
-with tabs for its ends of line. Before an entry that differs stands what is wanted of it: its standing,
-and the package of a recorded one.
+The texts in tests/nights have lines of AIDE's databases and of dpkg's records as they were, those
+that are so in both nights once. A paragraph of dpkg's status and each other record is one line,
+with tabs for its ends of line. Before an entry that differs stands what is wanted of it: its
+standing, and the package of a recorded one.
 """
 from __future__ import annotations
 

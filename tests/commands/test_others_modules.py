@@ -1,4 +1,5 @@
-"""No command runs code that other packages have put beside the standard library: a .pth file there is read by no command."""
+"""No command runs code that other packages have put beside the standard library: a .pth file there
+is read by no command."""
 import os
 import shutil
 import subprocess
@@ -20,9 +21,15 @@ for command do for word in compare json page mail accept status sort setup hosts
 class OthersModulesTest(CommandTest):
     def test_others_modules(self) -> None:
         with open(FRONT, "rb") as file:
-            self.assertEqual(file.readline(), b"#!/usr/bin/python3 -IS\n", "the first line of " + FRONT)
+            self.assertEqual(
+                file.readline(), b"#!/usr/bin/python3 -IS\n", "the first line of " + FRONT
+            )
         words = [PYTHON, "-c", "import site; print(*site.getsitepackages(), sep='\\n')"]
-        found = subprocess.run(words, stdout=subprocess.PIPE, stdin=subprocess.DEVNULL).stdout.decode().split("\n")
+        found = (
+            subprocess.run(words, stdout=subprocess.PIPE, stdin=subprocess.DEVNULL)
+            .stdout.decode()
+            .split("\n")
+        )
         folder = next((path for path in found if os.path.isdir(path)), None)
         if os.getuid() != 0 or not shutil.which("unshare") or not folder:
             self.skipTest("it needs root, and unshare")
@@ -37,4 +44,8 @@ class OthersModulesTest(CommandTest):
         if done.returncode:
             self.skipTest("nothing can be mounted here")
         ran = os.path.getsize(mark) if os.path.exists(mark) else 0
-        self.assertEqual(ran, 1, ("only Python itself, at the end, runs another package's code", (ran, done.stdout)))
+        self.assertEqual(
+            ran,
+            1,
+            ("only Python itself, at the end, runs another package's code", (ran, done.stdout)),
+        )

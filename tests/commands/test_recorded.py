@@ -53,7 +53,8 @@ def bytes_of_digest(fields: Dict[str, Any]) -> str:
 
 class RecordedTest(CommandTest):
     def test_content(self) -> None:
-        """The content that the records have is recorded, and no other one; times and inode do not matter."""
+        """The content that the records have is recorded, and no other one; times and inode do not
+        matter."""
         expect(self, "the package's", upgraded(TWO, inode=7), {BIN + b"tool": RECORDED})
         expect(self, "another one", upgraded(EVIL), {BIN + b"tool": OPEN})
         host = upgraded(TWO)
@@ -63,14 +64,17 @@ class RecordedTest(CommandTest):
         host.packages = [Package("tool", "2", {BIN + b"other": TWO})]
         expect(self, "of another path", host, {BIN + b"tool": OPEN})
         host = upgraded(TWO)
-        host.packages = [Package("tool", "2", {BIN + b"tool": TWO}, state="deinstall ok config-files")]
+        host.packages = [
+            Package("tool", "2", {BIN + b"tool": TWO}, state="deinstall ok config-files")
+        ]
         expect(self, "of a package that is not there", host, {BIN + b"tool": OPEN})
         host = upgraded(TWO)
         host.packages = [Package("tool", "2", {}, conffiles={BIN + b"tool": TWO})]
         expect(self, "a conffile", host, {BIN + b"tool": RECORDED})
 
     def test_new(self) -> None:
-        """A new file or directory is recorded only if it is root's alone, and gives nobody a right."""
+        """A new file or directory is recorded only if it is root's alone, and gives nobody a
+        right."""
         rows: Dict[str, Tuple[Dict[str, Any], str]] = {
             "root's": ({}, RECORDED),
             "another user's": ({"uid": 33}, OPEN),
@@ -98,7 +102,8 @@ class RecordedTest(CommandTest):
             expect(self, f"a new directory, {label}", host, {LIB + b"new": want})
 
     def test_other_rights(self) -> None:
-        """Records know no mode, owner or list: a change of one stays open, also with the right content."""
+        """Records know no mode, owner or list: a change of one stays open, also with the right
+        content."""
         rows: Dict[str, Dict[str, Any]] = {
             "owner": {"uid": 33},
             "group": {"gid": 33},
@@ -136,8 +141,10 @@ class RecordedTest(CommandTest):
             expect(self, f"a link to {target!r}", host, {LIB + b"tool.so": want})
 
     def test_made(self) -> None:
-        """What scripts of packages make is open, and has one line for a directory; what a package has with
-        another content has a line of its own, and so has a compiled file whose source did not change."""
+        """What scripts of packages make is open, and has one line for a directory; what a package
+        has with another content has a line of its own, and so has a compiled file whose source did
+        not change.
+        """
         host = Host()
         cache = LIB + b"python3/__pycache__/"
         for name in (b"one", b"two"):
@@ -193,7 +200,8 @@ class RecordedTest(CommandTest):
         self.assertFalse(missing, ("all of many", (missing, text[:900])))
 
     def test_read(self) -> None:
-        """Without the digest that a record has, the file on this machine needs that and the database's."""
+        """Without the digest that a record has, the file on this machine needs that and the
+        database's."""
         path = self.path("there").encode()
         for label, content, measured, want in (
             ("the package's content", TWO, TWO, RECORDED),
@@ -221,17 +229,23 @@ class RecordedTest(CommandTest):
             text = bytearray(files[name])
             for _ in range(draw.randint(1, 4)):
                 place = draw.randrange(len(text) + 1)
-                text[place : place + draw.randint(0, 3)] = draw.choice([b"", b"\n", b"\0", b"\xff", b"/", b":"])
+                text[place : place + draw.randint(0, 3)] = draw.choice(
+                    [b"", b"\n", b"\0", b"\xff", b"/", b":"]
+                )
             self.write(f"dpkg/{name}", bytes(text))
             answer = self.call("aide-compare", "host-old.db", "host-new.db")
-            good = answer.status == 4 and b"a fault of" not in answer.errors and b"1 " in answer.output
+            good = (
+                answer.status == 4 and b"a fault of" not in answer.errors and b"1 " in answer.output
+            )
             self.holds(f"damaged records, {number}", good, answer)
             self.write(f"dpkg/{name}", files[name])
 
     def test_rpm(self) -> None:
         """What rpm says of its packages, by a program in rpm's place."""
         os.makedirs(self.path("rpmdb"), exist_ok=True)
-        self.set_names("changes.packages", RPM=self.path("stubs/rpm"), RPM_DATABASES=(self.path("rpmdb"),))
+        self.set_names(
+            "changes.packages", RPM=self.path("stubs/rpm"), RPM_DATABASES=(self.path("rpmdb"),)
+        )
         host = upgraded(TWO)
         host.packages = []
         host.new.link(LIB + b"tool.so", b"tool.so.2").file(LIB + b"ghost", TWO)
@@ -261,4 +275,6 @@ class RecordedTest(CommandTest):
         self.stub("rpm", "exec cat /dev/zero")
         self.set_names("changes.packages", MAX_ALL=1 << 20)
         answer = self.call("aide-compare", "host-old.db", "host-new.db")
-        self.expect("an rpm without end", answer, 5, b"4 open", b"rpm has said more than 1048576 bytes")
+        self.expect(
+            "an rpm without end", answer, 5, b"4 open", b"rpm has said more than 1048576 bytes"
+        )

@@ -34,7 +34,9 @@ class ShowTest(CommandTest):
                 good = (first, second) == (path, title) and all(line in found for line in lines)
                 self.holds("what is said of %s" % path, good, answer)
         same = self.call(TOOL, "/d", "new.db", "new.db")
-        self.assertFalse([line for line in lines_of(same) if line[0] == "*"], ("an entry that is the same", same))
+        self.assertFalse(
+            [line for line in lines_of(same) if line[0] == "*"], ("an entry that is the same", same)
+        )
         self.write("etc/without", "/**\n")
         left_out = self.call(TOOL, "/c", "old.db", "new.db")
         self.expect("what is left out of a comparison", left_out, 0, b"* Size ", b"")
@@ -60,10 +62,13 @@ class ShowTest(CommandTest):
         ):
             self.assertIn(line, found, ("the line %r" % line, answer))
         is_there = any(
-            line.startswith("  ACL ") and "user::rw-, group::r--, other::r--" in line for line in found
+            line.startswith("  ACL ") and "user::rw-, group::r--, other::r--" in line
+            for line in found
         )
         self.holds("the ACL in words", is_there, answer)
-        self.assertEqual(len([line for line in found if line[0] == "*"]), 1, ("one attribute differs", answer))
+        self.assertEqual(
+            len([line for line in found if line[0] == "*"]), 1, ("one attribute differs", answer)
+        )
 
     def test_hostile(self) -> None:
         """Bytes of names and links are escaped, and a path is given as it is on the disk."""
@@ -81,7 +86,8 @@ class ShowTest(CommandTest):
         )
 
     def test_unseen(self) -> None:
-        """Characters that nobody sees: people get none of them, and JSON has those that the manual names by their numbers."""
+        """Characters that nobody sees: people get none of them, and JSON has those that the manual
+        names by their numbers."""
         escaped = "\u0085\u061c\u200e\u200f\u2028\u202e\u2066\u2069"
         plain = "\u200b\ufeff\U000e0001\U000e0041\U000e007f"
         name = b"".join(b"%%%02x" % byte for byte in (escaped + plain).encode())
@@ -96,8 +102,14 @@ class ShowTest(CommandTest):
         ):
             found = [letter for letter in escaped + plain if letter.encode() in text]
             self.holds("nothing is unseen in " + label, text and not found, (found, text[:600]))
-        line = self.call("aide-compare json", "none.db", "unseen.db").output.decode().splitlines()[1]
-        by_number = [letter for letter in escaped if "\\u%04x" % ord(letter) in line.lower() and letter not in line]
+        line = (
+            self.call("aide-compare json", "none.db", "unseen.db").output.decode().splitlines()[1]
+        )
+        by_number = [
+            letter
+            for letter in escaped
+            if "\\u%04x" % ord(letter) in line.lower() and letter not in line
+        ]
         self.assertEqual(by_number, list(escaped), ("what JSON has by its number", line))
         self.holds("what JSON has as it is", all(letter in line for letter in plain), line)
 

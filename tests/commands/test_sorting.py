@@ -56,7 +56,11 @@ def decoded(field):
     out, place = [], 0
     while place < len(field):
         digits = field[place + 1 : place + 3]
-        is_escape = field[place] == 37 and len(digits) == 2 and all(digit in b"0123456789abcdefABCDEF" for digit in digits)
+        is_escape = (
+            field[place] == 37
+            and len(digits) == 2
+            and all(digit in b"0123456789abcdefABCDEF" for digit in digits)
+        )
         out.append(int(digits, 16) if is_escape else field[place])
         place += 3 if is_escape else 1
     return bytes(out)
@@ -68,13 +72,21 @@ def pieces_of(entry):
 
 
 def sorted_text(lines):
-    """The database of some lines in path order, as the definition has it; and how many entries have to come before the one above
-    them."""
-    entries = [line for line in lines if line.strip(b" \t") and not line.lstrip(b" \t").startswith((b"#", b"@@"))]
+    """The database of some lines in path order, as the definition has it; and how many entries have
+    to come before the one above them."""
+    entries = [
+        line
+        for line in lines
+        if line.strip(b" \t") and not line.lstrip(b" \t").startswith((b"#", b"@@"))
+    ]
     rest = [line for line in lines if line not in entries]
     ordered = sorted(range(len(entries)), key=lambda place: (pieces_of(entries[place]), place))
     breaks = sum(pieces_of(one) > pieces_of(next) for one, next in zip(entries, entries[1:]))
-    text = BEGIN + b"".join(line + b"\n" for line in rest + [entries[place] for place in ordered]) + END
+    text = (
+        BEGIN
+        + b"".join(line + b"\n" for line in rest + [entries[place] for place in ordered])
+        + END
+    )
     return text, breaks
 
 
@@ -83,12 +95,21 @@ def text_of(lines):
 
 
 def random_lines(pick, count):
-    paths = {b"/" + b"".join(pick.choice(PIECES + [b"/"]) for _ in range(pick.randint(0, 6))) for _ in range(count)}
+    paths = {
+        b"/" + b"".join(pick.choice(PIECES + [b"/"]) for _ in range(pick.randint(0, 6)))
+        for _ in range(count)
+    }
     known, lines = set(), []
     for path in sorted(paths, key=lambda path: pick.random()):
         if decoded(path) not in known:
             known.add(decoded(path))
-            lines.append(pick.choice([b"", b" ", b"\t"]) + b"36" + pick.choice([b" ", b"\t", b" \t "]) + path + b" 1")
+            lines.append(
+                pick.choice([b"", b" ", b"\t"])
+                + b"36"
+                + pick.choice([b" ", b"\t", b" \t "])
+                + path
+                + b" 1"
+            )
             lines += pick.choice([[], [], [b""], [b"# note"], [b" \t"]])
     return lines
 
@@ -106,9 +127,15 @@ def call(words, text, room, environment=None):
 
 
 def expect(sandbox, label, done, status, output=None, errors=()):
-    good = done[0] == status and (output is None or done[1] == output) and all(part in done[2] for part in errors)
+    good = (
+        done[0] == status
+        and (output is None or done[1] == output)
+        and all(part in done[2] for part in errors)
+    )
     good = good and b"Traceback" not in done[2] and not os.listdir(sandbox.room)
-    sandbox.holds("sort: " + label, good, (done[0], done[1][:300], done[2][:600], os.listdir(sandbox.room)))
+    sandbox.holds(
+        "sort: " + label, good, (done[0], done[1][:300], done[2][:600], os.listdir(sandbox.room))
+    )
 
 
 def write_large(path, count):
@@ -130,9 +157,13 @@ def private_files(process):
 
 
 def check_signal(sandbox, path, number):
-    """Ended while it sorts, when it has a copy of the database and some runs, it ends at once, and nothing is left."""
+    """Ended while it sorts, when it has a copy of the database and some runs, it ends at once, and
+    nothing is left."""
     process = subprocess.Popen(
-        [*COMMAND, path], stdout=subprocess.PIPE, stderr=subprocess.DEVNULL, env={**os.environ, "TMPDIR": sandbox.room}
+        [*COMMAND, path],
+        stdout=subprocess.PIPE,
+        stderr=subprocess.DEVNULL,
+        env={**os.environ, "TMPDIR": sandbox.room},
     )
     has_runs = until(lambda: private_files(process) > 3, 120)
     process.send_signal(number)
@@ -148,7 +179,11 @@ class SortingTest(CommandTest):
             lines = random_lines(pick, 400)
             wanted, breaks = sorted_text(lines)
             text = text_of(lines)
-            done = call(COMMAND, gzip.compress(text[:9]) + gzip.compress(text[9:]) if number % 2 else text, self.room)
+            done = call(
+                COMMAND,
+                gzip.compress(text[:9]) + gzip.compress(text[9:]) if number % 2 else text,
+                self.room,
+            )
             expect(self, "order %d" % number, done, 0, wanted, [b"out of order: %d of " % breaks])
         lines = [b"36 /%05d 1" % number for number in range(13257)]
         lines = lines[:100] + lines[101:9000] + [lines[100]] + lines[9000:]
@@ -158,7 +193,11 @@ class SortingTest(CommandTest):
             call(COMMAND, text_of(lines), self.room),
             0,
             sorted_text(lines)[0],
-            [b": out of order: 1 of 13,257 lines\n", b"straight from AIDE, it is damaged", b"make it anew"],
+            [
+                b": out of order: 1 of 13,257 lines\n",
+                b"straight from AIDE, it is damaged",
+                b"make it anew",
+            ],
         )
         whole = sorted_text(lines)[0]
         done = call(COMMAND, whole, self.room)
@@ -177,7 +216,14 @@ class SortingTest(CommandTest):
         )
         many = [b"1 /%04d 1" % (number // 2) for number in range(400)]
         done = call(COMMAND, text_of(many), self.room)
-        expect(self, "200 paths twice", done, 24, None, [b"/0099\n", b"more paths that stand twice: 100\n"])
+        expect(
+            self,
+            "200 paths twice",
+            done,
+            24,
+            None,
+            [b"/0099\n", b"more paths that stand twice: 100\n"],
+        )
         whole = text_of([b"1 /%x 1" % number for number in range(5000)])
         packed = gzip.compress(whole)
         for label, text, words, status, errors in (
@@ -187,7 +233,13 @@ class SortingTest(CommandTest):
             ("nothing", b"", [], 24, b"no @@end_db"),
             ("no names", b"@@begin_db\n/a 1\n" + END, [], 24, b"line 2: an entry before @@db_spec"),
             ("no path", BEGIN + b"36\n" + END, [], 24, b"line 4: no path"),
-            ("a long line", BEGIN + b"36 /" + b"x" * (1 << 20) + b"\n" + END, [], 24, b"line 4: more than 1048576 bytes"),
+            (
+                "a long line",
+                BEGIN + b"36 /" + b"x" * (1 << 20) + b"\n" + END,
+                [],
+                24,
+                b"line 4: more than 1048576 bytes",
+            ),
             ("too many bytes", whole, ["--max-size", "9k"], 18, b"more than 9216 bytes unpacked"),
             ("no such option", whole, ["--other"], 15, b"try: aide-compare sort --help"),
             ("no such file", whole, ["/nowhere"], 18, b"cannot open"),
@@ -196,25 +248,49 @@ class SortingTest(CommandTest):
             expect(self, label, call(COMMAND + words, text, self.room), status, b"", [errors])
         with open("/dev/full", "wb") as full:
             done = subprocess.run(
-                COMMAND, input=whole, stdout=full, stderr=subprocess.PIPE, env={**os.environ, "TMPDIR": self.room}
+                COMMAND,
+                input=whole,
+                stdout=full,
+                stderr=subprocess.PIPE,
+                env={**os.environ, "TMPDIR": self.room},
             )
-        expect(self, "a full device", (done.returncode, b"", done.stderr), 18, b"", [b"cannot write: No space left"])
+        expect(
+            self,
+            "a full device",
+            (done.returncode, b"", done.stderr),
+            18,
+            b"",
+            [b"cannot write: No space left"],
+        )
         text = text_of([b"36 /%x %s" % (number, b"x" * 200) for number in range(50000)])
-        limited = ["sh", "-c", 'ulimit -f 4096; exec "$@"', "sh", *COMMAND]  # In blocks of 512 bytes or, for some shells, of 1024.
+        limited = [
+            "sh",
+            "-c",
+            'ulimit -f 4096; exec "$@"',
+            "sh",
+            *COMMAND,
+        ]  # In blocks of 512 bytes or, for some shells, of 1024.
         done = call(limited, gzip.compress(text), self.room)
         expect(self, "no room for the copy", done, 18, b"", [b"too large"])
 
     def test_merges(self) -> None:
-        """Runs of some lines, three of which become one, and three of these again: their order, and that few files are open."""
+        """Runs of some lines, three of which become one, and three of these again: their order, and
+        that few files are open."""
         pick, faults = random.Random(7), []
         with mock.patch.multiple(line_sorter, MAX_HELD=1000, MERGED=3):
             for count in (0, 1, 5, 100, 1000, 3000):
-                lines = [b"%s\t%d\n" % (pick.choice((b"a", b"a\x01b", b"a\x0bb")), number) for number in range(count)]
+                lines = [
+                    b"%s\t%d\n" % (pick.choice((b"a", b"a\x01b", b"a\x0bb")), number)
+                    for number in range(count)
+                ]
                 sorter, most = line_sorter.LineSorter(), 0
                 for line in lines:
                     sorter.put(line)
                     most = max(most, len(sorter.runs))
-                if list(sorter.lines()) != sorted(lines, key=lambda line: line.split(b"\t")[0]) or most > 15:
+                if (
+                    list(sorter.lines()) != sorted(lines, key=lambda line: line.split(b"\t")[0])
+                    or most > 15
+                ):
                     faults.append((count, most))
         self.assertFalse(faults, "sort: runs of runs")
 
@@ -228,9 +304,18 @@ class SortingTest(CommandTest):
         keys = [line.split()[1] for line in done[1].splitlines() if line.startswith(b"36 ")]
         self.holds("sort: 120 MB in order", len(keys) == 600000 and keys == sorted(keys), len(keys))
         self.holds("sort: memory", memory < 64000, memory)
-        bomb = subprocess.run("head -c 300000000 /dev/zero | gzip -1", shell=True, stdout=subprocess.PIPE).stdout
+        bomb = subprocess.run(
+            "head -c 300000000 /dev/zero | gzip -1", shell=True, stdout=subprocess.PIPE
+        ).stdout
         done = call([sys.executable, "-c", MEASURE, *COMMAND, "--max-size", "20M"], bomb, self.room)
-        expect(self, "300 MB of zeros", (done[0], b"", done[2]), 18, b"", [b"more than 20971520 bytes unpacked"])
+        expect(
+            self,
+            "300 MB of zeros",
+            (done[0], b"", done[2]),
+            18,
+            b"",
+            [b"more than 20971520 bytes unpacked"],
+        )
         self.holds("sort: memory of zeros", int(done[2].split(b"memory ")[-1]) < 64000, done[2])
         for number in (signal.SIGTERM, signal.SIGINT, signal.SIGHUP, signal.SIGKILL):
             check_signal(self, path, number)

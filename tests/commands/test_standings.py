@@ -1,5 +1,5 @@
-"""How the changes of a sample stand, in all places where people and programs read it, and which of them
-raise an alarm."""
+"""How the changes of a sample stand, in all places where people and programs read it, and which of
+them raise an alarm."""
 from __future__ import annotations
 
 import json
@@ -114,7 +114,8 @@ class StandingsTest(CommandTest):
         mail.take_mail(self)
 
     def test_places(self) -> None:
-        """The brief, the state and standard error say the same; the report is what it is without them."""
+        """The brief, the state and standard error say the same; the report is what it is without
+        them."""
         prepare(self)
         plain = self.call(TOOL, "--report", "o.db", "n.db")
         answer = self.call(TOOL, "--report", "--state", "state", "o.db", "n.db")
@@ -134,7 +135,8 @@ class StandingsTest(CommandTest):
         self.assertEqual(text, want, "all is silent")
 
     def test_lines(self) -> None:
-        """The lines of aide-compare json have the standing of each change, and the last one all counts."""
+        """The lines of aide-compare json have the standing of each change, and the last one all
+        counts."""
         _, objects = sample().ask(self)
         found = standings_of(objects)
         self.assertEqual(found, SAMPLE, "the standings in lines")
@@ -152,9 +154,7 @@ class StandingsTest(CommandTest):
         lines = self.call("aide-compare json", "o.db", "n.db").output
         by_lines = self.call("aide-compare page", "--plain", "-", text=lines).output.decode()
         for label, page in (("databases", by_databases), ("lines", by_lines)):
-            places = [
-                page.find(f'data-standing="{name}"') for name in ("open", "recorded", "same")
-            ]
+            places = [page.find(f'data-standing="{name}"') for name in ("open", "recorded", "same")]
             good = -1 not in places and places == sorted(places)
             self.holds(f"the groups of a page of {label}", good, places)
             titles = ("Open, severity high</span>: 1 entry", "<span>tool 2</span>: 1 entry")
@@ -171,7 +171,15 @@ class StandingsTest(CommandTest):
         want = b"differences: open=4 recorded=1 trusted=0 same=1 high=1 medium=4 low=0 status=7"
         self.holds("the line", line.startswith(want), line)
         text = self.call(status, "--format", "prometheus", "--state", "state").output.decode()
-        numbers = {"same": 1, "trusted": 0, "recorded": 1, "open": 4, "high": 1, "medium": 4, "low": 0}
+        numbers = {
+            "same": 1,
+            "trusted": 0,
+            "recorded": 1,
+            "open": 4,
+            "high": 1,
+            "medium": 4,
+            "low": 0,
+        }
         for name, count in numbers.items():
             self.assertIn(f"\naide_compare_{name}_changes {count}\n", text, f"the metric {name}")
         found = json.loads(self.call(status, "--format", "json", "--state", "state").output)
@@ -181,7 +189,8 @@ class StandingsTest(CommandTest):
         self.expect("the check", answer, 2, f"AIDE CRITICAL: {WORDS}: ".encode(), b"")
 
     def test_alarms(self) -> None:
-        """What is silent raises no alarm but by --alarm any. What a package's records have does, always."""
+        """What is silent raises no alarm but by --alarm any. What a package's records have does,
+        always."""
         for label, host, status, mails in (
             ("silent", silent(), 0, False),
             ("recorded", recorded(), 1, True),
@@ -200,10 +209,13 @@ class StandingsTest(CommandTest):
             (("--warning", "high", "--critical", "high"), 0),
         ):
             answer = check(self, recorded(), *words)
-            self.assertEqual(answer.status, status, (f"a limit counts what is recorded: {words}", answer))
+            self.assertEqual(
+                answer.status, status, (f"a limit counts what is recorded: {words}", answer)
+            )
 
     def test_no_proof(self) -> None:
-        """A line that says a standing which no proof has given is refused; so are counts of another kind."""
+        """A line that says a standing which no proof has given is refused; so are counts of another
+        kind."""
         prepare(self)
         lines = self.call("aide-compare json", "o.db", "n.db").output.split(b"\n")
         place = next(at for at, line in enumerate(lines) if b'"standing":"open"' in line)
@@ -223,8 +235,9 @@ class StandingsTest(CommandTest):
         self.expect("an end with other counts", answer, 65, b"", b"the end does not fit")
 
     def test_no_judgement(self) -> None:
-        """If the changes cannot be judged, the report and the status stand, the state has no standings, and
-        every change is an alarm. If records cannot be read, each change stays open."""
+        """If the changes cannot be judged, the report and the status stand, the state has no
+        standings, and every change is an alarm. If records cannot be read, each change stays open.
+        """
         host = silent()
         host.write(self)
         name = "lib/aide_compare/changes/judged.py"
@@ -248,11 +261,15 @@ class StandingsTest(CommandTest):
         prepare(self)
         os.chmod(self.path("dpkg"), 0o777)
         answer = self.call(TOOL, "o.db", "n.db")
-        want = [b"no package groups the changes: other users can write dpkg's records", b"5 open (1 high)"]
+        want = [
+            b"no package groups the changes: other users can write dpkg's records",
+            b"5 open (1 high)",
+        ]
         self.expect("records that others can write", answer, 7, b"5 open (1 high) of 6", want)
 
     def test_many(self) -> None:
-        """Of many entries the first are listed, the most severe first, and the others are counted."""
+        """Of many entries the first are listed, the most severe first, and the others are
+        counted."""
         host = sample()
         for number in range(3000):
             host.new.file(b"/srv/m/%04d" % number, ONE)

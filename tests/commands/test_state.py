@@ -37,7 +37,11 @@ def check(sandbox, label, status, *parts, words=(), **more):
     good = good and line.startswith("AIDE %s: " % ["OK", "WARNING", "CRITICAL", "UNKNOWN"][status])
     numbers = line.strip().partition("|")[2]
     good = good and re.match(r"^([a-z]+=(\d+|U) )*(age=\d+s)?$", numbers)
-    sandbox.holds("the check of " + label, good and all(part in line for part in parts) and len(line) < 500, answer)
+    sandbox.holds(
+        "the check of " + label,
+        good and all(part in line for part in parts) and len(line) < 500,
+        answer,
+    )
 
 
 def people(sandbox, *words, **state):
@@ -54,10 +58,14 @@ def log(sandbox, **state):
     status = 18 if state.get("time") == "x" else 0
     sandbox.holds(
         "one line for the log",
-        answer.status == status and answer.output.count(b"\n") == 1 and answer.output.endswith(b"\n") and answer.errors == b"",
+        answer.status == status
+        and answer.output.count(b"\n") == 1
+        and answer.output.endswith(b"\n")
+        and answer.errors == b"",
         answer,
     )
     return answer.output.decode("utf-8", "replace")
+
 
 LINKS = """import os, sys
 os.setgroups([]); os.setgid(%d); os.setuid(%d)
@@ -86,7 +94,12 @@ class StateTest(CommandTest):
             (7, 12, 34, 56, 2),
         ):
             write_state(self, status=status, added=added, removed=removed, changed=changed)
-            check(self, "the status %d" % status, want, "|added=%d removed=%d changed=%d age=6" % (added, removed, changed))
+            check(
+                self,
+                "the status %d" % status,
+                want,
+                "|added=%d removed=%d changed=%d age=6" % (added, removed, changed),
+            )
             if status:
                 check(
                     self,
@@ -102,7 +115,12 @@ class StateTest(CommandTest):
             os.chmod(self.path("state"), 0o600)
             check(self, "no right", 3, "cannot open the state file", before=AS_NOBODY)
         self.call("aide-compare", "old.db", "new.db", "--state", "state")
-        check(self, "a real state", 2, ": 1 added, 1 removed, 2 changed|added=1 removed=1 changed=2 open=4 ")
+        check(
+            self,
+            "a real state",
+            2,
+            ": 1 added, 1 removed, 2 changed|added=1 removed=1 changed=2 open=4 ",
+        )
 
     def test_check_faults(self) -> None:
         nothing = {"added": "", "removed": "", "changed": ""}
@@ -113,7 +131,9 @@ class StateTest(CommandTest):
         write_state(self, age=93700)
         check(self, "an old state", 3, "older than 26 hours", "age=937")
         check(self, "an old state that may be", 0, "no difference", words=["--max-age", "27h"])
-        check(self, "an old state that may not be", 3, "older than 10 seconds", words=["--max-age=10"])
+        check(
+            self, "an old state that may not be", 3, "older than 10 seconds", words=["--max-age=10"]
+        )
         write_state(self, age=-4000)
         check(self, "a state from the future", 3, "in the future")
         good = write_state(self)
@@ -143,7 +163,14 @@ class StateTest(CommandTest):
         os.mkfifo(good)
         check(self, "a FIFO", 3, "it is a FIFO")
         os.remove(good)
-        for words in (["--max-age"], ["--max-age", "x"], ["--max-age", "31d"], ["--odd|\n"], ["--state"], ["--state", ""]):
+        for words in (
+            ["--max-age"],
+            ["--max-age", "x"],
+            ["--max-age", "31d"],
+            ["--odd|\n"],
+            ["--state"],
+            ["--state", ""],
+        ):
             check(self, "the arguments %r" % words, 3, words=words)
 
     def test_metrics(self) -> None:
@@ -163,10 +190,19 @@ class StateTest(CommandTest):
             )
             names.update({found.group(1)[13:]: int(found.group(2))} if found else {})
         want = {"status": 5, "added_entries": 1, "removed_entries": 0, "changed_entries": 4}
-        self.holds("the metrics", good and {**names, **want} == names and abs(names["end_time_seconds"] - moment) < 5, answer)
+        self.holds(
+            "the metrics",
+            good and {**names, **want} == names and abs(names["end_time_seconds"] - moment) < 5,
+            answer,
+        )
         self.expect(
             "metrics to a file",
-            self.call("aide-compare status --format prometheus", "--state=state", "aide.prom", before=UMASK % 0o77),
+            self.call(
+                "aide-compare status --format prometheus",
+                "--state=state",
+                "aide.prom",
+                before=UMASK % 0o77,
+            ),
             0,
             b"",
             b"",
@@ -181,7 +217,8 @@ class StateTest(CommandTest):
         self.call("aide-compare status --format prometheus", "--state", "state", "aide.prom")
         self.holds(
             "the metrics of no comparison",
-            b"\naide_compare_status 18\n" in self.read("aide.prom") and b"entries" not in self.read("aide.prom"),
+            b"\naide_compare_status 18\n" in self.read("aide.prom")
+            and b"entries" not in self.read("aide.prom"),
             self.read("aide.prom"),
         )
         before = self.read("aide.prom")
@@ -197,7 +234,9 @@ class StateTest(CommandTest):
         write_state(self)
         self.expect(
             "metrics to nowhere",
-            self.call("aide-compare status --format prometheus", "--state", "state", "old.db/x.prom"),
+            self.call(
+                "aide-compare status --format prometheus", "--state", "state", "old.db/x.prom"
+            ),
             18,
             b"",
             b"cannot write",
@@ -209,7 +248,9 @@ class StateTest(CommandTest):
         with open("/dev/full", "wb") as full:
             self.expect(
                 "metrics to a full device",
-                self.call("aide-compare status --format prometheus", "--state", "state", stdout=full),
+                self.call(
+                    "aide-compare status --format prometheus", "--state", "state", stdout=full
+                ),
                 18,
             )
         for words in (["--odd"], ["a", "b"], ["--state"]):
@@ -225,18 +266,27 @@ class StateTest(CommandTest):
         """A short text for people: when, what was found, and the commands that follow from it."""
         nothing = {"added": "", "removed": "", "changed": ""}
         lines = people(self)
-        good = lines[0].startswith("Last comparison: 20") and re.search("UTC, 6[0-9] seconds ago$", lines[0])
-        self.holds("no difference", good and lines[1] == "No difference." and len(lines) == 4, lines)
+        good = lines[0].startswith("Last comparison: 20") and re.search(
+            "UTC, 6[0-9] seconds ago$", lines[0]
+        )
+        self.holds(
+            "no difference", good and lines[1] == "No difference." and len(lines) == 4, lines
+        )
         lines = people(self, status=5, added=1, changed=4)
         good = lines[1] == "1 added, 0 removed, 4 changed." and lines[2] == "Old database: /o"
         self.holds("differences", good, lines)
-        commands = ["What differs:   aide-compare /o /n", "If it is right: aide-compare accept /n /o"]
+        commands = [
+            "What differs:   aide-compare /o /n",
+            "If it is right: aide-compare accept /n /o",
+        ]
         self.assertEqual(lines[-2:], commands, ("what to do then", lines))
         lines = people(self, status=24, error="aide: x\x01y", **nothing)
         good = "status 24" in lines[1] and lines[2] == "  aide: x\\001y" and len(lines) == 3
         self.holds("no comparison", good, lines)
         lines = people(self, age=93700)
-        self.assertIn("there should have been one in the last 26 hours", lines[0], ("an old one", lines))
+        self.assertIn(
+            "there should have been one in the last 26 hours", lines[0], ("an old one", lines)
+        )
         lines = people(self, age=-4000)
         self.assertIn("which is in the future", lines[0], ("one from the future", lines))
         self.assertEqual(people(self, "-q"), [], ("nothing with -q", ""))
@@ -254,15 +304,19 @@ class StateTest(CommandTest):
         good = (answer.status, answer.output) == (0, b"") and b"gauge" in self.read("nagios")
         self.holds("metrics to a file that is called nagios", good, answer)
         self.call("aide-compare", "--exclude", "/b", "--state", "state", "old.db", "new.db")
-        found = json.loads(self.call("aide-compare status --format json", "--state", "state").output)
-        texts = [name for name, value in found.items() if isinstance(value, str) and value.isdigit()]
+        found = json.loads(
+            self.call("aide-compare status --format json", "--state", "state").output
+        )
+        texts = [
+            name for name, value in found.items() if isinstance(value, str) and value.isdigit()
+        ]
         numbers = [name for name, value in found.items() if type(value) is int]
         good = not texts and {"added", "time", "status", "left_out_old"} <= set(numbers)
         self.holds("numbers of JSON are numbers", good, found)
 
     def test_failed_start(self) -> None:
-        """A run that cannot begin leaves a state that says so, and not that of an earlier run. A command
-        that was typed wrongly changes nothing."""
+        """A run that cannot begin leaves a state that says so, and not that of an earlier run. A
+        command that was typed wrongly changes nothing."""
         for tool in ("aide-compare", "aide-compare mail --queue queue"):
             for name, text in (("defaults", "--odd\n"), ("without", "no path\n")):
                 self.call("aide-compare", "--state", "state", "old.db", "old.db")
@@ -270,7 +324,9 @@ class StateTest(CommandTest):
                 answer = self.call(tool, "--state", "state", "old.db", "new.db")
                 state = self.state()
                 good = state["status"] == str(answer.status) == "15" and "line 1" in state["error"]
-                self.holds("the state after a failed start, %s, %s" % (tool, name), good, (answer, state))
+                self.holds(
+                    "the state after a failed start, %s, %s" % (tool, name), good, (answer, state)
+                )
                 os.remove(self.path("etc/" + name))
             self.call("aide-compare", "--state", "state", "old.db", "old.db")
             before = self.read("state")
@@ -283,12 +339,22 @@ class StateTest(CommandTest):
             ({}, "no difference: status=0 added=0 removed=0 changed=0\n"),
             (
                 {"status": 5, "added": 1, "changed": 4},
-                "differences: status=5 added=1 removed=0 changed=4 new_sha256=%s old=/o new=/n\n" % ("a" * 64),
+                "differences: status=5 added=1 removed=0 changed=4 new_sha256=%s old=/o new=/n\n"
+                % ("a" * 64),
             ),
-            ({"status": 24, "error": "aide: x\x01y", **nothing}, "no comparison: status=24 error=aide: x\\001y\n"),
-            ({"time": 1795000000 - 10**8}, "no comparison: the last one ended at 2023-09-18T01:20:00Z\n"),
+            (
+                {"status": 24, "error": "aide: x\x01y", **nothing},
+                "no comparison: status=24 error=aide: x\\001y\n",
+            ),
+            (
+                {"time": 1795000000 - 10**8},
+                "no comparison: the last one ended at 2023-09-18T01:20:00Z\n",
+            ),
             ({"time": 4000000000}, "no comparison: the last one ended at 2096-10-02T07:06:40Z\n"),
-            ({"time": "x"}, "no comparison: state cannot be read, or is no state file of aide-compare\n"),
+            (
+                {"time": "x"},
+                "no comparison: state cannot be read, or is no state file of aide-compare\n",
+            ),
         ):
             line = log(self, **state)
             self.assertEqual(line, want, "the line for the log of %r" % state)
@@ -302,7 +368,11 @@ class StateTest(CommandTest):
         )
         for words in (["--odd"], ["--max-age", "x"], ["--state"]):
             self.expect(
-                "the log with %r" % words, self.call("aide-compare status", *words), 15, b"", b"aide-compare status: "
+                "the log with %r" % words,
+                self.call("aide-compare status", *words),
+                15,
+                b"",
+                b"aide-compare status: ",
             )
 
     def test_rules(self) -> None:
@@ -314,14 +384,19 @@ class StateTest(CommandTest):
             log(self, age=93700),
             log(self, status=18, added="", removed="", changed="", error="no difference: status=0"),
         ]
-        for head in ("Nov  3 16:46:19 www1.example aide-compare: ", "2026-11-23T16:46:19.123456+00:00 www1 aide-compare[12]: "):
+        for head in (
+            "Nov  3 16:46:19 www1.example aide-compare: ",
+            "2026-11-23T16:46:19.123456+00:00 www1 aide-compare[12]: ",
+        ):
             left = subprocess.run(
                 ["grep", "-E", "-v", "-f", rules],
                 input="".join(head + line for line in lines),
                 stdout=subprocess.PIPE,
                 universal_newlines=True,
             ).stdout
-            self.assertEqual(left, "".join(head + line for line in lines[1:]), "the rule for logcheck")
+            self.assertEqual(
+                left, "".join(head + line for line in lines[1:]), "the rule for logcheck"
+            )
         left = subprocess.run(
             ["grep", "-E", "-c", "-f", rules],
             input=head + lines[0][:-1] + " more\nx" + head + lines[0],
@@ -331,38 +406,57 @@ class StateTest(CommandTest):
         self.assertEqual(left, "0\n", "the rule for logcheck takes whole lines")
 
     def test_links(self) -> None:
-        """The owner of the folder of the metrics puts links to a file of root in place of every name there, in a loop."""
+        """The owner of the folder of the metrics puts links to a file of root in place of every
+        name there, in a loop."""
         if os.getuid() != 0:
             self.skipTest("it needs root")
         write_state(self)
         folder, prey = self.path("exporter"), self.write("prey", "of root\n", 0o600)
         os.mkdir(folder)
         os.chown(folder, NOBODY, NOBODY)
-        attacker = subprocess.Popen([sys.executable, "-c", LINKS % (NOBODY, NOBODY), folder, prey], stdout=subprocess.PIPE)
+        attacker = subprocess.Popen(
+            [sys.executable, "-c", LINKS % (NOBODY, NOBODY), folder, prey], stdout=subprocess.PIPE
+        )
         try:
             attacker.stdout.readline()
             statuses = [
-                self.call("aide-compare status --format prometheus", "--state", "state", "exporter/aide.prom").status
+                self.call(
+                    "aide-compare status --format prometheus",
+                    "--state",
+                    "state",
+                    "exporter/aide.prom",
+                ).status
                 for _ in range(200)
             ]
         finally:
             attacker.kill()
             attacker.communicate()
         found = os.stat(prey)
-        good = self.read("prey") == b"of root\n" and found.st_mode & 0o777 == 0o600 and found.st_uid == 0
-        self.holds("200 rounds of links in the folder of the metrics", good and set(statuses) <= {0, 18}, set(statuses))
+        good = (
+            self.read("prey") == b"of root\n"
+            and found.st_mode & 0o777 == 0o600
+            and found.st_uid == 0
+        )
+        self.holds(
+            "200 rounds of links in the folder of the metrics",
+            good and set(statuses) <= {0, 18},
+            set(statuses),
+        )
         for name in os.listdir(folder):
             os.remove(folder + "/" + name)
         self.expect(
             "metrics in a folder of another user",
-            self.call("aide-compare status --format prometheus", "--state", "state", "exporter/aide.prom"),
+            self.call(
+                "aide-compare status --format prometheus", "--state", "state", "exporter/aide.prom"
+            ),
             0,
             b"",
             b"",
         )
         self.holds(
             "they are that user's, and readable",
-            os.stat(folder + "/aide.prom").st_uid == NOBODY and os.stat(folder + "/aide.prom").st_mode & 0o777 == 0o644,
+            os.stat(folder + "/aide.prom").st_uid == NOBODY
+            and os.stat(folder + "/aide.prom").st_mode & 0o777 == 0o644,
         )
 
     def test_own_failures(self) -> None:
@@ -370,19 +464,35 @@ class StateTest(CommandTest):
         write_state(self)
         for label, before in (
             ("few descriptors", "resource.setrlimit(resource.RLIMIT_NOFILE, (4, 4))"),
-            ("no process", "os.setgid(%d); os.setuid(%d); resource.setrlimit(resource.RLIMIT_NPROC, (0, 0))" % (NOBODY, NOBODY)),
+            (
+                "no process",
+                "os.setgid(%d); os.setuid(%d); resource.setrlimit(resource.RLIMIT_NPROC, (0, 0))"
+                % (NOBODY, NOBODY),
+            ),
         ):
             answer = self.call(CHECK, "--state", "state", before=before)
-            self.assertEqual(answer.status, 3 if label == "few descriptors" else 0, ("the check with " + label, answer))
+            self.assertEqual(
+                answer.status,
+                3 if label == "few descriptors" else 0,
+                ("the check with " + label, answer),
+            )
         for name in MODULES:
-            for label, text in (("a missing module", None), ("no memory", "raise MemoryError"), ("a fault", "raise KeyError")):
+            for label, text in (
+                ("a missing module", None),
+                ("no memory", "raise MemoryError"),
+                ("a fault", "raise KeyError"),
+            ):
                 path = self.path("lib/aide_compare/%s.py" % name)
                 os.rename(path, path + ".kept")
                 if text:
                     self.write("lib/aide_compare/%s.py" % name, text)
                 answer = self.call(CHECK, "--state", "state")
                 os.rename(path + ".kept", path)
-                self.holds("the check with %s, %s" % (label, name), answer.status == 3 and b"UNKNOWN" in answer.output, answer)
+                self.holds(
+                    "the check with %s, %s" % (label, name),
+                    answer.status == 3 and b"UNKNOWN" in answer.output,
+                    answer,
+                )
         with open("/dev/full", "wb") as full:
             answer = self.call(CHECK, "--state", "state", stdout=full)
             self.assertEqual(answer.status, 3, ("the check with a full device", answer))

@@ -1,4 +1,5 @@
-"""A comparison beside a trusted pair: what is silent then, where that is told, and what is refused."""
+"""A comparison beside a trusted pair: what is silent then, where that is told, and what is
+refused."""
 from __future__ import annotations
 
 import gzip
@@ -104,7 +105,8 @@ class TrustedTest(CommandTest):
         self.expect("a pair after the databases", answer, 7, errors=[told])
 
     def test_refused(self) -> None:
-        """A pair that cannot be read ends the comparison: nothing is compared with half of what was asked."""
+        """A pair that cannot be read ends the comparison: nothing is compared with half of what was
+        asked."""
         put(self)
         sound = self.read("canary-new.db")
         rows: List[Tuple[str, bytes | None, int, bytes]] = [
@@ -157,7 +159,8 @@ class TrustedTest(CommandTest):
         self.expect("lines beside a pair", answer, 15, output=b"")
 
     def test_columns(self) -> None:
-        """A column that the program does not know changes nothing, and AIDE's report knows no pair."""
+        """A column that the program does not know changes nothing, and AIDE's report knows no
+        pair."""
         put(self)
         text = self.read("canary-new.db").replace(b" selinux ", b" fstype ")
         self.write("canary-new.db", text)
@@ -197,7 +200,8 @@ class TrustedTest(CommandTest):
         )
 
     def test_mail(self) -> None:
-        """No mail goes out if all that differs is silent; another one names the pair in its command."""
+        """No mail goes out if all that differs is silent; another one names the pair in its
+        command."""
         put(self, with_marks=False)
         answer = mail.call(self, *PAIR, *BOTH)
         self.expect("all is silent", answer, 7, output=b"")
@@ -284,7 +288,8 @@ class TrustedTest(CommandTest):
         self.expect("show, without an entry of the pair", answer, 0, output=wanted, errors=b"")
 
     def test_owner(self) -> None:
-        """Root opens the pair, and compares with the rights of the user in whose directory the baseline is."""
+        """Root opens the pair, and compares with the rights of the user in whose directory the
+        baseline is."""
         if os.geteuid() != 0:
             self.skipTest("the rights of the baseline's owner (it needs root)")
         put(self)

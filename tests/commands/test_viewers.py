@@ -35,7 +35,8 @@ from aide_compare.show.page_heading import part_of
 from aide_compare.show.page_items import entries_of
 
 REFUSED, USAGE, DEVICE = 65, 15, 18
-# Letters by their class, and yet nothing is seen of them: the Hangul fillers and the empty Braille pattern.
+# Letters by their class, and yet nothing is seen of them: the Hangul fillers and the empty Braille
+# pattern.
 BLANKS_THAT_ARE_LETTERS = "\u115f\u1160\u2800\u3164\uffa0"
 
 
@@ -68,9 +69,15 @@ def configuration_of(settings):
         b"database_new=file:" + settings["database_new"],
         b"report_level=" + settings["report_level"].encode(),
     ]
-    lines += [b"%s=%s" % (name.encode(), b"yes" if settings[name] else b"no") for name in BOOL_OPTIONS]
     lines += [
-        b"%s=%s" % (name.encode(), b"+".join(attribute.encode() for attribute in sorted(settings[name])) or b"E")
+        b"%s=%s" % (name.encode(), b"yes" if settings[name] else b"no") for name in BOOL_OPTIONS
+    ]
+    lines += [
+        b"%s=%s"
+        % (
+            name.encode(),
+            b"+".join(attribute.encode() for attribute in sorted(settings[name])) or b"E",
+        )
         for name in SET_OPTIONS
     ]
     return b"\n".join(lines) + b"\n"
@@ -91,16 +98,23 @@ def try_program(program, seed, count, tally):
                     file.write(text)
             proved = proved_lines(program, configuration_of(settings))
         status, output, errors = run([*JSON], proved)
-        databases, label = [database_of(text) for text in texts], "seed %d, session %d" % (seed, number)
+        databases, label = [database_of(text) for text in texts], "seed %d, session %d" % (
+            seed,
+            number,
+        )
         if status or errors:
             tally.add(label, ["status %d, %r" % (status, errors)])
             continue
         objects = [json.loads(line) for line in output.splitlines()]
         faults = [fault for fields in objects for fault in validator.faults(fields)]
         status, page_text, errors = run([*HTML] + ["--plain"] * (number % 2), output)
-        tally.add(label, faults + text_faults(objects) + faults_of(objects, *databases, texts, settings))
+        tally.add(
+            label, faults + text_faults(objects) + faults_of(objects, *databases, texts, settings)
+        )
         faults = ["status %d, %r" % (status, errors)] if status or errors else []
-        tally.add(label + ", page", faults or page_faults(page_text.decode(), objects, number % 2 == 1))
+        tally.add(
+            label + ", page", faults or page_faults(page_text.decode(), objects, number % 2 == 1)
+        )
 
 
 def try_hostile(seed, count, tally):
@@ -114,7 +128,11 @@ def try_hostile(seed, count, tally):
             objects = objects_of(lines_of_databases(*databases, texts, settings)[0])
             faults = [fault for fields in objects for fault in validator.faults(fields)]
             faults += text_faults(objects) + faults_of(objects, *databases, texts, settings)
-            faults += page_faults(page_of(objects, number % 2 == 1), objects, number % 2 == 1) if number % 4 < 2 else []
+            faults += (
+                page_faults(page_of(objects, number % 2 == 1), objects, number % 2 == 1)
+                if number % 4 < 2
+                else []
+            )
         except Refused as refused:
             faults = ["it is refused: %s" % refused]
         tally.add(label, faults)
@@ -123,9 +141,15 @@ def try_hostile(seed, count, tally):
 def try_cuts(tally):
     """Lines that are cut at any byte are refused."""
     lines = rich_lines()
-    for label, work in (("json", objects_of), ("page", lambda text: list(entries_of(Reader(io.BytesIO(text)))))):
+    for label, work in (
+        ("json", objects_of),
+        ("page", lambda text: list(entries_of(Reader(io.BytesIO(text))))),
+    ):
         kept = [end for end in range(len(lines)) if not is_refused(work, lines[:end])]
-        tally.add("lines cut, for " + label, [] if not kept and not is_refused(work, lines) else ["kept at %r" % kept])
+        tally.add(
+            "lines cut, for " + label,
+            [] if not kept and not is_refused(work, lines) else ["kept at %r" % kept],
+        )
 
 
 def try_edits(tally):
@@ -140,13 +164,20 @@ def try_edits(tally):
 def try_bounds(tally):
     """A line is no longer than it may be, and a stream has an end."""
     head, *changes, end = rich_lines().splitlines(keepends=True)
-    more = (b'{"kind":"added","path":"/z%d","summary":"%s"}\n' % (number, b"f" * 18) for number in range(10, 100))
+    more = (
+        b'{"kind":"added","path":"/z%d","summary":"%s"}\n' % (number, b"f" * 18)
+        for number in range(10, 100)
+    )
     file = io.BytesIO(head + b"".join([*changes, *more]))
     tally.holds("changes without an end", is_refused(lambda: list(Reader(file))))
     with mock.patch.object(reader, "LINE_LIMIT", 300):
         is_long = any(len(line) > 300 for line in changes)
-        tally.holds("a long line", is_long and is_refused(objects_of, head + b"".join(changes) + end))
-        tally.holds("a line without an end", is_refused(objects_of, head.rstrip(b"\n") + b" " * 1000))
+        tally.holds(
+            "a long line", is_long and is_refused(objects_of, head + b"".join(changes) + end)
+        )
+        tally.holds(
+            "a line without an end", is_refused(objects_of, head.rstrip(b"\n") + b" " * 1000)
+        )
 
 
 def try_shown(seed, tally):
@@ -154,20 +185,30 @@ def try_shown(seed, tally):
     pick = random.Random("shown %d" % seed)
     texts = hostile.NAMES + [chr(code).encode("utf-8", "surrogatepass") for code in range(0x11000)]
     texts += [
-        bytes(pick.choice(b"a /\\0129<\xc3\xa9\xff\xe2\x80\xae") for _ in range(pick.randint(1, 12))) for _ in range(2000)
+        bytes(
+            pick.choice(b"a /\\0129<\xc3\xa9\xff\xe2\x80\xae") for _ in range(pick.randint(1, 12))
+        )
+        for _ in range(2000)
     ]
     for show in (shown_value, shown_path):
         faults = [
             "%r is shown as %r" % (text, show(text))
             for text in texts
-            if bytes_shown(show(text)) != text or not show(text).isprintable() or show(text) != show(text).strip()
+            if bytes_shown(show(text)) != text
+            or not show(text).isprintable()
+            or show(text) != show(text).strip()
         ]
-        faults += ["%r is not escaped" % letter for letter in BLANKS_THAT_ARE_LETTERS if "\\" not in show(letter.encode())]
+        faults += [
+            "%r is not escaped" % letter
+            for letter in BLANKS_THAT_ARE_LETTERS
+            if "\\" not in show(letter.encode())
+        ]
         tally.add(show.__name__, faults[:5])
 
 
 def try_commands(tally):
-    """The command lines: statuses, error lines, and that nothing is written where something is wrong."""
+    """The command lines: statuses, error lines, and that nothing is written where something is
+    wrong."""
     proved = rich_lines()
     lines = lines_of(objects_of(proved))
     with open("/dev/full", "wb") as full, tempfile.NamedTemporaryFile() as file:
@@ -180,9 +221,19 @@ def try_commands(tally):
             ([*JSON], lines, 0, b""),
             ([*JSON], b"", REFUSED, b"nothing was given: "),
             ([*JSON], b"@@begin_db\n", REFUSED, b"line 1: this is not a line of aide-compare json"),
-            ([*JSON], b'{"record":"summary","format":1}\n', REFUSED, b"line 1: the first line is the summary, of format 3"),
+            (
+                [*JSON],
+                b'{"record":"summary","format":1}\n',
+                REFUSED,
+                b"line 1: the first line is the summary, of format 3",
+            ),
             ([*JSON], proved[:-1], REFUSED, b"line %d: this is not a line" % proved.count(b"\n")),
-            ([*JSON], proved[: proved.rindex(b"\n", 0, -1) + 1], REFUSED, b"this ends too early: the last line is missing"),
+            (
+                [*JSON],
+                proved[: proved.rindex(b"\n", 0, -1) + 1],
+                REFUSED,
+                b"this ends too early: the last line is missing",
+            ),
             ([*JSON, "--other"], proved, USAGE, b" --help"),
             ([*JSON, "/nowhere"], proved, DEVICE, b"cannot open /nowhere: "),
             ([*JSON, "/"], b"", DEVICE, b"cannot open"),
@@ -211,23 +262,36 @@ def try_commands(tally):
             good = status == DEVICE and b"No space left" in errors
             tally.add("full device", [] if good else ["%d, %r" % (status, errors)])
             status, output, _ = run(words + ["--help"])
-            tally.add("help", [] if status == 0 and b"usage: aide-compare " in output else ["%d, %r" % (status, output)])
+            tally.add(
+                "help",
+                []
+                if status == 0 and b"usage: aide-compare " in output
+                else ["%d, %r" % (status, output)],
+            )
             for closed in (">&-", "<&-", ">&- 2>&-"):
                 status, output, errors = run(["sh", "-c", '"$0" "$1" ' + closed, *words], text)
                 tally.add(
                     "closed " + closed,
-                    [] if status == DEVICE and not output and b"Traceback" not in errors else ["%d, %r" % (status, errors)],
+                    []
+                    if status == DEVICE and not output and b"Traceback" not in errors
+                    else ["%d, %r" % (status, errors)],
                 )
         _, output, _ = run([*HTML, "--title", "<b>&\u202e"], lines)
-        tally.add("title", [] if b"<h1>&lt;b&gt;&amp;\\342\\200\\256</h1>" in output else ["it is another"])
+        tally.add(
+            "title",
+            [] if b"<h1>&lt;b&gt;&amp;\\342\\200\\256</h1>" in output else ["it is another"],
+        )
 
 
 def try_installed(tally):
-    """The commands as they are installed, with their modules in another folder, which stays as it is."""
+    """The commands as they are installed, with their modules in another folder, which stays as it
+    is."""
     with tempfile.TemporaryDirectory() as prefix:
         modules = os.path.join(prefix, "lib", "aide-compare", "python", "aide_compare")
         shutil.copytree(
-            os.path.dirname(os.path.dirname(reader.__file__)), modules, ignore=shutil.ignore_patterns("__pycache__")
+            os.path.dirname(os.path.dirname(reader.__file__)),
+            modules,
+            ignore=shutil.ignore_patterns("__pycache__"),
         )
         files = os.listdir(modules)
         shutil.copytree(os.path.dirname(JSON[0]), os.path.join(prefix, "bin"))
@@ -239,7 +303,9 @@ def try_installed(tally):
         status, text, errors = run(words[1], lines)
         good = text == run([*HTML], lines)[1] and not status and not errors
         tally.add("installed html", [] if good else ["%r" % errors])
-        tally.add("nothing is left", [] if os.listdir(modules) == files else ["%r" % os.listdir(modules)])
+        tally.add(
+            "nothing is left", [] if os.listdir(modules) == files else ["%r" % os.listdir(modules)]
+        )
         shutil.rmtree(modules)
         for command in words:
             status, output, errors = run(command, proved)

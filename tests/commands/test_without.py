@@ -1,4 +1,5 @@
-"""Entries that are left out by --exclude-from: which paths a pattern means, what is said, and who may write the file."""
+"""Entries that are left out by --exclude-from: which paths a pattern means, what is said, and who
+may write the file."""
 import base64
 import hashlib
 import os
@@ -11,8 +12,16 @@ from .sandbox import CommandTest, END, HEAD, HERE, sha256
 
 TOOL = "aide-compare compare --report -v"
 LOGS = b"# Logs\n\n  /var/log/**  \n/etc/*.bak\n"
-OLD = HEAD + b"/etc/a 36 100644 1\n/var/log 36 40755 1\n/var/log/x%20y 36 100644 1\n/var/log/z 36 100644 1\n" + END
-NEW = HEAD + b"/etc/a 36 100644 2\n/etc/a.bak 36 100644 1\n/var/log 36 40755 1\n/var/log/x%20y 36 100644 2\n" + END
+OLD = (
+    HEAD
+    + b"/etc/a 36 100644 1\n/var/log 36 40755 1\n/var/log/x%20y 36 100644 1\n/var/log/z 36 100644 1\n"
+    + END
+)
+NEW = (
+    HEAD
+    + b"/etc/a 36 100644 2\n/etc/a.bak 36 100644 1\n/var/log 36 40755 1\n/var/log/x%20y 36 100644 2\n"
+    + END
+)
 
 # Hostile paths, in a process that may take so many seconds of processor time.
 HOSTILE = """import resource, sys
@@ -70,7 +79,8 @@ PATTERNS = [
 ]
 NO_PATTERNS = [b"", b"a", b"*", b"/a**", b"/a/**b", b"/[a", b"/a\\", b"/[b-a]", b"/[!]", b"/[]"]
 
-# What an entry gives: its attr, mode and capabilities, and whether it stays under a line, and under one that means programs too.
+# What an entry gives: its attr, mode and capabilities, and whether it stays under a line, and under
+# one that means programs too.
 CAPS = 36 | 1 << 37
 RIGHTS = [
     ("a file", CAPS, b"100644", b"0", False, False),
@@ -117,8 +127,12 @@ def pieces_fit(pattern, path, is_whole):
         return not path
     if pattern[0] == b"**":
         least = 1 if len(pattern) == 1 else 0
-        return any(pieces_fit(pattern[1:], path[count:], False) for count in range(least, len(path) + 1))
-    return bool(path) and piece_fits(pattern[0], path[0]) and pieces_fit(pattern[1:], path[1:], False)
+        return any(
+            pieces_fit(pattern[1:], path[count:], False) for count in range(least, len(path) + 1)
+        )
+    return (
+        bool(path) and piece_fits(pattern[0], path[0]) and pieces_fit(pattern[1:], path[1:], False)
+    )
 
 
 def piece_fits(pattern, name):
@@ -150,6 +164,7 @@ def class_has(text, byte):
             found = found or letters[0] == byte
             letters = letters[1:]
     return found != turned
+
 
 # What the shipped list leaves out: logs of every mail system, and what programs note below /run.
 HIDDEN = """
@@ -186,7 +201,9 @@ class WithoutTest(CommandTest):
         for text, path, want in PATTERNS:
             got = paths.Pattern(text).matches(path[1:].split(b"/"))
             self.assertEqual(got, want, "the pattern %r and %r" % (text, path))
-            self.assertEqual(means(text, path), want, "the plain definition, %r and %r" % (text, path))
+            self.assertEqual(
+                means(text, path), want, "the plain definition, %r and %r" % (text, path)
+            )
         for text in NO_PATTERNS:
             try:
                 paths.Pattern(text)
@@ -200,21 +217,35 @@ class WithoutTest(CommandTest):
         fits = wrong = 0
         for _ in range(20000):
             text = b"/" + b"/".join(
-                b"".join(numbers.choices([b"a", b"b", b"*", b"?", b"[ab]", b"[!b]"], [6, 6, 3, 1, 1, 1], k=numbers.randint(1, 5)))
+                b"".join(
+                    numbers.choices(
+                        [b"a", b"b", b"*", b"?", b"[ab]", b"[!b]"],
+                        [6, 6, 3, 1, 1, 1],
+                        k=numbers.randint(1, 5),
+                    )
+                )
                 if numbers.random() < 0.7
                 else b"**"
                 for _ in range(numbers.randint(1, 4))
             )
             if any(b"**" in piece and piece != b"**" for piece in text.split(b"/")):
                 continue
-            path = b"/" + b"/".join(bytes(numbers.choices(b"ab", k=numbers.randint(1, 4))) for _ in range(numbers.randint(1, 5)))
+            path = b"/" + b"/".join(
+                bytes(numbers.choices(b"ab", k=numbers.randint(1, 4)))
+                for _ in range(numbers.randint(1, 5))
+            )
             got = paths.Pattern(text).matches(path[1:].split(b"/"))
             fits, wrong = fits + got, wrong + (got != means(text, path))
         self.holds("random patterns", fits > 1000 and wrong == 0, (fits, wrong))
 
     def test_hostile(self) -> None:
-        """A hostile path costs no more than its length times that of the pattern. More would take years, and is ended here."""
-        done = subprocess.run([sys.executable, "-c", HOSTILE, self.path("lib")], stdout=subprocess.PIPE, stderr=subprocess.PIPE)
+        """A hostile path costs no more than its length times that of the pattern. More would take
+        years, and is ended here."""
+        done = subprocess.run(
+            [sys.executable, "-c", HOSTILE, self.path("lib")],
+            stdout=subprocess.PIPE,
+            stderr=subprocess.PIPE,
+        )
         self.holds("hostile paths", done.returncode == 0 and done.stdout == b"False False\n", done)
 
     def test_left_out(self) -> None:
@@ -234,15 +265,37 @@ class WithoutTest(CommandTest):
             ],
         )
         state = self.state()
-        want = {"left_out_old": "2", "left_out_new": "2", "changed": "1", "old_sha256": sha256(OLD), "new_sha256": sha256(NEW)}
-        self.holds("the state has both, and the digests of the whole databases", want.items() <= state.items(), state)
+        want = {
+            "left_out_old": "2",
+            "left_out_new": "2",
+            "changed": "1",
+            "old_sha256": sha256(OLD),
+            "new_sha256": sha256(NEW),
+        }
+        self.holds(
+            "the state has both, and the digests of the whole databases",
+            want.items() <= state.items(),
+            state,
+        )
         answer = self.call(TOOL, "--exclude", "/var/log/x y", "--exclude=/etc/**", "o.db", "n.db")
-        self.expect("by single lines", answer, 2, [b"Removed entries:         1"], [b"1 by /var/log/x y (--exclude)"])
+        self.expect(
+            "by single lines",
+            answer,
+            2,
+            [b"Removed entries:         1"],
+            [b"1 by /var/log/x y (--exclude)"],
+        )
         answer = self.call(TOOL, "--exclude", "/etc/a", "o.db", "n.db")
         self.expect("one entry", answer, 7, None, [b"left out of the old database: 1 entry\n"])
         answer = self.call(TOOL, "--exclude", "/nothing", "o.db", "n.db")
-        self.expect("nothing is left out", answer, 7, None, [b"left out of the new database: 0 entries"])
-        self.assertNotIn(b"left out", self.call(TOOL, "o.db", "n.db").errors, "without the option nothing is said")
+        self.expect(
+            "nothing is left out", answer, 7, None, [b"left out of the new database: 0 entries"]
+        )
+        self.assertNotIn(
+            b"left out",
+            self.call(TOOL, "o.db", "n.db").errors,
+            "without the option nothing is said",
+        )
 
     def test_notes(self) -> None:
         """How many entries were left out is one line, before what was found; and after the cause, if
@@ -251,9 +304,13 @@ class WithoutTest(CommandTest):
         words = ["--exclude", "/var/log/**", "--exclude", "/srv/*"]
         answer = self.call("aide-compare", *words, "o.db", "n.db")
         notes = [line for line in answer.errors.split(b"\n") if b"left out" in line]
-        self.holds("one line of notes", len(notes) == 1 and b"left out; -v lists them" in notes[0], answer)
+        self.holds(
+            "one line of notes", len(notes) == 1 and b"left out; -v lists them" in notes[0], answer
+        )
         answer = self.call("aide-compare", *words, "o.db", "o.db")
-        good = re.fullmatch(rb"no differences in [0-9]+ entr(y|ies) \([0-9]+ left out\)\n", answer.output)
+        good = re.fullmatch(
+            rb"no differences in [0-9]+ entr(y|ies) \([0-9]+ left out\)\n", answer.output
+        )
         self.holds("no difference is one line", good and not answer.errors, answer)
         self.write("damaged.db", NEW.replace(b"@@end_db", b""))
         answer = self.call("aide-compare", *words, "o.db", "damaged.db")
@@ -262,7 +319,8 @@ class WithoutTest(CommandTest):
         self.assertNotIn(b"left out", answer.errors, ("and there are no notes", answer))
 
     def test_damage(self) -> None:
-        """Damage in lines that would be left out is found all the same, and lines keep their numbers."""
+        """Damage in lines that would be left out is found all the same, and lines keep their
+        numbers."""
         write_databases(self)
         lines = NEW.split(b"\n")
         for label, text, said in (
@@ -271,35 +329,59 @@ class WithoutTest(CommandTest):
                 NEW.replace(b"/var/log/x%20y 36 100644 2", b"/var/log/x%20y 36 100644"),
                 b":6: wrong number of fields",
             ),
-            ("a fault after lines that are left out", NEW.replace(END, b"/z 36 x 1\n" + END), b":7: bad number in column 3"),
+            (
+                "a fault after lines that are left out",
+                NEW.replace(END, b"/z 36 x 1\n" + END),
+                b":7: bad number in column 3",
+            ),
             ("the end is missing", b"\n".join(lines[:-2]) + b"\n", b": no @@end_db"),
         ):
             self.write("damaged.db", text)
             answer = self.call(TOOL, "--exclude", "/var/log/**", "o.db", "damaged.db")
-            self.expect(label, answer, 24, b"", [b"new database" + (b"" if b"end" in said else said)])
+            self.expect(
+                label, answer, 24, b"", [b"new database" + (b"" if b"end" in said else said)]
+            )
         # Lines that are no entries: none is left out, and none stops the comparison.
-        for label, line in (("an empty line", b""), ("a blank line", b"   "), ("a comment", b"# no entry")):
+        for label, line in (
+            ("an empty line", b""),
+            ("a blank line", b"   "),
+            ("a comment", b"# no entry"),
+        ):
             self.write("lines.db", NEW.replace(END, line + b"\n" + END))
             want = self.call("aide-compare", "--report", "o.db", "lines.db")
             answer = self.call(TOOL, "--exclude", "/nowhere/**", "o.db", "lines.db")
-            self.holds(label, (answer.output, answer.status) == (want.output, want.status) and want.status < 8, answer)
+            self.holds(
+                label,
+                (answer.output, answer.status) == (want.output, want.status) and want.status < 8,
+                answer,
+            )
         late = HEAD + b"/a 36 100644 1\n" + END + b"/var/log/late 36 100644 1\n"
         self.write("late.db", late)
         answer = self.call(TOOL, "--exclude", "/var/log/**", "late.db", "late.db")
-        self.expect("after the end nothing is an entry", answer, 0, None, [b"left out of the old database: 0 entries"])
+        self.expect(
+            "after the end nothing is an entry",
+            answer,
+            0,
+            None,
+            [b"left out of the old database: 0 entries"],
+        )
 
     def test_names(self) -> None:
-        """The column `name` is found wherever it is, names are decoded, and hostile patterns are escaped where they are shown."""
+        """The column `name` is found wherever it is, names are decoded, and hostile patterns are
+        escaped where they are shown."""
         head = b"@@begin_db\n@@db_spec attr name size perm\n"
         self.write("o2.db", head + b"36 /a%2Fb 1 100644\n36 /c%ZZ 1 100644\n" + END)
         self.write("n2.db", head + b"36 /a%2Fb 2 100644\n36 /c%ZZ 2 100644\n" + END)
         answer = self.call(TOOL, "--exclude", "/a/*", "--exclude", "/c%ZZ\x1b", "o2.db", "n2.db")
-        self.expect("decoded names", answer, 4, [b"Changed entries:         1"], [b"1 by /a/* (--exclude)"])
+        self.expect(
+            "decoded names", answer, 4, [b"Changed entries:         1"], [b"1 by /a/* (--exclude)"]
+        )
         answer = self.call(TOOL, "--exclude", "/[c]%ZZ", "--exclude", "x\x1b[0m", "o2.db", "n2.db")
         self.expect("an escape is not obeyed", answer, 15, b"", [b"x\\033[0m"])
 
     def test_rights(self) -> None:
-        """What gives rights is never left out, and neither is what has no mode or comes from a database without modes."""
+        """What gives rights is never left out, and neither is what has no mode or comes from a
+        database without modes."""
         head = b"@@begin_db\n@@db_spec name attr perm size capabilities\n"
         self.write("empty.db", HEAD + END)
         lines = [b"/a/%02d %d %s 1 %s\n" % (number, *row[1:4]) for number, row in enumerate(RIGHTS)]
@@ -311,24 +393,50 @@ class WithoutTest(CommandTest):
                 stays = b": /a/%02d\n" % number in answer.output
                 self.assertEqual(stays, row[column], ("%s under %s" % (row[0], line[1]), answer))
             count = sum(row[column] for row in RIGHTS)
-            said = b"  %d more that lines name stay, each for one of these: a program, a set-ID bit, " % count
+            said = (
+                b"  %d more that lines name stay, each for one of these: a program, a set-ID bit, "
+                % count
+            )
             self.assertIn(said, answer.errors, ("how many stay under %s" % line[1], answer))
-        self.assertIn(b"by /a/** (marked, line 1; programs too: a reason)", answer.errors, ("the reason of a line", answer))
+        self.assertIn(
+            b"by /a/** (marked, line 1; programs too: a reason)",
+            answer.errors,
+            ("the reason of a line", answer),
+        )
         self.write("no-modes.db", b"@@begin_db\n@@db_spec name size\n/a/x 1\n" + END)
         answer = self.call(TOOL, "--exclude", "/a/**", "empty.db", "no-modes.db")
         self.assertIn(b": /a/x\n", answer.output, ("a database without modes", answer))
 
     def test_marks(self) -> None:
-        """The mark needs a reason. A line that means programs too does so beside a line that does not, in either order."""
-        self.write("program.db", HEAD.replace(b"size", b"size capabilities") + b"/a/x %d 100755 1 0\n" % CAPS + END)
+        """The mark needs a reason. A line that means programs too does so beside a line that does
+        not, in either order."""
+        self.write(
+            "program.db",
+            HEAD.replace(b"size", b"size capabilities") + b"/a/x %d 100755 1 0\n" % CAPS + END,
+        )
         self.write("empty.db", HEAD + END)
-        for text, status in ((b"/a/*\nprograms(why) /a/x", 0), (b"programs(why)  /a/x\n/a/*", 0), (b"programs(why) /b\n/a/*", 1)):
+        for text, status in (
+            (b"/a/*\nprograms(why) /a/x", 0),
+            (b"programs(why)  /a/x\n/a/*", 0),
+            (b"programs(why) /b\n/a/*", 1),
+        ):
             self.write("marks", text)
             answer = self.call(TOOL, "--exclude-from", "marks", "empty.db", "program.db")
             self.expect("the lines %r" % text, answer, status)
-        for text in (b"programs() /a/x", b"programs( ) /a/x", b"programs /a/x", b"programs(why)/a/x", b"devices(why) /a/x"):
+        for text in (
+            b"programs() /a/x",
+            b"programs( ) /a/x",
+            b"programs /a/x",
+            b"programs(why)/a/x",
+            b"devices(why) /a/x",
+        ):
             self.write("marks", text)
-            self.expect("the line %r" % text, self.call(TOOL, "--exclude-from", "marks", "empty.db", "program.db"), 15, b"")
+            self.expect(
+                "the line %r" % text,
+                self.call(TOOL, "--exclude-from", "marks", "empty.db", "program.db"),
+                15,
+                b"",
+            )
 
     def test_refused(self) -> None:
         write_databases(self)
@@ -341,12 +449,20 @@ class WithoutTest(CommandTest):
         for label, words, status in cases:
             self.expect(label, self.call(TOOL, *words, "o.db", "n.db"), status, b"")
         self.write("bad", b"/a\n/b**\n")
-        self.expect("a bad line", self.call(TOOL, "--exclude-from", "bad", "o.db", "n.db"), 15, b"", [b"bad, line 2: "])
+        self.expect(
+            "a bad line",
+            self.call(TOOL, "--exclude-from", "bad", "o.db", "n.db"),
+            15,
+            b"",
+            [b"bad, line 2: "],
+        )
         for label, mode in (("a group", 0o664), ("everybody", 0o646)):
             self.write("open", LOGS)
             os.chmod(self.path("open"), mode)
             answer = self.call(TOOL, "--exclude-from", "open", "o.db", "n.db")
-            self.expect("a file that %s can write" % label, answer, 18, b"", [b"other users can write"])
+            self.expect(
+                "a file that %s can write" % label, answer, 18, b"", [b"other users can write"]
+            )
         if os.getuid() == 0:
             self.write("theirs", LOGS)
             os.chown(self.path("theirs"), 65534, 65534)
@@ -356,14 +472,20 @@ class WithoutTest(CommandTest):
             os.chmod(self.path("open-folder"), 0o777)
             self.write("open-folder/logs", LOGS)
             answer = self.call(TOOL, "--exclude-from", "open-folder/logs", "o.db", "n.db")
-            self.expect("a folder that others can write", answer, 18, b"", [b"other users can write"])
+            self.expect(
+                "a folder that others can write", answer, 18, b"", [b"other users can write"]
+            )
 
     def test_shipped(self) -> None:
-        """The shipped file is read. What programs write each night is left out, and nothing that anything runs or obeys."""
+        """The shipped file is read. What programs write each night is left out, and nothing that
+        anything runs or obeys."""
         with open(os.path.join(HERE, "contrib", "aide", "debian.without"), "rb") as file:
             self.write("debian.without", file.read())
         hidden, seen = (text.encode().split() for text in (HIDDEN, SEEN))
-        entries = [path + b" 36 100644 1\n" for path in sorted(hidden + seen, key=lambda path: path.split(b"/"))]
+        entries = [
+            path + b" 36 100644 1\n"
+            for path in sorted(hidden + seen, key=lambda path: path.split(b"/"))
+        ]
         self.write("empty.db", HEAD + END)
         self.write("full.db", HEAD + b"".join(entries) + END)
         answer = self.call(TOOL, "--exclude-from", "debian.without", "empty.db", "full.db")
@@ -371,8 +493,14 @@ class WithoutTest(CommandTest):
         self.expect("the shipped file", answer, 1, [b": " + path + b"\n" for path in seen], [count])
 
     def test_settings(self) -> None:
-        """No line leaves out what decides on what is reported: everything in /etc/aide-compare, and the folder itself."""
-        paths = (b"/etc/aide-compare", b"/etc/aide-compare/defaults", b"/etc/aide-compare/x/y", b"/etc/aide-comparer")
+        """No line leaves out what decides on what is reported: everything in /etc/aide-compare, and
+        the folder itself."""
+        paths = (
+            b"/etc/aide-compare",
+            b"/etc/aide-compare/defaults",
+            b"/etc/aide-compare/x/y",
+            b"/etc/aide-comparer",
+        )
         entries = [path + b" 36 100644 1\n" for path in paths]
         self.write("empty.db", HEAD + END)
         self.write("settings.db", HEAD + b"".join(entries) + END)
@@ -397,7 +525,10 @@ class WithoutTest(CommandTest):
                 ("a list without a digest", b"0", False),
             ):
                 self.write("list.db", list_database(path, name.encode(), digest))
-                for words in (["--exclude-from", "list"], ["--exclude-from", os.fsdecode(path), "--exclude", "/etc/**"]):
+                for words in (
+                    ["--exclude-from", "list"],
+                    ["--exclude-from", os.fsdecode(path), "--exclude", "/etc/**"],
+                ):
                     answer = self.call(TOOL, *words, "list.db", "list.db")
                     good = answer.status == 0 and (said in answer.errors) == is_said
                     self.holds("%s by %s and %s" % (label, name, words), good, answer)

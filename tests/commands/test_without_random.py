@@ -1,4 +1,5 @@
-"""Random databases beside random lines that leave entries out: the copy is that of a plain cut, line by line and field by field."""
+"""Random databases beside random lines that leave entries out: the copy is that of a plain cut,
+line by line and field by field."""
 import io
 import random
 import stat
@@ -10,13 +11,26 @@ from .sandbox import CommandTest
 
 NAMES = [b"a", b"b", b"ab", b"%61", b"a%2Fb", b"b%zz", b"a\x0bb", b"c"]
 PIECES, WHOLE = [b"a", b"b", b"ab", b"c", b"*", b"?b", b"**"], [8, 6, 3, 3, 2, 1, 3]
-MODES = [b"100644", b"100755", b"40755", b"42755", b"104755", b"120777", b"20600", b"60000", b"100111", b"0", b"x"]
+MODES = [
+    b"100644",
+    b"100755",
+    b"40755",
+    b"42755",
+    b"104755",
+    b"120777",
+    b"20600",
+    b"60000",
+    b"100111",
+    b"0",
+    b"x",
+]
 COLUMNS = [b"name", b"lname", b"attr", b"perm", b"size", b"capabilities"]
 SMALL_LINE = 90
 
 
 def is_alike(exclusions, given, seen):
-    """Whether the copy, the counts by line and the number of those that stay in vain are those of the plain cut."""
+    """Whether the copy, the counts by line and the number of those that stay in vain are those of
+    the plain cut."""
     database, rules = given
     lines = [exclusions.exclusion(text, "%d" % number) for number, text in enumerate(rules)]
     made = exclusions.Exclusions(lines, {})
@@ -24,24 +38,43 @@ def is_alike(exclusions, given, seen):
     got = b"".join(cut.lines(io.BytesIO(database)))
     want, counts, staying = plain_cut(database, rules)
     seen.update({"left out": sum(counts.values()), "staying": staying, "kept": want.count(b"\n/")})
-    return (got, {int(rule.place): count for rule, count in cut.counts.items()}, cut.staying) == (want, counts, staying)
+    return (got, {int(rule.place): count for rule, count in cut.counts.items()}, cut.staying) == (
+        want,
+        counts,
+        staying,
+    )
 
 
 def plain_cut(database, rules):
-    """The bytes of the copy, how many entries each rule leaves out, and how many stay although a rule means them."""
+    """The bytes of the copy, how many entries each rule leaves out, and how many stay although a
+    rule means them."""
     columns, is_over, counts, staying, copy = [], False, Counter(), 0, []
     for line in lines_of(database):
         fields = line.rstrip(b"\n").replace(b"\t", b" ").split(b" ")
         fields = [field for field in fields if field]
         copy.append(line)
-        if is_over or not fields or len(line) > SMALL_LINE or not line.endswith(b"\n") or fields[0].startswith(b"#"):
+        if (
+            is_over
+            or not fields
+            or len(line) > SMALL_LINE
+            or not line.endswith(b"\n")
+            or fields[0].startswith(b"#")
+        ):
             continue
         if fields[0].startswith(b"@@"):
             is_over = fields[0] == b"@@end_db"
             columns = fields[1:] if fields[0] == b"@@db_spec" else columns
         elif columns and len(fields) == len(columns):
-            named = [number for number, rule in enumerate(rules) if means(pattern_of(rule), path_of(fields, columns))]
-            able = [number for number in named if not gives_rights(dict(zip(columns, fields)), rules[number])]
+            named = [
+                number
+                for number, rule in enumerate(rules)
+                if means(pattern_of(rule), path_of(fields, columns))
+            ]
+            able = [
+                number
+                for number in named
+                if not gives_rights(dict(zip(columns, fields)), rules[number])
+            ]
             if able:
                 counts[able[0]] += 1
                 copy[-1] = b"\n"
@@ -71,14 +104,25 @@ def path_of(fields, columns):
 
 
 def gives_rights(entry, rule):
-    """Whether an entry stays whatever a line says, or is a program and the line does not mean programs."""
+    """Whether an entry stays whatever a line says, or is a program and the line does not mean
+    programs."""
     mode = int(entry[b"perm"], 8) if entry[b"perm"] != b"x" else 0
     kind, measured = stat.S_IFMT(mode), int(entry[b"attr"]) >> 37 & 1
-    if kind == 0 or kind != stat.S_IFDIR and mode & 0o6000 or kind in (stat.S_IFCHR, stat.S_IFBLK) and mode & 0o777:
+    if (
+        kind == 0
+        or kind != stat.S_IFDIR
+        and mode & 0o6000
+        or kind in (stat.S_IFCHR, stat.S_IFBLK)
+        and mode & 0o777
+    ):
         return True
     if kind != stat.S_IFLNK and entry[b"capabilities"] != b"0":
         return True
-    return kind == stat.S_IFREG and mode & 0o111 != 0 and not (measured and rule.startswith(b"programs("))
+    return (
+        kind == stat.S_IFREG
+        and mode & 0o111 != 0
+        and not (measured and rule.startswith(b"programs("))
+    )
 
 
 def random_case(numbers):
@@ -87,7 +131,10 @@ def random_case(numbers):
     lines, at = [b"@@begin_db"], numbers.choice([0, 0, 0, 1])
     columns.insert(at, columns.pop(0))
     lines.append(b"@@db_spec " + b" ".join(columns))
-    folders = [b"".join(b"/" + numbers.choice(NAMES) for _ in range(numbers.randint(0, 3))) for _ in range(3)]
+    folders = [
+        b"".join(b"/" + numbers.choice(NAMES) for _ in range(numbers.randint(0, 3)))
+        for _ in range(3)
+    ]
     for _ in range(numbers.randint(1, 20)):
         entry = {
             b"name": numbers.choice(folders) + b"/" + numbers.choice(NAMES),
@@ -115,7 +162,9 @@ def random_case(numbers):
 
 
 def random_rule(numbers):
-    pattern = b"".join(b"/" + piece for piece in numbers.choices(PIECES, WHOLE, k=numbers.randint(1, 4)))
+    pattern = b"".join(
+        b"/" + piece for piece in numbers.choices(PIECES, WHOLE, k=numbers.randint(1, 4))
+    )
     return (b"programs(why) " if numbers.random() < 0.3 else b"") + pattern
 
 
@@ -127,7 +176,13 @@ class WithoutRandomTest(CommandTest):
 
         numbers, seen = random.Random(20261127), Counter()
         with mock.patch.object(exclusions, "MAX_LINE", SMALL_LINE - 1):
-            wrong = [given for given in (random_case(numbers) for _ in range(4000)) if not is_alike(exclusions, given, seen)]
+            wrong = [
+                given
+                for given in (random_case(numbers) for _ in range(4000))
+                if not is_alike(exclusions, given, seen)
+            ]
         self.assertFalse(wrong, ("random databases and lines", wrong[:1]))
         least = {"left out": 2000, "staying": 2000, "kept": 20000}
-        self.holds("some of each kind", all(seen[kind] >= count for kind, count in least.items()), seen)
+        self.holds(
+            "some of each kind", all(seen[kind] >= count for kind, count in least.items()), seen
+        )
