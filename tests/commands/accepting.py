@@ -1,4 +1,5 @@
-"""The folder in which aide-compare accept is tried, as it is before, and the library that acts at a call."""
+"""The folder in which aide-compare accept is tried, as it is before, and the library that acts at a
+call."""
 import gzip
 import os
 import shutil
@@ -13,7 +14,8 @@ OLDER = OLD.replace(b"/d 36", b"/c1 36")
 
 
 def fresh(sandbox, owner=None):
-    """The databases before something is accepted. With an owner the folder is his, and the baseline stays root's."""
+    """The databases before something is accepted. With an owner the folder is his, and the baseline
+    stays root's."""
     shutil.rmtree(sandbox.path("base"), ignore_errors=True)
     sandbox.write("base/aide.db", gzip.compress(OLD), 0o600)
     sandbox.write("base/aide.db.previous", OLDER)
@@ -42,7 +44,9 @@ def contents(sandbox):
 
 
 def accept(sandbox, digest, *words, **more):
-    return sandbox.call(TOOL, "--sha256", digest, *words, "base/aide.db.new", "base/aide.db", **more)
+    return sandbox.call(
+        TOOL, "--sha256", digest, *words, "base/aide.db.new", "base/aide.db", **more
+    )
 
 
 def library(sandbox):
@@ -53,4 +57,8 @@ def library(sandbox):
 
 
 def accept_at(sandbox, settings, **more):
-    return accept(sandbox, sha256(NEW), environment={**settings, **{key: str(value) for key, value in more.items()}})
+    return accept(
+        sandbox,
+        sha256(NEW),
+        environment={**settings, **{key: str(value) for key, value in more.items()}},
+    )

@@ -1,4 +1,5 @@
-"""A host in two nights, as trials make it up: its files as AIDE sees them, and dpkg's records of now."""
+"""A host in two nights, as trials make it up: its files as AIDE sees them, and dpkg's records of
+now."""
 from __future__ import annotations
 
 import base64
@@ -96,7 +97,8 @@ class Night:
 
 
 class Package:
-    """A package of dpkg's records: its files and conffiles by path, and other paths that it lists."""
+    """A package of dpkg's records: its files and conffiles by path, and other paths that it
+    lists."""
 
     def __init__(
         self,
@@ -163,13 +165,15 @@ class Host:
         return files
 
     def write(self, sandbox: CommandTest) -> None:
-        """Writes both databases, and dpkg's records where the commands of the sandbox look for them."""
+        """Writes both databases, and dpkg's records where the commands of the sandbox look for
+        them."""
         sandbox.write("host-old.db", self.old.database())
         sandbox.write("host-new.db", self.new.database())
         write_records(sandbox, self.records() if self.packages else {})
 
     def ask(self, sandbox: CommandTest, *words: str) -> Tuple[Answer, List[Dict[str, Any]]]:
-        """What aide-compare json says of the two nights: the answer, and the objects of its lines."""
+        """What aide-compare json says of the two nights: the answer, and the objects of its
+        lines."""
         self.write(sandbox)
         answer = sandbox.call("aide-compare json", *words, "host-old.db", "host-new.db")
         return answer, objects_of(answer)
@@ -181,8 +185,8 @@ class Host:
         return str(sandbox.call("aide-compare", *words).output.decode())
 
     def expect(self, sandbox: CommandTest, wanted: Dict[Tuple[str, bytes], str]) -> None:
-        """Checks the standings of paths, each under a label: "open high", "recorded medium tool 2", "same",
-        or "no change"."""
+        """Checks the standings of paths, each under a label: "open high", "recorded medium tool 2",
+        "same", or "no change"."""
         answer, objects = self.ask(sandbox)
         sandbox.holds("the nights are compared", answer.status <= 7, answer)
         sandbox.holds("nothing is left", not sandbox.leftovers(), sandbox.leftovers())

@@ -1,4 +1,5 @@
-"""A folder of another user, what is root's beside it, and that user's process, for attacks on aide-compare accept."""
+"""A folder of another user, what is root's beside it, and that user's process, for attacks on
+aide-compare accept."""
 import os
 import shutil
 import stat
@@ -10,14 +11,15 @@ from .sandbox import AS_NOBODY, NEW, NOBODY, OLD, sha256
 TOOL = "aide-compare accept"
 BASELINE = "theirs/base/aide.db"
 SECRET = b"what only root may read and write\n"
-# For each kind of attack two names in theirs/ that change places, and where the second one leads if it is a link.
+# For each kind of attack two names in theirs/ that change places, and where the second one leads if
+# it is a link.
 KINDS = {
     "baseline": ("base/aide.db", "base/trap", "root/secret"),
     "folder": ("base", "trap", "root"),
     "moved folder": ("base", "second", None),
 }
-# The other user: as long as the process lives that started him, he lets the names change places, and counts how often.
-# Now and then he pauses, so that some runs get far.
+# The other user: as long as the process lives that started him, he lets the names change places,
+# and counts how often. Now and then he pauses, so that some runs get far.
 SWAPPING = (
     """import ctypes, os, random, sys, time
 parent, (one, other, spare, target) = os.getppid(), sys.argv[1:]
@@ -62,7 +64,9 @@ def put(sandbox, kind):
 
 def call(sandbox, database=NEW, **environment):
     words = ["--sha256", sha256(database), "new", BASELINE]
-    return sandbox.call(TOOL, *words, environment={key: str(value) for key, value in environment.items()})
+    return sandbox.call(
+        TOOL, *words, environment={key: str(value) for key, value in environment.items()}
+    )
 
 
 def roots(sandbox):
@@ -92,7 +96,8 @@ def made_by_root(sandbox):
 
 
 def harm(sandbox, before):
-    """What an attack has changed of root's, and what root's rights have made in the other user's folder."""
+    """What an attack has changed of root's, and what root's rights have made in the other user's
+    folder."""
     now = roots(sandbox)
     changed = [(path, before.get(path), now.get(path)) for path in before.keys() | now.keys()]
     return [entry for entry in changed if entry[1] != entry[2]] + list(made_by_root(sandbox))
@@ -113,7 +118,11 @@ class Swapping:
     def user(self):
         """Whose process it is; None if it has ended."""
         try:
-            return os.stat("/proc/%d" % self.process.pid).st_uid if self.process.poll() is None else None
+            return (
+                os.stat("/proc/%d" % self.process.pid).st_uid
+                if self.process.poll() is None
+                else None
+            )
         except FileNotFoundError:
             return None
 

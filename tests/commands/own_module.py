@@ -1,4 +1,5 @@
-"""A copy of a module of the commands, of which one trial may change the bounds while others run beside it."""
+"""A copy of a module of the commands, of which one trial may change the bounds while others run
+beside it."""
 import importlib.util
 import os
 import sys

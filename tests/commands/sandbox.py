@@ -24,7 +24,8 @@ NOBODY = 65534
 # The Python of the machine, which the commands name.
 PYTHON = "/usr/bin/python3"
 
-# What a child does before it becomes the tool: it gives up the rights of root, has another umask, or cannot write much.
+# What a child does before it becomes the tool: it gives up the rights of root, has another umask,
+# or cannot write much.
 UMASK = "os.umask(0o%o)"
 SMALL_FILES = "resource.setrlimit(resource.RLIMIT_FSIZE, (%d, %d))"
 BECOME = """import os, resource, signal, sys
@@ -32,7 +33,8 @@ signal.signal(signal.SIGPIPE, signal.SIG_DFL)
 %s
 os.execvp(sys.argv[1], sys.argv[1:])"""
 
-# The command in the directory of a test: the product's own, after whose imports a test may give names other values.
+# The command in the directory of a test: the product's own, after whose imports a test may give
+# names other values.
 FRONT = """#!/usr/bin/python3 -IS
 import os, sys
 from _frozen_importlib_external import PathFinder
@@ -71,7 +73,8 @@ AS_NOBODY = as_user(NOBODY)
 
 
 def after(before, command):
-    """A command that does something else before it starts. (`preexec_fn` is not safe in a process with threads.)"""
+    """A command that does something else before it starts. (`preexec_fn` is not safe in a process
+    with threads.)"""
     return [sys.executable, "-c", BECOME % before] + command if before else command
 
 
@@ -104,14 +107,16 @@ def compiled_commands() -> str:
     atexit.register(shutil.rmtree, directory, True)
     for name in ("bin", "lib", "share"):
         without = shutil.ignore_patterns("__pycache__")
-        shutil.copytree(os.path.join(HERE, "commands", name), os.path.join(directory, name), ignore=without)
+        shutil.copytree(
+            os.path.join(HERE, "commands", name), os.path.join(directory, name), ignore=without
+        )
     compile_modules(os.path.join(directory, "lib"))
     return directory
 
 
 class CommandTest(Scratch, unittest.TestCase):
-    """A test of the commands, with a directory of its own: the commands beside the program, a directory for what is
-    unpacked, and the databases OLD and NEW in two forms."""
+    """A test of the commands, with a directory of its own: the commands beside the program, a
+    directory for what is unpacked, and the databases OLD and NEW in two forms."""
 
     def __init__(self, name: str = "runTest") -> None:
         unittest.TestCase.__init__(self, name)
@@ -128,14 +133,17 @@ class CommandTest(Scratch, unittest.TestCase):
         os.chmod(self.room, 0o1777)
         os.makedirs(self.path("libexec/aide-compare"))
         self.program = shutil.copy(program, self.path("libexec/aide-compare/aide"))
-        self.lines_program = shutil.copy(lines_program_of(program), self.path("libexec/aide-compare/aide_lines"))
+        self.lines_program = shutil.copy(
+            lines_program_of(program), self.path("libexec/aide-compare/aide_lines")
+        )
         for name in ("bin", "lib", "share"):
             shutil.copytree(os.path.join(compiled_commands(), name), self.path(name))
         os.rename(self.path("bin/aide-compare"), self.path("front"))
         self.write("bin/aide-compare", FRONT, 0o755)
         os.symlink("aide-compare", self.path("bin/check_aide_compare"))
         self.replaced = {}
-        # The records of packages and the administrator's directory are those of the test, never those of this machine.
+        # The records of packages and the administrator's directory are those of the test, never
+        # those of this machine.
         self.set_names("changes.packages", DPKG=self.path("dpkg"), DPKG_LOG=self.path("dpkg.log"))
         self.after_import("changes.packages", "Dpkg.__init__.__defaults__ = (DPKG,)\n")
         self.set_names("base.parser", DIRECTORY=self.path("etc"))
@@ -148,20 +156,28 @@ class CommandTest(Scratch, unittest.TestCase):
             return file.read()
 
     def set_names(self, module, **values):
-        """Names of a module of the commands have other values in each command that this test starts. They have to be there."""
-        self.after_import(module, "".join(f"{name}\n{name} = {value!r}\n" for name, value in values.items()))
+        """Names of a module of the commands have other values in each command that this test
+        starts. They have to be there."""
+        self.after_import(
+            module, "".join(f"{name}\n{name} = {value!r}\n" for name, value in values.items())
+        )
 
     def after_import(self, module, statements):
         """Statements that a command of this test executes in a module when it has been imported."""
-        self.replaced[f"aide_compare.{module}"] = self.replaced.get(f"aide_compare.{module}", "") + statements
+        self.replaced[f"aide_compare.{module}"] = (
+            self.replaced.get(f"aide_compare.{module}", "") + statements
+        )
         self.write("replaced", repr(self.replaced))
 
     @contextlib.contextmanager
     def mounted(self, name, *words):
-        """What `mount` puts on a file or folder with these words, for a while. Yields whether it is there: it is mounted only
-        where nobody else sees it."""
+        """What `mount` puts on a file or folder with these words, for a while. Yields whether it is
+        there: it is mounted only where nobody else sees it."""
         path = self.path(name)
-        is_there = has_own_mounts() and subprocess.call(["mount", *words, path], stderr=subprocess.DEVNULL) == 0
+        is_there = (
+            has_own_mounts()
+            and subprocess.call(["mount", *words, path], stderr=subprocess.DEVNULL) == 0
+        )
         try:
             yield is_there
         finally:
@@ -174,13 +190,25 @@ class CommandTest(Scratch, unittest.TestCase):
         return [self.path("bin/" + name), *subcommand, *words]
 
     def environment(self, **more):
-        return {**os.environ, "TMPDIR": self.room, "PATH": self.path("stubs") + ":" + os.environ["PATH"], **more}
+        return {
+            **os.environ,
+            "TMPDIR": self.room,
+            "PATH": self.path("stubs") + ":" + os.environ["PATH"],
+            **more,
+        }
 
     def start(self, tool, *words, environment=None, before=None, **more):
         """Starts a tool in this folder, without waiting for it."""
-        more = {"stdin": subprocess.DEVNULL, "stdout": subprocess.PIPE, "stderr": subprocess.PIPE, **more}
+        more = {
+            "stdin": subprocess.DEVNULL,
+            "stdout": subprocess.PIPE,
+            "stderr": subprocess.PIPE,
+            **more,
+        }
         command = after(before, self.command(tool, *words))
-        return subprocess.Popen(command, cwd=self.root, env=self.environment(**(environment or {})), **more)
+        return subprocess.Popen(
+            command, cwd=self.root, env=self.environment(**(environment or {})), **more
+        )
 
     def call(self, tool, *words, text=None, environment=None, limit=TIME_LIMIT, **more):
         """What a tool answers in this folder, in so many seconds. `text` is its standard input."""
@@ -204,7 +232,8 @@ class CommandTest(Scratch, unittest.TestCase):
             self.assertTrue(good, got)
 
     def expect(self, label, answer, status, output=None, errors=None):
-        """An answer has a status, these texts where they are given (a list: each is in it), and leaves nothing behind."""
+        """An answer has a status, these texts where they are given (a list: each is in it), and
+        leaves nothing behind."""
         with self.subTest(label):
             self.assertEqual(answer.status, status, answer)
             for text, want in ((answer.output, output), (answer.errors, errors)):
@@ -215,7 +244,8 @@ class CommandTest(Scratch, unittest.TestCase):
             self.assertEqual(self.leftovers(), [])
 
     def state(self, name="state"):
-        """A state file as a map, which keeps the order of its lines; nothing where there is none."""
+        """A state file as a map, which keeps the order of its lines; nothing where there is
+        none."""
         if not os.path.exists(self.path(name)):
             return {}
         lines = self.read(name).decode("utf-8", "surrogateescape").split("\n")

@@ -1,8 +1,10 @@
-"""Tries the page of aide-compare page in a real browser, a headless Chromium. Run it by hand: the gate has no browser.
+"""Tries the page of aide-compare page in a real browser, a headless Chromium. Run it by hand: the
+gate has no browser.
 
-It tries the table of views (viewers/views.json), filters, orders, folders, the address, the keyboard, printing, pages
-without scripts, hostile names, and the time that a large page takes. It prints which browser it used. With --pictures it
-leaves pictures to look at. The last line is 'N passed, M failed'.
+It tries the table of views (viewers/views.json), filters, orders, folders, the address, the
+keyboard, printing, pages without scripts, hostile names, and the time that a large page takes. It
+prints which browser it used. With --pictures it leaves pictures to look at. The last line is 'N
+passed, M failed'.
 """
 import os
 import platform
@@ -23,7 +25,13 @@ from tests.commands.viewers.in_browser import (
     try_without_script,
 )
 from tests.commands.viewers.large_page import try_large
-from tests.commands.viewers.samples import demo_changes, demo_lines, hostile_lines, lines_of, page_of
+from tests.commands.viewers.samples import (
+    demo_changes,
+    demo_lines,
+    hostile_lines,
+    lines_of,
+    page_of,
+)
 from tests.lib.tally import Tally
 
 
@@ -36,7 +44,9 @@ def write(path, text):
 def main():
     parser = parser_of("tests.commands.try_page", __doc__)
     parser.add_argument("--pictures", metavar="FOLDER", help="leave pictures in a folder")
-    parser.add_argument("--large", type=int, metavar="CHANGES", help="try pages of so many changes too")
+    parser.add_argument(
+        "--large", type=int, metavar="CHANGES", help="try pages of so many changes too"
+    )
     given = parser.parse_args()
     if given.pictures:
         os.makedirs(given.pictures, exist_ok=True)
@@ -44,7 +54,10 @@ def main():
     print("%s, %s" % (browser.version(), platform.platform()), flush=True)
     with tempfile.TemporaryDirectory() as folder:
         demo = write(os.path.join(folder, "demo.html"), page_of(demo_lines()))
-        simple = write(os.path.join(folder, "simple.html"), page_of(lines_of(demo_changes()), "--title", "Changes"))
+        simple = write(
+            os.path.join(folder, "simple.html"),
+            page_of(lines_of(demo_changes()), "--title", "Changes"),
+        )
         plain = write(os.path.join(folder, "plain.html"), page_of(demo_lines(), "--plain"))
         hostile = write(os.path.join(folder, "hostile.html"), page_of(hostile_lines()))
         try_views(browser, tally)

@@ -1,4 +1,5 @@
-"""The databases that a configuration names: the commands ask the program for them, and find those of the definitions."""
+"""The databases that a configuration names: the commands ask the program for them, and find those
+of the definitions."""
 import random
 import re
 from unittest import mock
@@ -33,7 +34,8 @@ LINES = (
 )
 # The language knows blanks and tabs; the others are blanks to Python only.
 BLANKS = (b" ", b"\t", b"\x0c", b"\x0b", b"\r")
-# Behind this word a form feed is a part of it, so that the program refuses the line, and no block is divided.
+# Behind this word a form feed is a part of it, so that the program refuses the line, and no block
+# is divided.
 FORM_FEED = b"@@ifdef A\ndatabase_in=file:/a\n@@else\x0c\n@@endif\ndatabase_in=file:/b\ndatabase_new=file:/c\n"
 WRITTEN = b"database_in=file:/a\ndatabase_out=file:/c\n"
 NAMED = re.compile(rb"(?m)^[ \t]*database(?:_in)?[ \t]*=")
@@ -49,11 +51,15 @@ def random_line(source):
 
 
 def asked(program):
-    """What asks the program for the databases of a text, as a comparison does: their paths, or None where there are none."""
+    """What asks the program for the databases of a text, as a comparison does: their paths, or None
+    where there are none."""
+
     def databases(text):
         try:
             with mock.patch.object(asking, "find_installed", lambda name: program):
-                return databases_of(Texts(b"", text, b""), "conf", lambda texts: Question(texts).settings)
+                return databases_of(
+                    Texts(b"", text, b""), "conf", lambda texts: Question(texts).settings
+                )
         except Fault as fault:
             return "twice" if "twice" in fault.text else None
 
@@ -63,18 +69,30 @@ def asked(program):
 def wanted_of(text):
     """What the definitions say: both paths, None if one is missing or both are the same."""
     settings = oracle.read(b"", text, b"", False)
-    found = () if isinstance(settings, oracle.Fault) else (settings["database_in"], settings["database_new"])
-    return tuple(path.decode() for path in found) if None not in found and len(set(found)) == 2 else None
+    found = (
+        ()
+        if isinstance(settings, oracle.Fault)
+        else (settings["database_in"], settings["database_new"])
+    )
+    return (
+        tuple(path.decode() for path in found)
+        if None not in found and len(set(found)) == 2
+        else None
+    )
 
 
 class ConfigurationsTest(ModuleTest):
     def test_databases(self) -> None:
-        """Random texts: the paths that a comparison finds are those of the definitions, unless a side is named twice."""
+        """Random texts: the paths that a comparison finds are those of the definitions, unless a
+        side is named twice."""
         program = find_program()
         if program is None:
             self.skipTest(reason_without())
         source, accepted, databases = random.Random(SEED), 0, asked(lines_program_of(program))
-        texts = [b"".join(random_line(source) + b"\n" for _ in range(source.randint(1, 9))) for _ in range(COUNT)]
+        texts = [
+            b"".join(random_line(source) + b"\n" for _ in range(source.randint(1, 9)))
+            for _ in range(COUNT)
+        ]
         for text in texts + [FORM_FEED, FORM_FEED.replace(b"\x0c", b"")]:
             wanted, found = wanted_of(text), databases(text)
             accepted += wanted is not None
@@ -85,7 +103,8 @@ class ConfigurationsTest(ModuleTest):
         self.assertEqual(databases(WRITTEN), ("/a", "/c"), "what AIDE writes is compared next")
 
     def test_host_names(self) -> None:
-        """A name of this machine of any bytes adds one line, which defines it; a name that is one stays as it is."""
+        """A name of this machine of any bytes adds one line, which defines it; a name that is one
+        stays as it is."""
         texts = Texts(b"", b"database_in=file:/@@{HOSTNAME}", b"")
         names = {
             "www-1.example": b"www-1.example",

@@ -1,4 +1,5 @@
-"""Paths that are walked, files that are replaced, private files, the rights of others, private copies, and the program."""
+"""Paths that are walked, files that are replaced, private files, the rights of others, private
+copies, and the program."""
 import gzip
 import hashlib
 import os
@@ -38,7 +39,12 @@ def replaced(path, *texts):
     new.close()
     found = os.lstat(path)
     with open(path, "rb") as file:
-        return file.read(), stat.S_IMODE(found.st_mode), found.st_uid, sorted(os.listdir(os.path.dirname(path)))
+        return (
+            file.read(),
+            stat.S_IMODE(found.st_mode),
+            found.st_uid,
+            sorted(os.listdir(os.path.dirname(path))),
+        )
 
 
 def put(path, text, over):
@@ -55,7 +61,8 @@ def put(path, text, over):
 
 
 def check_new_files(test, folder):
-    """A new file with no name, or with a random one, takes the place of a former one, or is refused there; nothing else stays."""
+    """A new file with no name, or with a random one, takes the place of a former one, or is refused
+    there; nothing else stays."""
     for text, over, kept in (
         (b"one", False, b"one"),
         (b"two", False, b"one"),
@@ -63,7 +70,11 @@ def check_new_files(test, folder):
         (b"three", True, b"three"),
     ):
         got = put(folder, text, over)
-        test.expect("the new file %r, %s" % (text, over), got, (kept if kept == text else b"refused", kept, ["it"]))
+        test.expect(
+            "the new file %r, %s" % (text, over),
+            got,
+            (kept if kept == text else b"refused", kept, ["it"]),
+        )
 
 
 def copied(path, most=1 << 40):
@@ -80,7 +91,11 @@ def _try_pipes(test, text):
         for piece in (packed[:1], packed[1:]):
             os.write(writing, piece)
         os.close(writing)
-        test.expect("a pipe that gives a byte first, " + label, outcome(copied, "/dev/fd/%d" % reading), text)
+        test.expect(
+            "a pipe that gives a byte first, " + label,
+            outcome(copied, "/dev/fd/%d" % reading),
+            text,
+        )
         os.close(reading)
 
 
@@ -101,9 +116,13 @@ class Counted:
 
 
 def _try_small_members(test, path):
-    """zlib copies all that is behind a member, so each of many small ones is given little more than itself: 4096 bytes at most."""
+    """zlib copies all that is behind a member, so each of many small ones is given little more than
+    itself: 4096 bytes at most."""
     start = os.urandom(300000)
-    for label, text, behind in (("empty members", b"", b""), ("members of a byte, and zeros", b"a", b"\0")):
+    for label, text, behind in (
+        ("empty members", b"", b""),
+        ("members of a byte, and zeros", b"a", b"\0"),
+    ):
         packed = gzip.compress(start) + (gzip.compress(text) + behind) * 20000
         with open(path, "wb") as file:
             file.write(packed)
@@ -113,7 +132,9 @@ def _try_small_members(test, path):
         finally:
             zlib.decompressobj = Counted.make
         test.expect("a copy, " + label, found, start + text * 20000)
-        test.expect("zlib is given little more than " + label, Counted.given < 200 * len(packed), True)
+        test.expect(
+            "zlib is given little more than " + label, Counted.given < 200 * len(packed), True
+        )
 
 
 class FilesTest(ModuleTest):
@@ -139,11 +160,23 @@ class FilesTest(ModuleTest):
             ("sticky/own", ([], True)),
             ("group", ([ANYBODY], False)),
         ):
-            self.expect("the folder " + name, outcome(others_of, os.path.join(self.folder, name)), want)
+            self.expect(
+                "the folder " + name, outcome(others_of, os.path.join(self.folder, name)), want
+            )
         if os.getuid() == 0:
-            self.expect("a folder of another user", outcome(others_of, self.folder + "/his"), ([OTHER], False))
-            self.expect("a folder below it", outcome(others_of, self.folder + "/his/roots"), ([OTHER], False))
-        self.expect_fault("a missing folder", outcome(others_of, self.folder + "/none"), 18, "No such file")
+            self.expect(
+                "a folder of another user",
+                outcome(others_of, self.folder + "/his"),
+                ([OTHER], False),
+            )
+            self.expect(
+                "a folder below it",
+                outcome(others_of, self.folder + "/his/roots"),
+                ([OTHER], False),
+            )
+        self.expect_fault(
+            "a missing folder", outcome(others_of, self.folder + "/none"), 18, "No such file"
+        )
         self.expect_fault("no folder", outcome(others_of, "/etc/passwd"), 18, "Not a directory")
 
     def test_links(self) -> None:
@@ -157,8 +190,16 @@ class FilesTest(ModuleTest):
             ("sticky/his", "file"),
         ):
             os.symlink(target, os.path.join(self.folder, name))
-        for name in ("own/file", "own/short", "own/whole", "own/up/own/up/own/short", "sticky/mine"):
-            self.expect("the file " + name, outcome(text_of, os.path.join(self.folder, name)), b"text")
+        for name in (
+            "own/file",
+            "own/short",
+            "own/whole",
+            "own/up/own/up/own/short",
+            "sticky/mine",
+        ):
+            self.expect(
+                "the file " + name, outcome(text_of, os.path.join(self.folder, name)), b"text"
+            )
         wrong = [
             ("own/loop", "Too many"),
             ("own/file/", "Not a directory"),
@@ -172,11 +213,14 @@ class FilesTest(ModuleTest):
             os.chown(self.folder + "/sticky/his", OTHER, OTHER, follow_symlinks=False)
             wrong += [("his/link", "not followed"), ("sticky/his", "not followed")]
         for name, part in wrong:
-            self.expect_fault("the file " + name, outcome(text_of, os.path.join(self.folder, name)), 18, part)
+            self.expect_fault(
+                "the file " + name, outcome(text_of, os.path.join(self.folder, name)), 18, part
+            )
         self.expect_fault("a device", outcome(text_of, "/dev/zero"), 18, "a device")
 
     def test_order(self) -> None:
-        """A file is on the disk before it has its name, and the folder after that; by another name too, where it is an old one."""
+        """A file is on the disk before it has its name, and the folder after that; by another name
+        too, where it is an old one."""
         calls, real = [], {name: getattr(os, name) for name in ("fsync", "link", "rename")}
 
         def noted(name):
@@ -195,16 +239,29 @@ class FilesTest(ModuleTest):
             for name, call in real.items():
                 setattr(os, name, call)
         names = [call for call in calls if call in ("link", "rename")]
-        self.expect("fsync, names, fsync of the folder", calls, ["fsync", *names, "folder"] if names else None)
+        self.expect(
+            "fsync, names, fsync of the folder",
+            calls,
+            ["fsync", *names, "folder"] if names else None,
+        )
 
     def test_replacements(self) -> None:
         mask = os.umask(0o077)
         me = os.getuid()
-        self.expect("a new file", outcome(replaced, self.folder + "/new/deep/state", b"one"), (b"one", 0o644, me, ["state"]))
-        self.expect("an old file", outcome(replaced, self.folder + "/new/deep/state", b"two", b"three"), (b"three", 0o644, me, ["state"])
+        self.expect(
+            "a new file",
+            outcome(replaced, self.folder + "/new/deep/state", b"one"),
+            (b"one", 0o644, me, ["state"]),
+        )
+        self.expect(
+            "an old file",
+            outcome(replaced, self.folder + "/new/deep/state", b"two", b"three"),
+            (b"three", 0o644, me, ["state"]),
         )
         os.umask(mask)
-        self.expect("the modes of new folders", stat.S_IMODE(os.stat(self.folder + "/new").st_mode), 0o755)
+        self.expect(
+            "the modes of new folders", stat.S_IMODE(os.stat(self.folder + "/new").st_mode), 0o755
+        )
         for name, status, part in (
             ("own", 15, "is a directory"),
             ("own/fifo", 18, "a FIFO"),
@@ -213,24 +270,38 @@ class FilesTest(ModuleTest):
             ("own/file/state", 18, "Not a directory"),
             ("group/none/state", 18, "No such file"),
         ):
-            self.expect_fault("the replacement of " + name, outcome(replaced, os.path.join(self.folder, name), b""), status, part)
+            self.expect_fault(
+                "the replacement of " + name,
+                outcome(replaced, os.path.join(self.folder, name), b""),
+                status,
+                part,
+            )
         late = replacement.Replacement(self.folder + "/own/late", what="the file").begin()
         os.mkfifo(self.folder + "/own/late")
         self.expect_fault("a FIFO that came later", outcome(late.commit, b"x"), 18, "a FIFO")
         self.expect("it stays", stat.S_ISFIFO(os.lstat(self.folder + "/own/late").st_mode), True)
         os.remove(self.folder + "/own/late")
-        self.expect("a sticky folder", outcome(replaced, self.folder + "/sticky/state", b"x")[:3], (b"x", 0o644, me))
+        self.expect(
+            "a sticky folder",
+            outcome(replaced, self.folder + "/sticky/state", b"x")[:3],
+            (b"x", 0o644, me),
+        )
         if me == 0:
-            self.expect("a folder of another user", outcome(replaced, self.folder + "/his/state", b"x")[:3], (b"x", 0o644, OTHER))
-            self.expect_fault("a folder of root in one of his",
+            self.expect(
+                "a folder of another user",
+                outcome(replaced, self.folder + "/his/state", b"x")[:3],
+                (b"x", 0o644, OTHER),
+            )
+            self.expect_fault(
+                "a folder of root in one of his",
                 outcome(replaced, self.folder + "/his/roots/state", b"x"),
                 18,
                 "Permission denied (with",
             )
 
     def test_leftovers(self) -> None:
-        """What a killed run has left between two calls is removed by a later one, and what a run has that
-        works now is not."""
+        """What a killed run has left between two calls is removed by a later one, and what a run
+        has that works now is not."""
         path = os.path.join(self.folder, "left")
         for seconds, is_kept in ((0, True), (replacement.STALE_SECONDS + 60, False)):
             replaced(path + "/state", b"one")
@@ -258,15 +329,30 @@ class FilesTest(ModuleTest):
         os.mkdir(room)
         descriptor = files.nameless(room)
         found = os.fstat(descriptor)
-        self.expect("a nameless file", (stat.S_IMODE(found.st_mode), found.st_nlink, os.listdir(room)), (0o600, 0, []))
+        self.expect(
+            "a nameless file",
+            (stat.S_IMODE(found.st_mode), found.st_nlink, os.listdir(room)),
+            (0o600, 0, []),
+        )
         os.close(descriptor)
-        known, files.os.O_TMPFILE = os.O_TMPFILE, os.O_DIRECTORY  # As on a file system that does not know files without a name.
+        known, files.os.O_TMPFILE = (
+            os.O_TMPFILE,
+            os.O_DIRECTORY,
+        )  # As on a file system that does not know files without a name.
         try:
             descriptor = files.nameless(room)
             found = os.fstat(descriptor)
-            self.expect("the other way", (stat.S_IMODE(found.st_mode), found.st_nlink, os.listdir(room)), (0o600, 0, []))
+            self.expect(
+                "the other way",
+                (stat.S_IMODE(found.st_mode), found.st_nlink, os.listdir(room)),
+                (0o600, 0, []),
+            )
             os.close(descriptor)
-            self.expect("a replacement", outcome(replaced, room + "/state", b"x"), (b"x", 0o644, os.getuid(), ["state"]))
+            self.expect(
+                "a replacement",
+                outcome(replaced, room + "/state", b"x"),
+                (b"x", 0o644, os.getuid(), ["state"]),
+            )
             check_new_files(self, self.folder + "/new/named")
         finally:
             files.os.O_TMPFILE = known
@@ -276,8 +362,12 @@ class FilesTest(ModuleTest):
     def test_rights(self) -> None:
         def look():
             with open("/proc/self/status") as file:
-                capabilities = [line.split()[1] for line in file if line.startswith(("CapEff", "CapPrm"))]
-            return repr((os.getresuid(), os.getgroups(), capabilities, len(os.listdir("/proc/self/fd")))).encode()
+                capabilities = [
+                    line.split()[1] for line in file if line.startswith(("CapEff", "CapPrm"))
+                ]
+            return repr(
+                (os.getresuid(), os.getgroups(), capabilities, len(os.listdir("/proc/self/fd")))
+            ).encode()
 
         want = repr(((OTHER,) * 3, [], ["0" * 16] * 2, 5)).encode()
         groups = os.getgroups()
@@ -286,17 +376,28 @@ class FilesTest(ModuleTest):
         os.setgroups(groups)
         for label, work, part in (
             ("a fault", lambda: files.open_regular("/etc/shadow"), "ermission denied"),
-            ("a fault, whose rights it had", lambda: files.open_regular("/etc/shadow"), " (with the privileges of "),
+            (
+                "a fault, whose rights it had",
+                lambda: files.open_regular("/etc/shadow"),
+                " (with the privileges of ",
+            ),
             ("an error", lambda: 1 // 0, "division"),
             ("no answer", lambda: os._exit(0), "without an answer"),
             ("no end", lambda: time.sleep(60), "more than 1 seconds"),
         ):
             begun = time.monotonic()
-            self.expect_fault("work that ends by " + label, outcome(rights.with_rights_of, OTHER, work, 1), 18, part)
+            self.expect_fault(
+                "work that ends by " + label,
+                outcome(rights.with_rights_of, OTHER, work, 1),
+                18,
+                part,
+            )
             self.holds("the time of " + label, time.monotonic() - begun < 50, ["too long"])
 
     def test_copies(self) -> None:
-        path, text = os.path.join(self.folder, "db"), b"".join(b"/a/%d %d\n" % (number, number**3) for number in range(60000))
+        path, text = os.path.join(self.folder, "db"), b"".join(
+            b"/a/%d %d\n" % (number, number**3) for number in range(60000)
+        )
         whole, half = gzip.compress(text), gzip.compress(text[:9999])
         for label, packed in (
             ("plain", text),
@@ -308,10 +409,18 @@ class FilesTest(ModuleTest):
             with open(path, "wb") as file:
                 file.write(packed)
             self.expect("a copy, " + label, outcome(copied, path), text)
-            self.expect("a copy of the allowed size, " + label, outcome(copied, path, len(text)), text)
-            self.expect_fault("a copy that is too large, " + label, outcome(copied, path, len(text) - 1), 18, "has more than")
+            self.expect(
+                "a copy of the allowed size, " + label, outcome(copied, path, len(text)), text
+            )
+            self.expect_fault(
+                "a copy that is too large, " + label,
+                outcome(copied, path, len(text) - 1),
+                18,
+                "has more than",
+            )
         for label, packed, part in [
-            ("cut to %d" % size, whole[:size], "cut short") for size in (3, 18, 5000, len(whole) - 8, len(whole) - 1)
+            ("cut to %d" % size, whole[:size], "cut short")
+            for size in (3, 18, 5000, len(whole) - 8, len(whole) - 1)
         ] + [
             ("text behind", whole + b"x", "cut short"),
             ("a wrong bit", whole[:-5] + bytes([whole[-5] ^ 1]) + whole[-4:], "damaged"),
@@ -320,7 +429,10 @@ class FilesTest(ModuleTest):
             with open(path, "wb") as file:
                 file.write(packed)
             self.expect_fault("a copy, " + label, outcome(copied, path), 18, part)
-        for count, fault in ((unpack.MAX_MEMBERS, None), (unpack.MAX_MEMBERS + 1, "members of gzip")):
+        for count, fault in (
+            (unpack.MAX_MEMBERS, None),
+            (unpack.MAX_MEMBERS + 1, "members of gzip"),
+        ):
             with open(path, "wb") as file:
                 file.write(gzip.compress(b"") * count)
             got = outcome(copied, path, 1 << 30)
@@ -344,28 +456,44 @@ class FilesTest(ModuleTest):
             return path
 
         for library in ("lib/aide-compare/python", "lib"):
-            with mock.patch.object(program, "__file__", os.path.join(self.folder, "stub", library, "aide_compare/base/program.py")):
-                self.expect_fault("no program for " + library,
+            with mock.patch.object(
+                program,
+                "__file__",
+                os.path.join(self.folder, "stub", library, "aide_compare/base/program.py"),
+            ):
+                self.expect_fault(
+                    "no program for " + library,
                     outcome(program.find_installed, program.PROGRAM),
                     18,
                     "cannot find " + self.folder,
                 )
                 place = stub("exit 0", "libexec/aide-compare/aide")
-                self.expect("the program for " + library, outcome(program.find_installed, program.PROGRAM), place)
+                self.expect(
+                    "the program for " + library,
+                    outcome(program.find_installed, program.PROGRAM),
+                    place,
+                )
             os.remove(place)
         old, new = files.nameless(self.folder), files.nameless(self.folder)
         os.write(old, b"old\n"), os.write(new, b"new\n")
         path = stub('cat /proc/self/fd/3 /proc/self/fd/4; echo "$LC_ALL $1"; echo why >&2; exit 5')
         for databases in ((old, new), (new, old)):
             kept = bytearray()
-            ended = program.run_program(path, ["a b"], {3: databases[0], 4: databases[1]}, kept.extend)
+            ended = program.run_program(
+                path, ["a b"], {3: databases[0], 4: databases[1]}, kept.extend
+            )
             want = b"old\nnew\nC a b\n" if databases[0] == old else b"new\nold\nC a b\n"
-            self.expect("the descriptors of the program", (*ended, bytes(kept)), (5, b"why\n", want))
+            self.expect(
+                "the descriptors of the program", (*ended, bytes(kept)), (5, b"why\n", want)
+            )
         kept = bytearray()
         drain = program.Drain(6, kept.extend)
         program.run_program(path, ["a b"], {3: old, 4: new}, drain.take)
         self.expect("a report that is cut", (bytes(kept), drain.size), (b"old\nne", 14))
-        for body, why in (("kill -9 $$", "was ended by signal 9"), ("exit 99", "could not be run: status 99")):
+        for body, why in (
+            ("kill -9 $$", "was ended by signal 9"),
+            ("exit 99", "could not be run: status 99"),
+        ):
             found = outcome(program.run_program, stub(body), [], {3: old, 4: new}, len)
             self.expect_fault("the end by " + body, found, 18, why)
         for descriptor in (old, new):

@@ -48,6 +48,7 @@ def entry(
     ]
     return Entry(fields, PLACES)
 
+
 # A change of rights wherever it is: the entry before, the entry now, and the level below /srv.
 RIGHTS: list[tuple[str, Entry | None, Entry | None, str]] = [
     ("a new file", None, entry(FILE), "medium"),
@@ -194,7 +195,8 @@ class SeverityTest(ModuleTest):
             self.expect(f"a program {path.decode()}", level, "high")
 
     def test_order(self) -> None:
-        """Rights come first, then what logs in, starts or loads code, then programs, then all else."""
+        """Rights come first, then what logs in, starts or loads code, then programs, then all
+        else."""
         table = Severity()
         ranks = [
             table.of(b"/srv/x", None, entry(FILE, capabilities=SETUID)).rank,
@@ -219,7 +221,9 @@ class SeverityTest(ModuleTest):
         link = entry(0o120777)
         levels = [table_of(TABLE).of(name, None, link).level for name in (b"/opt/a", b"/srv/a")]
         self.expect("another table", levels, ["low", "medium"])
-        self.expect("its second line", table_of(TABLE).of(b"/opt/a", None, entry(FILE)).level, "high")
+        self.expect(
+            "its second line", table_of(TABLE).of(b"/opt/a", None, entry(FILE)).level, "high"
+        )
         for text in (
             b"urgent any /opt/*\n",
             b"low /opt/*\n",

@@ -40,7 +40,23 @@ TIMES = (
     ("3d", 259200),
     ("30d", 2592000),
 )
-NO_TIMES = ("", "x", "h", "1h2", "1.5h", "-1", "+1", " 1", "1 ", "1_0", "\u0663", "31d", "721h", "2592001", "9" * 10)
+NO_TIMES = (
+    "",
+    "x",
+    "h",
+    "1h2",
+    "1.5h",
+    "-1",
+    "+1",
+    " 1",
+    "1 ",
+    "1_0",
+    "\u0663",
+    "31d",
+    "721h",
+    "2592001",
+    "9" * 10,
+)
 
 END = """import sys
 sys.path.insert(0, %r)
@@ -53,17 +69,24 @@ os._exit(command("name", main))"""
 
 class TextsTest(ModuleTest):
     def test_tables(self) -> None:
-        """The tables of attributes say the same: each digest is in the order of strength, in databases and in the schema. The
-        options of the definitions are none that is misspelt."""
+        """The tables of attributes say the same: each digest is in the order of strength, in
+        databases and in the schema. The options of the definitions are none that is misspelt."""
         labels = [label for label, form in attributes.FORMS.items() if form == "digest"]
         columns = sorted(label.lower().replace("-", "_").replace("/", "_") for label in labels)
-        with open(os.path.join(TOP, "contrib", "json", "aide-compare-lines.schema.json"), encoding="utf-8") as file:
+        with open(
+            os.path.join(TOP, "contrib", "json", "aide-compare-lines.schema.json"), encoding="utf-8"
+        ) as file:
             schema = json.load(file)
         self.expect("digests by strength", sorted(attributes.STRENGTH), sorted(labels))
         self.expect("digests of databases", sorted(attributes.DIGEST_COLUMNS), columns)
-        names = [name for name in schema["$defs"]["side"]["properties"] if not name.endswith("_hex")]
+        names = [
+            name for name in schema["$defs"]["side"]["properties"] if not name.endswith("_hex")
+        ]
         self.expect("attributes of the schema", names, list(attributes.FORMS))
-        names = {name.encode() for name in ["report_level", "report_url", "report_format"] + BOOL_OPTIONS + SET_OPTIONS}
+        names = {
+            name.encode()
+            for name in ["report_level", "report_url", "report_format"] + BOOL_OPTIONS + SET_OPTIONS
+        }
         self.expect("options of the report", sorted(names - configuration.OPTIONS), [])
 
     def test_escapes(self) -> None:
@@ -71,9 +94,15 @@ class TextsTest(ModuleTest):
             self.expect("shown %r" % text, escapes.shown(text), want)
         self.expect("a cut", escapes.shown("é" * 9, 5), "é" * 5 + "...")
         self.expect("no cut", escapes.shown("é" * 5, 5), "é" * 5)
-        self.expect("a cut of bytes", escapes.shown("\U0001f600".encode() * 9, 8), "\U0001f600" * 8 + "...")
-        self.expect("lines", escapes.shown_lines(b"a\\012\tb\n\r\x1b\xff"), "a\\012\tb\n\\015\\033\\377")
-        self.expect("a line of ours", escapes.guarded("\\012\n\t\u202e"), "\\012\\012\\011\\342\\200\\256")
+        self.expect(
+            "a cut of bytes", escapes.shown("\U0001f600".encode() * 9, 8), "\U0001f600" * 8 + "..."
+        )
+        self.expect(
+            "lines", escapes.shown_lines(b"a\\012\tb\n\r\x1b\xff"), "a\\012\tb\n\\015\\033\\377"
+        )
+        self.expect(
+            "a line of ours", escapes.guarded("\\012\n\t\u202e"), "\\012\\012\\011\\342\\200\\256"
+        )
 
     def test_times(self) -> None:
         for text, want in [*TIMES, *((text, None) for text in NO_TIMES)]:
@@ -97,7 +126,8 @@ class TextsTest(ModuleTest):
             self.expect("the age %d" % seconds, words.age_in_words(seconds), want)
 
     def test_words(self) -> None:
-        """When an entry came or changed: the time of its inode, then its own, if it is another one than before."""
+        """When an entry came or changed: the time of its inode, then its own, if it is another one
+        than before."""
         columns = ("perm", "uid", "gid", "size", "mtime", "ctime", "bcount")
         places = {name: place for place, name in enumerate(columns)}
         old, kept, back, gone, moved = (
@@ -114,7 +144,11 @@ class TextsTest(ModuleTest):
             ("came", (None, back), "-rw-r--r-- root:root 6 bytes, 2026-11-25 10:32 UTC"),
             ("went", (back, None), "-rw-r--r-- root:root 6 bytes"),
             ("changed, its time set back", (old, back), "size 5 -> 6, 2026-11-25 10:32 UTC"),
-            ("changed, without the time of its inode", (old, gone), "size 5 -> 6, 2026-11-25 10:32 UTC"),
+            (
+                "changed, without the time of its inode",
+                (old, gone),
+                "size 5 -> 6, 2026-11-25 10:32 UTC",
+            ),
             ("changed with the times of before", (old, kept), "size 5 -> 6"),
             ("has other blocks", (moved, kept), "blocks"),
         ):
@@ -127,7 +161,11 @@ class TextsTest(ModuleTest):
         parser.add_argument("--max-age", type=kinds.duration)
         parser.add_argument("--text", type=kinds.some_text)
         given = parser.parse(["a", "--max-size", "2k", "b", "--max-age=2h"])
-        self.expect("options between operands", (given.operands, given.max_size, given.max_age), (["a", "b"], 2048, 7200))
+        self.expect(
+            "options between operands",
+            (given.operands, given.max_size, given.max_age),
+            (["a", "b"], 2048, 7200),
+        )
         for words in (
             ["--max-siz", "1"],
             ["--odd"],
@@ -142,20 +180,32 @@ class TextsTest(ModuleTest):
             self.expect("VERSION", VERSION, file.read().strip())
 
     def test_state(self) -> None:
-        good = state.State(7, 1795602777, 1, 2, 3, "a" * 64, "b" * 64, "o\\012", "n", 5, None, "", {"weekly": "3"})
+        good = state.State(
+            7, 1795602777, 1, 2, 3, "a" * 64, "b" * 64, "o\\012", "n", 5, None, "", {"weekly": "3"}
+        )
         text = good.text().decode()
         self.expect("a state read again", state.parse_state(text.encode()).text().decode(), text)
-        self.expect("the first lines",
+        self.expect(
+            "the first lines",
             text.split("\n")[:4],
             ["format=2", "status=7", "time=1795602777", "date=2026-11-25T10:32:57Z"],
         )
         for written in (-(1 << 63), -(10**18), 1 - 10**18, (1 << 63) - 1):
             early = state.State(0, 1, 0, 0, 0, old_written=written).text()
-            self.expect("a file that was written at %d" % written, outcome(lambda: state.parse_state(early).old_written), written
+            self.expect(
+                "a file that was written at %d" % written,
+                outcome(lambda: state.parse_state(early).old_written),
+                written,
             )
         self.expect("further keys", state.parse_state(text.encode()).more, {"weekly": "3"})
-        self.expect("a newline in a value", state.State(18, 1, error="a\nb").text().count(b"\n"), 14)
-        self.expect("a status by its name", b"\nstatus=18\n" in state.State(ending.Status.DEVICE, 1).text(), True)
+        self.expect(
+            "a newline in a value", state.State(18, 1, error="a\nb").text().count(b"\n"), 14
+        )
+        self.expect(
+            "a status by its name",
+            b"\nstatus=18\n" in state.State(ending.Status.DEVICE, 1).text(),
+            True,
+        )
         for old, new in (
             ("format=2", "format=3"),
             ("status=7", "status=5"),
@@ -180,7 +230,10 @@ class TextsTest(ModuleTest):
             self.expect("a state with %.40r for %.40r" % (new, old), found, "refused")
 
     def test_statuses(self) -> None:
-        given = [reader.status_of(counts) for counts in ((0, 0, 0), (9, 0, 0), (0, 9, 0), (0, 0, 9), (1, 1, 1))]
+        given = [
+            reader.status_of(counts)
+            for counts in ((0, 0, 0), (9, 0, 0), (0, 9, 0), (0, 0, 9), (1, 1, 1))
+        ]
         self.expect("statuses", given, [0, 1, 2, 4, 7])
 
     def test_ends(self) -> None:
@@ -191,7 +244,11 @@ class TextsTest(ModuleTest):
             ("raise Done", 0, ""),
             ("sys.exit(2)", 18, "name: a fault of this command: SystemExit: 2\n"),
             ("return None", 18, ""),
-            ("open('/no\\n')", 18, "name: a call of the system failed: /no\\012: No such file or directory\n"),
+            (
+                "open('/no\\n')",
+                18,
+                "name: a call of the system failed: /no\\012: No such file or directory\n",
+            ),
             ("main(arguments)", 18, None),
             ("raise KeyboardInterrupt", 18, None),
             ("1 / 0", 18, None),
@@ -200,8 +257,18 @@ class TextsTest(ModuleTest):
             ("print('x'); os.close(1); return 0", 18, None),
         ):
             done = subprocess.run(
-                [sys.executable, "-I", "-S", "-c", END % (os.path.join(TOP, "commands", "lib"), body)], stdout=subprocess.PIPE, stderr=subprocess.PIPE
+                [
+                    sys.executable,
+                    "-I",
+                    "-S",
+                    "-c",
+                    END % (os.path.join(TOP, "commands", "lib"), body),
+                ],
+                stdout=subprocess.PIPE,
+                stderr=subprocess.PIPE,
             )
             given = done.stderr.decode()
-            good = done.returncode == status and (given == errors if errors is not None else "Traceback" not in given)
+            good = done.returncode == status and (
+                given == errors if errors is not None else "Traceback" not in given
+            )
             self.holds("the end by %r" % body, good, [repr(done)])

@@ -13,10 +13,16 @@ SECONDS = 120
 
 
 class Browser:
-    """A browser with one page. `faults` has what it has complained of: errors, and breaches of the content policy."""
+    """A browser with one page. `faults` has what it has complained of: errors, and breaches of the
+    content policy."""
 
     def __init__(self, command=None):
-        self.folder, self.faults, self.count, self.rest = tempfile.mkdtemp(prefix="page-"), [], 0, b""
+        self.folder, self.faults, self.count, self.rest = (
+            tempfile.mkdtemp(prefix="page-"),
+            [],
+            0,
+            b"",
+        )
         command = command or next(filter(None, map(shutil.which, NAMES)), None)
         if not command:
             raise SystemExit("there is no Chromium (%s)" % ", ".join(NAMES))
@@ -45,8 +51,14 @@ class Browser:
         for end in [inner_read, inner_write] + inner:
             os.close(end)
         self.write, self.read, self.session = write, read, None
-        target = next(target for target in self.ask("Target.getTargets")["targetInfos"] if target["type"] == "page")
-        self.session = self.ask("Target.attachToTarget", targetId=target["targetId"], flatten=True)["sessionId"]
+        target = next(
+            target
+            for target in self.ask("Target.getTargets")["targetInfos"]
+            if target["type"] == "page"
+        )
+        self.session = self.ask("Target.attachToTarget", targetId=target["targetId"], flatten=True)[
+            "sessionId"
+        ]
         for domain in ("Page", "Runtime", "Log", "DOM"):
             self.ask(domain + ".enable")
         self.ask("Performance.enable", timeDomain="threadTicks")
@@ -57,7 +69,11 @@ class Browser:
             self.rest += os.read(self.read, 1 << 20)
         text, self.rest = self.rest.split(b"\0", 1)
         message = json.loads(text)
-        if message.get("method") in ("Log.entryAdded", "Runtime.exceptionThrown", "Page.javascriptDialogOpening"):
+        if message.get("method") in (
+            "Log.entryAdded",
+            "Runtime.exceptionThrown",
+            "Page.javascriptDialogOpening",
+        ):
             self.faults.append(json.dumps(message["params"])[:400])
         return message
 
@@ -86,14 +102,19 @@ class Browser:
 
     def value(self, expression):
         """What an expression of the page's language comes to."""
-        answer = self.ask("Runtime.evaluate", expression=expression, returnByValue=True, awaitPromise=True)
+        answer = self.ask(
+            "Runtime.evaluate", expression=expression, returnByValue=True, awaitPromise=True
+        )
         if "exceptionDetails" in answer:
             raise SystemExit("%s: %s" % (expression, json.dumps(answer["exceptionDetails"])[:300]))
         return answer["result"].get("value")
 
     def worked(self):
         """Seconds of the processor that the page's thread has worked."""
-        metrics = {metric["name"]: metric["value"] for metric in self.ask("Performance.getMetrics")["metrics"]}
+        metrics = {
+            metric["name"]: metric["value"]
+            for metric in self.ask("Performance.getMetrics")["metrics"]
+        }
         return metrics["TaskDuration"]
 
     def count_of(self, selector):
@@ -103,14 +124,23 @@ class Browser:
 
     def press(self, key, code):
         for kind in ("rawKeyDown", "keyUp"):
-            self.ask("Input.dispatchKeyEvent", type=kind, key=key, code=key, windowsVirtualKeyCode=code)
+            self.ask(
+                "Input.dispatchKeyEvent", type=kind, key=key, code=key, windowsVirtualKeyCode=code
+            )
         if key == "Enter":
             self.ask("Input.dispatchKeyEvent", type="char", key=key, text="\r")
 
     def picture(self, path, width, height, dark=False):
-        self.ask("Emulation.setDeviceMetricsOverride", width=width, height=height, deviceScaleFactor=1, mobile=False)
         self.ask(
-            "Emulation.setEmulatedMedia", features=[{"name": "prefers-color-scheme", "value": "dark" if dark else "light"}]
+            "Emulation.setDeviceMetricsOverride",
+            width=width,
+            height=height,
+            deviceScaleFactor=1,
+            mobile=False,
+        )
+        self.ask(
+            "Emulation.setEmulatedMedia",
+            features=[{"name": "prefers-color-scheme", "value": "dark" if dark else "light"}],
         )
         self.ask("Runtime.evaluate", expression="scrollTo(0, 0)")
         with open(path, "wb") as file:

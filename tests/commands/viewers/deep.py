@@ -1,4 +1,5 @@
-"""Changes that are hard to show: deep paths, many nested folders, long values; each with little work and memory."""
+"""Changes that are hard to show: deep paths, many nested folders, long values; each with little
+work and memory."""
 import json
 import random
 import re
@@ -37,7 +38,9 @@ def long_value(byte, count):
 
 def many(count):
     """Entries that are each in another folder."""
-    return lines_over({}, {b"/d%06d/x" % number: {"ftype": 0o100000, "s": number} for number in range(count)})
+    return lines_over(
+        {}, {b"/d%06d/x" % number: {"ftype": 0o100000, "s": number} for number in range(count)}
+    )
 
 
 def lines_of(lines):
@@ -45,7 +48,8 @@ def lines_of(lines):
 
 
 def pages_over(lines_over_size):
-    """The work of both pages by the size of lines, and how long these are. They are made before the work begins."""
+    """The work of both pages by the size of lines, and how long these are. They are made before the
+    work begins."""
 
     def given_of(size):
         lines = lines_of(lines_over_size(size))
@@ -63,7 +67,8 @@ def additions_over(lines_over_size):
 
 
 def try_work(tally):
-    """The lines of code that run, and the pieces of paths that are looked at, grow as the input does."""
+    """The lines of code that run, and the pieces of paths that are looked at, grow as the input
+    does."""
     for label, given_of, size in (
         ("pages of a path of so many pieces", pages_over(deep_path), 1500),
         ("pages of nested folders", pages_over(nested), 150),
@@ -76,7 +81,8 @@ def try_work(tally):
 
 
 def try_memory(tally):
-    """The bytes that are held at once are a few copies of the longest line, and do not grow with the number of entries."""
+    """The bytes that are held at once are a few copies of the longest line, and do not grow with
+    the number of entries."""
     for byte, copies in ((b"\x01", 12), (b"a", 12), (b"\xff", 12)):
         lines = long_value(byte, LONG)
         for label, work, length in (
@@ -84,10 +90,16 @@ def try_memory(tally):
             ("pages", pages_of(lines_of(lines)), len(lines_of(lines))),
         ):
             held, most = bytes_held(work), copies * length + 3000000
-            tally.add("memory for %s of the byte %r" % (label, byte), [] if held < most else ["%d of %d bytes" % (held, most)])
+            tally.add(
+                "memory for %s of the byte %r" % (label, byte),
+                [] if held < most else ["%d of %d bytes" % (held, most)],
+            )
     for label, given_of in (("pages", pages_over(many)), ("lines", additions_over(many))):
         few, more = bytes_held(given_of(300)[0]), bytes_held(given_of(3000)[0])
-        tally.add("memory for %s of many entries" % label, [] if more < few + 1500000 else ["%d, then %d bytes" % (few, more)])
+        tally.add(
+            "memory for %s of many entries" % label,
+            [] if more < few + 1500000 else ["%d, then %d bytes" % (few, more)],
+        )
 
 
 def long_lines(count, letters):
@@ -111,7 +123,12 @@ def long_lines(count, letters):
         for number in range(count)
     ]
     return b"".join(
-        json.dumps(fields).encode() + b"\n" for fields in [summary, *entries, {"end": True, **counts, "same_as_old": 0, "others": count, "status": 4}]
+        json.dumps(fields).encode() + b"\n"
+        for fields in [
+            summary,
+            *entries,
+            {"end": True, **counts, "same_as_old": 0, "others": count, "status": 4},
+        ]
     )
 
 
@@ -123,14 +140,19 @@ def try_sizes(tally):
         ("2,200 long entries", long_lines(2200, 9000), True),
     ):
         for words in ([*HTML], [*HTML, "--plain"]):
-            done = subprocess.run(words, input=lines, stdout=subprocess.PIPE, stderr=subprocess.PIPE)
+            done = subprocess.run(
+                words, input=lines, stdout=subprocess.PIPE, stderr=subprocess.PIPE
+            )
             good = not done.returncode and 1000 < len(done.stdout) <= MOST_BYTES
             tally.add(
                 "size for %s %s" % (label, words[1:]),
                 [] if good else ["status %d, %d bytes" % (done.returncode, len(done.stdout))],
             )
             says = bool(CUT.search(done.stdout))
-            tally.add("%s %s is said to be cut" % (label, words[1:]), [] if says == is_cut else ["it is %s" % says])
+            tally.add(
+                "%s %s is said to be cut" % (label, words[1:]),
+                [] if says == is_cut else ["it is %s" % says],
+            )
 
 
 def try_deep(tally):
@@ -142,13 +164,32 @@ def try_deep(tally):
 def try_script(script, tally):
     """The script of the page has no function that calls itself as deep as folders are nested."""
     body = script[script.index("function fill(") : script.index("function toggle(")]
-    item = script[script.index("function folderItem(") : script.index("// Folders that are open are filled")]
-    calls = [
-        line for line in (item + body).splitlines() if "fill(" in line and "function" not in line and "CHILDREN" not in line
+    item = script[
+        script.index("function folderItem(") : script.index("// Folders that are open are filled")
     ]
-    tally.add("the script fills folders in a loop", ["it calls itself in: %s" % line.strip() for line in calls])
-    tally.add("few folders are open at first", [] if "opened.size < DEEP" in script else ["there is no bound"])
-    for word in ("innerHTML", "outerHTML", "insertAdjacentHTML", "document.write", "eval(", "setTimeout('", ".href", ".src"):
+    calls = [
+        line
+        for line in (item + body).splitlines()
+        if "fill(" in line and "function" not in line and "CHILDREN" not in line
+    ]
+    tally.add(
+        "the script fills folders in a loop",
+        ["it calls itself in: %s" % line.strip() for line in calls],
+    )
+    tally.add(
+        "few folders are open at first",
+        [] if "opened.size < DEEP" in script else ["there is no bound"],
+    )
+    for word in (
+        "innerHTML",
+        "outerHTML",
+        "insertAdjacentHTML",
+        "document.write",
+        "eval(",
+        "setTimeout('",
+        ".href",
+        ".src",
+    ):
         tally.add("the script has no " + word, [] if word not in script else ["it has"])
 
 
@@ -156,12 +197,21 @@ def try_times(tally):
     """What stands in place of a time is text, also if it is markup."""
     from aide_compare.show.page_items import cell
 
-    tally.add("a note is text", [] if "<b>" not in cell("1", "<b>") + cell("<b>", "1") else ["it is markup"])
+    tally.add(
+        "a note is text",
+        [] if "<b>" not in cell("1", "<b>") + cell("<b>", "1") else ["it is markup"],
+    )
     lines = [json.loads(line) for line in lines_of(rich_lines()).splitlines()]
     entry = next(fields for fields in lines if "Mtime" in fields.get("new", ()))
     for value in ("</noscript><meta http-equiv=refresh>", "2026-11-25T12:00:00Z<b>", "soon", 7):
         entry["new_text"] = {"Mtime": value}
         text = b"".join(json.dumps(fields).encode() + b"\n" for fields in lines)
-        done = subprocess.run([*HTML, "--plain"], input=text, stdout=subprocess.PIPE, stderr=subprocess.PIPE)
-        good = not done.returncode and b"<meta http-equiv=refresh>" not in done.stdout if value != 7 else done.returncode == 65
+        done = subprocess.run(
+            [*HTML, "--plain"], input=text, stdout=subprocess.PIPE, stderr=subprocess.PIPE
+        )
+        good = (
+            not done.returncode and b"<meta http-equiv=refresh>" not in done.stdout
+            if value != 7
+            else done.returncode == 65
+        )
         tally.add("a time %r" % value, [] if good else ["status %d" % done.returncode])

@@ -1,4 +1,5 @@
-"""Entries with names and values that could be taken for something else: for a part of a report, or for markup."""
+"""Entries with names and values that could be taken for something else: for a part of a report, or
+for markup."""
 from collections import namedtuple
 
 from tests.oracle.attributes import ATTRIBUTES
@@ -119,11 +120,16 @@ def random_value(pick, form):
 
 def random_entry(pick, most):
     attributes = pick.sample(ATTRIBUTES, pick.randint(0, most))
-    return {attribute.name: random_value(pick, attribute.form) for attribute in ATTRIBUTES if attribute in attributes}
+    return {
+        attribute.name: random_value(pick, attribute.form)
+        for attribute in ATTRIBUTES
+        if attribute in attributes
+    }
 
 
 def edited(pick, entry):
-    """An entry with some attributes changed, added or removed; sometimes with all of them added or removed."""
+    """An entry with some attributes changed, added or removed; sometimes with all of them added or
+    removed."""
     if pick.random() < 0.15:
         every = {attribute.name: random_value(pick, attribute.form) for attribute in ATTRIBUTES}
         return pick.choice([{}, every, {**every, "ftype": entry.get("ftype", 0o100000)}])
@@ -147,5 +153,7 @@ def random_databases(pick):
         if kind != "new":
             old[path] = entry
         if kind != "old":
-            new[path] = entry if kind == "same" else edited(pick, entry) if kind == "both" else entry
+            new[path] = (
+                entry if kind == "same" else edited(pick, entry) if kind == "both" else entry
+            )
     return [Database(old), Database(new)], [b"%d" % pick.getrandbits(64) for _ in range(2)]

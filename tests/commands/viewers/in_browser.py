@@ -36,13 +36,12 @@ UNFOLD = """for (let folds; (folds = [...document.querySelectorAll('[aria-expand
   for (const fold of folds) fold.click(); }"""
 LABELS = "[...document.querySelectorAll('#tree [role=treeitem]')].map((one) => one.getAttribute('aria-label'))"
 LISTED = (
-    "[...document.querySelectorAll('%s')].map((one) => ['b', 'code'].map((tag) => one.querySelector(tag).textContent))" % ENTRY
+    "[...document.querySelectorAll('%s')].map((one) => ['b', 'code'].map((tag) => one.querySelector(tag).textContent))"
+    % ENTRY
 )
 NARROW = """Math.min(...[...document.querySelectorAll('#tree > li > .folder code')].map(
   (one) => one.clientWidth || one.offsetWidth))"""
-ORDER = (
-    """{ const order = document.getElementById('order'); order.value = 'size'; order.dispatchEvent(new Event('change')); }"""
-)
+ORDER = """{ const order = document.getElementById('order'); order.value = 'size'; order.dispatchEvent(new Event('change')); }"""
 
 
 def wait_for(browser, expression, wanted):
@@ -90,7 +89,8 @@ def try_views(browser, tally):
             "standing": one.get("standing", "open"),
             "package": one.get("package", ""),
             "attribute": " ".join(one["attributes"]),
-            "about": (" Size %+d" if one["kind"] == "changed" else " %d bytes") % one.get("growth", 0),
+            "about": (" Size %+d" if one["kind"] == "changed" else " %d bytes")
+            % one.get("growth", 0),
         }
         for one in table["entries"]
     ]
@@ -99,7 +99,9 @@ def try_views(browser, tally):
     for case in table["cases"]:
         words = (choices, part_of("page_logic.js"), json.dumps(entries), json.dumps(case["view"]))
         found, text = browser.value(VIEWED % words)
-        tally.add("view %s" % case["view"], [] if found == case["found"] else ["it finds %r" % found])
+        tally.add(
+            "view %s" % case["view"], [] if found == case["found"] else ["it finds %r" % found]
+        )
         wanted = case.get("text", case["view"])
         tally.add("text of %s" % case["view"], [] if text == wanted else ["it is %r" % text])
 
@@ -110,9 +112,20 @@ def try_folders(browser, path, tally):
     browser.value(UNFOLD)
     browser.value("window.dispatchEvent(new Event('beforeprint'))")
     entries = [(KINDS.index(words.split()[0]), name) for words, name in browser.value(LISTED)]
-    wanted = [[name + "/", [count for count in counts if count]] for name, counts in wanted_folders(entries)]
-    given = [[label.split(", ")[0], list(map(int, re.findall(r", ([0-9]+) ", label)))] for label in browser.value(LABELS)]
-    tally.add("directories", [] if sorted(given) == sorted(wanted) and given else ["%r, and not %r" % (given[:9], wanted[:9])])
+    wanted = [
+        [name + "/", [count for count in counts if count]]
+        for name, counts in wanted_folders(entries)
+    ]
+    given = [
+        [label.split(", ")[0], list(map(int, re.findall(r", ([0-9]+) ", label)))]
+        for label in browser.value(LABELS)
+    ]
+    tally.add(
+        "directories",
+        []
+        if sorted(given) == sorted(wanted) and given
+        else ["%r, and not %r" % (given[:9], wanted[:9])],
+    )
     browser.value("window.dispatchEvent(new Event('afterprint'))")
 
 
@@ -120,15 +133,23 @@ def try_filters(browser, path, tally):
     tally.add("the first page", opened(browser, path) + wait_for(browser, SHOWN, 100))
     total = int(browser.value(FOUND).split()[0])
     click(browser, "#next")
-    tally.add("the second page", wait_for(browser, "document.getElementById('place').textContent", "Page 2 of 3"))
+    tally.add(
+        "the second page",
+        wait_for(browser, "document.getElementById('place').textContent", "Page 2 of 3"),
+    )
     click(browser, "#kind button", "removed")
     removed = "document.querySelectorAll('#list b.removed').length"
-    count = browser.value("Number(document.querySelector('#kind button.removed small').textContent)")
-    tally.add(
-        "removed ones", wait_for(browser, FOUND, "%d of %d entries" % (count, total)) + wait_for(browser, removed, count)
+    count = browser.value(
+        "Number(document.querySelector('#kind button.removed small').textContent)"
     )
     tally.add(
-        "all of them are removed", wait_for(browser, "document.querySelectorAll('#list b[class]:not(.removed)').length", 0)
+        "removed ones",
+        wait_for(browser, FOUND, "%d of %d entries" % (count, total))
+        + wait_for(browser, removed, count),
+    )
+    tally.add(
+        "all of them are removed",
+        wait_for(browser, "document.querySelectorAll('#list b[class]:not(.removed)').length", 0),
     )
     click(browser, "#kind button", "removed")
     click(browser, "#attribute button", "Digests")
@@ -136,30 +157,47 @@ def try_filters(browser, path, tally):
         "an attribute",
         wait_for(
             browser,
-            "[...document.querySelectorAll('#list b.changed ~ i')].every((one) => " "one.textContent.includes('Digests'))",
+            "[...document.querySelectorAll('#list b.changed ~ i')].every((one) => "
+            "one.textContent.includes('Digests'))",
             True,
         ),
     )
     click(browser, "#clear")
     search(browser, "ETC/")
     tally.add("a path", wait_for(browser, FOUND, "%d of %d entries" % (len(DEMO) - 1, total)))
-    tally.add("folders of a path", wait_for(browser, "document.querySelectorAll('#tree > li').length", 1))
+    tally.add(
+        "folders of a path", wait_for(browser, "document.querySelectorAll('#tree > li').length", 1)
+    )
     search(browser, "")
     tally.add("no path", wait_for(browser, FOUND, "%d entries" % total))
     click(browser, "#tree .folder", "etc/")
-    tally.add("a folder", wait_for(browser, FOUND, "%d of %d entries in /etc/" % (len(DEMO) - 1, total)))
+    tally.add(
+        "a folder", wait_for(browser, FOUND, "%d of %d entries in /etc/" % (len(DEMO) - 1, total))
+    )
     click(browser, "#unfold")
     tally.add(
-        "values", wait_for(browser, "document.querySelectorAll('#list li > details[open] > table').length", len(DEMO) - 1)
+        "values",
+        wait_for(
+            browser,
+            "document.querySelectorAll('#list li > details[open] > table').length",
+            len(DEMO) - 1,
+        ),
     )
     tally.add("no fault", browser.faults)
 
 
 def try_entries(browser, path, pictures, tally):
-    """What matters most comes first; digests and exact values open on demand; a new file shows its mode."""
+    """What matters most comes first; digests and exact values open on demand; a new file shows its
+    mode."""
     opened(browser, path)
     browser.value("document.querySelectorAll('#list > li').length")
-    first = ["/etc/passwd", "/etc/ssh/sshd_config", "/usr/local/sbin/.x", "/etc/cron.d/backup", "/etc/motd"]
+    first = [
+        "/etc/passwd",
+        "/etc/ssh/sshd_config",
+        "/usr/local/sbin/.x",
+        "/etc/cron.d/backup",
+        "/etc/motd",
+    ]
     tally.add("the severe first", wait_for(browser, PATHS + ".slice(0, 5)", first))
     heading = "document.querySelector('#list h2').textContent"
     tally.add("the first heading", wait_for(browser, heading, "Open, severity high: 3 entries"))
@@ -170,18 +208,41 @@ def try_entries(browser, path, pictures, tally):
     click(browser, "#list details[open] > table + details > summary")
     tally.add(
         "the other digests",
-        wait_for(browser, "document.querySelectorAll('#list details[open] > table + details[open] th[scope=row]').length", 4),
+        wait_for(
+            browser,
+            "document.querySelectorAll('#list details[open] > table + details[open] th[scope=row]').length",
+            4,
+        ),
     )
     exact = "[...document.querySelectorAll('#list td details')].map((one) => one.textContent)[0]"
     tally.add("an exact value", wait_for(browser, exact, "2026-01-01 00:00:00 +00001767225600"))
-    for name, width, height, dark in (("light", 1280, 900, False), ("dark", 1280, 900, True), ("narrow", 320, 2400, False)):
+    for name, width, height, dark in (
+        ("light", 1280, 900, False),
+        ("dark", 1280, 900, True),
+        ("narrow", 320, 2400, False),
+    ):
         if pictures:
             browser.picture(os.path.join(pictures, name + ".png"), width, height, dark)
-    browser.ask("Emulation.setDeviceMetricsOverride", width=320, height=900, deviceScaleFactor=1, mobile=False)
-    tally.add("no sideways scrolling at 320", wait_for(browser, "document.documentElement.scrollWidth <= 320", True))
+    browser.ask(
+        "Emulation.setDeviceMetricsOverride",
+        width=320,
+        height=900,
+        deviceScaleFactor=1,
+        mobile=False,
+    )
+    tally.add(
+        "no sideways scrolling at 320",
+        wait_for(browser, "document.documentElement.scrollWidth <= 320", True),
+    )
     width = browser.value(NARROW)
     tally.add("folder names have room at 320", [] if width >= 150 else ["%r" % width])
-    browser.ask("Emulation.setDeviceMetricsOverride", width=1280, height=900, deviceScaleFactor=1, mobile=False)
+    browser.ask(
+        "Emulation.setDeviceMetricsOverride",
+        width=1280,
+        height=900,
+        deviceScaleFactor=1,
+        mobile=False,
+    )
 
 
 def try_address(browser, path, tally):
@@ -191,9 +252,14 @@ def try_address(browser, path, tally):
     search(browser, "sshd")
     tally.add("the address", wait_for(browser, HASH, "#severity=high&path=sshd"))
     browser.value(ORDER)
-    tally.add("the order in the address", wait_for(browser, HASH, "#severity=high&path=sshd&order=size"))
+    tally.add(
+        "the order in the address", wait_for(browser, HASH, "#severity=high&path=sshd&order=size")
+    )
     opened(browser, path, "#kind=added&order=size&standing=open")
-    tally.add("a page of an address", wait_for(browser, PATHS, ["/usr/local/sbin/.x", "/etc/cron.d/backup"]))
+    tally.add(
+        "a page of an address",
+        wait_for(browser, PATHS, ["/usr/local/sbin/.x", "/etc/cron.d/backup"]),
+    )
     tally.add(
         "its buttons",
         wait_for(
@@ -204,35 +270,54 @@ def try_address(browser, path, tally):
         ),
     )
     browser.value("location.hash = 'directory=/etc&page=1'")
-    tally.add("another address", wait_for(browser, FOUND.replace(".textContent", ".textContent.slice(0, 2)"), "4 "))
+    tally.add(
+        "another address",
+        wait_for(browser, FOUND.replace(".textContent", ".textContent.slice(0, 2)"), "4 "),
+    )
 
 
 def try_keyboard(browser, path, tally):
     opened(browser, path)
     browser.press("Tab", 9)
-    tally.add("the first stop skips to the entries", wait_for(browser, FOCUS + ".className", "skip"))
+    tally.add(
+        "the first stop skips to the entries", wait_for(browser, FOCUS + ".className", "skip")
+    )
     browser.press("Enter", 13)
     tally.add("it goes to the entries", wait_for(browser, FOCUS + ".id", "content"))
     browser.value("document.querySelector('.about summary').focus()")
     browser.press("Tab", 9)
-    tally.add("a row of buttons is next", wait_for(browser, FOCUS + ".closest('#standing') !== null", True))
+    tally.add(
+        "a row of buttons is next",
+        wait_for(browser, FOCUS + ".closest('#standing') !== null", True),
+    )
     browser.press("ArrowRight", 39)
-    tally.add("an arrow goes on", wait_for(browser, FOCUS + ".textContent.includes('recorded')", True))
+    tally.add(
+        "an arrow goes on", wait_for(browser, FOCUS + ".textContent.includes('recorded')", True)
+    )
     browser.press("Enter", 13)
     tally.add("it is pressed", wait_for(browser, FOCUS + ".getAttribute('aria-pressed')", "true"))
     browser.press("Enter", 13)
     stops = 0
-    while stops < 40 and not browser.value("document.getElementById('tree').contains(document.activeElement)"):
+    while stops < 40 and not browser.value(
+        "document.getElementById('tree').contains(document.activeElement)"
+    ):
         browser.press("Tab", 9)
         stops += 1
     tally.add("few stops before the tree", [] if 0 < stops <= 6 else ["%d" % stops])
     was = browser.value(FOCUS + ".node.path")
     browser.press("ArrowDown", 40)
-    tally.add("the next folder", [] if browser.value(FOCUS + ".node.path") != was else ["it is the same"])
+    tally.add(
+        "the next folder", [] if browser.value(FOCUS + ".node.path") != was else ["it is the same"]
+    )
     browser.press("Home", 36)
     browser.press("Enter", 13)
-    tally.add("a folder is chosen", wait_for(browser, FOCUS + ".getAttribute('aria-selected')", "true"))
-    tally.add("one stop in the tree", wait_for(browser, "document.querySelectorAll('#tree [tabindex=\"0\"]').length", 1))
+    tally.add(
+        "a folder is chosen", wait_for(browser, FOCUS + ".getAttribute('aria-selected')", "true")
+    )
+    tally.add(
+        "one stop in the tree",
+        wait_for(browser, "document.querySelectorAll('#tree [tabindex=\"0\"]').length", 1),
+    )
     browser.value("document.querySelector('#list summary').focus()")
     was = browser.value(FOCUS + ".parentElement.open")
     browser.press("Enter", 13)
@@ -244,10 +329,16 @@ def try_printing(browser, path, tally):
     opened(browser, path, "#kind=changed")
     total = int(browser.value(FOUND).split()[0])
     browser.value("window.dispatchEvent(new Event('beforeprint'))")
-    tally.add("all are printed", wait_for(browser, SHOWN, total) if total > 200 else ["only %d" % total])
+    tally.add(
+        "all are printed", wait_for(browser, SHOWN, total) if total > 200 else ["only %d" % total]
+    )
     tally.add(
         "what is printed is said",
-        wait_for(browser, "document.getElementById('asked').textContent", "Only entries with: kind changed."),
+        wait_for(
+            browser,
+            "document.getElementById('asked').textContent",
+            "Only entries with: kind changed.",
+        ),
     )
     browser.value("window.dispatchEvent(new Event('afterprint'))")
     tally.add("then a page again", wait_for(browser, SHOWN, 100))
@@ -258,10 +349,18 @@ def try_printing(browser, path, tally):
 def try_hostile(browser, path, pictures, tally):
     tally.add("hostile entries", opened(browser, path))
     total = int(browser.value(FOUND).split()[0])
-    tally.add("they are shown", wait_for(browser, SHOWN, min(total, 100)) if total > 50 else ["only %d" % total])
+    tally.add(
+        "they are shown",
+        wait_for(browser, SHOWN, min(total, 100)) if total > 50 else ["only %d" % total],
+    )
     click(browser, "#unfold")
     tally.add(
-        "their values", wait_for(browser, "document.querySelectorAll('#list li > details[open] > table').length > 50", True)
+        "their values",
+        wait_for(
+            browser,
+            "document.querySelectorAll('#list li > details[open] > table').length > 50",
+            True,
+        ),
     )
     for selector in (
         "img",
@@ -271,7 +370,10 @@ def try_hostile(browser, path, pictures, tally):
         "iframe",
         "body script",
     ):
-        tally.add("no " + selector, wait_for(browser, "document.querySelectorAll(%s).length" % json.dumps(selector), 0))
+        tally.add(
+            "no " + selector,
+            wait_for(browser, "document.querySelectorAll(%s).length" % json.dumps(selector), 0),
+        )
     direction = r"/[\u202a-\u202e\u2066-\u2069]/.test(document.documentElement.outerHTML)"
     tally.add("no direction", wait_for(browser, direction, False))
     if pictures:
@@ -304,8 +406,13 @@ def try_without_script(browser, paths, pictures, tally):
     for name, path, off in (("without scripts", paths[0], True), ("plain", paths[1], False)):
         browser.ask("Emulation.setScriptExecutionDisabled", value=off)
         browser.open(path)
-        given, entries = browser.count_of(".group li > details > table:first-of-type"), browser.count_of(".group b")
-        tally.add(name, [] if entries > 200 and given > 200 else ["%d entries, %d tables" % (entries, given)])
+        given, entries = browser.count_of(
+            ".group li > details > table:first-of-type"
+        ), browser.count_of(".group b")
+        tally.add(
+            name,
+            [] if entries > 200 and given > 200 else ["%d entries, %d tables" % (entries, given)],
+        )
         if pictures:
             browser.picture(os.path.join(pictures, name.replace(" ", "_") + ".png"), 1280, 900)
     browser.ask("Emulation.setScriptExecutionDisabled", value=False)

@@ -49,7 +49,8 @@ FOLDERS = [
 def paths_of(count):
     """Paths in path order: folders as a system has them, with files in them."""
     paths = [
-        "/%s/package-%04d/file-%02d.so" % (FOLDERS[number % len(FOLDERS)], number // 200, number // 10 % 20)
+        "/%s/package-%04d/file-%02d.so"
+        % (FOLDERS[number % len(FOLDERS)], number // 200, number // 10 % 20)
         for number in range(count)
     ]
     return sorted(paths, key=lambda path: path.split("/"))
@@ -61,17 +62,24 @@ def write_databases(folder, count):
     names = ["old", "new"]
     files = [open(os.path.join(folder, name), "w") for name in names]
     for file in files:
-        file.write("@@begin_db\n@@db_spec name perm uid gid size mtime ctime inode lcount %s\n" % " ".join(DIGESTS))
+        file.write(
+            "@@begin_db\n@@db_spec name perm uid gid size mtime ctime inode lcount %s\n"
+            % " ".join(DIGESTS)
+        )
     for number, path in enumerate(paths_of(count)):
         for side, file in enumerate(files):
             if number % 20 == side:
                 continue
             digests = " ".join(
-                base64.b64encode(pick.getrandbits(8 * length).to_bytes(length, "big")).decode() for length in DIGESTS.values()
+                base64.b64encode(pick.getrandbits(8 * length).to_bytes(length, "big")).decode()
+                for length in DIGESTS.values()
             )
             mode, size = ["644", "755"][side * (number % 7 == 0)], 4096 + number * (side + 1)
             mtime, ctime = (1700000000 + number + later * side for later in (86400, 90000))
-            file.write("%s 100%s 0 0 %d %d %d %d 1 %s\n" % (path, mode, size, mtime, ctime, number, digests))
+            file.write(
+                "%s 100%s 0 0 %d %d %d %d 1 %s\n"
+                % (path, mode, size, mtime, ctime, number, digests)
+            )
     for file in files:
         file.write("@@end_db\n")
         file.close()
@@ -81,13 +89,19 @@ def measured(words, source, target):
     """Status, seconds by the clock, seconds of the processor, and megabytes of a command."""
     with open(source, "rb") as text, open(target, "wb") as output:
         began = time.time()
-        done = subprocess.run([sys.executable, "-c", MEASURE, *words], stdin=text, stdout=output, stderr=subprocess.PIPE)
+        done = subprocess.run(
+            [sys.executable, "-c", MEASURE, *words],
+            stdin=text,
+            stdout=output,
+            stderr=subprocess.PIPE,
+        )
     seconds, kilobytes = done.stderr.split()[-2:]
     return done.returncode, time.time() - began, float(seconds), int(kilobytes) / 1024
 
 
 def try_large(program, count, tally):
-    """Measures the way from two databases to a page. The time of the processor counts: other work may share it."""
+    """Measures the way from two databases to a page. The time of the processor counts: other work
+    may share it."""
     with tempfile.TemporaryDirectory() as folder:
 
         def path_in(name):
@@ -95,9 +109,16 @@ def try_large(program, count, tally):
 
         write_databases(folder, count)
         with open(path_in("conf"), "w") as file:
-            file.write("database_in=file:%s\ndatabase_new=file:%s\n" % (path_in("old"), path_in("new")))
+            file.write(
+                "database_in=file:%s\ndatabase_new=file:%s\n" % (path_in("old"), path_in("new"))
+            )
         for label, words, source, target in (
-            ("aide_lines", [lines_program_of(program), "-E", "-c", path_in("conf")], "conf", "proved"),
+            (
+                "aide_lines",
+                [lines_program_of(program), "-E", "-c", path_in("conf")],
+                "conf",
+                "proved",
+            ),
             ("aide-compare json --full", [*JSON, "--full"], "proved", "lines"),
             ("aide-compare json", [*JSON], "proved", "lines"),
             ("aide-compare page", [*HTML], "lines", "page"),

@@ -41,10 +41,19 @@ def entry_of(pick, number, path):
         fields[side] = {"Inode": number + 100 * later}
         if kind == "changed":
             moment = FIRST + number + 86400 * later
-            digests = {name: "%0*x" % (2 * size, pick.getrandbits(8 * size)) for name, size in DIGESTS}
-            fields[side].update({"Size": (4096 + number) << later, "Mtime": moment, "Ctime": moment, **digests})
+            digests = {
+                name: "%0*x" % (2 * size, pick.getrandbits(8 * size)) for name, size in DIGESTS
+            }
+            fields[side].update(
+                {"Size": (4096 + number) << later, "Mtime": moment, "Ctime": moment, **digests}
+            )
     package = "package-%04d 1.%d-1" % (number // 200, number % 3)
-    stand(fields, "recorded" if number % 50 else "open", "high" if number % 1000 == 2 else "medium", package)
+    stand(
+        fields,
+        "recorded" if number % 50 else "open",
+        "high" if number % 1000 == 2 else "medium",
+        package,
+    )
     return fields
 
 
@@ -52,18 +61,24 @@ def write_lines(path, count):
     """Lines of so many changes, with standings."""
     pick, encode = random.Random(1), json.JSONEncoder(separators=(",", ":")).encode
     kinds = [{0: "added", 1: "removed"}.get(number % 20, "changed") for number in range(count)]
-    counts = {"total": count, **{kind: kinds.count(kind) for kind in ("added", "removed", "changed")}}
+    counts = {
+        "total": count,
+        **{kind: kinds.count(kind) for kind in ("added", "removed", "changed")},
+    }
     database = {"path": "/a", "sha256": "00" * 32, "skipped": []}
     summary = {"format": 3, "old": database, "new": database}
     with open(path, "w") as file:
         file.write(encode(summary) + "\n")
         for number, name in enumerate(paths_of(count)):
             file.write(encode(entry_of(pick, number, name)) + "\n")
-        file.write(encode({"end": True, **counts, "same_as_old": 0, "others": count, "status": 7}) + "\n")
+        file.write(
+            encode({"end": True, **counts, "same_as_old": 0, "others": count, "status": 7}) + "\n"
+        )
 
 
 def made(source, target, *words):
-    """Status, seconds of the processor and megabytes that a page takes, and how many bytes it has."""
+    """Status, seconds of the processor and megabytes that a page takes, and how many bytes it
+    has."""
     status, _, seconds, megabytes = measured([*HTML, *words], source, target)
     return status, seconds, megabytes, os.path.getsize(target)
 
@@ -80,14 +95,18 @@ def try_large(browser, count, folder, tally):
             flush=True,
         )
         good = not status and size <= MOST_BYTES
-        tally.add("a large page %s" % words, [] if good else ["status %d, %d bytes" % (status, size)])
+        tally.add(
+            "a large page %s" % words, [] if good else ["status %d, %d bytes" % (status, size)]
+        )
     browser.open("/proc/version")
     began, worked = time.time(), browser.worked()
     browser.open(path)
     while browser.value("document.getElementById('view').hidden") is not False:
         time.sleep(0.02)
     seconds, work, answers = time.time() - began, browser.worked() - worked, []
-    for what in [SEARCH % text for text in SEARCHES] + ["document.querySelector('#kind button').click()"]:
+    for what in [SEARCH % text for text in SEARCHES] + [
+        "document.querySelector('#kind button').click()"
+    ]:
         before = browser.worked()
         browser.value(what)
         answers.append(browser.worked() - before)

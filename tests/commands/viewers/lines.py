@@ -15,7 +15,10 @@ from aide_compare.show.page import page
 # What proves a standing that is silent, and all names of counts.
 PROOFS = {"same": "old", "trusted": "trusted"}
 STANDINGS = ("same", "trusted", "recorded", "open")
-COUNTED = STANDINGS + tuple("%s_%s" % (name, each) for name in ("open", "recorded") for each in ("high", "medium", "low"))
+COUNTED = STANDINGS + tuple(
+    "%s_%s" % (name, each) for name in ("open", "recorded") for each in ("high", "medium", "low")
+)
+
 
 def run(words, text=b"", **streams):
     """Status, output and error lines of a command."""
@@ -46,7 +49,8 @@ def changes_of(objects):
 
 
 def stand(fields, standing, severity="medium", package=""):
-    """Gives a change a standing, as aide-compare json does; what is silent has a proof and no severity."""
+    """Gives a change a standing, as aide-compare json does; what is silent has a proof and no
+    severity."""
     for name in ("same_as", "standing", "severity", "package"):
         fields.pop(name, None)
     fields["standing"] = standing

@@ -3,7 +3,14 @@ import random
 import re
 
 from tests.commands.viewers.hostile import NAMES
-from tests.commands.viewers.lines import STANDINGS, changes_of, objects_of, page_of, stand, with_counts
+from tests.commands.viewers.lines import (
+    STANDINGS,
+    changes_of,
+    objects_of,
+    page_of,
+    stand,
+    with_counts,
+)
 from tests.commands.viewers.pages import page_faults
 from tests.commands.viewers.refused import rich_lines
 
@@ -15,13 +22,19 @@ STREAMS = 60
 
 
 def with_standings(objects, pick):
-    """The objects with standings, as aide-compare json adds them, some of them with hostile names of packages."""
-    texts = [escaped(name, 100) for name in pick.sample(NAMES, 5)] + ["openssl 3.0.15-1~deb12u1", "libc6 2.36"]
+    """The objects with standings, as aide-compare json adds them, some of them with hostile names
+    of packages."""
+    texts = [escaped(name, 100) for name in pick.sample(NAMES, 5)] + [
+        "openssl 3.0.15-1~deb12u1",
+        "libc6 2.36",
+    ]
     for fields in changes_of(objects):
         stand(fields, pick.choice(STANDINGS), pick.choice(SEVERITIES), pick.choice(texts))
         for label in fields.get("new", {}):
             if pick.random() < 0.3:
-                fields.setdefault("new_text", {})[label] = pick.choice(NAMES).decode("utf-8", "surrogateescape")
+                fields.setdefault("new_text", {})[label] = pick.choice(NAMES).decode(
+                    "utf-8", "surrogateescape"
+                )
     return with_counts(objects)
 
 
@@ -36,7 +49,11 @@ def count_faults(text, counts):
             wanted[name] = count
     given = {name: told[name] for name in told if name in (*STANDINGS, *SEVERITIES)}
     faults = [] if given == wanted else ["the counts are %r, and not %r" % (given, wanted)]
-    return faults + ([] if "Whoever was root there can write" in text else ["it does not say what records are worth"])
+    return faults + (
+        []
+        if "Whoever was root there can write" in text
+        else ["it does not say what records are worth"]
+    )
 
 
 def try_standings(seed, tally):
@@ -58,7 +75,13 @@ def try_blank_ends(tally):
     """A blank at an end of a value is seen, also beside a summary string that ends with one."""
     head, *_, end = objects_of(rich_lines())
     counts = {"total": 1, "added": 0, "removed": 0, "changed": 1}
-    entry = {"kind": "changed", "path": "/l", "summary": "l =.... mc....  . ", "type": "Link", "old": {"Lname": "/a"}}
+    entry = {
+        "kind": "changed",
+        "path": "/l",
+        "summary": "l =.... mc....  . ",
+        "type": "Link",
+        "old": {"Lname": "/a"},
+    }
     for value, want in (("/t ", ">/t\\040<"), (" /t", ">\\040/t<"), ("/t", ">/t<")):
         numbers = {**counts, "same_as_old": 0, "others": 1, "status": 4}
         lines = [head, {**entry, "new": {"Lname": value}}, {**end, **numbers}]
@@ -67,7 +90,8 @@ def try_blank_ends(tally):
 
 
 def try_heading(tally):
-    """The host, the times, further members, and what was left out: each is there if the summary has it, and is text."""
+    """The host, the times, further members, and what was left out: each is there if the summary has
+    it, and is text."""
     objects = objects_of(rich_lines())
     more = {
         "host": "www<b>",
@@ -86,7 +110,10 @@ def try_heading(tally):
         '<p class="remark">The comparison left out 1 entry of the old database and 2,300 entries of the new '
         "database, by the rules of --exclude-from.</p>",
     ):
-        tally.add("the heading has " + part, [] if part in text.partition("</header>")[0] else ["it has not"])
+        tally.add(
+            "the heading has " + part,
+            [] if part in text.partition("</header>")[0] else ["it has not"],
+        )
     plain = page_of(objects, True)
     for part in ('class="facts"', "left out", "<span>of ", "<script"):
         tally.add("an ordinary page has no " + part, ["it has"] if part in plain else [])
@@ -95,5 +122,13 @@ def try_heading(tally):
     entry["new_text"] = {"Perm": "-rwsr-xr-x", "ACL": "user::rw-<"}
     for is_plain in (False, True):
         text = page_of(objects, is_plain)
-        tally.add("a new file", [] if "> -rwsr-xr-x  0:50  18344 bytes</i>" in text else ["its mode and owner are not there"])
-        tally.add("a decoded value", [] if "<summary>user::rw-&lt;</summary>POSIX,dXNl<" in text else ["it is not there"])
+        tally.add(
+            "a new file",
+            []
+            if "> -rwsr-xr-x  0:50  18344 bytes</i>" in text
+            else ["its mode and owner are not there"],
+        )
+        tally.add(
+            "a decoded value",
+            [] if "<summary>user::rw-&lt;</summary>POSIX,dXNl<" in text else ["it is not there"],
+        )

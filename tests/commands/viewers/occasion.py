@@ -1,4 +1,5 @@
-"""Where and when: what --full and --with put into the lines, and what the schema says of all lines."""
+"""Where and when: what --full and --with put into the lines, and what the schema says of all
+lines."""
 import json
 import os
 import re
@@ -25,37 +26,51 @@ def lines_over(program, pair, more=""):
     return proved_lines(program, CONFIGURATION % (pair[0], pair[1], more))
 
 
-
 def lines(text, *words):
-    done = subprocess.run([*JSON] + list(words), input=text, stdout=subprocess.PIPE, stderr=subprocess.PIPE)
+    done = subprocess.run(
+        [*JSON] + list(words), input=text, stdout=subprocess.PIPE, stderr=subprocess.PIPE
+    )
     return done.returncode, [json.loads(line) for line in done.stdout.splitlines()], done.stderr
 
 
 class Kept:
-    """The installed commands, two databases, the proved lines of them, and the state file of their comparison."""
+    """The installed commands, two databases, the proved lines of them, and the state file of their
+    comparison."""
 
     def __init__(self, program, folder):
         self.old, self.new = PAIR
         for name in ("bin", "lib", "share"):
             copy_modules(os.path.join(COMMANDS, name), os.path.join(folder, "prefix", name))
         os.makedirs(os.path.join(folder, "prefix/libexec/aide-compare"))
-        for name, path in (("aide", os.fsdecode(program)), ("aide_lines", lines_program_of(program))):
+        for name, path in (
+            ("aide", os.fsdecode(program)),
+            ("aide_lines", lines_program_of(program)),
+        ):
             os.symlink(path, os.path.join(folder, "prefix/libexec/aide-compare", name))
-        self.command, path = os.path.join(folder, "prefix/bin/aide-compare"), os.path.join(folder, "state")
-        subprocess.run([self.command, "-q", "--state", path, self.old, self.new], check=False, capture_output=True)
+        self.command, path = os.path.join(folder, "prefix/bin/aide-compare"), os.path.join(
+            folder, "state"
+        )
+        subprocess.run(
+            [self.command, "-q", "--state", path, self.old, self.new],
+            check=False,
+            capture_output=True,
+        )
         self.lines = lines_over(program, PAIR)
         with open(path) as file:
             self.values = dict(line.split("=", 1) for line in file.read().splitlines())
 
     def compared(self, *words):
-        """What `aide-compare json` says of both databases: its status, the objects and its errors."""
-        done = subprocess.run([self.command, "json", *words, self.old, self.new], check=False, capture_output=True)
+        """What `aide-compare json` says of both databases: its status, the objects and its
+        errors."""
+        done = subprocess.run(
+            [self.command, "json", *words, self.old, self.new], check=False, capture_output=True
+        )
         return done.returncode, [json.loads(line) for line in done.stdout.splitlines()], done.stderr
 
 
 def try_two(kept, tally):
-    """Two databases give the lines that the proved program has, with the names of both, the severity of each change, the
-    counts of standings, and the status of the comparison."""
+    """Two databases give the lines that the proved program has, with the names of both, the
+    severity of each change, the counts of standings, and the status of the comparison."""
     (status, given, errors), objects = kept.compared(), lines(kept.lines)[1]
     levels = [change.pop("severity", "none") for change in given[1:-1]]
     counts = given[-1].pop("standings", {})
@@ -75,21 +90,31 @@ def try_two(kept, tally):
         for name in ("json", "page"):
             done = subprocess.run([kept.command, name, *words], check=False, capture_output=True)
             good = done.returncode == status and said in done.stderr and not done.stdout
-            tally.add("%s %r" % (name, words), [] if good else ["%d %r" % (done.returncode, done.stderr)])
-    done = subprocess.run([kept.command, "page", "--plain", kept.old, kept.new], check=False, capture_output=True)
-    good = done.returncode == 7 and kept.old.encode() in done.stdout and b"-rw-r--r--" in done.stdout
+            tally.add(
+                "%s %r" % (name, words), [] if good else ["%d %r" % (done.returncode, done.stderr)]
+            )
+    done = subprocess.run(
+        [kept.command, "page", "--plain", kept.old, kept.new], check=False, capture_output=True
+    )
+    good = (
+        done.returncode == 7 and kept.old.encode() in done.stdout and b"-rw-r--r--" in done.stdout
+    )
     tally.add("a page of two databases", [] if good else ["%d %r" % (done.returncode, done.stderr)])
 
 
 def try_full(kept, tally):
-    status, objects, errors = kept.compared("--full", "--with", "site=berlin", "--with", "a.b=\u00e9")
+    status, objects, errors = kept.compared(
+        "--full", "--with", "site=berlin", "--with", "a.b=\u00e9"
+    )
     tally.add("full", [] if status == 7 and objects else ["%d %r" % (status, errors)])
     with open(kept.old, "rb") as old:
         words = [kept.command, "json", "--full", "-", kept.new]
         done = subprocess.run(words, input=old.read(), capture_output=True)
     first = json.loads(done.stdout.split(b"\n")[0]) if done.stdout else {}
     good = done.returncode == 7 and first.get("old_time", "") is None and first.get("new_time")
-    tally.add("full, of a pipe, whose time nobody knows", [] if good else ["%r %r" % (first, done.stderr)])
+    tally.add(
+        "full, of a pipe, whose time nobody knows", [] if good else ["%r %r" % (first, done.stderr)]
+    )
     values = kept.values
     wanted = {
         "host": socket.gethostname(),
@@ -102,9 +127,15 @@ def try_full(kept, tally):
     for fields in objects:
         given = {name: fields.get(name) for name in wanted}
         dates = [DATE.fullmatch(fields.get(name) or "") for name in times]
-        tally.add("full, %s" % fields.get("path", "summary"), [] if given == wanted and all(dates) else ["%r" % given])
+        tally.add(
+            "full, %s" % fields.get("path", "summary"),
+            [] if given == wanted and all(dates) else ["%r" % given],
+        )
     plain = kept.compared()[1]
-    bare = [{name: value for name, value in fields.items() if name not in (*wanted, *times)} for fields in objects]
+    bare = [
+        {name: value for name, value in fields.items() if name not in (*wanted, *times)}
+        for fields in objects
+    ]
     tally.add("nothing else is other", [] if bare == plain else ["%r" % bare])
     status, objects, _ = lines(kept.lines, "--full", "--with", "host=www")
     good = status == 0 and all(
@@ -126,12 +157,21 @@ def try_names(kept, tally):
         text = lines_over(kept.program, pair)
         odd = os.path.join(os.fsencode(folder), b"\xff")
         os.symlink(pair[1], odd)
-        done = subprocess.run([kept.command, "json", pair[0], odd], check=False, capture_output=True)
+        done = subprocess.run(
+            [kept.command, "json", pair[0], odd], check=False, capture_output=True
+        )
     given = [json.loads(done.stdout.split(b"\n")[0])[side] for side in ("old", "new")]
-    good = given[0]["path"] == pair[0] and given[1].get("path_hex") == odd.hex() and "path" not in given[1]
+    good = (
+        given[0]["path"] == pair[0]
+        and given[1].get("path_hex") == odd.hex()
+        and "path" not in given[1]
+    )
     tally.add("names of databases", [] if good else ["%r" % given])
     for words, wanted in (
-        (["--names"], ({"UID": 0, "GID": 0}, {"UID": 4000000000, "GID": 1}, {"UID": "root", "GID": "root"})),
+        (
+            ["--names"],
+            ({"UID": 0, "GID": 0}, {"UID": 4000000000, "GID": 1}, {"UID": "root", "GID": "root"}),
+        ),
         ([], ({"UID": 0, "GID": 0}, {"UID": 4000000000, "GID": 1}, None)),
     ):
         _, objects, _ = lines(text, *words)
@@ -141,7 +181,8 @@ def try_names(kept, tally):
 
 
 def try_one_text(kept, tally):
-    """Two values with one text, such as a list with and without its last newline: the text would hide the change."""
+    """Two values with one text, such as a list with and without its last newline: the text would
+    hide the change."""
     database = "@@begin_db\n@@db_spec name acl e2fsattrs\n/a POSIX,%s,0 %s\n@@end_db\n"
     with tempfile.TemporaryDirectory() as folder:
         pair = [os.path.join(folder, name) for name in ("old", "new")]
@@ -149,7 +190,11 @@ def try_one_text(kept, tally):
             with open(path, "w") as file:
                 file.write(database % values)
         _, objects, _ = lines(lines_over(kept.program, pair))
-    good = set(objects[1]["new"]) == {"ACL", "E2FSAttrs"} and "new_text" not in objects[1] and "old_text" not in objects[1]
+    good = (
+        set(objects[1]["new"]) == {"ACL", "E2FSAttrs"}
+        and "new_text" not in objects[1]
+        and "old_text" not in objects[1]
+    )
     tally.add("one text for two values", [] if good else ["%r" % objects[1]])
 
 
@@ -159,7 +204,10 @@ def try_types(kept, tally):
         pair = [os.path.join(folder, name) for name in ("old", "new")]
         for path, mode in zip(pair, ("100644", "41777")):
             with open(path, "w") as file:
-                file.write("@@begin_db\n@@db_spec name perm\n/a %s\n/b 10%s\n@@end_db\n" % (mode, mode[-4:]))
+                file.write(
+                    "@@begin_db\n@@db_spec name perm\n/a %s\n/b 10%s\n@@end_db\n"
+                    % (mode, mode[-4:])
+                )
         hidden = "report_ignore_changed_attrs=ftype"
         for more, wanted in (
             ("", ("-rw-r--r--", "drwxrwxrwt")),
@@ -176,7 +224,9 @@ def try_left_out(kept, tally):
     objects = kept.compared("--exclude", "/**")[1]
     counts = objects[0].get("left_out") or {}
     good = (
-        set(counts) == {"old", "new"} and min(counts.values()) > 0 and not any("left_out" in fields for fields in objects[1:])
+        set(counts) == {"old", "new"}
+        and min(counts.values()) > 0
+        and not any("left_out" in fields for fields in objects[1:])
     )
     tally.add("left out", [] if good else ["%r" % objects[:1]])
 
@@ -197,7 +247,10 @@ def try_members(kept, tally):
         ["--format", "xml"],
     ):
         status, objects, errors = lines(kept.lines, *words)
-        tally.add("%r" % words[-1][:40], [] if status == USAGE and not objects and errors else ["%d %r" % (status, errors)])
+        tally.add(
+            "%r" % words[-1][:40],
+            [] if status == USAGE and not objects and errors else ["%d %r" % (status, errors)],
+        )
 
 
 def changed(fields, **values):
@@ -209,7 +262,11 @@ def try_schema(kept, tally):
     """Good lines fit the schema, and lines with one fault each do not."""
     validator = Validator(schema_of_lines())
     _, objects, _ = kept.compared("--full", "--with", "site=x")
-    summary, entry, end = objects[0], next(each for each in objects if each.get("kind") == "changed"), objects[-1]
+    summary, entry, end = (
+        objects[0],
+        next(each for each in objects if each.get("kind") == "changed"),
+        objects[-1],
+    )
     recorded = changed(entry, standing="recorded", severity="high", package="openssl 3.0.15")
     good = objects + [recorded, changed(summary, left_out={"old": 1})]
     tally.add("good lines", [fault for fields in good for fault in validator.faults(fields)])
@@ -248,9 +305,14 @@ def try_schema(kept, tally):
         changed(end, status=...),
     ]
     for number, fields in enumerate(bad):
-        tally.add("bad line %d" % number, [] if validator.faults(fields) else ["%r fits" % (fields,)])
+        tally.add(
+            "bad line %d" % number, [] if validator.faults(fields) else ["%r fits" % (fields,)]
+        )
     known = Validator({"type": "string", "minLength": 3})
-    tally.add("unknown keyword", [] if any("minLength" in fault for fault in known.faults("x")) else ["it is passed over"])
+    tally.add(
+        "unknown keyword",
+        [] if any("minLength" in fault for fault in known.faults("x")) else ["it is passed over"],
+    )
 
 
 def attempt(trial, tally, kept, *more):
@@ -265,5 +327,14 @@ def try_occasion(program, tally):
     with tempfile.TemporaryDirectory() as folder:
         kept = Kept(program, folder)
         kept.program = program
-        for trial in (try_two, try_full, try_names, try_one_text, try_types, try_left_out, try_members, try_schema):
+        for trial in (
+            try_two,
+            try_full,
+            try_names,
+            try_one_text,
+            try_types,
+            try_left_out,
+            try_members,
+            try_schema,
+        ):
             attempt(trial, tally, kept)

@@ -28,7 +28,9 @@ TITLES = {
     "same": "Same as before, but for times and inode",
 }
 ESCAPE = re.compile(r"\\([0-7]{3})")
-DIRECTIONS = re.compile("[\u061c\u200b-\u200f\u2028-\u202e\u2060-\u206f\ufeff\ud800-\udfff\x00-\x09\x0b-\x1f\x7f-\x9f]")
+DIRECTIONS = re.compile(
+    "[\u061c\u200b-\u200f\u2028-\u202e\u2060-\u206f\ufeff\ud800-\udfff\x00-\x09\x0b-\x1f\x7f-\x9f]"
+)
 # The parts of a list as they have to be. A name that became markup would not fit them.
 GROUP = re.compile(
     '<details class="group" data-standing="([a-z_]+)"( open)?><summary><h2><span>([^<]*)</span>: ([0-9,]+) entr(?:y|ies)</h2>'
@@ -43,21 +45,33 @@ ITEM = re.compile("<li>(?:<details><summary>)?%s(?:</summary>(.*)</details>)?" %
 CELL = '<td(?: class="(none)")?>(?:<details><summary>([^<]*)</summary>)?([^<]*)(?:</details>)?'
 ROW = re.compile('<tr><th scope="row">([^<]*)%s%s' % (CELL, CELL))
 TABLE = '<table><tr><th scope="col">Attribute<th scope="col">Old<th scope="col">New</table>'
-FRAME = re.compile("(?:%s(?:<details><summary>[0-9]+ other digests?</summary>%s</details>)?)?" % (TABLE, TABLE))
+FRAME = re.compile(
+    "(?:%s(?:<details><summary>[0-9]+ other digests?</summary>%s</details>)?)?" % (TABLE, TABLE)
+)
 
 
 def bytes_shown(text):
     """The bytes that a page shows as a text."""
     parts = ESCAPE.split(text)
-    return b"".join(bytes([int(part, 8)]) if index % 2 else part.encode() for index, part in enumerate(parts))
+    return b"".join(
+        bytes([int(part, 8)]) if index % 2 else part.encode() for index, part in enumerate(parts)
+    )
 
 
 class Page(HTMLParser):
-    """What a page has, as a browser reads it: tags, attributes, scripts, styles and the content policy."""
+    """What a page has, as a browser reads it: tags, attributes, scripts, styles and the content
+    policy."""
 
     def __init__(self, text):
         super().__init__()
-        self.tags, self.names, self.scripts, self.styles, self.policy, self.inside = set(), set(), [], [], None, ""
+        self.tags, self.names, self.scripts, self.styles, self.policy, self.inside = (
+            set(),
+            set(),
+            [],
+            [],
+            None,
+            "",
+        )
         self.feed(text)
         self.close()
 
@@ -90,7 +104,8 @@ def hashed(text):
 
 
 def wanted_folders(entries):
-    """The directories of entries in the order of paths, each with the counts of what is in and below it, and of itself.
+    """The directories of entries in the order of paths, each with the counts of what is in and
+    below it, and of itself.
 
     A directory that has nothing but one directory in it is shown with that one.
     """
@@ -117,7 +132,9 @@ def wanted_folders(entries):
 
 
 def bytes_of(fields, key="path"):
-    return bytes.fromhex(fields[key + "_hex"]) if key + "_hex" in fields else str(fields[key]).encode()
+    return (
+        bytes.fromhex(fields[key + "_hex"]) if key + "_hex" in fields else str(fields[key]).encode()
+    )
 
 
 def values_of(fields):
@@ -127,14 +144,19 @@ def values_of(fields):
         for name in fields.get(side, {}):
             label = name[:-4] if name.endswith("_hex") else name
             has_value = fields[side][name] is not None
-            found.setdefault(label, [None, None])[place] = bytes_of(fields[side], label) if has_value else None
+            found.setdefault(label, [None, None])[place] = (
+                bytes_of(fields[side], label) if has_value else None
+            )
     return found
 
 
 def growth_of(fields):
-    """The growth of a file that was there before and after; a whole size is among the facts of the others."""
+    """The growth of a file that was there before and after; a whole size is among the facts of the
+    others."""
     old, new = (fields.get(side, {}).get("Size") for side in ("old", "new"))
-    return None if old is None or new is None or fields["kind"] != "changed" else int(new) - int(old)
+    return (
+        None if old is None or new is None or fields["kind"] != "changed" else int(new) - int(old)
+    )
 
 
 def standing_of(fields):
@@ -144,7 +166,8 @@ def standing_of(fields):
 
 
 def groups_of(entries):
-    """The entries in the groups that they are to be in: their standing, their title, and what they are."""
+    """The entries in the groups that they are to be in: their standing, their title, and what they
+    are."""
     counts = Counter(fields["package"] for fields in entries if fields.get("package"))
     groups = {}
     for fields in entries:
@@ -161,24 +184,32 @@ def groups_of(entries):
 
 
 def listed(text):
-    """The entries of a list, each as its kind, path, severity, reason, growth, attributes and values; and what is wrong."""
+    """The entries of a list, each as its kind, path, severity, reason, growth, attributes and
+    values; and what is wrong."""
     items, faults = [], []
     for line in text.split("\n")[:-1]:
         found = ITEM.fullmatch(line)
         if not found:
             return items, ["an item is %r" % line[:300]]
-        kind, _, severity, path, reason, title, about = (part and unescape(part) for part in found.groups()[:7])
+        kind, _, severity, path, reason, title, about = (
+            part and unescape(part) for part in found.groups()[:7]
+        )
         words = (title or about or "").split()
         growth = next((int(word) for word in words if word[0] in "+-"), None)
         inner = found.group(8) or ""
         rows = {
-            unescape(row[1]): [None if row[none] else bytes_shown(unescape(row[value])) for none, value in ((2, 4), (5, 7))]
+            unescape(row[1]): [
+                None if row[none] else bytes_shown(unescape(row[value]))
+                for none, value in ((2, 4), (5, 7))
+            ]
             for row in ROW.finditer(inner)
         }
         if not FRAME.fullmatch(ROW.sub("", inner)):
             faults.append("the table is %r" % inner[:300])
         names = sorted(word for word in words if word[0] not in "+-")
-        items.append((kind, bytes_shown(path), severity, reason and bytes_shown(reason), growth, names, rows))
+        items.append(
+            (kind, bytes_shown(path), severity, reason and bytes_shown(reason), growth, names, rows)
+        )
     return items, faults
 
 
@@ -198,13 +229,19 @@ def list_faults(text, objects):
         faults.append("there is more beside the list: %r" % GROUP.sub("", content)[:300])
     if len(given) != len(wanted):
         return faults + ["there are %d groups, and not %d" % (len(given), len(wanted))]
-    for (standing, is_open, title, count, items), (standing_, title_, entries_) in zip(given, wanted):
+    for (standing, is_open, title, count, items), (standing_, title_, entries_) in zip(
+        given, wanted
+    ):
         told = (standing, bytes_shown(unescape(title)), int(count.replace(",", "")), bool(is_open))
         if told != (standing_, title_, len(entries_), standing_ == "open"):
             faults.append("a group is %r, and not %r" % (told, (standing_, title_, len(entries_))))
         found, more = listed(items)
         faults += more
-        faults += ["%r is listed, and not %r" % pair for pair in zip(found, map(wanted_item, entries_)) if pair[0] != pair[1]]
+        faults += [
+            "%r is listed, and not %r" % pair
+            for pair in zip(found, map(wanted_item, entries_))
+            if pair[0] != pair[1]
+        ]
     return faults[:5]
 
 
@@ -212,7 +249,9 @@ def page_faults(text, objects, is_plain):
     """What is wrong with the page of a report, if it has room for all."""
     page, faults = Page(text), list_faults(text, objects)
     has_script = any("kind" in fields for fields in objects) and not is_plain
-    policy = "default-src 'none'; base-uri 'none'; form-action 'none'; style-src " + hashed("".join(page.styles))
+    policy = "default-src 'none'; base-uri 'none'; form-action 'none'; style-src " + hashed(
+        "".join(page.styles)
+    )
     policy += "; script-src " + hashed("".join(page.scripts)) if has_script else ""
     if text.count("<script") != has_script or bool(page.scripts) != has_script:
         faults.append("it has %d scripts" % text.count("<script"))
@@ -226,15 +265,18 @@ def page_faults(text, objects, is_plain):
 
 
 def luminance(colour):
-    """How light a colour such as #57606a is, from 0 to 1, as the guidelines for contrast have it."""
+    """How light a colour such as #57606a is, from 0 to 1, as the guidelines for contrast have
+    it."""
     parts = [int(colour[start : start + 2], 16) / 255 for start in (1, 3, 5)]
-    red, green, blue = (part / 12.92 if part <= 0.03928 else ((part + 0.055) / 1.055) ** 2.4 for part in parts)
+    red, green, blue = (
+        part / 12.92 if part <= 0.03928 else ((part + 0.055) / 1.055) ** 2.4 for part in parts
+    )
     return 0.2126 * red + 0.7152 * green + 0.0722 * blue
 
 
 def contrast_faults(style, least=4.5, least_of_shapes=3):
-    """The texts of a style that are hard to read on what is behind them, and the borders and bars that are hard to see, in
-    light and in dark (WCAG 2.1, 1.4.3 and 1.4.11)."""
+    """The texts of a style that are hard to read on what is behind them, and the borders and bars
+    that are hard to see, in light and in dark (WCAG 2.1, 1.4.3 and 1.4.11)."""
     faults = []
     for scheme, block in zip(("light", "dark"), re.findall(r":root {(.*?)}", style, re.DOTALL)):
         colours = dict(re.findall(r"--([a-z-]+): (#[0-9a-f]{6})", block))
@@ -243,9 +285,13 @@ def contrast_faults(style, least=4.5, least_of_shapes=3):
         pairs += [(kind, behind) for kind in KINDS for behind in ("paper", kind + "-tint")]
         wanted = [(text, behind, least) for text, behind in pairs + [("paper", "removed")]]
         shapes = ["border"] + [name for name in colours if name.startswith("bar-")]
-        wanted += [(shape, behind, least_of_shapes) for shape in shapes for behind in ("paper", "raised")]
+        wanted += [
+            (shape, behind, least_of_shapes) for shape in shapes for behind in ("paper", "raised")
+        ]
         for text, behind, bound in wanted:
             lower, upper = sorted(luminance(colours[name]) for name in (text, behind))
             if (upper + 0.05) / (lower + 0.05) < bound:
-                faults.append("%s: %s on %s is %.1f" % (scheme, text, behind, (upper + 0.05) / (lower + 0.05)))
+                faults.append(
+                    "%s: %s on %s is %.1f" % (scheme, text, behind, (upper + 0.05) / (lower + 0.05))
+                )
     return faults if len(re.findall(":root {", style)) == 2 else ["there are not two schemes"]

@@ -12,7 +12,14 @@ OLD = {
     b"/etc/gone": {"ftype": 0o100000, "s": 7, "sha256": bytes(32)},
     b"/etc/link": {"ftype": 0o120000, "l": b"abc"},
     b"/etc/more": {"ftype": 0o100000, "s": 1},
-    b"/etc/shadow": {"ftype": 0o100000, "s": 900, "p": 0o640, "m": 1600000000, "acl": b"\\" * 20, "sha256": b"\x01" * 32},
+    b"/etc/shadow": {
+        "ftype": 0o100000,
+        "s": 900,
+        "p": 0o640,
+        "m": 1600000000,
+        "acl": b"\\" * 20,
+        "sha256": b"\x01" * 32,
+    },
     b"/gone": {"ftype": 0o010000, "u": 3},
 }
 NEW = {
@@ -21,13 +28,25 @@ NEW = {
     b"/etc/link": {"ftype": 0o120000, "l": b"x" * 70},
     b"/etc/more": {"ftype": 0o100000, "s": 1, "p": 0o600},
     b"/etc/new : one": {"ftype": 0o100000, "s": 0},
-    b"/etc/shadow": {"ftype": 0o100000, "s": 950, "p": 0o644, "m": 1600000001, "acl": b"\\" * 21, "sha256": b"\x02" * 32},
+    b"/etc/shadow": {
+        "ftype": 0o100000,
+        "s": 950,
+        "p": 0o644,
+        "m": 1600000001,
+        "acl": b"\\" * 21,
+        "sha256": b"\x02" * 32,
+    },
 }
 
 
 def rich_lines(changes=None):
     """The proved lines of these databases, with some settings."""
-    settings = {**DEFAULTS, "database_in": b"/var/old.db", "database_new": b"/var/new.db", **(changes or {})}
+    settings = {
+        **DEFAULTS,
+        "database_in": b"/var/old.db",
+        "database_new": b"/var/new.db",
+        **(changes or {}),
+    }
     return lines_of(Database(OLD), Database(NEW), [b"old", b"new"], settings)[0]
 
 
@@ -37,7 +56,9 @@ def changed_line(number, **fields):
     def edit(text):
         lines = text.split(b"\n")
         known = {**json.loads(lines[number]), **fields}
-        lines[number] = json.dumps({name: value for name, value in known.items() if value is not ...}).encode()
+        lines[number] = json.dumps(
+            {name: value for name, value in known.items() if value is not ...}
+        ).encode()
         return b"\n".join(lines)
 
     return edit
@@ -74,7 +95,9 @@ LINE_EDITS = {
     "a standing that is none": changed_line(1, standing="<b>"),
     "a severity that is none": changed_line(1, severity="<b>"),
     "a package that is a number": changed_line(1, package=5),
-    "a digest of a database that is none": changed_line(0, old={"path": "/a", "sha256": "<b>", "skipped": []}),
+    "a digest of a database that is none": changed_line(
+        0, old={"path": "/a", "sha256": "<b>", "skipped": []}
+    ),
     "a database without a path": changed_line(0, new={"sha256": "00" * 32, "skipped": []}),
     "columns in words": changed_line(0, new={"path": "/a", "sha256": "00" * 32, "skipped": "<b>"}),
     "no kind": changed_line(1, kind=...),

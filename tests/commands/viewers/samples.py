@@ -1,4 +1,5 @@
-"""Changes to look at in a browser: such as an upgrade makes, with standings; and with hostile names."""
+"""Changes to look at in a browser: such as an upgrade makes, with standings; and with hostile
+names."""
 import json
 import random
 import subprocess
@@ -34,8 +35,14 @@ DEMO = [
 
 
 def lines_over(old, new):
-    settings = {**DEFAULTS, "database_in": b"/var/lib/aide/aide.db", "database_new": b"/var/lib/aide/aide.db.new"}
-    return proved_lines_of(hostile.Database(old), hostile.Database(new), [b"old", b"new"], settings)[0]
+    settings = {
+        **DEFAULTS,
+        "database_in": b"/var/lib/aide/aide.db",
+        "database_new": b"/var/lib/aide/aide.db.new",
+    }
+    return proved_lines_of(
+        hostile.Database(old), hostile.Database(new), [b"old", b"new"], settings
+    )[0]
 
 
 def digests_of(text):
@@ -62,7 +69,11 @@ def demo_changes():
     for path, *values, _ in DEMO:
         for side, (entries, value) in enumerate(zip(sides, values)):
             if value:
-                entries[b"/" + path.encode()] = {"ftype": 0o100000, **value, **digests_of("%s %d" % (path, side))}
+                entries[b"/" + path.encode()] = {
+                    "ftype": 0o100000,
+                    **value,
+                    **digests_of("%s %d" % (path, side)),
+                }
     return lines_over(*sides)
 
 
@@ -91,7 +102,11 @@ def hostile_changes():
     sides = [{}, {}]
     for number, name in enumerate(hostile.NAMES):
         for side in range(2):
-            sides[side][b"/" + name + b"/x"] = {"ftype": 0o120000, "l": name + b"%d" % side, "acl": name.replace(b" ", b"_")}
+            sides[side][b"/" + name + b"/x"] = {
+                "ftype": 0o120000,
+                "l": name + b"%d" % side,
+                "acl": name.replace(b" ", b"_"),
+            }
             if number % 3:
                 sides[side][b"/" + name] = {"s": number + side}
     return lines_over(*sides)
@@ -100,7 +115,13 @@ def hostile_changes():
 def hostile_lines():
     """Lines with hostile names, also of packages, in decoded values and in the first line."""
     objects = [json.loads(line) for line in lines_of(hostile_changes()).splitlines()]
-    names = ["<img src=x onerror=alert(1)>", "</script>", "</noscript><script>alert(1)</script>", "\u202etxt.exe", "\ud800"]
+    names = [
+        "<img src=x onerror=alert(1)>",
+        "</script>",
+        "</noscript><script>alert(1)</script>",
+        "\u202etxt.exe",
+        "\ud800",
+    ]
     for number, fields in enumerate(changes_of(objects)):
         stand(fields, "recorded" if number % 2 else "open", "high", names[number % 5])
         fields["new_text"] = dict.fromkeys(fields.get("new", ()), names[number % 5])

@@ -1,4 +1,5 @@
-"""The texts for people in the lines of aide-compare json: computed in another way, and a table of what real tools printed."""
+"""The texts for people in the lines of aide-compare json: computed in another way, and a table of
+what real tools printed."""
 import contextlib
 import os
 import random
@@ -19,10 +20,15 @@ TYPES = {
 }
 DECODED = ("ACL", "XAttrs", "SELinux", "E2FSAttrs", "Caps")
 
-# What AIDE 0.18.3 kept of files on ext4 (Debian 12, 2026-11-25), and what these printed of the same files: getfacl 2.3.1,
-# getfattr 2.5.1, getcap of libcap 2.66, lsattr of e2fsprogs 1.47.0, ls -Z's label as it was set.
+# What AIDE 0.18.3 kept of files on ext4 (Debian 12, 2026-11-25), and what these printed of the same
+# files: getfacl 2.3.1, getfattr 2.5.1, getcap of libcap 2.66, lsattr of e2fsprogs 1.47.0, ls -Z's
+# label as it was set.
 TABLE = [
-    ("ACL", b"POSIX,dXNlcjo6cnctCmdyb3VwOjpyLS0Kb3RoZXI6OnItLQo=,0", "user::rw-, group::r--, other::r--"),
+    (
+        "ACL",
+        b"POSIX,dXNlcjo6cnctCmdyb3VwOjpyLS0Kb3RoZXI6OnItLQo=,0",
+        "user::rw-, group::r--, other::r--",
+    ),
     (
         "ACL",
         b"POSIX,dXNlcjo6cnctCnVzZXI6NDI0Mjpyd3gJI2VmZmVjdGl2ZTpyLS0KZ3JvdXA6OnItLQptYXNrOjpyLS0Kb3RoZXI6OnItLQo=,0",
@@ -40,7 +46,11 @@ TABLE = [
         "user::rwx, group::r-x, other::r-x, default:user::rwx, default:user:4343:rwx #effective:r--, "
         "default:group::r-x #effective:r--, default:mask::r--, default:other::r-x",
     ),
-    ("XAttrs", b"3,user.a%20b,eCB5,user.c%2Cd,cQ==,user.%2541,0", 'user.a\\040b: "x y"; user.c,d: "q"; user.%41: ""'),
+    (
+        "XAttrs",
+        b"3,user.a%20b,eCB5,user.c%2Cd,cQ==,user.%2541,0",
+        'user.a\\040b: "x y"; user.c,d: "q"; user.%41: ""',
+    ),
     (
         "XAttrs",
         b"5,user.empty,0,user.nl,YQpi,user.nul,YWJjAA==,trusted.t,dHQ=,security.selinux,"
@@ -89,8 +99,16 @@ TABLE = [
     ("UID", 0, None),
     # What could be taken for something else is escaped.
     ("XAttrs", b"1,user.a,YSI7IHVzZXIuYjogIng=", 'user.a: "a\\042; user.b: \\042x"'),
-    ("XAttrs", b"1,user.a:%20%22x%22;%20user.b,YQ==", 'user.a:\\040\\042x\\042\\073\\040user.b: "a"'),
-    ("XAttrs", b"1,security.selinux,eDsgdXNlci5iOiAieCI=", 'security.selinux: "x; user.b: \\042x\\042"'),
+    (
+        "XAttrs",
+        b"1,user.a:%20%22x%22;%20user.b,YQ==",
+        'user.a:\\040\\042x\\042\\073\\040user.b: "a"',
+    ),
+    (
+        "XAttrs",
+        b"1,security.selinux,eDsgdXNlci5iOiAieCI=",
+        'security.selinux: "x; user.b: \\042x\\042"',
+    ),
     ("XAttrs", b"1,user.a,G1sybQ==", "user.a: 0sG1sybQ=="),
     ("XAttrs", b"1,user.a,4oCu", 'user.a: "\\342\\200\\256"'),
     ("SELinux", b"4oCuG1sybQ==", "\\342\\200\\256\\033[2m"),
@@ -110,8 +128,12 @@ CAPABILITIES = [
     (b"AAAAAgAAAAAAAAAAAAAAAAAAAAA=", "="),
     (b"AQAAAgAAAAAAAAAAACAAAAAAAAA=", "= 45+ep"),
 ]
-TABLE += [("XAttrs", b"1,security.capability," + value, "security.capability: " + text) for value, text in CAPABILITIES]
-# Values that would take long or be large if something were not bounded, and the most characters that a text has.
+TABLE += [
+    ("XAttrs", b"1,security.capability," + value, "security.capability: " + text)
+    for value, text in CAPABILITIES
+]
+# Values that would take long or be large if something were not bounded, and the most characters
+# that a text has.
 LONG = [
     ("XAttrs", b"100000" + b",a,0" * 100000),
     ("XAttrs", b"1,user.a," + b"YWFh" * 250000),
@@ -156,15 +178,28 @@ def try_table(tally):
     """The table, and values of hostile sizes."""
     for label, value, text in TABLE:
         given = text_of(label, value)
-        tally.add("%s %r" % (label, value), [] if given == text else ["it is %r, and not %r" % (given, text)])
+        tally.add(
+            "%s %r" % (label, value),
+            [] if given == text else ["it is %r, and not %r" % (given, text)],
+        )
     for label, value in LONG:
         with bounded():
             text = text_of(label, value) or ""
         good = len(text) <= MOST_CHARACTERS and text.isprintable()
-        tally.add("%s of %d bytes" % (label, len(value)), [] if good else ["%d characters, %.100r" % (len(text), text)])
+        tally.add(
+            "%s of %d bytes" % (label, len(value)),
+            [] if good else ["%d characters, %.100r" % (len(text), text)],
+        )
 
 
-ZONES = ["UTC", "Europe/Berlin", "America/St_Johns", "Asia/Kathmandu", "Australia/Lord_Howe", "Africa/Monrovia"]
+ZONES = [
+    "UTC",
+    "Europe/Berlin",
+    "America/St_Johns",
+    "Asia/Kathmandu",
+    "Australia/Lord_Howe",
+    "Africa/Monrovia",
+]
 FIRST, LAST = -62135596800, 253402300799
 
 
@@ -174,20 +209,37 @@ def local_text(seconds):
         local = time.localtime(seconds)
     except (OverflowError, ValueError, OSError):
         return None
-    return "%04d-" % local.tm_year + time.strftime("%m-%d %H:%M:%S %z", local) if 1 <= local.tm_year <= 9999 else None
+    return (
+        "%04d-" % local.tm_year + time.strftime("%m-%d %H:%M:%S %z", local)
+        if 1 <= local.tm_year <= 9999
+        else None
+    )
 
 
 def try_zones(seed, tally):
-    """Times of all centuries, and around each change of the clock from 1800 to 2040, in zones with odd offsets."""
+    """Times of all centuries, and around each change of the clock from 1800 to 2040, in zones with
+    odd offsets."""
     pick, before = random.Random("zones %d" % seed), os.environ.get("TZ")
-    times = [pick.randrange(FIRST - 10, LAST + 10) for _ in range(2000)] + [FIRST - 1, FIRST, -1, 0, LAST, LAST + 1, 2**63]
+    times = [pick.randrange(FIRST - 10, LAST + 10) for _ in range(2000)] + [
+        FIRST - 1,
+        FIRST,
+        -1,
+        0,
+        LAST,
+        LAST + 1,
+        2**63,
+    ]
     for zone in ZONES:
         os.environ["TZ"] = zone
         time.tzset()
         time_text.cache_clear()
         hours = [hour * 3600 for hour in range(-1490000, 620000, 6)]
         offsets = [time.localtime(seconds).tm_gmtoff for seconds in hours]
-        changes = [seconds + pick.randrange(21600) for seconds, one, other in zip(hours, offsets, offsets[1:]) if one != other]
+        changes = [
+            seconds + pick.randrange(21600)
+            for seconds, one, other in zip(hours, offsets, offsets[1:])
+            if one != other
+        ]
         around = [seconds + step for seconds in changes for step in range(-22000, 22000, 450)]
         faults = [
             "%d is %r" % (seconds, time_text(seconds))
@@ -220,7 +272,9 @@ def text_faults(objects):
     faults = []
     for entry in objects:
         kind = entry.get("type") if entry.get("summary", "!")[0] != "!" else None
-        sides, texts = ([entry.get(side + end, {}) for side in ("old", "new")] for end in ("", "_text"))
+        sides, texts = (
+            [entry.get(side + end, {}) for side in ("old", "new")] for end in ("", "_text")
+        )
         if "kind" not in entry:
             continue
         for values, given in zip(sides, texts):
@@ -228,11 +282,17 @@ def text_faults(objects):
                 label = name[:-4] if name.endswith("_hex") else name
                 wanted, text = wanted_text(label, value, values.get("Type", kind)), given.get(label)
                 if wanted is not Ellipsis and text != wanted:
-                    faults.append("%s of %r has the text %r, and not %r" % (label, entry, text, wanted))
+                    faults.append(
+                        "%s of %r has the text %r, and not %r" % (label, entry, text, wanted)
+                    )
                 if text is not None and not text.isprintable():
                     faults.append("%s of %r has the text %r" % (label, entry, text))
         for label in set(texts[0]) & set(texts[1]):
-            names = [name for name in (label, label + "_hex") if name in sides[0] and sides[0][name] != sides[1].get(name)]
+            names = [
+                name
+                for name in (label, label + "_hex")
+                if name in sides[0] and sides[0][name] != sides[1].get(name)
+            ]
             if texts[0][label] == texts[1][label] and names:
                 faults.append("%s of %r has one text for two values" % (label, entry))
     return faults

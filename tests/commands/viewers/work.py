@@ -1,4 +1,5 @@
-"""Counts the work of the page's code, without a clock: lines of Python that ran, and bytes that were held at once.
+"""Counts the work of the page's code, without a clock: lines of Python that ran, and bytes that
+were held at once.
 
 Work that grows as its input does doubles with it; a walk within a walk makes it four times as much.
 """
@@ -69,11 +70,18 @@ def additions_to(lines):
 
 
 def growth_faults(measure, given_of, size):
-    """What is wrong with the growth of some work from a size to twice that size: it grows as its input does.
+    """What is wrong with the growth of some work from a size to twice that size: it grows as its
+    input does.
 
     `given_of` gives what to measure at a size, and the size of that input.
     """
-    (small, few), (large, more) = [(measure(given), length) for given, length in map(given_of, (size, 2 * size))]
+    (small, few), (large, more) = [
+        (measure(given), length) for given, length in map(given_of, (size, 2 * size))
+    ]
     if not small:
         return ["nothing was counted"]
-    return ["%d at %d, %d at %d" % (small, few, large, more)] if large * few > MOST_GROWTH * small * more else []
+    return (
+        ["%d at %d, %d at %d" % (small, few, large, more)]
+        if large * few > MOST_GROWTH * small * more
+        else []
+    )
