@@ -1,1 +1,2 @@
-"""Tests of the program, of the commands, of their pages and packages, and of the source. They run from the top."""
+"""Tests of the program, of the commands, of their pages and packages, and of the source. They run
+from the top."""

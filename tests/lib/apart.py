@@ -1,11 +1,12 @@
-"""Commands that cannot change the machine: for bugs that are planted, whose trials attack what should guard it. And mounts
-that nobody else sees."""
+"""Commands that cannot change the machine: for bugs that are planted, whose trials attack what
+should guard it. And mounts that nobody else sees."""
 import ctypes
 import functools
 import os
 import subprocess
 
-# Bound onto themselves and read-only in a mount namespace of the command's own. Trials write below /tmp, /var/tmp and /run.
+# Bound onto themselves and read-only in a mount namespace of the command's own. Trials write below
+# /tmp, /var/tmp and /run.
 FOLDERS = "/boot /etc /home /opt /root /srv /usr /var/lib /var/log /var/mail /var/spool"
 SCRIPT = (
     "for folder in %s; do [ ! -d $folder ] || { mount --bind $folder $folder && mount -o remount,bind,ro $folder; } || exit 125; done\n"
@@ -16,11 +17,14 @@ PREFIX = ["unshare", "--mount", "--propagation", "private", "sh", "-c", SCRIPT, 
 
 @functools.lru_cache(maxsize=None)
 def prefix():
-    """The words before a command, or none: without root's rights the machine's folders are safe, and some machines refuse."""
+    """The words before a command, or none: without root's rights the machine's folders are safe,
+    and some machines refuse."""
     if os.geteuid() != 0:
         return []
     try:
-        done = subprocess.run(PREFIX + ["true"], stdout=subprocess.DEVNULL, stderr=subprocess.DEVNULL)
+        done = subprocess.run(
+            PREFIX + ["true"], stdout=subprocess.DEVNULL, stderr=subprocess.DEVNULL
+        )
     except OSError:
         return []
     return PREFIX if done.returncode == 0 else []
@@ -33,18 +37,23 @@ def apart(words):
 
 @functools.lru_cache(maxsize=None)
 def has_own_mounts():
-    """Gives this process mounts that it shares with its children alone, and says whether it has them. (Python 3.9 has no
-    os.unshare.) Only the thread that asks first gets them, and those that it starts."""
+    """Gives this process mounts that it shares with its children alone, and says whether it has
+    them. (Python 3.9 has no os.unshare.) Only the thread that asks first gets them, and those that
+    it starts."""
     if os.geteuid() != 0:
         return False
     library = ctypes.CDLL(None)
     new_mounts, recursive_private = 0x20000, 0x44000
-    return library.unshare(new_mounts) == 0 and library.mount(None, b"/", None, recursive_private, None) == 0
+    return (
+        library.unshare(new_mounts) == 0
+        and library.mount(None, b"/", None, recursive_private, None) == 0
+    )
 
 
 def forget_user(name, folder):
-    """Takes a user and a group of this name out of what this process and its children see: a package of the machine, such as
-    AIDE's, may have made them. `folder` gets the files that are seen instead."""
+    """Takes a user and a group of this name out of what this process and its children see: a
+    package of the machine, such as AIDE's, may have made them. `folder` gets the files that are
+    seen instead."""
     names = [path for path in ("/etc/passwd", "/etc/group") if has_entry(path, name)]
     if not names or not has_own_mounts():
         return

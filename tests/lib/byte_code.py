@@ -1,16 +1,32 @@
-"""Byte code beside the modules of the commands, which never write any: without it each start of a command compiles its modules."""
+"""Byte code beside the modules of the commands, which never write any: without it each start of a
+command compiles its modules."""
 import shutil
 import subprocess
 
-WORDS = ["/usr/bin/python3", "-IS", "-m", "compileall", "-q", "-f", "--invalidation-mode", "checked-hash"]
+WORDS = [
+    "/usr/bin/python3",
+    "-IS",
+    "-m",
+    "compileall",
+    "-q",
+    "-f",
+    "--invalidation-mode",
+    "checked-hash",
+]
 
 
 def compile_modules(directory):
-    """Compiles the modules below a directory. In a copy of it, each start compiles only what was edited."""
-    subprocess.run(WORDS + [directory], stdin=subprocess.DEVNULL, stdout=subprocess.DEVNULL, stderr=subprocess.DEVNULL)
+    """Compiles the modules below a directory. In a copy of it, each start compiles only what was
+    edited."""
+    subprocess.run(
+        WORDS + [directory],
+        stdin=subprocess.DEVNULL,
+        stdout=subprocess.DEVNULL,
+        stderr=subprocess.DEVNULL,
+    )
 
 
 def copy_modules(source, target):
-    """Copies a folder of modules with their byte code, but for what another run is writing just now, under a name that it
-    has for a moment: it would be gone before it is copied."""
+    """Copies a folder of modules with their byte code, but for what another run is writing just
+    now, under a name that it has for a moment: it would be gone before it is copied."""
     shutil.copytree(source, target, ignore=shutil.ignore_patterns("*.pyc.*"))

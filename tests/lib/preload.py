@@ -1,4 +1,5 @@
-"""Libraries that are loaded into a program before the C library, built from C that includes no header."""
+"""Libraries that are loaded into a program before the C library, built from C that includes no
+header."""
 import os
 import shutil
 import subprocess
@@ -12,11 +13,14 @@ FLAGS = ["-O1", "-shared", "-fPIC", "-nostdlib"]
 
 
 def compilers():
-    """The commands that may build a library: the machine's own, and that of the toolchain, with its linker."""
+    """The commands that may build a library: the machine's own, and that of the toolchain, with its
+    linker."""
     found = [[path] for path in map(shutil.which, NAMES) if path]
     rt = shutil.which("rt")
     if rt:
-        tools = os.path.join(os.path.dirname(os.path.dirname(os.path.realpath(rt))), "toolchain", "bin")
+        tools = os.path.join(
+            os.path.dirname(os.path.dirname(os.path.realpath(rt))), "toolchain", "bin"
+        )
         clang, linker = os.path.join(tools, "clang"), os.path.join(tools, "ld.lld")
         if os.access(clang, os.X_OK) and os.access(linker, os.X_OK):
             found.append([clang, "--ld-path=" + linker])
@@ -24,7 +28,8 @@ def compilers():
 
 
 def built(name, folder):
-    """Builds a library of the trials of the program: its path, or nothing and what every compiler has against it."""
+    """Builds a library of the trials of the program: its path, or nothing and what every compiler
+    has against it."""
     library, faults = os.path.join(folder, os.fsencode(name) + b".so"), []
     for compiler in compilers():
         done = subprocess.run(
@@ -36,13 +41,17 @@ def built(name, folder):
         if done.returncode == 0:
             return library, []
         faults.append("%s: %s" % (compiler[0], done.stderr.decode("utf-8", "replace")))
-    return None, faults or ["no C compiler is here, neither one of %s nor that of the toolchain" % ", ".join(NAMES)]
+    return None, faults or [
+        "no C compiler is here, neither one of %s nor that of the toolchain" % ", ".join(NAMES)
+    ]
 
 
 def run_with(library, program, words, form, variable, **settings):
-    """What a program answers with a library loaded before it, and the notes of the library in a form.
+    """What a program answers with a library loaded before it, and the notes of the library in a
+    form.
 
-    The library is told the settings and, by a variable, the descriptor to which it writes its notes.
+    The library is told the settings and, by a variable, the descriptor to which it writes its
+    notes.
     """
     reading, writing = os.pipe()
     surroundings = dict(

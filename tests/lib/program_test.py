@@ -12,11 +12,14 @@ QUICK = "AIDE_QUICK"
 # For tests that take long: `tools/quick` leaves them out.
 slow = unittest.skipIf(bool(os.environ.get(QUICK)), "it takes long")
 # For tests that take many minutes, which nobody runs but by hand.
-thorough = unittest.skipUnless(os.environ.get("AIDE_THOROUGH"), "only with AIDE_THOROUGH=1: it takes many minutes")
+thorough = unittest.skipUnless(
+    os.environ.get("AIDE_THOROUGH"), "only with AIDE_THOROUGH=1: it takes many minutes"
+)
 
 
 def new_seed() -> int:
-    """The seed of random tests: another one each time, or that of AIDE_SEED, to repeat a failure, which names it."""
+    """The seed of random tests: another one each time, or that of AIDE_SEED, to repeat a failure,
+    which names it."""
     return int(os.environ.get("AIDE_SEED") or random.SystemRandom().randrange(10**9))
 
 

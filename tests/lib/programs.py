@@ -1,4 +1,5 @@
-"""The built programs that tests run: those of the environment variable AIDE_PROGRAM, or those of this repository."""
+"""The built programs that tests run: those of the environment variable AIDE_PROGRAM, or those of
+this repository."""
 from __future__ import annotations
 
 import os
@@ -16,7 +17,8 @@ def find_program() -> str | None:
 
 
 def lines_program_of(program: str) -> str:
-    """The whole path of the program of lines that goes with a program `aide`: in the directory of its own crate, or beside it."""
+    """The whole path of the program of lines that goes with a program `aide`: in the directory of
+    its own crate, or beside it."""
     directory, name = os.path.split(os.path.abspath(program))
     if directory.endswith("/crates/aide/out"):
         directory = os.path.join(directory, "..", "..", "aide_lines", "out")

@@ -19,10 +19,13 @@ class Scratch:
         return os.path.join(self.root, *names)
 
     def write(self, name, text, mode=0o644):
-        """Writes a file. A link that a trial has left there is not followed: root would write a file of the machine."""
+        """Writes a file. A link that a trial has left there is not followed: root would write a
+        file of the machine."""
         path = self.path(name)
         os.makedirs(os.path.dirname(path), exist_ok=True)
-        with open(path, "wb", opener=lambda path, flags: os.open(path, flags | os.O_NOFOLLOW, 0o644)) as file:
+        with open(
+            path, "wb", opener=lambda path, flags: os.open(path, flags | os.O_NOFOLLOW, 0o644)
+        ) as file:
             file.write(text if isinstance(text, bytes) else text.encode())
         os.chmod(path, mode)
         return path

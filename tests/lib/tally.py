@@ -1,4 +1,5 @@
-"""Running a program and counting what comes out as wanted: what all trials of the built program share."""
+"""Running a program and counting what comes out as wanted: what all trials of the built program
+share."""
 import os
 import subprocess
 import sys
@@ -73,11 +74,18 @@ class Tally:
     def holds(self, label, good, got=""):
         """Counts a condition; `got` is what is printed if it does not hold."""
         self.add(
-            label, [] if good else ["does not hold%s" % (" " + (got if isinstance(got, str) else repr(got)))[:2000].rstrip()]
+            label,
+            []
+            if good
+            else [
+                "does not hold%s"
+                % (" " + (got if isinstance(got, str) else repr(got)))[:2000].rstrip()
+            ],
         )
 
     def status(self):
-        """Prints the last line, and returns the status of the process. A run in which nothing was tried has failed."""
+        """Prints the last line, and returns the status of the process. A run in which nothing was
+        tried has failed."""
         if not self.passed + self.failed:
             self.add("all", ["nothing was tried"])
         print("%d passed, %d failed" % (self.passed, self.failed), flush=True)
@@ -103,7 +111,8 @@ def program_of(path):
 
 
 def lines_program_of(program):
-    """The whole path of the program of lines that goes with a program `aide`: in the folder of its own crate, or beside it."""
+    """The whole path of the program of lines that goes with a program `aide`: in the folder of its
+    own crate, or beside it."""
     folder, name = os.path.split(os.path.abspath(os.fsdecode(program)))
     if folder.endswith("/crates/aide/out"):
         folder = os.path.join(folder, "../../aide_lines/out")

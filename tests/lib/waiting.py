@@ -23,10 +23,13 @@ def is_alive(number):
 
 
 def waits(number, where, has_open):
-    """Whether a process waits in a function of the kernel with this text in its name, and the names of what it has open meet a
-    condition."""
+    """Whether a process waits in a function of the kernel with this text in its name, and the names
+    of what it has open meet a condition."""
     try:
-        names = [os.readlink("/proc/%d/fd/%s" % (number, name)) for name in os.listdir("/proc/%d/fd" % number)]
+        names = [
+            os.readlink("/proc/%d/fd/%s" % (number, name))
+            for name in os.listdir("/proc/%d/fd" % number)
+        ]
         with open("/proc/%d/wchan" % number, encoding="ascii") as file:
             return where in file.read() and has_open(names)
     except OSError:

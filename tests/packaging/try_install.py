@@ -1,10 +1,10 @@
 #!/usr/bin/env python3
 """Tries packaging/install and packaging/make_package, and what they install.
 
-Everything is installed below a folder of this run, from a copy of the repository's files, with PROGRAM, the built program.
-The trials need sh, Python, coreutils, find, sed, grep, tar and gzip. Some need more (other shells, dpkg-deb,
-systemd-analyze, zsh, fish): they are tried if this is installed, and otherwise named as skipped. Prints what fails and, at
-the end, `N passed, M failed`.
+Everything is installed below a folder of this run, from a copy of the repository's files, with
+PROGRAM, the built program. The trials need sh, Python, coreutils, find, sed, grep, tar and gzip.
+Some need more (other shells, dpkg-deb, systemd-analyze, zsh, fish): they are tried if this is
+installed, and otherwise named as skipped. Prints what fails and, at the end, `N passed, M failed`.
 """
 import sys
 

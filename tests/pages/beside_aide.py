@@ -1,8 +1,9 @@
 #!/usr/bin/env python3
 """Tries what docs/DIFFERENCES.md says of AIDE, on AIDE itself and on the built program.
 
-Each case is one configuration and one pair of databases, given to both programs. If AIDE is not installed, the tool says so and
-tries nothing. Prints each case whose answer is not the one that the page gives and, at the end, `N passed, M failed`.
+Each case is one configuration and one pair of databases, given to both programs. If AIDE is not
+installed, the tool says so and tries nothing. Prints each case whose answer is not the one that the
+page gives and, at the end, `N passed, M failed`.
 """
 import gzip
 import os
@@ -30,7 +31,10 @@ def bits(*numbers):
 
 
 def database(columns, *entries):
-    return "@@begin_db\n@@db_spec %s\n%s@@end_db\n" % (columns, "".join(entry + "\n" for entry in entries))
+    return "@@begin_db\n@@db_spec %s\n%s@@end_db\n" % (
+        columns,
+        "".join(entry + "\n" for entry in entries),
+    )
 
 
 A = database("name attr size", "/a 32 1", "/b 32 2")
@@ -40,12 +44,31 @@ FILE = bits(2, TYPE)
 
 
 class Case:
-    """A configuration and two databases, with the statuses wanted of AIDE and of the program, and texts of their outputs."""
+    """A configuration and two databases, with the statuses wanted of AIDE and of the program, and
+    texts of their outputs."""
 
     def __init__(
-        self, name, conf, theirs, ours, old=A, new=B, words=(), their_text=None, our_text=None, files=None, command="-E"
+        self,
+        name,
+        conf,
+        theirs,
+        ours,
+        old=A,
+        new=B,
+        words=(),
+        their_text=None,
+        our_text=None,
+        files=None,
+        command="-E",
     ):
-        self.name, self.conf, self.theirs, self.ours, self.old, self.new = name, conf, theirs, ours, old, new
+        self.name, self.conf, self.theirs, self.ours, self.old, self.new = (
+            name,
+            conf,
+            theirs,
+            ours,
+            old,
+            new,
+        )
         self.words, self.their_text, self.our_text, self.files, self.command = (
             words,
             their_text,
@@ -63,7 +86,12 @@ CONFIGURATION = [
         4,
         0,
     ),
-    Case("two database_new", "database_in=file:OLD\ndatabase_new=file:OLD\ndatabase_new=file:NEW\n" + RULES, 0, 4),
+    Case(
+        "two database_new",
+        "database_in=file:OLD\ndatabase_new=file:OLD\ndatabase_new=file:NEW\n" + RULES,
+        0,
+        4,
+    ),
     Case(
         "-B against the file",
         "database_in=file:NEW\ndatabase_new=file:NEW\n" + RULES,
@@ -100,13 +128,20 @@ CONFIGURATION = [
     ),
     Case(
         "two reports",
-        PAIR + RULES + "report_url=file:DIR/report\nreport_ignore_changed_attrs=s\nreport_url=stdout\n",
+        PAIR
+        + RULES
+        + "report_url=file:DIR/report\nreport_ignore_changed_attrs=s\nreport_url=stdout\n",
         4,
         0,
         their_text="NO differences",
         our_text="NO differences",
     ),
-    Case("options behind report_url=stdout", PAIR + RULES + "report_url=stdout\nreport_ignore_changed_attrs=s\n", 4, 4),
+    Case(
+        "options behind report_url=stdout",
+        PAIR + RULES + "report_url=stdout\nreport_ignore_changed_attrs=s\n",
+        4,
+        4,
+    ),
     Case("a misspelt option", PAIR + RULES + "report_ignore_changed_atrs=s\n", 17, 4),
     Case("a group in lower case", PAIR + RULES + "mygroup=s\n", 17, 4),
     Case(
@@ -134,28 +169,70 @@ CONFIGURATION = [
     Case("a comment behind a bool", PAIR + RULES + "report_quiet=no # yes\n", 4, 17),
     Case("a comment behind an expression", PAIR + RULES + "report_force_attrs=s # x\n", 17, 17),
     Case("a comment behind a path", PAIR.rstrip() + " # new\n" + RULES, 4, 18),
-    Case("a comment behind report_url", PAIR + RULES + "report_url=stdout # here\nreport_ignore_changed_attrs=s\n", 4, 0),
+    Case(
+        "a comment behind report_url",
+        PAIR + RULES + "report_url=stdout # here\nreport_ignore_changed_attrs=s\n",
+        4,
+        0,
+    ),
     Case("lines that end in CR LF", (PAIR + RULES).replace("\n", "\r\n"), 4, 18),
-    Case("@@ifdef HOSTNAME", PAIR + RULES + "@@ifdef HOSTNAME\nreport_ignore_changed_attrs=s\n@@endif\n", 4, 4),
-    Case("a variable in an expression", PAIR + RULES + "@@define X s\nreport_ignore_changed_attrs=@@{X}\n", 17, 0),
+    Case(
+        "@@ifdef HOSTNAME",
+        PAIR + RULES + "@@ifdef HOSTNAME\nreport_ignore_changed_attrs=s\n@@endif\n",
+        4,
+        4,
+    ),
+    Case(
+        "a variable in an expression",
+        PAIR + RULES + "@@define X s\nreport_ignore_changed_attrs=@@{X}\n",
+        17,
+        0,
+    ),
     Case("a blank in a variable's value", PAIR + RULES + "@@define X a b\n", 17, 4),
     Case("nonsense in an unused part", PAIR + RULES + "@@ifdef NOPE\nnonsense\n@@endif\n", 17, 4),
     Case("an empty block", PAIR + RULES + "@@ifdef NOPE\n@@endif\n", 17, 4),
-    Case("@@if defined", PAIR + RULES + "@@if not defined NOPE\nreport_ignore_changed_attrs=s\n@@endif\n", 0, 0),
-    Case("@@if exists", PAIR + RULES + "@@if exists /\nreport_ignore_changed_attrs=s\n@@endif\n", 0, 17),
+    Case(
+        "@@if defined",
+        PAIR + RULES + "@@if not defined NOPE\nreport_ignore_changed_attrs=s\n@@endif\n",
+        0,
+        0,
+    ),
+    Case(
+        "@@if exists",
+        PAIR + RULES + "@@if exists /\nreport_ignore_changed_attrs=s\n@@endif\n",
+        0,
+        17,
+    ),
     Case("a block over two texts", PAIR + RULES + "@@endif\n", 17, 17, words=("-B", "@@ifdef X")),
     Case("report_format=json", PAIR + RULES + "report_format=json\n", 4, 17),
-    Case("a predefined group defined again", PAIR + RULES + "L=s\nreport_ignore_changed_attrs=L\n", 0, 0),
+    Case(
+        "a predefined group defined again",
+        PAIR + RULES + "L=s\nreport_ignore_changed_attrs=L\n",
+        0,
+        0,
+    ),
     Case("L does not follow X", PAIR + RULES + "X=s\nreport_ignore_changed_attrs=L\n", 4, 4),
-    Case("a line uses the groups before it", PAIR + RULES + "Sz=s\nreport_ignore_changed_attrs=Sz\nSz=p\n", 0, 0),
+    Case(
+        "a line uses the groups before it",
+        PAIR + RULES + "Sz=s\nreport_ignore_changed_attrs=Sz\nSz=p\n",
+        0,
+        0,
+    ),
     Case("a relative path", "database_in=file:old\ndatabase_new=file:NEW\n" + RULES, 4, 17),
-    Case("a path of a home folder", "database_in=file:~/nosuch.db\ndatabase_new=file:NEW\n" + RULES, 18, 17),
+    Case(
+        "a path of a home folder",
+        "database_in=file:~/nosuch.db\ndatabase_new=file:NEW\n" + RULES,
+        18,
+        17,
+    ),
 ]
 CONFIGURATION += [
-    Case("%s is accepted" % name, PAIR + RULES + name + "=no\n", 4, 17) for name in ("grouped", "summarize_changes")
+    Case("%s is accepted" % name, PAIR + RULES + name + "=no\n", 4, 17)
+    for name in ("grouped", "summarize_changes")
 ]
 CONFIGURATION += [
-    Case("%s is refused" % name, PAIR + RULES + name + "=x\n", 17, 17) for name in ("ignore_list", "report_attributes")
+    Case("%s is refused" % name, PAIR + RULES + name + "=x\n", 17, 17)
+    for name in ("ignore_list", "report_attributes")
 ]
 CONFIGURATION += [
     Case("%s is refused by AIDE" % name, PAIR + RULES + name + "=no\n", 17, 4)
@@ -274,8 +351,14 @@ DATABASES = [
         PAIR + RULES,
         0,
         4,
-        database(MODE + "xattrs", "/a %s 100644 2,dXNlci5vbmU=,MQ==,dXNlci50d28=,Mg==" % bits(2, XATTRS, TYPE)),
-        database(MODE + "xattrs", "/a %s 100644 2,dXNlci50d28=,Mg==,dXNlci5vbmU=,MQ==" % bits(2, XATTRS, TYPE)),
+        database(
+            MODE + "xattrs",
+            "/a %s 100644 2,dXNlci5vbmU=,MQ==,dXNlci50d28=,Mg==" % bits(2, XATTRS, TYPE),
+        ),
+        database(
+            MODE + "xattrs",
+            "/a %s 100644 2,dXNlci50d28=,Mg==,dXNlci5vbmU=,MQ==" % bits(2, XATTRS, TYPE),
+        ),
         our_text=r"f   \.         X   : /a",
     ),
     Case(
@@ -283,8 +366,13 @@ DATABASES = [
         PAIR + RULES,
         4,
         4,
-        database(MODE + "size sha256", "/a %s 100644 1 %s" % (bits(2, 5, TYPE, GROWING, SHA256), EMPTY)),
-        database(MODE + "size sha256", "/a %s 100644 2 %s=" % (bits(2, 5, TYPE, GROWING, SHA256), "A" * 43)),
+        database(
+            MODE + "size sha256", "/a %s 100644 1 %s" % (bits(2, 5, TYPE, GROWING, SHA256), EMPTY)
+        ),
+        database(
+            MODE + "size sha256",
+            "/a %s 100644 2 %s=" % (bits(2, 5, TYPE, GROWING, SHA256), "A" * 43),
+        ),
         their_text=r"f = \.       H     : /a",
         our_text=r"f > \.       H     : /a",
     ),
@@ -334,7 +422,9 @@ DATABASES = [
         4,
         4,
         database("name attr gost whirlpool", "/a %s %s= %s==" % (bits(18, 34), "A" * 43, "A" * 86)),
-        database("name attr gost whirlpool", "/a %s B%s= B%s==" % (bits(18, 34), "A" * 42, "A" * 85)),
+        database(
+            "name attr gost whirlpool", "/a %s B%s= B%s==" % (bits(18, 34), "A" * 42, "A" * 85)
+        ),
         their_text=r"(?s)WHIRLPOOL.*GOST",
         our_text=r"(?s)GOST.*WHIRLPOOL",
     ),
@@ -402,30 +492,94 @@ DATABASES = [
         their_text=r": /x\\134123\n",
         our_text=r": /x\\134123\n",
     ),
-    Case("the digests of the databases", PAIR + RULES, 4, 4, their_text=r"(?s)\A(?!.*SHA256)", our_text=r"\n  SHA256    : "),
+    Case(
+        "the digests of the databases",
+        PAIR + RULES,
+        4,
+        4,
+        their_text=r"(?s)\A(?!.*SHA256)",
+        our_text=r"\n  SHA256    : ",
+    ),
     Case("a database with CR LF", PAIR + RULES, 2, 24, A, A.replace("\n", "\r\n")),
-    Case("no column attr", PAIR + RULES, 4, 4, database("name size", "/a 1"), database("name size", "/a 2")),
+    Case(
+        "no column attr",
+        PAIR + RULES,
+        4,
+        4,
+        database("name size", "/a 1"),
+        database("name size", "/a 2"),
+    ),
     Case("another order", PAIR + RULES, 0, 24, A, database("name attr size", "/b 32 2", "/a 32 1")),
-    Case("a path twice", PAIR + RULES, 0, 24, A, database("name attr size", "/a 32 1", "/a 32 5", "/b 32 2")),
-    Case("a line that is cut", PAIR + RULES, 2, 24, A, database("name attr size", "/a 32 1", "/b 32")),
-    Case("a field too many", PAIR + RULES, 0, 24, A, database("name attr size", "/a 32 1", "/b 32 2 7")),
-    Case("a number that is none", PAIR + RULES, 4, 24, A, database("name attr size", "/a 32 1", "/b 32 x")),
+    Case(
+        "a path twice",
+        PAIR + RULES,
+        0,
+        24,
+        A,
+        database("name attr size", "/a 32 1", "/a 32 5", "/b 32 2"),
+    ),
+    Case(
+        "a line that is cut", PAIR + RULES, 2, 24, A, database("name attr size", "/a 32 1", "/b 32")
+    ),
+    Case(
+        "a field too many",
+        PAIR + RULES,
+        0,
+        24,
+        A,
+        database("name attr size", "/a 32 1", "/b 32 2 7"),
+    ),
+    Case(
+        "a number that is none",
+        PAIR + RULES,
+        4,
+        24,
+        A,
+        database("name attr size", "/a 32 1", "/b 32 x"),
+    ),
     Case("no @@end_db", PAIR + RULES, 0, 24, A, A.replace("@@end_db\n", "")),
     Case("no @@begin_db", PAIR + RULES, 2, 24, A, A.replace("@@begin_db\n", "")),
     Case("an empty database", PAIR + RULES, 2, 24, A, ""),
     Case("a compressed database", PAIR + RULES, 4, 24, gzip.compress(A.encode()), B),
-    Case("an unknown column", PAIR + RULES, 0, 0, A, database("name attr size foo", "/a 32 1 9", "/b 32 2 9")),
+    Case(
+        "an unknown column",
+        PAIR + RULES,
+        0,
+        0,
+        A,
+        database("name attr size foo", "/a 32 1 9", "/b 32 2 9"),
+    ),
     Case("behind @@end_db", PAIR + RULES, 0, 0, A, A + "/c 32 5\n"),
-    Case("a line that begins with #", PAIR + RULES, 2, 2, A, database("name attr size", "/a 32 1", "# /b 32 2")),
+    Case(
+        "a line that begins with #",
+        PAIR + RULES,
+        2,
+        2,
+        A,
+        database("name attr size", "/a 32 1", "# /b 32 2"),
+    ),
 ]
 
 WORDS = [
     Case("no database", RULES, 15, 17),
     Case("-D without databases", RULES, 0, 0, command="-D"),
-    Case("-D and a database that is not there", "database_in=file:/nosuch.db\n", 0, 0, command="-D"),
-    Case("a database that is not there", "database_in=file:/nosuch.db\ndatabase_new=file:NEW\n" + RULES, 18, 18),
+    Case(
+        "-D and a database that is not there", "database_in=file:/nosuch.db\n", 0, 0, command="-D"
+    ),
+    Case(
+        "a database that is not there",
+        "database_in=file:/nosuch.db\ndatabase_new=file:NEW\n" + RULES,
+        18,
+        18,
+    ),
     Case("--limit", PAIR + RULES, 0, 15, words=("--limit", "/a")),
-    Case("an option twice", PAIR + RULES, 4, 15, words=("-A", "report_level=minimal", "-A", "report_quiet=no")),
+    Case(
+        "an option twice",
+        PAIR + RULES,
+        4,
+        15,
+        words=("-A", "report_level=minimal", "-A", "report_quiet=no"),
+    ),
     Case("an option cut short", PAIR + RULES, 4, 15, command="--compar"),
     Case("-E and -D", PAIR + RULES, 15, 15, words=("-D",)),
     Case("a further word", PAIR + RULES, 15, 15, words=("extra",)),
@@ -448,11 +602,19 @@ class Trial(Scratch, Tally):
             stderr=subprocess.PIPE,
             **dict({"stdout": subprocess.PIPE}, **more),
         )
-        return done.returncode, (done.stdout or b"").decode(errors="replace"), done.stderr.decode(errors="replace")
+        return (
+            done.returncode,
+            (done.stdout or b"").decode(errors="replace"),
+            done.stderr.decode(errors="replace"),
+        )
 
     def put(self, case):
         """Writes a case's files, and gives its words."""
-        places = {"OLD": self.write("old", case.old), "NEW": self.write("new", case.new), "DIR": self.root}
+        places = {
+            "OLD": self.write("old", case.old),
+            "NEW": self.write("new", case.new),
+            "DIR": self.root,
+        }
         filled = lambda text: re.sub("OLD|NEW|DIR", lambda found: places[found.group(0)], text)
         for name, text in case.files.items():
             self.write(name, text)
@@ -474,7 +636,9 @@ class Trial(Scratch, Tally):
 
 def scan(trial, rule, out):
     """Has AIDE write a database of the folder `tree`."""
-    conf = trial.write("init.conf", "database_out=file:%s/%s\n%s/tree %s\n" % (trial.root, out, trial.root, rule))
+    conf = trial.write(
+        "init.conf", "database_out=file:%s/%s\n%s/tree %s\n" % (trial.root, out, trial.root, rule)
+    )
     status, _, errors = trial.run(AIDE, ["--init", "-c", conf])
     trial.holds("aide --init", status == 0, errors)
     with open(os.path.join(trial.root, out), "rb") as file:
@@ -505,7 +669,10 @@ def try_order(trial):
         for number in range(20):
             open(tree + b"/" + name + b"-%d" % number, "w").close()
     for workers in (0, 1, 4):
-        paths = [unquote_to_bytes(line.split(b" ")[0]) for line in scan(trial, "R\nnum_workers=%d" % workers, "order.db")]
+        paths = [
+            unquote_to_bytes(line.split(b" ")[0])
+            for line in scan(trial, "R\nnum_workers=%d" % workers, "order.db")
+        ]
         trial.holds(
             "AIDE writes path order, %d workers" % workers,
             len(paths) > 300 and paths == sorted(paths, key=lambda path: path.split(b"/")),
@@ -523,11 +690,14 @@ def try_bits(trial):
             columns = re.search(rb"^@@db_spec (.*)$", file.read(), re.M).group(1).split()
         link = [line for line in entries if line.split(b" ")[0].endswith(b"/link")][0].split()
         attr = int(link[columns.index(b"attr")])
-        trial.holds("bit of " + name, sorted(k for k in BITS.values() if attr >> k & 1) == [bit], attr)
+        trial.holds(
+            "bit of " + name, sorted(k for k in BITS.values() if attr >> k & 1) == [bit], attr
+        )
 
 
 def try_fields(trial):
-    """Where AIDE writes a digest or a text without further meaning, the bit of its attribute is set too."""
+    """Where AIDE writes a digest or a text without further meaning, the bit of its attribute is set
+    too."""
     numbers = {
         "md5": 12,
         "sha1": 13,
@@ -559,12 +729,15 @@ def try_fields(trial):
     trial.holds("a field without its bit", rows and not alone, alone)
     entries = scan(trial, "s", "fields.db")
     trial.holds(
-        "the type without a rule for it", not any(int(entry.split()[-1]) >> TYPE & 1 for entry in entries), entries[:2]
+        "the type without a rule for it",
+        not any(int(entry.split()[-1]) >> TYPE & 1 for entry in entries),
+        entries[:2],
     )
 
 
 def try_real_pair(trial):
-    """A pair of databases of AIDE's own: the program reads them and finds the same entries added, removed and changed."""
+    """A pair of databases of AIDE's own: the program reads them and finds the same entries added,
+    removed and changed."""
     path = lambda name: os.path.join(trial.root, "tree", name)
     scan(trial, "R+sha256", "old")
     with open(path("file"), "w") as file:
@@ -576,12 +749,22 @@ def try_real_pair(trial):
     conf = trial.write(
         "conf",
         "%s%s/tree R\ndatabase_attrs=E\nreport_level=list_entries\n"
-        % (PAIR.replace("OLD", trial.root + "/old").replace("NEW", trial.root + "/new"), trial.root),
+        % (
+            PAIR.replace("OLD", trial.root + "/old").replace("NEW", trial.root + "/new"),
+            trial.root,
+        ),
     )
     answers = [trial.run(program, ["-E", "-c", conf]) for program in (AIDE, trial.program)]
-    listed = [[line[20:] for line in output.split("\n") if line[18:20] == ": "] for _, output, _ in answers]
+    listed = [
+        [line[20:] for line in output.split("\n") if line[18:20] == ": "]
+        for _, output, _ in answers
+    ]
     trial.holds("status of a real pair", [answer[0] for answer in answers] == [7, 7], answers)
-    trial.holds("entries of a real pair", sorted(listed[0]) == sorted(listed[1]) and len(listed[0]) >= 4, listed)
+    trial.holds(
+        "entries of a real pair",
+        sorted(listed[0]) == sorted(listed[1]) and len(listed[0]) >= 4,
+        listed,
+    )
     trial.holds("no column of AIDE's is skipped", answers[1][2] == "", answers[1][2])
 
 
@@ -599,7 +782,9 @@ def try_devices(trial):
         got = trial.run(program, words, stdout=writer)
         os.close(writer)
         trial.holds("a reader that has gone: " + program, got[0] == status, got)
-    trial.write("conf", (PAIR + RULES).replace("OLD", "/dev/stdin").replace("NEW", trial.root + "/new"))
+    trial.write(
+        "conf", (PAIR + RULES).replace("OLD", "/dev/stdin").replace("NEW", trial.root + "/new")
+    )
     for program, status in ((AIDE, 4), (trial.program, 18)):
         done = subprocess.run([program, *words], input=A.encode(), capture_output=True)
         trial.holds("a pipe as database: " + program, done.returncode == status, done)
@@ -620,9 +805,20 @@ def try_version(trial):
     """AIDE's own answers that a page names."""
     output = trial.run(AIDE, ["--version"])[1]
     groups = dict(re.findall(r"^(\S): (.*)$", output, re.M))
-    trial.holds("AIDE's group > has s and growing", {"s", "growing"} <= set(groups.get(">", "").split("+")), groups)
-    trial.holds("AIDE's group R", set(groups.get("R", "").split("+")) >= set("lpugscmin") | {"md5", "ftype"}, groups)
-    trial.holds("no configuration", trial.run(AIDE, ["-E"])[0] == 17 and trial.run(trial.program, ["-E"])[0] == 15)
+    trial.holds(
+        "AIDE's group > has s and growing",
+        {"s", "growing"} <= set(groups.get(">", "").split("+")),
+        groups,
+    )
+    trial.holds(
+        "AIDE's group R",
+        set(groups.get("R", "").split("+")) >= set("lpugscmin") | {"md5", "ftype"},
+        groups,
+    )
+    trial.holds(
+        "no configuration",
+        trial.run(AIDE, ["-E"])[0] == 17 and trial.run(trial.program, ["-E"])[0] == 15,
+    )
     case = Case(
         "HOSTNAME",
         RULES + "database_in=file:DIR/@@{HOSTNAME}\ndatabase_new=file:NEW\n",
@@ -631,7 +827,10 @@ def try_version(trial):
         files={socket.gethostname().split(".")[0]: A},
     )
     trial.case(case)
-    trial.holds("--help", trial.run(AIDE, ["--help"])[0] == 0 and trial.run(trial.program, ["--help"])[0] == 15)
+    trial.holds(
+        "--help",
+        trial.run(AIDE, ["--help"])[0] == 0 and trial.run(trial.program, ["--help"])[0] == 15,
+    )
 
 
 def main():
@@ -643,7 +842,10 @@ def main():
         return 0
     trial = Trial(given.program)
     version = trial.run(AIDE, ["--version"])[1].split("\n")[0]
-    print(version + ("" if version.startswith("AIDE 0.18.") else " (docs/DIFFERENCES.md describes 0.18.3)"))
+    print(
+        version
+        + ("" if version.startswith("AIDE 0.18.") else " (docs/DIFFERENCES.md describes 0.18.3)")
+    )
     try:
         for case in CONFIGURATION + DATABASES + WORDS:
             trial.case(case)

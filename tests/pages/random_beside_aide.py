@@ -1,9 +1,11 @@
-"""Compares the built program with AIDE itself, over pairs of databases made by real changes of files.
+"""Compares the built program with AIDE itself, over pairs of databases made by real changes of
+files.
 
-AIDE reads a tree of files, random operations change the tree, and AIDE reads it again. Then both programs compare the two
-databases, by random report options. Each entry is looked at: in which list it is, its summary string, and the names of its
-details. A difference passes only if docs/DIFFERENCES.md lists it. Each kind is counted. Prints what is not listed and, at
-the end, `N passed, M failed`. Needs AIDE and a file system with extended attributes; run by hand.
+AIDE reads a tree of files, random operations change the tree, and AIDE reads it again. Then both
+programs compare the two databases, by random report options. Each entry is looked at: in which list
+it is, its summary string, and the names of its details. A difference passes only if
+docs/DIFFERENCES.md lists it. Each kind is counted. Prints what is not listed and, at the end, `N
+passed, M failed`. Needs AIDE and a file system with extended attributes; run by hand.
 """
 import gzip
 import os
@@ -18,8 +20,30 @@ from tools.lib.arguments import parser_of
 from tests.lib.tally import Tally
 
 SLOTS = "YlZbpugamcinHAXSEC"
-GROUPS = ["p+ftype+u+g+s+m+sha256+xattrs+acl", "p+u+s+i+n+md5", "ftype+p+l+s+b+m+c+sha256+sha512+xattrs+e2fsattrs"]
-NAMES = ["p", "ftype", "u", "g", "s", "b", "m", "c", "i", "n", "l", "md5", "sha256", "sha512", "acl", "xattrs", "e2fsattrs"]
+GROUPS = [
+    "p+ftype+u+g+s+m+sha256+xattrs+acl",
+    "p+u+s+i+n+md5",
+    "ftype+p+l+s+b+m+c+sha256+sha512+xattrs+e2fsattrs",
+]
+NAMES = [
+    "p",
+    "ftype",
+    "u",
+    "g",
+    "s",
+    "b",
+    "m",
+    "c",
+    "i",
+    "n",
+    "l",
+    "md5",
+    "sha256",
+    "sha512",
+    "acl",
+    "xattrs",
+    "e2fsattrs",
+]
 LEVELS = ["list_entries", "changed_attributes", "added_removed_attributes", "added_removed_entries"]
 LETTERS = dict(zip("l p u g s b m c i n".split(), "l p u g Z b m c i n".split()))
 LETTERS.update(md5="H", sha256="H", sha512="H", acl="A", xattrs="X", e2fsattrs="E", ftype="Y")
@@ -27,8 +51,14 @@ LETTERS.update(md5="H", sha256="H", sha512="H", acl="A", xattrs="X", e2fsattrs="
 
 def change(tree, chance):
     """One random operation on the files of a tree."""
-    paths = [os.path.join(path, name) for path, folders, files in os.walk(tree) for name in folders + files]
-    fresh = os.path.join(tree, chance.choice(["", "sub", "sub/deep"]), "new%d" % chance.randrange(10**6))
+    paths = [
+        os.path.join(path, name)
+        for path, folders, files in os.walk(tree)
+        for name in folders + files
+    ]
+    fresh = os.path.join(
+        tree, chance.choice(["", "sub", "sub/deep"]), "new%d" % chance.randrange(10**6)
+    )
     if not os.path.isdir(os.path.dirname(fresh)):
         os.makedirs(os.path.dirname(fresh), exist_ok=True)
     path = chance.choice(paths) if paths else tree
@@ -97,10 +127,14 @@ def options(chance):
 
 def entries(report):
     """The list lines of a report by path, and the names of the details by path."""
-    listed = {path: letters for letters, path in re.findall(r"^([a-z!?].{17}): (/.*)$", report, re.M)}
+    listed = {
+        path: letters for letters, path in re.findall(r"^([a-z!?].{17}): (/.*)$", report, re.M)
+    }
     details = {}
     for path, block in re.findall(r"^[A-Z][\w ]*: (/.*)\n((?: +\S.*\n)+)", report, re.M):
-        details[path] = [name.strip() for name in re.findall(r"^ {1,2}([A-Z]\w[\w/ -]*?) *:", block, re.M)]
+        details[path] = [
+            name.strip() for name in re.findall(r"^ {1,2}([A-Z]\w[\w/ -]*?) *:", block, re.M)
+        ]
     return listed, details
 
 
@@ -142,7 +176,12 @@ def letter_is_told(slot, theirs, ours, ignored, removed, kind):
 
 
 def compare_entry(path, theirs, ours, chosen, partial, tally, label):
-    ignored = {LETTERS[name] for key in chosen if key.startswith("report_ignore") for name in chosen[key].split("+")}
+    ignored = {
+        LETTERS[name]
+        for key in chosen
+        if key.startswith("report_ignore")
+        for name in chosen[key].split("+")
+    }
     removed = chosen.get("report_ignore_removed_attrs", "").split("+")
     kind = "one side only" if path in partial else ""
     if theirs == ours:
@@ -166,7 +205,9 @@ def compare_entry(path, theirs, ours, chosen, partial, tally, label):
 
 def compare_details(path, theirs, ours, listed, chosen, partial, tally, label):
     """Compares the sets of names: AIDE's `File type` is `Type` here, and its `Uid` is `UID`."""
-    names, our_names = {name.lower().replace("file type", "type") for name in theirs}, {name.lower() for name in ours}
+    names, our_names = {name.lower().replace("file type", "type") for name in theirs}, {
+        name.lower() for name in ours
+    }
     if names == our_names:
         tally.agree(label)
     elif path in partial or "report_force_attrs" in chosen:
@@ -187,7 +228,9 @@ def compare_reports(program, folder, tree, chosen, tally, label):
         file.write("%s p+ftype+u+g+s+b+m+c+i+n+l+md5+sha256+sha512+acl+xattrs+e2fsattrs\n" % tree)
     run = lambda command: subprocess.run(command, stdout=subprocess.PIPE, stderr=subprocess.PIPE)
     theirs, ours = run(["aide", "-E", "-c", conf]), run([program, "-E", "-c", conf])
-    their_text, our_text = theirs.stdout.decode(errors="replace"), ours.stdout.decode(errors="replace")
+    their_text, our_text = theirs.stdout.decode(errors="replace"), ours.stdout.decode(
+        errors="replace"
+    )
     if ours.returncode > 7 or ours.stderr:
         return tally.fail(label, "status", ours.returncode, ours.stderr)
     warned = theirs.stderr.decode(errors="replace") + their_text
@@ -196,14 +239,25 @@ def compare_reports(program, folder, tree, chosen, tally, label):
     for path in sorted(set(their_list) | set(our_list)):
         compare_entry(path, their_list.get(path), our_list.get(path), chosen, partial, tally, label)
     for path in sorted(set(their_details) & set(our_details)):
-        compare_details(path, their_details[path], our_details[path], our_list.get(path), chosen, partial, tally, label)
+        compare_details(
+            path,
+            their_details[path],
+            our_details[path],
+            our_list.get(path),
+            chosen,
+            partial,
+            tally,
+            label,
+        )
 
 
 def main():
     parser = parser_of("tests.pages.random_beside_aide", __doc__)
     parser.add_argument("program")
     parser.add_argument("--pairs", type=int, default=100, help="how many pairs of databases")
-    parser.add_argument("--configurations", type=int, default=5, help="how many report configurations for each pair")
+    parser.add_argument(
+        "--configurations", type=int, default=5, help="how many report configurations for each pair"
+    )
     parser.add_argument("--seed", type=int, default=random.SystemRandom().randrange(10**9))
     given = parser.parse_args()
     if not shutil.which("aide"):
@@ -224,7 +278,9 @@ def main():
                 change(tree, chance)
             read_tree(folder, tree, chance.choice([group] * 3 + GROUPS), "new")
             for turn in range(given.configurations):
-                compare_reports(program, folder, tree, options(chance), tally, "pair %d, %d" % (number, turn))
+                compare_reports(
+                    program, folder, tree, options(chance), tally, "pair %d, %d" % (number, turn)
+                )
         finally:
             shutil.rmtree(folder)
     for kind, count in sorted(tally.told.items()):

@@ -1,12 +1,15 @@
 #!/usr/bin/env python3
-"""Tries the commands, configurations and lines that README.md, the manual pages and examples/README.md show.
+"""Tries the commands, configurations and lines that README.md, the manual pages and
+examples/README.md show.
 
-packaging/install puts PROGRAM, the built program, and the tools into a folder of this run. There each display is run as it
-stands, over prepared databases and with the folders that it names put below that folder; the status of each command, and
-what the page says of it, are compared. `ssh`, `sendmail`, `logger` and `rt` are small programs of this script.
-page_blocks/rows.py says of each display how it is tried, or why it is not and what tries it instead. A display without a row
-fails, and so does a row without a display. The messages that the pages of the tools list under DIAGNOSTICS are looked for
-in the text of the tools, and the options of each `--help` in its page. Prints what fails and, at the end, `N passed, M failed`.
+packaging/install puts PROGRAM, the built program, and the tools into a folder of this run. There
+each display is run as it stands, over prepared databases and with the folders that it names put
+below that folder; the status of each command, and what the page says of it, are compared. `ssh`,
+`sendmail`, `logger` and `rt` are small programs of this script. page_blocks/rows.py says of each
+display how it is tried, or why it is not and what tries it instead. A display without a row fails,
+and so does a row without a display. The messages that the pages of the tools list under DIAGNOSTICS
+are looked for in the text of the tools, and the options of each `--help` in its page. Prints what
+fails and, at the end, `N passed, M failed`.
 """
 import sys
 
@@ -25,11 +28,19 @@ def rows_of(displays, holds):
     holds("a display is found in some page", displays)
     for display in displays:
         rows = [row for row in ROWS if row.is_of(display)]
-        holds("%s: %d rows of page_blocks/rows.py are about this display" % (display.name(), len(rows)), len(rows) == 1)
+        holds(
+            "%s: %d rows of page_blocks/rows.py are about this display"
+            % (display.name(), len(rows)),
+            len(rows) == 1,
+        )
         used.update(rows)
         pairs += [(display, row) for row in rows[:1]]
     for row in ROWS:
-        holds("%s: a display of the page comes after %r, so the row is not stale" % (row.page, row.key), row in used)
+        holds(
+            "%s: a display of the page comes after %r, so the row is not stale"
+            % (row.page, row.key),
+            row in used,
+        )
     return pairs
 
 

@@ -1,9 +1,9 @@
 #!/usr/bin/env python3
 """Tries what the manual pages say on the built program.
 
-The tool reads from the pages in man/ all names (options, directives, levels, groups, attributes with column, bit and
-letter), reports, lines on standard error and limits, and tries each of them. Prints what fails and, at the end, `N passed, M
-failed`.
+The tool reads from the pages in man/ all names (options, directives, levels, groups, attributes
+with column, bit and letter), reports, lines on standard error and limits, and tries each of them.
+Prints what fails and, at the end, `N passed, M failed`.
 """
 import base64
 import glob
@@ -62,7 +62,10 @@ class Trial(Scratch, Tally):
 
     def run(self, *words, stdout=subprocess.PIPE, program=None):
         done = subprocess.run(
-            [program or self.program, *words], stdin=subprocess.DEVNULL, stdout=stdout, stderr=subprocess.PIPE
+            [program or self.program, *words],
+            stdin=subprocess.DEVNULL,
+            stdout=stdout,
+            stderr=subprocess.PIPE,
         )
         output = done.stdout.decode(errors="replace") if done.stdout is not None else ""
         return done.returncode, output, done.stderr.decode(errors="replace")
@@ -78,7 +81,9 @@ class Trial(Scratch, Tally):
 
     def bad(self, text, words, name):
         status, errors = self.read(text)
-        self.holds(name, status == 17 and errors.rstrip("\n").endswith(": " + words), (status, errors))
+        self.holds(
+            name, status == 17 and errors.rstrip("\n").endswith(": " + words), (status, errors)
+        )
 
     def compare(self, old, new, options="", program=None):
         text = "database_in=file:%s\ndatabase_new=file:%s\n%s" % (
@@ -90,7 +95,10 @@ class Trial(Scratch, Tally):
 
 
 def database(columns, *entries):
-    return "@@begin_db\n@@db_spec %s\n%s@@end_db\n" % (columns, "".join(entry + "\n" for entry in entries))
+    return "@@begin_db\n@@db_spec %s\n%s@@end_db\n" % (
+        columns,
+        "".join(entry + "\n" for entry in entries),
+    )
 
 
 def unescaped(text):
@@ -109,7 +117,9 @@ def line_after(text, begin):
 
 
 def section(page, title, macro="Sh"):
-    found = re.search(r"^\.%s %s\n(.*?)(?=^\.Sh |\Z)" % (macro, re.escape(title)), page, re.M | re.S)
+    found = re.search(
+        r"^\.%s %s\n(.*?)(?=^\.Sh |\Z)" % (macro, re.escape(title)), page, re.M | re.S
+    )
     return found.group(1)
 
 
@@ -119,9 +129,13 @@ def try_pages(trial):
     if shutil.which("man"):
         for page in pages:
             done = subprocess.run(
-                ["man", "--warnings", "-E", "UTF-8", "-l", "-Tutf8", "-Z", page], capture_output=True, text=True
+                ["man", "--warnings", "-E", "UTF-8", "-l", "-Tutf8", "-Z", page],
+                capture_output=True,
+                text=True,
             )
-            trial.holds("man --warnings " + page, done.returncode == 0 and done.stderr == "", done.stderr)
+            trial.holds(
+                "man --warnings " + page, done.returncode == 0 and done.stderr == "", done.stderr
+            )
     else:
         print("skipped: man is not installed")
     if shutil.which("mandoc"):
@@ -133,7 +147,10 @@ def try_pages(trial):
             trial.write("man/" + other, "")
         surroundings = dict(os.environ, MANPATH=trial.path("man"))
         done = subprocess.run(
-            ["mandoc", "-T", "lint", "-W", "style", *pages], capture_output=True, text=True, env=surroundings
+            ["mandoc", "-T", "lint", "-W", "style", *pages],
+            capture_output=True,
+            text=True,
+            env=surroundings,
         )
         trial.holds("mandoc -T lint", done.stdout == "", done.stdout)
     else:
@@ -189,7 +206,11 @@ def try_other_names(trial, page):
     urls = re.findall(r"\b[a-z]+:?(?= [,.])", line_after(refused, "a database that is"))
     trial.holds("refused URLs", urls == ["stdin", "fd:", "http:", "https:", "ftp:"], urls)
     for url in urls:
-        trial.bad("database_in=%s\n" % (url if url == "stdin" else url + "//x"), "left out of this profile", url)
+        trial.bad(
+            "database_in=%s\n" % (url if url == "stdin" else url + "//x"),
+            "left out of this profile",
+            url,
+        )
 
 
 def try_directives(trial, page):
@@ -217,8 +238,15 @@ def try_directives(trial, page):
 
 
 def attributes_of(page):
-    rows = re.findall(r"^\.It Li (\S+) Ta (\S+) Ta (\S+) Ta (\S+) Ta (\S+)$", between(page, "attributes", "attributes"), re.M)
-    return [(name, column, None if bit == "-" else int(bit), letter, detail) for name, column, bit, letter, detail in rows]
+    rows = re.findall(
+        r"^\.It Li (\S+) Ta (\S+) Ta (\S+) Ta (\S+) Ta (\S+)$",
+        between(page, "attributes", "attributes"),
+        re.M,
+    )
+    return [
+        (name, column, None if bit == "-" else int(bit), letter, detail)
+        for name, column, bit, letter, detail in rows
+    ]
 
 
 def try_forms(column):
@@ -251,11 +279,15 @@ def try_attribute(trial, row):
     others = [shown[0][i] for i in range(1, 18) if i != slot] if shown else []
     trial.holds("the other letters beside " + name, set(others) <= {" "}, shown)
     trial.holds("detail name of " + name, "\n  %-10s: " % detail in output, output)
-    status, output, errors = trial.compare(*databases, options="report_ignore_changed_attrs=%s\n" % name)
+    status, output, errors = trial.compare(
+        *databases, options="report_ignore_changed_attrs=%s\n" % name
+    )
     trial.holds("ignored " + name, status == 0, status)
     if bit is not None:
         others = 2**64 - 1 - 2**bit
-        databases = [database("name attr " + column, "/f %d %s" % (others, field)) for field in fields]
+        databases = [
+            database("name attr " + column, "/f %d %s" % (others, field)) for field in fields
+        ]
         trial.holds("without the bit of " + name, trial.compare(*databases)[0] == 0)
         databases = [database("name " + column, "/f " + field) for field in fields]
         trial.holds("without the column attr, " + name, trial.compare(*databases)[0] == 4)
@@ -263,18 +295,29 @@ def try_attribute(trial, row):
 
 def try_attributes(trial, page):
     rows = attributes_of(page)
-    trial.holds("attributes of the page", len(rows) == len(ATTRIBUTES) and {row[3] for row in rows} == set(SLOTS), len(rows))
+    trial.holds(
+        "attributes of the page",
+        len(rows) == len(ATTRIBUTES) and {row[3] for row in rows} == set(SLOTS),
+        len(rows),
+    )
     for row in rows:
         try_attribute(trial, row)
     columns = sorted({row[1] for row in rows})
-    everything = database("name attr " + " ".join(columns), "/f 0 " + " ".join(try_forms(column)[0] for column in columns))
+    everything = database(
+        "name attr " + " ".join(columns),
+        "/f 0 " + " ".join(try_forms(column)[0] for column in columns),
+    )
     changed = database(
         "name attr " + " ".join(columns),
         "/f %d %s" % (2**12 - 2, " ".join(try_forms(column)[1] for column in columns)),
     )
     full = everything.replace("/f 0 ", "/f %d " % (2**12 - 2)).replace(" 100644", " 40644")
     details = trial.compare(full, changed)[1]
-    order = re.findall(r"^  (\S+) *: .* \| ", details.split("Detailed information")[1].split("The attributes of")[0], re.M)
+    order = re.findall(
+        r"^  (\S+) *: .* \| ",
+        details.split("Detailed information")[1].split("The attributes of")[0],
+        re.M,
+    )
     trial.holds("order of the details", order == [row[4] for row in rows], order)
 
 
@@ -292,16 +335,30 @@ def try_groups(trial, page):
     digests = {row[0] for row in rows if row[3] == "H"}
     sets = {row[0]: {row[0]} for row in rows}
     groups = re.findall(r"^\.It Li (\S+) Ta (.*)$", between(page, "groups", "groups"), re.M)
-    trial.holds("groups of the page", [name for name, _ in groups] == ["E", "X", "L", "R", ">", "H"], groups)
+    trial.holds(
+        "groups of the page", [name for name, _ in groups] == ["E", "X", "L", "R", ">", "H"], groups
+    )
     for name, text in groups:
-        sets[name] = set() if text == "the empty set" else digests if text == "all digests" else meaning(text, sets)
+        sets[name] = (
+            set()
+            if text == "the empty set"
+            else digests
+            if text == "all digests"
+            else meaning(text, sets)
+        )
     for group, _ in groups:
         for name, column, bit, _, _ in rows:
             fields = ["100644", "120644"] if name == "ftype" else try_forms(column)
             bits = 0 if bit is None else 2**bit
-            databases = [database("name attr " + column, "/f %d %s" % (bits, field)) for field in fields]
-            status = trial.compare(*databases, options="report_ignore_changed_attrs=%s\n" % group)[0]
-            trial.holds("%s in %s" % (name, group), status == (0 if name in sets[group] else 4), status)
+            databases = [
+                database("name attr " + column, "/f %d %s" % (bits, field)) for field in fields
+            ]
+            status = trial.compare(*databases, options="report_ignore_changed_attrs=%s\n" % group)[
+                0
+            ]
+            trial.holds(
+                "%s in %s" % (name, group), status == (0 if name in sets[group] else 4), status
+            )
         trial.good("%s=s\n" % group, "a new " + group)
     for name in re.findall(r"\b(?!Li\b)\w+\b", between(page, "empty names", "empty names")):
         trial.good("report_force_attrs=p+%s\n" % name, name)
@@ -311,7 +368,11 @@ def try_groups(trial, page):
 
 PAIR = (
     database("name attr perm size sha256", "/b 36 40755 4096 0", "/c 36 100644 10 0"),
-    database("name attr perm size sha256", "/a 36 100644 5 0", "/c 36 100600 7 47DEQpj8HBSa+/TImW+5JCeuQeRkm5NMpJWZG3hSuFU="),
+    database(
+        "name attr perm size sha256",
+        "/a 36 100644 5 0",
+        "/c 36 100600 7 47DEQpj8HBSa+/TImW+5JCeuQeRkm5NMpJWZG3hSuFU=",
+    ),
 )
 
 
@@ -319,7 +380,9 @@ def try_reports(trial, page):
     """The reports in the page are those that the program writes, level for level."""
     parts = dict(re.findall(r'^\.\\" try: (\w+)\n\.Bd -literal\n(.*?)\.Ed$', page, re.M | re.S))
     trial.holds("levels of the page", list(parts) == [*LEVELS, "lines"], list(parts))
-    output = trial.compare(*PAIR, program=lines_program_of(trial.program))[1].splitlines(keepends=True)
+    output = trial.compare(*PAIR, program=lines_program_of(trial.program))[1].splitlines(
+        keepends=True
+    )
     trial.holds("lines of JSON", parts["lines"] == output[1] + output[-1], output)
     order = ["minimal", "summary", "list_entries", "details", "database_attributes"]
     shown = {}
@@ -328,18 +391,30 @@ def try_reports(trial, page):
         shown[slot] = parts[level]
         wanted = "".join(shown.get(part, "") for part in order)
         status, output, errors = trial.compare(*PAIR, options="report_level=%s\n" % level)
-        got = "".join(line.rstrip() + "\n" for line in output.replace(trial.root, "/var/lib/aide").splitlines())
+        got = "".join(
+            line.rstrip() + "\n"
+            for line in output.replace(trial.root, "/var/lib/aide").splitlines()
+        )
         trial.holds("report at " + level, (status, got, errors) == (7, wanted, ""), "\n" + got)
     status, output, errors = trial.compare(PAIR[0], PAIR[0], options="report_level=minimal\n")
-    trial.holds("no differences", (status, output) == (0, "AIDE found NO differences between the two databases.\n"), output)
-    trial.holds("report_quiet", trial.compare(PAIR[0], PAIR[0], options="report_quiet=yes\n") == (0, "", ""))
+    trial.holds(
+        "no differences",
+        (status, output) == (0, "AIDE found NO differences between the two databases.\n"),
+        output,
+    )
+    trial.holds(
+        "report_quiet", trial.compare(PAIR[0], PAIR[0], options="report_quiet=yes\n") == (0, "", "")
+    )
     output = trial.compare(*PAIR, options="report_grouped=no\nreport_summarize_changes=no\n")[1]
     trial.holds(
         "one list",
-        "Added, removed and changed entries:" in output and "\nadded: /a\nremoved: /b\nchanged: /c\n" in output,
+        "Added, removed and changed entries:" in output
+        and "\nadded: /a\nremoved: /b\nchanged: /c\n" in output,
         output,
     )
-    output = trial.compare(*PAIR, options="report_base16=yes\nreport_level=added_removed_attributes\n")[1]
+    output = trial.compare(
+        *PAIR, options="report_base16=yes\nreport_level=added_removed_attributes\n"
+    )[1]
     trial.holds("base 16", "e3b0c44298fc1c149afbf4c8996fb924" in output, output)
     output = trial.compare(database("name size"), database("name size", "/x%0Ay%5C 1"))[1]
     trial.holds("escapes", ": /x\\012y\\134\n" in output, output)
@@ -393,22 +468,38 @@ def try_faults(trial, page):
     """Each line of DIAGNOSTICS is one that the program writes."""
     named = [
         unescaped(words).strip('"')
-        for words in re.findall(r"^\.It Li (.*)$", section(page, "Faults of the configuration", "Ss").split(".Ss")[0], re.M)
+        for words in re.findall(
+            r"^\.It Li (.*)$",
+            section(page, "Faults of the configuration", "Ss").split(".Ss")[0],
+            re.M,
+        )
     ]
-    trial.holds("faults of the configuration", sorted(named) == sorted(CONFIGURATION_WORDS.values()), named)
+    trial.holds(
+        "faults of the configuration", sorted(named) == sorted(CONFIGURATION_WORDS.values()), named
+    )
     for words in named:
         text = faults_of_configuration(words)
-        status, errors = trial.read(text, "-E" if words.startswith("no ") else "-D") if text else (None, "no text has it")
+        status, errors = (
+            trial.read(text, "-E" if words.startswith("no ") else "-D")
+            if text
+            else (None, "no text has it")
+        )
         trial.holds(
             words,
-            status == 17 and re.fullmatch(r"aide: (config|after):\d+: " + re.escape(words) + "\n", errors),
+            status == 17
+            and re.fullmatch(r"aide: (config|after):\d+: " + re.escape(words) + "\n", errors),
             (status, errors),
         )
     named = [
         unescaped(words).strip('"')
-        for words in re.findall(r"^\.It Li (.*)$", section(page, "Faults of a database", "Ss"), re.M)
+        for words in re.findall(
+            r"^\.It Li (.*)$", section(page, "Faults of a database", "Ss"), re.M
+        )
     ]
-    wanted = sorted([words + " N" * words.endswith("column") for words in DATABASE_WORDS.values()] + ["read failed"])
+    wanted = sorted(
+        [words + " N" * words.endswith("column") for words in DATABASE_WORDS.values()]
+        + ["read failed"]
+    )
     trial.holds("faults of a database", sorted(named) == wanted, named)
     for words in named:
         text = faults_of_database(words)
@@ -420,11 +511,22 @@ def try_faults(trial, page):
                 side,
                 re.escape(words).replace("N", r"\d+") if "column" in words else re.escape(words),
             )
-            trial.holds(words, (status, output) == (24, "") and re.fullmatch(wanted, errors), (status, output, errors))
+            trial.holds(
+                words,
+                (status, output) == (24, "") and re.fullmatch(wanted, errors),
+                (status, output, errors),
+            )
     os.mkdir(trial.path("folder"))
-    words = "database_in=file:%s\ndatabase_new=file:%s\n" % (trial.path("folder"), trial.write("new.db", PAIR[1]))
+    words = "database_in=file:%s\ndatabase_new=file:%s\n" % (
+        trial.path("folder"),
+        trial.write("new.db", PAIR[1]),
+    )
     status, errors = trial.read(words, "-E")
-    trial.holds("read failed", status == 18 and errors == "aide: old database:1: read failed\n", (status, errors))
+    trial.holds(
+        "read failed",
+        status == 18 and errors == "aide: old database:1: read failed\n",
+        (status, errors),
+    )
     print("skipped: too many bytes (a file of 2^40 bytes)")
 
 
@@ -462,13 +564,22 @@ def try_lines(trial, page):
         (done.returncode, done.stdout, done.stderr) == (22, b"", b"aide: out of memory\n"),
         done,
     )
-    trial.holds("no configuration", trial.run("-D", "-c", "/nope") == (18, "", "aide: cannot read the configuration /nope\n"))
+    trial.holds(
+        "no configuration",
+        trial.run("-D", "-c", "/nope") == (18, "", "aide: cannot read the configuration /nope\n"),
+    )
     got = trial.run("-D", "-c", trial.root)
-    trial.holds("a folder", got == (18, "", "aide: cannot read the configuration %s\n" % trial.root), got)
-    trial.holds("the file -", trial.run("-D", "-c", "-") == (18, "", "aide: cannot read the configuration -\n"))
+    trial.holds(
+        "a folder", got == (18, "", "aide: cannot read the configuration %s\n" % trial.root), got
+    )
+    trial.holds(
+        "the file -",
+        trial.run("-D", "-c", "-") == (18, "", "aide: cannot read the configuration -\n"),
+    )
     trial.holds(
         "a long configuration",
-        trial.read("\n" * 4194305) == (17, "aide: the configuration is longer than 4194304 bytes\n"),
+        trial.read("\n" * 4194305)
+        == (17, "aide: the configuration is longer than 4194304 bytes\n"),
     )
     trial.write("new.db", PAIR[1])
     for text, side in (
@@ -485,27 +596,42 @@ def try_lines(trial, page):
         trial.compare(*PAIR)
         with open("/dev/full", "wb") as full:
             status, _, errors = trial.run("-E", "-c", conf, stdout=full)
-        trial.holds("a full device", (status, errors) == (18, "aide: cannot write the report\n"), (status, errors))
-    status, output, errors = trial.compare(database("name foo size", "/a 1 1"), database("size name bar", "1 /a 1"))
+        trial.holds(
+            "a full device",
+            (status, errors) == (18, "aide: cannot write the report\n"),
+            (status, errors),
+        )
+    status, output, errors = trial.compare(
+        database("name foo size", "/a 1 1"), database("size name bar", "1 /a 1")
+    )
     trial.holds(
         "skipped",
-        (status, errors) == (0, "aide: old database: column 2 skipped\naide: new database: column 3 skipped\n"),
+        (status, errors)
+        == (0, "aide: old database: column 2 skipped\naide: new database: column 3 skipped\n"),
         errors,
     )
     reader, writer = os.pipe()
     os.write(writer, PAIR[0].encode())
     os.close(writer)
     text = "database_in=file:/dev/stdin\ndatabase_new=file:%s\n" % trial.path("new.db")
-    done = subprocess.run([trial.program, "-E", "-c", trial.write("conf", text)], stdin=reader, capture_output=True, text=True)
+    done = subprocess.run(
+        [trial.program, "-E", "-c", trial.write("conf", text)],
+        stdin=reader,
+        capture_output=True,
+        text=True,
+    )
     os.close(reader)
     trial.holds(
         "a pipe",
-        (done.returncode, done.stdout, done.stderr) == (18, "", "aide: the old database changed while it was read\n"),
+        (done.returncode, done.stdout, done.stderr)
+        == (18, "", "aide: the old database changed while it was read\n"),
         done,
     )
     named = [
         unescaped(words).strip('"')
-        for words in re.findall(r"^\.It Li (.*)$", section(page, "Lines of the program", "Ss").split(".Ss")[0], re.M)
+        for words in re.findall(
+            r"^\.It Li (.*)$", section(page, "Lines of the program", "Ss").split(".Ss")[0], re.M
+        )
     ]
     trial.holds("lines of the program", len(named) == 8, named)
 
@@ -522,11 +648,23 @@ def try_texts(trial, page):
     trial.holds("-A wins over the file", lines("-A", "report_level=minimal") == 1)
     trial.holds("the file wins over -B", lines("-B", "report_level=minimal") == 7)
     trial.holds("report_url=stdout", lines("-B", "report_level=minimal\nreport_url=stdout") == 1)
-    trial.holds("behind report_url=stdout", lines("-A", "report_url=stdout\nreport_level=minimal") == 7)
-    trial.holds("the last database_in", trial.run("-E", "-c", conf, "-A", "database_in=file:" + trial.path("new.db"))[0] == 0)
-    trial.holds("the first database_in", trial.run("-E", "-c", conf, "-B", "database_in=file:" + trial.path("new.db"))[0] == 7)
+    trial.holds(
+        "behind report_url=stdout", lines("-A", "report_url=stdout\nreport_level=minimal") == 7
+    )
+    trial.holds(
+        "the last database_in",
+        trial.run("-E", "-c", conf, "-A", "database_in=file:" + trial.path("new.db"))[0] == 0,
+    )
+    trial.holds(
+        "the first database_in",
+        trial.run("-E", "-c", conf, "-B", "database_in=file:" + trial.path("new.db"))[0] == 7,
+    )
     status, output, errors = trial.run("-D", "-c", conf, "-B", "@@ifdef A", "-A", "@@endif")
-    trial.holds("a block over two texts", (status, errors) == (17, "aide: before:2: missing @@endif\n"), errors)
+    trial.holds(
+        "a block over two texts",
+        (status, errors) == (17, "aide: before:2: missing @@endif\n"),
+        errors,
+    )
 
 
 def try_limits(trial, page):
@@ -544,17 +682,32 @@ def try_limits(trial, page):
         trial.holds("columns of the limit and %d" % more, trial.compare(text, text)[0] == status)
     for more, status in ((0, 0), (1, 17)):
         size = limits["configuration, bytes of a used line"] + more
-        trial.holds("a line of configuration and %d" % more, trial.read("/" + "x" * (size - 1) + "\n")[0] == status)
+        trial.holds(
+            "a line of configuration and %d" % more,
+            trial.read("/" + "x" * (size - 1) + "\n")[0] == status,
+        )
         size = limits["configuration, blocks in one another"] + more
-        trial.holds("blocks and %d" % more, trial.read("@@ifdef A\n" * size + "@@endif\n" * size)[0] == status)
+        trial.holds(
+            "blocks and %d" % more,
+            trial.read("@@ifdef A\n" * size + "@@endif\n" * size)[0] == status,
+        )
         for part, form in (("variables", "@@define A%d\n"), ("groups", "A%d=s\n")):
-            text = "".join(form % number for number in range(limits["configuration, " + part] + more))
+            text = "".join(
+                form % number for number in range(limits["configuration, " + part] + more)
+            )
             trial.holds("%s and %d" % (part, more), trial.read(text)[0] == status)
         size = limits["variable or database path, bytes"] + more
-        trial.holds("a value and %d" % more, trial.read("@@define A " + "x" * size + "\n")[0] == status)
-        trial.holds("a path and %d" % more, trial.read("database_in=file:/" + "x" * (size - 1) + "\n")[0] == status)
+        trial.holds(
+            "a value and %d" % more, trial.read("@@define A " + "x" * size + "\n")[0] == status
+        )
+        trial.holds(
+            "a path and %d" % more,
+            trial.read("database_in=file:/" + "x" * (size - 1) + "\n")[0] == status,
+        )
         name = "A" * (limits["name of a variable or group, bytes"] + more)
-        trial.holds("a variable's name and %d" % more, trial.read("@@define %s\n" % name)[0] == status)
+        trial.holds(
+            "a variable's name and %d" % more, trial.read("@@define %s\n" % name)[0] == status
+        )
         trial.holds("a group's name and %d" % more, trial.read("%s=s\n" % name)[0] == status)
         trial.holds(
             "a configuration and %d" % more,
@@ -564,7 +717,9 @@ def try_limits(trial, page):
 
 def try_examples(trial, page):
     """The configurations of the page have no fault."""
-    examples = re.findall(r"^\.Bd -literal -offset indent\n(database_in=.*?)^\.Ed$", page, re.M | re.S)
+    examples = re.findall(
+        r"^\.Bd -literal -offset indent\n(database_in=.*?)^\.Ed$", page, re.M | re.S
+    )
     trial.holds("examples of the page", len(examples) == 3, len(examples))
     for text in examples:
         trial.good(text, "an example")
@@ -584,7 +739,10 @@ def try_databases(trial, page):
     ):
         trial.holds(name, trial.compare(plain, other)[0] == 0, trial.compare(plain, other))
     twice = database("name size", "/a 1", "/a 1")
-    trial.holds("a path twice", trial.compare(twice, plain)[2] == "aide: old database:4: entry out of path order\n")
+    trial.holds(
+        "a path twice",
+        trial.compare(twice, plain)[2] == "aide: old database:4: entry out of path order\n",
+    )
     for column, good, bad in (
         (
             "size",
@@ -594,8 +752,16 @@ def try_databases(trial, page):
         ("attr", ["0", "18446744073709551615"], ["-1", "18446744073709551616"]),
         ("perm", ["37777777777"], ["40000000000", "8"]),
         ("mtime", ["10", "-5", "MTA="], ["x!", "1x"]),
-        ("tiger", ["AA==", base64.b64encode(b"x" * 64).decode(), "0"], [base64.b64encode(b"x" * 65).decode()]),
-        ("md5", [base64.b64encode(b"x" * 16).decode(), "0"], [base64.b64encode(b"x" * 15).decode(), "00"]),
+        (
+            "tiger",
+            ["AA==", base64.b64encode(b"x" * 64).decode(), "0"],
+            [base64.b64encode(b"x" * 65).decode()],
+        ),
+        (
+            "md5",
+            [base64.b64encode(b"x" * 16).decode(), "0"],
+            [base64.b64encode(b"x" * 15).decode(), "00"],
+        ),
     ):
         for fields, status in ((good, 0), (bad, 24)):
             for field in fields:

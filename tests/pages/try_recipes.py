@@ -1,11 +1,13 @@
 #!/usr/bin/env python3
-"""Tries the pages with recipes (docs/RECIPES.md, HOSTS.md, MONITORING.md) over several days, with the tools that packaging/install installs into a folder of its own.
+"""Tries the pages with recipes (docs/RECIPES.md, HOSTS.md, MONITORING.md) over several days, with
+the tools that packaging/install installs into a folder of its own.
 
-Each block of the page that is marked for it is run without changes, except that the folders that it names are below a
-folder of this run. The trials play five days of a watched host: nothing changes, an intruder comes, every kind of alarm is
-raised and raised again, a wrong and the right database are accepted, and all is quiet. Then AIDE stops for three days. Then
-faults are made. `ssh`, `mail` and `logger` are small programs of this script, so nothing leaves the machine. Prints what
-fails and, at the end, `N passed, M failed`.
+Each block of the page that is marked for it is run without changes, except that the folders that it
+names are below a folder of this run. The trials play five days of a watched host: nothing changes,
+an intruder comes, every kind of alarm is raised and raised again, a wrong and the right database
+are accepted, and all is quiet. Then AIDE stops for three days. Then faults are made. `ssh`, `mail`
+and `logger` are small programs of this script, so nothing leaves the machine. Prints what fails
+and, at the end, `N passed, M failed`.
 """
 import sys
 

@@ -1,4 +1,5 @@
-"""Checks what the pages of this repository name: links, files, code that was copied in, clauses, tables of files.
+"""Checks what the pages of this repository name: links, files, code that was copied in, clauses,
+tables of files.
 
 - Each link of a page leads to a file of the repository.
 - Each file that a page names in backquotes exists: below the top, a crate, or a crate's src/. Built files (`out/`) and
@@ -32,7 +33,9 @@ TOP = public_specs.TOP
 MARK = re.compile(r"<!-- (by hand|no command|from): ")
 ENDINGS = r"(?:rt|antt|py|md|sh|c|txt|conf|edit|[15])"
 NAMED = re.compile(r"`((?:[\w.-]+/)*[\w.-]+\.%s)`" % ENDINGS)
-BELOW = re.compile(r"`((?:tests|tools|packaging|commands|docs|crates|examples|contrib|man|bench)/[\w./-]*)`")
+BELOW = re.compile(
+    r"`((?:tests|tools|packaging|commands|docs|crates|examples|contrib|man|bench)/[\w./-]*)`"
+)
 
 
 class Kinds(Tally):
@@ -60,15 +63,20 @@ def read(name):
 
 def tracked():
     """The files of the repository, by git where there is one."""
-    done = subprocess.run(["git", "-C", TOP, "ls-files"], stdout=subprocess.PIPE, stderr=subprocess.DEVNULL)
+    done = subprocess.run(
+        ["git", "-C", TOP, "ls-files"], stdout=subprocess.PIPE, stderr=subprocess.DEVNULL
+    )
     names = done.stdout.decode().split("\n")[:-1]
     if done.returncode == 0 and names:
         return names
-    return [os.path.relpath(name, TOP) for name in glob.glob(os.path.join(TOP, "**"), recursive=True)]
+    return [
+        os.path.relpath(name, TOP) for name in glob.glob(os.path.join(TOP, "**"), recursive=True)
+    ]
 
 
 def is_there(name, page):
-    """Whether a page may name a file so: from the top, beside the page, from a crate, from a crate's src/."""
+    """Whether a page may name a file so: from the top, beside the page, from a crate, from a
+    crate's src/."""
     folders = [
         "",
         os.path.dirname(page),
@@ -95,15 +103,24 @@ def is_there(name, page):
         "packaging",
         "examples/*",
     ]
-    # packaging/install puts the folders of contrib/ that are examples into examples/ beside the documents.
+    # packaging/install puts the folders of contrib/ that are examples into examples/ beside the
+    # documents.
     installed = name.replace("examples/", "contrib/", 1)
-    return any(glob.glob(os.path.join(TOP, folder, each)) for folder in folders for each in (name, installed))
+    return any(
+        glob.glob(os.path.join(TOP, folder, each))
+        for folder in folders
+        for each in (name, installed)
+    )
 
 
 def check_names(page, text, tally):
     for target in re.findall(r"\]\(([^)#]+?)(?:#[^)]*)?\)", text):
         if "://" not in target:
-            tally.is_so("link", page + ": " + target, os.path.exists(os.path.join(TOP, os.path.dirname(page), target)))
+            tally.is_so(
+                "link",
+                page + ": " + target,
+                os.path.exists(os.path.join(TOP, os.path.dirname(page), target)),
+            )
     plain = re.sub(r"```.*?```", "", text, flags=re.S)
     for name in sorted(set(NAMED.findall(plain)) | set(BELOW.findall(plain))):
         if "NAME" in name or "/out/" in name:
@@ -117,31 +134,44 @@ def check_copies(page, text, tally):
 
 
 def check_blocks(page, text, tally):
-    if page in MARKDOWN + [headline_page.PAGE, headline_page.LINES_PAGE] + ["docs/" + name for name in PAGES]:
+    if page in MARKDOWN + [headline_page.PAGE, headline_page.LINES_PAGE] + [
+        "docs/" + name for name in PAGES
+    ]:
         return
     before = ""
     for part in paragraphs(text):
         if ("```" in part or part.startswith(INDENT)) and "```mermaid" not in part:
-            tally.is_so("block", "%s: %s" % (page, part[:60]), MARK.search(part) or MARK.search(before))
+            tally.is_so(
+                "block", "%s: %s" % (page, part[:60]), MARK.search(part) or MARK.search(before)
+            )
         before = part
 
 
 def check_promised(tally):
-    """A folder `specs/` has just the files that public contracts reach or laws cite, and `specs/code/` has the others.
+    """A folder `specs/` has just the files that public contracts reach or laws cite, and
+    `specs/code/` has the others.
 
     What one crate takes from the inside of another one may cite `specs/code/`.
     """
     found = public_specs.met(public_specs.crates())
     needed = public_specs.met(public_specs.crates_of_programs(), public_specs.names_for_programs)
     for crate in public_specs.crates():
-        folder, proofs = os.path.join(TOP, "crates", crate, "specs"), os.path.join(TOP, "crates", crate, "proofs")
+        folder, proofs = os.path.join(TOP, "crates", crate, "specs"), os.path.join(
+            TOP, "crates", crate, "proofs"
+        )
         cited = "\n".join(map(read, sorted(glob.glob(os.path.join(proofs, "*Laws.antt")))))
         reached = found.get(crate, [])
-        promised = set(reached) | set(re.findall(r"^use Rattle\.%s\.specs\.(\w+)\." % crate, cited, re.M))
+        promised = set(reached) | set(
+            re.findall(r"^use Rattle\.%s\.specs\.(\w+)\." % crate, cited, re.M)
+        )
         for path in sorted(glob.glob(os.path.join(folder, "**", "*.antt"), recursive=True)):
             name = os.path.relpath(path, folder)[: -len(".antt")].replace(os.sep, ".")
             if name not in ("Lib", "code.Lib", "code"):
-                holds = name not in needed.get(crate, []) if name.startswith("code.") else name in promised
+                holds = (
+                    name not in needed.get(crate, [])
+                    if name.startswith("code.")
+                    else name in promised
+                )
                 tally.is_so("place of a definition", "%s: %s" % (crate, name), holds)
 
 
@@ -152,7 +182,11 @@ def check_changes(tally):
     found = [read_text(name) for name in tracked() if name != "CONTRIBUTING.md"]
     for kind, texts in re.findall(r"^\| ([^|]+) \| (`[^|]+`) \|", part, re.M):
         for text in re.findall(r"`([^`]+)`", texts):
-            tally.is_so("kind of change", "%s: a file has %s" % (kind, text), any(text in one for one in found))
+            tally.is_so(
+                "kind of change",
+                "%s: a file has %s" % (kind, text),
+                any(text in one for one in found),
+            )
 
 
 def read_text(name):
@@ -164,7 +198,8 @@ def read_text(name):
 
 
 def promised_by(call: str, source: str) -> set[str]:
-    """The names of what a call promises: its clauses, and the fields of the records that these cite."""
+    """The names of what a call promises: its clauses, and the fields of the records that these
+    cite."""
     text = read(source)
     contract = text[text.index(f"pub fn {call}<") :].split("\n{\n")[0]
     names = set(re.findall(r"ensures (\w+) \{", contract))
@@ -175,7 +210,10 @@ def promised_by(call: str, source: str) -> set[str]:
 
 
 def check_clauses(tally):
-    sources = {"run": "crates/aide_report/src/comparison.rt", "session": "crates/aide_session/src/program.rt"}
+    sources = {
+        "run": "crates/aide_report/src/comparison.rt",
+        "session": "crates/aide_session/src/program.rt",
+    }
     parts = re.split(r"\n### What a caller of `(\w+)` may rely on\n", read("docs/LIBRARY.md"))
     for call, part in zip(parts[1::2], parts[2::2]):
         promised = promised_by(call, sources[call])
@@ -199,7 +237,16 @@ def main():
     check_clauses(tally)
     check_changes(tally)
     return tally.status_of(
-        ["link", "file", "copied code", "block", "written page", "place of a definition", "clause", "kind of change"]
+        [
+            "link",
+            "file",
+            "copied code",
+            "block",
+            "written page",
+            "place of a definition",
+            "clause",
+            "kind of change",
+        ]
     )
 
 

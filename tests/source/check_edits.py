@@ -1,19 +1,22 @@
-"""Compares the must-fail edits with the public functions: each public function has an edit in its own code.
+"""Compares the must-fail edits with the public functions: each public function has an edit in its
+own code.
 
-A public function is one that a crate's lib.rt exports, or a method of an exported type, its own or of a trait of this
-repository. An edit belongs to a function if it changes a line of the function's body, or of a private function or a
-constant that no other public function names. Four kinds need no edit; docs/CONTRACTS.md says why:
+A public function is one that a crate's lib.rt exports, or a method of an exported type, its own or
+of a trait of this repository. An edit belongs to a function if it changes a line of the function's
+body, or of a private function or a constant that no other public function names. Four kinds need no
+edit; docs/CONTRACTS.md says why:
 
   no contract   it promises nothing, so no edit can be refused
   maker         takes no `self`, and its body is one literal of its type
   reader        its body is a field of `self`, or a call without arguments on one
   passes on     its body hands what it was given to what it wraps, or lets it go
 
-An edit has a name that says what the edited code does, so the words of the function's own name are not enough. A crate of
-laws has no code: its edits change a definition.
+An edit has a name that says what the edited code does, so the words of the function's own name are
+not enough. A crate of laws has no code: its edits change a definition.
 
-Prints each public function that has no edit and needs one, each edit that changes no line of code or whose text does not
-stand exactly once in its file, and each that is only named after what it changes. The last line is `N passed, M failed`.
+Prints each public function that has no edit and needs one, each edit that changes no line of code
+or whose text does not stand exactly once in its file, and each that is only named after what it
+changes. The last line is `N passed, M failed`.
 """
 import os
 import pathlib
@@ -60,7 +63,9 @@ class Item:
 
     def words(self):
         """The words of its name and of its type's name."""
-        return set(re.findall(r"[a-z0-9]+", re.sub(r"(?<=[a-z0-9])(?=[A-Z])", "_", self.title()).lower()))
+        return set(
+            re.findall(r"[a-z0-9]+", re.sub(r"(?<=[a-z0-9])(?=[A-Z])", "_", self.title()).lower())
+        )
 
     def kind(self):
         """The kind of function that needs no edit, if it is of one."""
@@ -77,7 +82,8 @@ class Item:
 
 
 def code_of(text, begin, indent):
-    """The lines between the braces of the function that begins at a line, or None if it has no body."""
+    """The lines between the braces of the function that begins at a line, or None if it has no
+    body."""
     depth = 0
     for at in range(begin, len(text)):
         line = text[at].split("//")[0].rstrip()
@@ -111,7 +117,8 @@ def items_of(text):
 
 
 def sources_of(folder):
-    """The files of a crate's code, as paths below this folder. Tests in a folder of their own are left out."""
+    """The files of a crate's code, as paths below this folder. Tests in a folder of their own are
+    left out."""
     files = (path.relative_to(folder).as_posix() for path in pathlib.Path(folder).rglob("*.rt"))
     return sorted(file for file in files if "/" not in file or "tests" not in file)
 
@@ -126,7 +133,9 @@ class Crate:
         self.items = [(file, item) for file, text in self.texts.items() for item in items_of(text)]
         self.exports = set()
         for module, several, one in EXPORT.findall("\n".join(self.texts.get("src/lib.rt", []))):
-            self.exports |= {(f"src/{module}.rt", kept.strip()) for kept in (several or one).split(",")}
+            self.exports |= {
+                (f"src/{module}.rt", kept.strip()) for kept in (several or one).split(",")
+            }
         self.types = {kept for _, kept in self.exports}
 
     def traits(self):
@@ -135,14 +144,17 @@ class Crate:
     def is_public(self, file, item, traits):
         if item.owner is None:
             return item.is_pub and (file, item.name) in self.exports
-        return item.owner in self.types and (item.is_pub if item.trait is None else item.trait in traits)
+        return item.owner in self.types and (
+            item.is_pub if item.trait is None else item.trait in traits
+        )
 
     def text_of(self, file):
         """The lines of a file of the crate, which an edit may name beside those of `src/`."""
         return self.texts[file] if file in self.texts else read_lines(self.name, *file.split("/"))
 
     def edits(self):
-        """Each edit: its name, the lines, as file and number, that it changes, and how often each old text is there."""
+        """Each edit: its name, the lines, as file and number, that it changes, and how often each
+        old text is there."""
         folder = os.path.join(CRATES, self.name, "must-fail")
         for name in sorted(os.listdir(folder)) if os.path.isdir(folder) else []:
             lines, file, counts = [], None, []
@@ -151,7 +163,9 @@ class Crate:
                 if word == "file":
                     file = rest
                 elif word == "old":
-                    found = [(file, at) for at, code in enumerate(self.text_of(file)) if rest in code]
+                    found = [
+                        (file, at) for at, code in enumerate(self.text_of(file)) if rest in code
+                    ]
                     counts.append(sum(self.text_of(file)[at].count(rest) for _, at in found))
                     lines += found
             yield name[: -len(".edit")], lines, counts
@@ -172,7 +186,9 @@ class Crate:
             elif not changed and self.items:
                 wrong[name] = "changes no line of code"
             elif set(name.split("_")) <= set().union(*(item.words() for item in changed)):
-                wrong[name] = "is named after what it changes, and not after what the edited code does"
+                wrong[
+                    name
+                ] = "is named after what it changes, and not after what the edited code does"
         return of_item, wrong
 
     def own_code(self, public):
@@ -182,7 +198,9 @@ class Crate:
         for _, item in self.items:
             if id(item) not in ids:
                 private.setdefault(item.name, []).append(item)
-        named = {id(item): set(re.findall(r"\b\w+\b", item.body)) & set(private) for _, item in public}
+        named = {
+            id(item): set(re.findall(r"\b\w+\b", item.body)) & set(private) for _, item in public
+        }
         for file, item in public:
             others = set().union(*(names for key, names in named.items() if key != id(item)))
             own = [private[name][0] for name in named[id(item)] - others if len(private[name]) == 1]
@@ -190,7 +208,8 @@ class Crate:
 
 
 def judge(crate, traits, lists):
-    """How many public functions and edits are right, and how many are not, each of which is printed."""
+    """How many public functions and edits are right, and how many are not, each of which is
+    printed."""
     of_item, wrong = crate.edits_of_items()
     public = [(file, item) for file, item in crate.items if crate.is_public(file, item, traits)]
     passed = failed = 0
@@ -199,9 +218,13 @@ def judge(crate, traits, lists):
         good = bool(edits or item.kind())
         passed, failed = passed + good, failed + (not good)
         if lists:
-            print(f"{crate.name}/{file}: {item.title()}: {', '.join(edits) or item.kind() or 'no edit'}")
+            print(
+                f"{crate.name}/{file}: {item.title()}: {', '.join(edits) or item.kind() or 'no edit'}"
+            )
         if not good:
-            print(f"FAILED: crates/{crate.name}/{file}:{item.begin + 1}: {item.title()} has no must-fail edit")
+            print(
+                f"FAILED: crates/{crate.name}/{file}:{item.begin + 1}: {item.title()} has no must-fail edit"
+            )
     for name, why in wrong.items():
         print(f"FAILED: crates/{crate.name}/must-fail/{name}.edit {why}")
     return passed, failed + len(wrong), sum(1 for _ in crate.edits())
@@ -209,9 +232,13 @@ def judge(crate, traits, lists):
 
 def main():
     parser = parser_of("tests.source.check_edits", __doc__)
-    parser.add_argument("--list", action="store_true", help="print every public function with its edits or its kind")
+    parser.add_argument(
+        "--list", action="store_true", help="print every public function with its edits or its kind"
+    )
     given = parser.parse_args()
-    names = sorted(name for name in os.listdir(CRATES) if os.path.isdir(os.path.join(CRATES, name, "src")))
+    names = sorted(
+        name for name in os.listdir(CRATES) if os.path.isdir(os.path.join(CRATES, name, "src"))
+    )
     crates = [Crate(name) for name in names]
     traits = set().union(*(crate.traits() for crate in crates))
     passed = failed = edits = 0

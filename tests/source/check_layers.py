@@ -1,9 +1,9 @@
 """Checks that the modules of the commands import downwards only.
 
-commands/lib/aide_compare has a folder for each layer, from base to commands. A module imports only from its own folder and
-from the folders before it, no two modules import each other in a circle, and each folder says in a sentence what it has.
---graph prints which folder imports from which, with the number of imports. Prints what fails and, at the end,
-`N passed, M failed`.
+commands/lib/aide_compare has a folder for each layer, from base to commands. A module imports only
+from its own folder and from the folders before it, no two modules import each other in a circle,
+and each folder says in a sentence what it has. --graph prints which folder imports from which, with
+the number of imports. Prints what fails and, at the end, `N passed, M failed`.
 """
 import ast
 import collections
@@ -52,7 +52,11 @@ def layer_of(name):
 
 def upward(name, others):
     place = LAYERS.index(layer_of(name))
-    return ["imports %s, which is above it" % other for other in others if LAYERS.index(layer_of(other)) > place]
+    return [
+        "imports %s, which is above it" % other
+        for other in others
+        if LAYERS.index(layer_of(other)) > place
+    ]
 
 
 def circle(graph):
@@ -68,7 +72,9 @@ def circle(graph):
 
 
 def draw(graph):
-    counts = collections.Counter((layer_of(name), layer_of(other)) for name, others in graph.items() for other in others)
+    counts = collections.Counter(
+        (layer_of(name), layer_of(other)) for name, others in graph.items() for other in others
+    )
     for layer in LAYERS:
         row = ["%s %d" % (other, counts[layer, other]) for other in LAYERS if counts[layer, other]]
         print("%-8s -> %s" % (layer, ", ".join(row) or "nothing"))
@@ -76,7 +82,9 @@ def draw(graph):
 
 def main():
     parser = parser_of("tests.source.check_layers", __doc__)
-    parser.add_argument("--graph", action="store_true", help="print which folder imports from which")
+    parser.add_argument(
+        "--graph", action="store_true", help="print which folder imports from which"
+    )
     given = parser.parse_args()
     found = modules()
     trees = {}
@@ -84,7 +92,11 @@ def main():
         with open(os.path.join(TOP, path), encoding="utf-8") as file:
             trees[name] = ast.parse(file.read(), path)
     unknown = sorted(name for name in found if layer_of(name) not in LAYERS)
-    graph = {name: sorted(set(imports(tree, found)) - {name}) for name, tree in trees.items() if name not in unknown}
+    graph = {
+        name: sorted(set(imports(tree, found)) - {name})
+        for name, tree in trees.items()
+        if name not in unknown
+    }
     if given.graph:
         draw(graph)
         return 0
@@ -95,8 +107,13 @@ def main():
         tally.add("the folder " + layer, [] if has_sentence else ["no sentence in its __init__.py"])
     for name, others in sorted(graph.items()):
         tally.add("imports of " + name, upward(name, others))
-    tally.add("circles", ["they import each other: " + ", ".join(circle(graph))] if circle(graph) else [])
-    tally.add("the graph", [] if sum(map(len, graph.values())) > 300 else ["fewer imports than the package has"])
+    tally.add(
+        "circles", ["they import each other: " + ", ".join(circle(graph))] if circle(graph) else []
+    )
+    tally.add(
+        "the graph",
+        [] if sum(map(len, graph.values())) > 300 else ["fewer imports than the package has"],
+    )
     return tally.status()
 
 

@@ -1,10 +1,10 @@
 #!/usr/bin/env python3
-"""Checks the layout of every crate: cycles of modules, wide contracts, long argument lists, long lines, long files,
-and imports on more lines than they need.
+"""Checks the layout of every crate: cycles of modules, wide contracts, long argument lists, long
+lines, long files, and imports on more lines than they need.
 
-Each finding fails unless docs/DECISIONS.md has a row for it in the table under the heading "Exceptions from the layout".
-A row that matches no finding fails too, so the table stays as short as it can be. A row about lines or files may name
-a folder. The rules:
+Each finding fails unless docs/DECISIONS.md has a row for it in the table under the heading
+"Exceptions from the layout". A row that matches no finding fails too, so the table stays as short
+as it can be. A row about lines or files may name a folder. The rules:
 
   cycle      the modules of a crate form no cycle (by their `use crate::` and `use super::` lines)
   ensures    a function has at most 8 `ensures`
@@ -14,8 +14,8 @@ a folder. The rules:
   length     a file of src/ or specs/ has at most 350 lines
   imports    the names that a head of a file imports from one module for its proofs are on as few lines as they need
 
-The last line is 'N passed, M failed': each crate counts once for each rule. The status is 1 if something failed or if
-no crate was found.
+The last line is 'N passed, M failed': each crate counts once for each rule. The status is 1 if
+something failed or if no crate was found.
 """
 import collections
 import pathlib
@@ -39,7 +39,8 @@ OPENING, CLOSING = "([{", ")]}"
 
 
 def blanked(text):
-    """The text with comments and literals replaced by blanks, so that their brackets do not count."""
+    """The text with comments and literals replaced by blanks, so that their brackets do not
+    count."""
     return SKIPPED.sub(lambda found: re.sub(r"[^\n]", " ", found.group()), text)
 
 
@@ -91,8 +92,11 @@ def functions_of(text):
 
 
 def split_uses(text):
-    """Each path that a `use` line of code names, as a list of words. A ghost import names no code."""
-    for found in re.finditer(r"^\s*(ghost\s+)?(?:pub(?:\([^)]*\))?\s+)?use\s+([^;]*);", blanked(text), re.M):
+    """Each path that a `use` line of code names, as a list of words. A ghost import names no
+    code."""
+    for found in re.finditer(
+        r"^\s*(ghost\s+)?(?:pub(?:\([^)]*\))?\s+)?use\s+([^;]*);", blanked(text), re.M
+    ):
         if found.group(1):
             continue
         yield from expand(found.group(2).strip())
@@ -120,11 +124,14 @@ def expand(path):
 def module_of(source, file):
     """The path of a file's module within its crate: none for the root."""
     parts = list(file.relative_to(source).with_suffix("").parts)
-    return () if parts in (["lib"], ["main"]) else tuple(parts[:-1] if parts[-1] == "mod" else parts)
+    return (
+        () if parts in (["lib"], ["main"]) else tuple(parts[:-1] if parts[-1] == "mod" else parts)
+    )
 
 
 def imports_of(modules):
-    """For each module the modules that it uses. A name that the root passes on counts for the module it comes from."""
+    """For each module the modules that it uses. A name that the root passes on counts for the
+    module it comes from."""
     passed_on = {}
     for path in split_uses(modules.get((), "")):
         inner = tuple(path[1:] if path[0] in ("crate", "self") else path)
@@ -181,7 +188,8 @@ def named(module):
 
 
 def findings_of(crate):
-    """What breaks a rule in a crate: for each rule where it is broken, with what was found there."""
+    """What breaks a rule in a crate: for each rule where it is broken, with what was found
+    there."""
     found = collections.defaultdict(dict)
     source = crate / "src"
     texts = {file: file.read_text(encoding="utf-8") for file in sorted(source.rglob("*.rt"))}
@@ -208,7 +216,9 @@ def findings_of(crate):
     proofs = sorted((crate / "proofs").rglob("*.antt"))
     for file in proofs:
         lines = file.read_text(encoding="utf-8").splitlines()
-        wide = [str(number) for number, line in enumerate(lines, 1) if len(line) > MOST_PROOF_COLUMNS]
+        wide = [
+            str(number) for number, line in enumerate(lines, 1) if len(line) > MOST_PROOF_COLUMNS
+        ]
         if wide:
             found["column"][str(file.relative_to(crate.parent))] = "lines " + ", ".join(wide)
     for file in [*texts, *sorted((crate / "specs").rglob("*.antt")), *proofs]:
@@ -219,7 +229,8 @@ def findings_of(crate):
 
 
 def heads_of(lines):
-    """The imports that follow one another with the same indent: for each module the lines that name it."""
+    """The imports that follow one another with the same indent: for each module the lines that name
+    it."""
     head, last = {}, None
     for number, line in enumerate(lines, 1):
         found = IMPORT.fullmatch(line)
@@ -234,7 +245,8 @@ def heads_of(lines):
 
 
 def lines_needed(imports):
-    """How many lines of the usual width the names of these imports of one module need, in their order."""
+    """How many lines of the usual width the names of these imports of one module need, in their
+    order."""
     indent, use, module, _, end = imports[0].groups()
     room = MOST_COLUMNS - len(f"{indent}{use}{module}.{{}}{end}")
     count, filled = 0, room
@@ -268,10 +280,17 @@ def exceptions_of(page):
         if line.startswith("## "):
             inside = line[3:].strip() == HEADING
         cells = [cell.strip().replace("`", "") for cell in line.strip().strip("|").split("|")]
-        if not inside or not line.startswith("|") or cells[0] in ("Rule", "") or set(cells[0]) == {"-"}:
+        if (
+            not inside
+            or not line.startswith("|")
+            or cells[0] in ("Rule", "")
+            or set(cells[0]) == {"-"}
+        ):
             continue
         if len(cells) != 3 or cells[0] not in RULES or not cells[2]:
-            sys.exit(f"check_layout.py: {page}:{number}: a row says the rule, where it is broken, and the reason")
+            sys.exit(
+                f"check_layout.py: {page}:{number}: a row says the rule, where it is broken, and the reason"
+            )
         rows[(cells[0], cells[1])] = cells[2]
     return rows
 
@@ -294,9 +313,13 @@ def main():
         default=pathlib.Path(__file__).resolve().parents[2],
         help="the repository (default: the one that this script is in)",
     )
-    parser.add_argument("--rows", action="store_true", help="print every finding as a row of the table, and stop")
+    parser.add_argument(
+        "--rows", action="store_true", help="print every finding as a row of the table, and stop"
+    )
     options = parser.parse_args()
-    crates = sorted(crate for crate in (options.root / "crates").glob("*") if (crate / "src").is_dir())
+    crates = sorted(
+        crate for crate in (options.root / "crates").glob("*") if (crate / "src").is_dir()
+    )
     if not crates:
         print(f"check_layout.py: no crate in {options.root / 'crates'}", file=sys.stderr)
         return 1

@@ -1,5 +1,5 @@
-"""Checks each script in Python of this repository: its language, its imports, its --help, and that it does nothing before it
-has read its arguments.
+"""Checks each script in Python of this repository: its language, its imports, its --help, and that
+it does nothing before it has read its arguments.
 
 - Each file is Python 3.9: the grammar of that version reads it.
 - Each name that a file imports is used there, unless the line says `noqa`. What the file of a package imports is for others.
@@ -7,7 +7,8 @@ has read its arguments.
   The repository is the same afterwards.
 - Each tool refuses an option that it does not have, with a status that is not 0, and changes nothing.
 
-The commands in commands/ are tried by their own trials. Prints what fails and, at the end, `N passed, M failed`.
+The commands in commands/ are tried by their own trials. Prints what fails and, at the end, `N
+passed, M failed`.
 """
 import ast
 import os
@@ -25,7 +26,11 @@ MAIN = 'if __name__ == "__main__":'
 
 
 def is_python(name, text):
-    return name.endswith(".py") or text.startswith("#!/usr/bin/python3") or text.startswith("#!/usr/bin/env python3")
+    return (
+        name.endswith(".py")
+        or text.startswith("#!/usr/bin/python3")
+        or text.startswith("#!/usr/bin/env python3")
+    )
 
 
 def scripts():
@@ -55,9 +60,15 @@ def unused_imports(module, lines):
     for node in ast.walk(module):
         if isinstance(node, ast.ImportFrom) and node.module == "__future__":
             continue
-        if isinstance(node, (ast.Import, ast.ImportFrom)) and "noqa" not in "".join(lines[node.lineno - 1 : node.end_lineno]):
+        if isinstance(node, (ast.Import, ast.ImportFrom)) and "noqa" not in "".join(
+            lines[node.lineno - 1 : node.end_lineno]
+        ):
             names = [one.asname or one.name.split(".")[0] for one in node.names]
-            yield from ("line %d: %s is imported and not used" % (node.lineno, name) for name in names if name not in used)
+            yield from (
+                "line %d: %s is imported and not used" % (node.lineno, name)
+                for name in names
+                if name not in used
+            )
 
 
 def tree():
@@ -96,25 +107,42 @@ def run(command):
 def lacks(name, text, output):
     """What the help of a tool lacks: the command itself, and the paragraphs of the tool's text."""
     paragraphs = (ast.get_docstring(ast.parse(text)) or "no text").split("\n\n")
-    head = ["usage: python3 -m " + name[: -len(".py")].replace("/", ".")] if name.startswith(("tools/", "tests/")) else []
+    head = (
+        ["usage: python3 -m " + name[: -len(".py")].replace("/", ".")]
+        if name.startswith(("tools/", "tests/"))
+        else []
+    )
     words = " ".join(output.split())
-    return [part for part in head + [" ".join(each.split()) for each in paragraphs] if part not in words]
+    return [
+        part for part in head + [" ".join(each.split()) for each in paragraphs] if part not in words
+    ]
 
 
 def main():
     parser_of("tests.source.check_tools", __doc__).parse_args()
     tally, tools = Tally(), []
     for name, text in scripts():
-        tally.add("%s is Python %d.%d, with no import too many" % ((name,) + OLDEST), faults_of_text(name, text))
+        tally.add(
+            "%s is Python %d.%d, with no import too many" % ((name,) + OLDEST),
+            faults_of_text(name, text),
+        )
         if MAIN in text.replace("'", '"') and not name.startswith("commands/"):
             tools.append((name, text))
     before = tree()
     for name, text in tools:
         status, output = run(command_of(name) + ["--help"])
-        tally.holds("%s --help" % name, status == 0 and output.startswith("usage:"), (status, output[-400:]))
-        tally.holds("%s --help has its text" % name, not lacks(name, text, output), lacks(name, text, output)[:2])
+        tally.holds(
+            "%s --help" % name, status == 0 and output.startswith("usage:"), (status, output[-400:])
+        )
+        tally.holds(
+            "%s --help has its text" % name,
+            not lacks(name, text, output),
+            lacks(name, text, output)[:2],
+        )
         status, output = run(command_of(name) + ["--no-such-option"])
-        tally.holds("%s refuses another option" % name, status not in (0, 1), (status, output[-400:]))
+        tally.holds(
+            "%s refuses another option" % name, status not in (0, 1), (status, output[-400:])
+        )
     tally.holds("no file is written before the arguments are read", tree() == before)
     tally.holds("a tool is found", len(tools) > 20, len(tools))
     return tally.status()

@@ -1,4 +1,5 @@
-"""Completions: every subcommand has its options in every shell, those that its help names, and the shells read them."""
+"""Completions: every subcommand has its options in every shell, those that its help names, and the
+shells read them."""
 import os
 import re
 import shutil
@@ -10,7 +11,19 @@ BASH = "share/bash-completion/completions/aide-compare"
 ZSH = "share/zsh/site-functions/_aide-compare"
 FISH = "share/fish/vendor_completions.d/aide-compare.fish"
 REPORT_OPTIONS = ["report_level"] + BOOL_OPTIONS + SET_OPTIONS
-SUBCOMMANDS = ["compare", "show", "json", "page", "mail", "accept", "archive", "status", "sort", "setup", "version"]
+SUBCOMMANDS = [
+    "compare",
+    "show",
+    "json",
+    "page",
+    "mail",
+    "accept",
+    "archive",
+    "status",
+    "sort",
+    "setup",
+    "version",
+]
 HOSTS = ["hosts " + word for word in ("add", "fetch", "compare", "accept", "report")]
 
 # bash-completion reads the file inside of a function of its own.
@@ -44,7 +57,8 @@ print -r -- "$answer"
 
 
 def options(trial, words):
-    """The options that the help of a subcommand has; aide-compare mail takes those of a comparison too."""
+    """The options that the help of a subcommand has; aide-compare mail takes those of a comparison
+    too."""
     text = help_of(trial, words)
     found = {"--help"} | named_in(text)
     for line in re.findall(r"^usage: .*(?:\n {4,}.*)*", text, re.M):
@@ -76,11 +90,14 @@ def named_in(text):
 
 
 def try_files(trial):
-    """Each subcommand has its options in the files of zsh and fish, and the first line for zsh names the commands."""
+    """Each subcommand has its options in the files of zsh and fish, and the first line for zsh
+    names the commands."""
     found = texts(tree(trial.path("first/usr/local")))
     zsh, fish = found[ZSH], found[FISH]
     named = zsh.split("\n")[0].split()
-    trial.holds("the first line for zsh", named == ["#compdef", "aide-compare", "check_aide_compare"], named)
+    trial.holds(
+        "the first line for zsh", named == ["#compdef", "aide-compare", "check_aide_compare"], named
+    )
     for words in SUBCOMMANDS + HOSTS:
         wanted = options(trial, words)
         case = re.search(r"^    '%s'\)\n(.*?);;$" % words, zsh, re.M | re.S)
@@ -89,12 +106,17 @@ def try_files(trial):
             form = "-l %s " % option[2:] if option.startswith("--") else "-s %s " % option[1:]
             line = "complete -c aide-compare -n '__fish_aide_compare_is %s' %s" % (words, form)
             trial.holds("%s %s in fish" % (words, option), line in fish)
-            trial.holds("%s %s in zsh" % (words, option), case and re.search(r"'\*%s[=+[]" % option, case.group(1)))
+            trial.holds(
+                "%s %s in zsh" % (words, option),
+                case and re.search(r"'\*%s[=+[]" % option, case.group(1)),
+            )
 
 
 def ask_bash(trial, *words):
     path = trial.path("first/usr/local", BASH)
-    status, output, errors = trial.run(["bash", "--norc", "-c", ASK_BASH, "bash", path, *words], cwd=trial.source)
+    status, output, errors = trial.run(
+        ["bash", "--norc", "-c", ASK_BASH, "bash", path, *words], cwd=trial.source
+    )
     trial.holds("bash completes " + " ".join(words), (status, errors) == (0, ""), (status, errors))
     return output.split()
 
@@ -108,7 +130,9 @@ def try_bash(trial):
         for option in wanted:
             trial.holds("bash offers %s %s" % (words, option), option in given, given)
         for option in given:
-            trial.holds("%s has the option %s that bash offers" % (words, option), option in wanted, wanted)
+            trial.holds(
+                "%s has the option %s that bash offers" % (words, option), option in wanted, wanted
+            )
     wanted, given = sorted(options_of_program()), sorted(ask_bash(trial, "aide-compare", "-E", "-"))
     trial.holds("bash offers the options of the program", given == wanted, (given, wanted))
     given = ask_bash(trial, "aide-compare", "s")
@@ -157,8 +181,12 @@ def try_zsh(trial):
         ("aide-compare sort VERS", "aide-compare sort VERSION"),
         ("aide-compare hosts report --order=ra", "aide-compare hosts report --order=rare"),
     ):
-        done = trial.run(["zsh", "-f", "-c", ASK_ZSH, "zsh", folder, line], cwd=trial.source, timeout=60)
-        trial.holds("zsh completes " + line, done[0] == 0 and wanted in done[1].replace("\r", ""), done)
+        done = trial.run(
+            ["zsh", "-f", "-c", ASK_ZSH, "zsh", folder, line], cwd=trial.source, timeout=60
+        )
+        trial.holds(
+            "zsh completes " + line, done[0] == 0 and wanted in done[1].replace("\r", ""), done
+        )
 
 
 def try_fish(trial):
@@ -184,11 +212,19 @@ def try_fish(trial):
         ("aide-compare hosts report --order ra", ["rare"]),
         ("aide-compare hosts fe", ["fetch"]),
     ):
-        done = trial.run(["fish", "-c", "complete -C '%s'" % line], cwd=trial.source, env=surroundings, timeout=60)
+        done = trial.run(
+            ["fish", "-c", "complete -C '%s'" % line],
+            cwd=trial.source,
+            env=surroundings,
+            timeout=60,
+        )
         given = [one.split("\t")[0] for one in done[1].splitlines()]
         trial.holds("fish completes " + line, done[0] == 0 and given == wanted, done)
     done = trial.run(
-        ["fish", "-c", "complete -C 'aide-compare -E -A report_'"], cwd=trial.source, env=surroundings, timeout=60
+        ["fish", "-c", "complete -C 'aide-compare -E -A report_'"],
+        cwd=trial.source,
+        env=surroundings,
+        timeout=60,
     )
     named = {one.split("=")[0] for one in done[1].splitlines()}
     trial.holds("fish names the options of the report", named == set(REPORT_OPTIONS), named)

@@ -24,10 +24,14 @@ NEEDED = "".join(
 
 
 def try_texts(trial, folder):
-    """What a user of the package reads first: the command of README.Debian, and whose choice the licence is."""
+    """What a user of the package reads first: the command of README.Debian, and whose choice the
+    licence is."""
     found = texts(tree(folder))
     documents = "usr/share/doc/aide-compare/"
-    trial.holds("the copyright file", "choice of their owner" in found.get(documents + "copyright", "").replace("\n", " "))
+    trial.holds(
+        "the copyright file",
+        "choice of their owner" in found.get(documents + "copyright", "").replace("\n", " "),
+    )
     # AIDE on Debian runs a file of this folder that is executable.
     mode = os.stat(os.path.join(folder, RULES)).st_mode & 0o777
     trial.holds("the mode of the rules for AIDE", mode == 0o644, oct(mode))
@@ -35,10 +39,16 @@ def try_texts(trial, folder):
     commands = re.findall(r"^    (aide-compare /.*(?:\n {8}.*)*)", readme, re.M)
     trial.holds("a first answer in README.Debian", len(commands) == 1, commands)
     for command in commands:
-        here = command.replace("/usr/", folder + "/usr/").replace("aide-compare", folder + "/usr/bin/aide-compare", 1)
+        here = command.replace("/usr/", folder + "/usr/").replace(
+            "aide-compare", folder + "/usr/bin/aide-compare", 1
+        )
         done = trial.run(["sh", "-c", here])
         said = re.findall(r"ends with status (\d+)", readme)
-        trial.holds("the first answer", [str(done[0])] == said and re.match("[0-9]+ open .*of [0-9]+ changes\n", done[1]), done)
+        trial.holds(
+            "the first answer",
+            [str(done[0])] == said and re.match("[0-9]+ open .*of [0-9]+ changes\n", done[1]),
+            done,
+        )
     for name in re.findall(r"/(?:usr|etc)/[\w./-]*\w", readme):
         # What the administrator or aide-compare setup makes for this machine is in no package.
         if not name.startswith(("/etc/systemd/system/", "/etc/aide-compare/defaults")):
@@ -46,7 +56,8 @@ def try_texts(trial, folder):
 
 
 def try_stop(trial, folder):
-    """Before its files go, every unit is stopped: first the timer and what it starts, and then what that starts."""
+    """Before its files go, every unit is stopped: first the timer and what it starts, and then what
+    that starts."""
     machine, log = trial.path("machine"), trial.path("stopped")
     os.makedirs(machine)
     stub = '#!/bin/sh\nprintf "%%s\\n" "$*" >> "%s"\n' % log
@@ -55,7 +66,11 @@ def try_stop(trial, folder):
     more = dict(os.environ, PATH=trial.path("debian-stubs") + ":" + os.environ["PATH"])
     more.pop("DPKG_ROOT", None)
     with open(os.path.join(folder, "DEBIAN", "prerm")) as file:
-        script = file.read().replace("/run/systemd/system", machine).replace("/usr/lib/aide-compare", machine)
+        script = (
+            file.read()
+            .replace("/run/systemd/system", machine)
+            .replace("/usr/lib/aide-compare", machine)
+        )
     shipped = sorted(os.listdir(os.path.join(folder, "usr/lib/systemd/system")))
     trial.holds("the units of the package", shipped == UNITS, shipped)
     for words in (["upgrade", "2"], ["remove"]):
@@ -66,14 +81,18 @@ def try_stop(trial, folder):
         trial.holds("prerm " + words[0], done == (0, "", ""), done)
         stopped = [line.split()[1:] for line in lines if line.startswith("stop ")]
         if words == ["remove"]:
-            good = sorted(sum(stopped, [])) == UNITS and sorted(stopped[0]) == ["aide-compare.service", TIMER]
+            good = sorted(sum(stopped, [])) == UNITS and sorted(stopped[0]) == [
+                "aide-compare.service",
+                TIMER,
+            ]
             trial.holds("all units are stopped, the comparison first", good, lines)
         else:
             trial.holds("an upgrade stops nothing", not lines, lines)
 
 
 class Machine:
-    """A root folder of its own, into which dpkg installs. The scripts run with DPKG_ROOT, as they do when images are made."""
+    """A root folder of its own, into which dpkg installs. The scripts run with DPKG_ROOT, as they
+    do when images are made."""
 
     def __init__(self, trial, package):
         self.trial, self.package, self.root = trial, package, trial.path("debian-root")
@@ -126,7 +145,10 @@ def try_life(trial, package):
     trial.holds("dpkg installs the program", machine.has("usr/bin/aide-compare"))
     trial.holds("dpkg installs the documents", machine.has("usr/share/doc/aide-compare/copyright"))
     trial.holds("the timer is off after a first installation", not machine.has(WANTED))
-    trial.holds("an installation notes which link an administrator may make", machine.has(NOTES + TIMER + ".dsh-also"))
+    trial.holds(
+        "an installation notes which link an administrator may make",
+        machine.has(NOTES + TIMER + ".dsh-also"),
+    )
     code(trial, machine)
     again(trial, machine)
     kept(trial, machine)
@@ -142,7 +164,8 @@ def try_life(trial, package):
 
 
 def code(trial, machine):
-    """The package makes byte code when it is installed, upgraded, and when Python is; it leaves none of its own behind."""
+    """The package makes byte code when it is installed, upgraded, and when Python is; it leaves
+    none of its own behind."""
     folder = os.path.join(machine.root, LIBRARY)
     former = LIBRARY + "/aide_compare/__pycache__/former.cpython-39.pyc"
     for name in ("installed", "upgraded", "after an upgrade of Python"):
@@ -181,7 +204,10 @@ def again(trial, machine):
         trial.holds("a removal removes the program", not machine.has("usr/bin/aide-compare"))
         machine.install()
         trial.holds("the timer is not masked", not machine.has("etc/systemd/system/" + TIMER))
-        trial.holds("the timer is on again" if is_on else "the timer stays off", machine.has(WANTED) == is_on)
+        trial.holds(
+            "the timer is on again" if is_on else "the timer stays off",
+            machine.has(WANTED) == is_on,
+        )
     # A former version was wanted by another target, and was on.
     former = "multi-user.target.wants/" + TIMER
     shutil.rmtree(os.path.join(machine.root, NOTES), ignore_errors=True)
@@ -202,4 +228,7 @@ def kept(trial, machine):
         trial.holds("a removal leaves " + path, machine.has(path))
     machine.install()
     with open(os.path.join(machine.root, RULES)) as file:
-        trial.holds("the rules for AIDE stay as an administrator has changed them", file.read() == "# mine\n")
+        trial.holds(
+            "the rules for AIDE stay as an administrator has changed them",
+            file.read() == "# mine\n",
+        )

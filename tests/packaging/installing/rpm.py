@@ -1,4 +1,5 @@
-"""The package for systems of rpm, as rpm installs it into a root directory of its own and removes it."""
+"""The package for systems of rpm, as rpm installs it into a root directory of its own and removes
+it."""
 import os
 
 from tests.packaging.installing.trial import files, texts, tree
@@ -25,15 +26,28 @@ def try_life(trial, package):
     wanted = {name + ".gz" if name.startswith("usr/share/man/") else name for name in wanted}
     wanted = {name for name in wanted if "__pycache__" not in name}
     there = set(files(found))
-    trial.holds("rpm installs what packaging/install installs", there == wanted, sorted(there ^ wanted)[:9])
+    trial.holds(
+        "rpm installs what packaging/install installs", there == wanted, sorted(there ^ wanted)[:9]
+    )
     units = {name: text for name, text in texts(found).items() if name.startswith(UNITS)}
     service = units.get(UNITS + "aide-compare.service", "")
     for unit in ("", "-mail", "-failed"):
         text = units.get(UNITS + "aide-compare%s.service" % unit, "")
-        trial.holds("the user of aide-compare%s.service" % unit, "\nUser=root\n" in text and "_aide" not in text, text)
+        trial.holds(
+            "the user of aide-compare%s.service" % unit,
+            "\nUser=root\n" in text and "_aide" not in text,
+            text,
+        )
     for word in ("Wants", "After"):
-        trial.holds("AIDE runs before: " + word, "\n%s=aide-compare-database.service\n" % word in service, service)
-    trial.holds("no unit waits for one of Debian", not any("=dailyaidecheck" in text for text in units.values()))
+        trial.holds(
+            "AIDE runs before: " + word,
+            "\n%s=aide-compare-database.service\n" % word in service,
+            service,
+        )
+    trial.holds(
+        "no unit waits for one of Debian",
+        not any("=dailyaidecheck" in text for text in units.values()),
+    )
     rpm("--verify", "--nodeps", "aide-compare")
     rpm("--erase", "--noscripts", "aide-compare")
     left = [name for name in files(tree(root)) if not name.startswith("var/")]

@@ -103,7 +103,9 @@ def try_targets(trial):
     for path, (mode, data) in sorted(found.items()):
         if data is None:
             trial.holds("the mode of the folder " + path, mode == 0o755, show(mode))
-    for program, target in zip((trial.program, lines_program_of(trial.program), *trial.newer), PROGRAMS + NEWER):
+    for program, target in zip(
+        (trial.program, lines_program_of(trial.program), *trial.newer), PROGRAMS + NEWER
+    ):
         with open(program, "rb") as file:
             trial.holds(target + " is installed as it is", found[prefix + target][1] == file.read())
     for target, mode in sorted(wanted.items()):
@@ -129,7 +131,11 @@ def try_shells(trial):
         different = [path for path, kept in tree(folder).items() if first.get(path) != kept]
         trial.holds("the same files under " + words[0], tree(folder) == first, different)
         done = trial.install("--destdir", folder, "--uninstall", shell=words)
-        trial.holds("uninstall under " + words[0], done[0] == 0 and done[2] == "" and tree(folder) == {}, done)
+        trial.holds(
+            "uninstall under " + words[0],
+            done[0] == 0 and done[2] == "" and tree(folder) == {},
+            done,
+        )
 
 
 def try_again(trial):
@@ -148,12 +154,22 @@ def try_again(trial):
     with running:
         old, new = os.fstat(running.fileno()), os.stat(running.name)
         trial.holds("the program is replaced by another file", old.st_ino != new.st_ino)
-        trial.holds("a run of the old program keeps its file", len(running.read()) == old.st_size > 0)
+        trial.holds(
+            "a run of the old program keeps its file", len(running.read()) == old.st_size > 0
+        )
     os.remove(more)
     done = trial.install("--destdir", folder, "--program", trial.program, source=source)
-    trial.holds("what is not in the repository any more is removed", done[0] == 0 and not os.path.exists(target), done)
+    trial.holds(
+        "what is not in the repository any more is removed",
+        done[0] == 0 and not os.path.exists(target),
+        done,
+    )
     done = trial.install("--destdir", folder, "--uninstall", source=source)
-    trial.holds("nothing is left after three runs", done[0] == 0 and tree(folder) == {}, sorted(tree(folder)))
+    trial.holds(
+        "nothing is left after three runs",
+        done[0] == 0 and tree(folder) == {},
+        sorted(tree(folder)),
+    )
 
 
 def try_uninstall(trial):
@@ -177,7 +193,9 @@ def try_uninstall(trial):
         trial.holds("what was there before is left: " + path, left.get(path) == kept)
     wanted = set(before) | {os.path.relpath(mine, folder)}
     trial.holds(
-        "no file of ours is left", set(files(left)) == set(files(before)) | {os.path.relpath(mine, folder)}, sorted(left)
+        "no file of ours is left",
+        set(files(left)) == set(files(before)) | {os.path.relpath(mine, folder)},
+        sorted(left),
     )
     trial.holds(
         "no empty folder of ours is left",
@@ -201,11 +219,17 @@ def try_interrupted(trial):
         text = file.read()
     # This copy of the script stops before its last file, as if it was killed there.
     with open(script, "w") as file:
-        file.write(text.replace("put() {\n", "put() {\n    case $4 in */zzz.1) kill -9 $$ ;; esac\n"))
+        file.write(
+            text.replace("put() {\n", "put() {\n    case $4 in */zzz.1) kill -9 $$ ;; esac\n")
+        )
     done = trial.install(*words, source=source)
-    trial.holds("an installation that is killed", done[0] != 0 and len(files(tree(folder))) > 10, done)
+    trial.holds(
+        "an installation that is killed", done[0] != 0 and len(files(tree(folder))) > 10, done
+    )
     done = trial.install("--destdir", folder, "--uninstall")
-    trial.holds("it is removed all the same", done[0] == 0 and tree(folder) == {}, sorted(tree(folder)))
+    trial.holds(
+        "it is removed all the same", done[0] == 0 and tree(folder) == {}, sorted(tree(folder))
+    )
 
 
 def try_refusals(trial):
@@ -221,12 +245,20 @@ def try_refusals(trial):
         good = done[0] == 1 and "cannot write below" in done[2] and "--prefix" in done[2]
         trial.holds("a prefix that cannot be written", good and list(tree(shut)) == ["usr"], done)
         done = trial.install("--destdir", shut, env=trial.plain(), **rights())
-        trial.holds("the same before the program is built", done[0] == 1 and "cannot write below" in done[2], done)
+        trial.holds(
+            "the same before the program is built",
+            done[0] == 1 and "cannot write below" in done[2],
+            done,
+        )
     blocked = trial.path("blocked")
     os.makedirs(os.path.join(blocked, "usr/local/bin/aide-compare"))
     before = tree(blocked)
     done = trial.install("--destdir", blocked, "--program", trial.program)
-    trial.holds("a folder in the way", done[0] == 1 and "is in the way" in done[2] and tree(blocked) == before, done)
+    trial.holds(
+        "a folder in the way",
+        done[0] == 1 and "is in the way" in done[2] and tree(blocked) == before,
+        done,
+    )
     trial.write("blocked2/usr/local/share", "a file\n")
     done = trial.install("--destdir", trial.path("blocked2"), "--program", trial.program)
     trial.holds(
@@ -247,7 +279,9 @@ def try_refusals(trial):
     ):
         done = trial.install("--destdir", trial.path("refused"), "--program", trial.program, *words)
         trial.holds(
-            "refused: " + " ".join(words), done[0] == 2 and done[1] == "" and not os.path.exists(trial.path("refused")), done
+            "refused: " + " ".join(words),
+            done[0] == 2 and done[1] == "" and not os.path.exists(trial.path("refused")),
+            done,
         )
     alone = trial.write("alone/aide", "a program\n", 0o755)
     for program, missing in (
@@ -259,7 +293,9 @@ def try_refusals(trial):
         good = done[0] == 1 and missing in done[2] and not os.path.exists(trial.path("refused"))
         trial.holds("a program that is not there: " + missing, good, done)
     done = trial.install("--help")
-    trial.holds("--help", done[0] == 0 and "--uninstall" in done[1] and "8 to 13 minutes" in done[1], done)
+    trial.holds(
+        "--help", done[0] == 0 and "--uninstall" in done[1] and "8 to 13 minutes" in done[1], done
+    )
 
 
 def try_build(trial):
@@ -267,16 +303,24 @@ def try_build(trial):
     source = trial.copy("unbuilt")
     for name in ("aide", "aide_lines"):
         trial.write("unbuilt/crates/%s/src/main.rt" % name, "//! A program.\n")
-    built, lines_built = (os.path.join(source, "crates/%s/out/%s" % (name, name)) for name in ("aide", "aide_lines"))
+    built, lines_built = (
+        os.path.join(source, "crates/%s/out/%s" % (name, name)) for name in ("aide", "aide_lines")
+    )
     calls, programs = trial.path("calls"), os.path.dirname(trial.program)
     trial.write(
         "stubs/rt",
-        '#!/bin/sh\necho "$PWD $*" >> "%s"\nmkdir -p out && cp "%s/${PWD##*/}" out/\n' % (calls, programs),
+        '#!/bin/sh\necho "$PWD $*" >> "%s"\nmkdir -p out && cp "%s/${PWD##*/}" out/\n'
+        % (calls, programs),
         0o755,
     )
     words = ["--destdir", trial.path("built")]
     done = trial.install(*words, source=source, env=trial.plain())
-    good = done[0] == 1 and "rt" in done[2] and "--program" in done[2] and not os.path.exists(trial.path("built"))
+    good = (
+        done[0] == 1
+        and "rt" in done[2]
+        and "--program" in done[2]
+        and not os.path.exists(trial.path("built"))
+    )
     trial.holds("no program and no rt", good, done)
     surroundings = dict(os.environ, PATH=trial.path("stubs") + ":" + trial.plain_path)
     for name, old, wanted in (
@@ -293,12 +337,18 @@ def try_build(trial):
             lines = [line for line in file.read().splitlines() if " run " in line]
         called = ["%s/crates/%s run -- -D -c /dev/null" % (source, crate) for crate in wanted]
         trial.holds("how rt is called: " + name, done[0] == 0 and lines == called, (done, lines))
-        trial.holds("it says how long it takes: " + name, ("8 to 13 minutes" in done[2]) == bool(wanted), done)
+        trial.holds(
+            "it says how long it takes: " + name,
+            ("8 to 13 minutes" in done[2]) == bool(wanted),
+            done,
+        )
     for program, target in zip((trial.program, lines_program_of(trial.program)), PROGRAMS):
         with open(trial.path("built/usr/local", target), "rb") as one, open(program, "rb") as two:
             trial.holds("what was built is installed: " + target, one.read() == two.read())
     done = trial.run([trial.path("built/usr/local/bin/aide-compare"), "--version"])
-    trial.holds("both were proved here", done[0] == 0 and done[1].count("a proved build: yes\n") == 2, done)
+    trial.holds(
+        "both were proved here", done[0] == 0 and done[1].count("a proved build: yes\n") == 2, done
+    )
     os.remove(built)
     script = os.path.join(source, "packaging", "make_package")
     done = trial.run(["sh", script, "--output", trial.path("unbuilt/out")], env=surroundings)
@@ -307,4 +357,8 @@ def try_build(trial):
     trial.write("stubs/rt", "#!/bin/sh\nexit 1\n", 0o755)
     os.remove(built)
     done = trial.install("--destdir", trial.path("unproved"), source=source, env=surroundings)
-    trial.holds("a program that is not proved", done[0] == 1 and not os.path.exists(trial.path("unproved")), done)
+    trial.holds(
+        "a program that is not proved",
+        done[0] == 1 and not os.path.exists(trial.path("unproved")),
+        done,
+    )

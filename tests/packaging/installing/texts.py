@@ -1,4 +1,5 @@
-"""What is installed works, and its pages, documents, units and files for cron name what is installed."""
+"""What is installed works, and its pages, documents, units and files for cron name what is
+installed."""
 import hashlib
 import os
 import pwd
@@ -13,16 +14,26 @@ from tests.packaging.installing.trial import HERE, texts, tree
 # The paths below a prefix that the installed texts name.
 OWN_PATH = r"/(?:bin/aide-compare|lib/aide-compare/|lib/nagios|lib/systemd/|share/doc/aide-compare)[\w./-]*"
 # Paths of the repository that mean nothing to a reader of an installed page.
-SOURCE_PATH = re.compile(r"(?<![\w/.-])(?:(?:docs|tests|tools|crates|contrib|man|bench|specs)/[\w.*-]+|\.\./[\w.]+)")
+SOURCE_PATH = re.compile(
+    r"(?<![\w/.-])(?:(?:docs|tests|tools|crates|contrib|man|bench|specs)/[\w.*-]+|\.\./[\w.]+)"
+)
 
 
 def try_programs(trial):
     """The installed program compares, and each installed command prints a help."""
     trial.installed("run")
     folder = trial.path("run/usr/local/bin")
-    words = ["-E", "-c", os.path.join(HERE, "examples", "aide.conf"), "-B", "@@define DIR %s/examples" % HERE]
+    words = [
+        "-E",
+        "-c",
+        os.path.join(HERE, "examples", "aide.conf"),
+        "-B",
+        "@@define DIR %s/examples" % HERE,
+    ]
     done = trial.run([os.path.join(folder, "aide-compare"), *words])
-    trial.holds("the installed program", done[0] == 7 and done[1].startswith("AIDE found differences"), done)
+    trial.holds(
+        "the installed program", done[0] == 7 and done[1].startswith("AIDE found differences"), done
+    )
     command = os.path.join(folder, "aide-compare")
     trial.holds("one command", os.listdir(folder) == ["aide-compare"], os.listdir(folder))
     for words in SUBCOMMANDS + HOSTS:
@@ -30,7 +41,9 @@ def try_programs(trial):
         good = done[0] == 0 and done[2] == "" and "usage: aide-compare" in done[1]
         trial.holds(words + " --help", good, done)
     try_version_of(trial, command)
-    database = trial.write("mixed.db", "@@begin_db\n@@db_spec name attr\n/b 0\n/a-b 0\n/a/b 0\n@@end_db\n")
+    database = trial.write(
+        "mixed.db", "@@begin_db\n@@db_spec name attr\n/b 0\n/a-b 0\n/a/b 0\n@@end_db\n"
+    )
     done = trial.run([command, "sort", database])
     wanted = "@@begin_db\n@@db_spec name attr\n/a/b 0\n/a-b 0\n/b 0\n@@end_db\n"
     trial.holds("aide-compare sort", done[:2] == (0, wanted) and "out of order" in done[2], done)
@@ -39,12 +52,15 @@ def try_programs(trial):
     trial.write("twice.db", "@@begin_db\n@@db_spec name attr\n/a\\ 0\n/a\\ 0\n@@end_db\n")
     done = trial.run([command, "sort", trial.path("twice.db")])
     trial.holds(
-        "a path that stands twice", done[0] == 24 and done[2].endswith("aide-compare sort: stands twice: /a\\134\n"), done
+        "a path that stands twice",
+        done[0] == 24 and done[2].endswith("aide-compare sort: stands twice: /a\\134\n"),
+        done,
     )
 
 
 def try_version_of(trial, command):
-    """The version says which programs there are, and which of them are run. Proved is what has the record of a proof."""
+    """The version says which programs there are, and which of them are run. Proved is what has the
+    record of a proof."""
     digests = []
     for program in sorted((trial.program, lines_program_of(trial.program), *trial.newer)):
         with open(program, "rb") as file:
@@ -66,18 +82,40 @@ def try_pages(trial):
     trial.holds("manual pages", len(pages) >= 3, sorted(pages))
     if not shutil.which("man"):
         trial.skip("what man warns of: it is not installed")
-    commands = [path for path in tree(trial.path("first/usr/local")) if re.match(r"(bin|lib/nagios/plugins)/.", path)]
+    commands = [
+        path
+        for path in tree(trial.path("first/usr/local"))
+        if re.match(r"(bin|lib/nagios/plugins)/.", path)
+    ]
     for path in sorted(commands):
-        names = ["share/man/man%d/%s.%d" % (section, os.path.basename(path), section) for section in (1, 8)]
+        names = [
+            "share/man/man%d/%s.%d" % (section, os.path.basename(path), section)
+            for section in (1, 8)
+        ]
         trial.holds("a manual page of " + path, any(name in pages for name in names))
     for path, text in pages.items():
         trial.holds("the version in " + path, ("\n.Os aide-compare %s\n" % trial.version) in text)
-        trial.holds("no path of the repository in " + path, not SOURCE_PATH.search(text), SOURCE_PATH.findall(text))
+        trial.holds(
+            "no path of the repository in " + path,
+            not SOURCE_PATH.search(text),
+            SOURCE_PATH.findall(text),
+        )
         for name in re.findall(r"^\.Pa ([^\s*]+\.md)(?!\S)", text, re.M):
             good = name.startswith("/usr/local/") and name[len("/usr/local/") :] in found
             trial.holds("%s names a document that is installed" % path, good, name)
         if shutil.which("man"):
-            done = trial.run(["man", "--warnings", "-E", "UTF-8", "-l", "-Tutf8", "-Z", trial.path("first/usr/local", path)])
+            done = trial.run(
+                [
+                    "man",
+                    "--warnings",
+                    "-E",
+                    "UTF-8",
+                    "-l",
+                    "-Tutf8",
+                    "-Z",
+                    trial.path("first/usr/local", path),
+                ]
+            )
             trial.holds("man --warnings " + path, done[0] == 0 and done[2] == "", done[2])
 
 
@@ -89,7 +127,11 @@ def try_documents(trial):
         if path.startswith(DOCUMENTS) and path.endswith(".md"):
             for name in re.findall(r"\]\(([^)#:]+)(?:#[^)]*)?\)", text):
                 count += 1
-                trial.holds("a link in " + path, os.path.exists(trial.path("first/usr/local", DOCUMENTS, name)), name)
+                trial.holds(
+                    "a link in " + path,
+                    os.path.exists(trial.path("first/usr/local", DOCUMENTS, name)),
+                    name,
+                )
     trial.holds("links between the documents", count > 5, count)
 
 
@@ -102,10 +144,15 @@ def try_prefix(trial):
         named = re.findall(r"/usr/local" + OWN_PATH, text)
         trial.holds("the usual prefix in " + path, not named, named)
         for name in re.findall(re.escape(prefix) + OWN_PATH, text):
-            if path.endswith(("/installed", "/CHANGELOG.md")) or name.endswith(("-", "/", "/system")):
+            if path.endswith(("/installed", "/CHANGELOG.md")) or name.endswith(
+                ("-", "/", "/system")
+            ):
                 continue
             count += 1
-            there = any(one == name.rstrip(".")[1:] or one.startswith(name.rstrip(".")[1:] + "/") for one in found)
+            there = any(
+                one == name.rstrip(".")[1:] or one.startswith(name.rstrip(".")[1:] + "/")
+                for one in found
+            )
             trial.holds("what %s names is installed" % path, there, name)
     trial.holds("texts that name what is installed", count > 4, count)
 
@@ -136,11 +183,19 @@ def try_units(trial):
     copy = trial.write("units/aide-compare.service", service.replace(start[0], "/bin/true"))
     for name in ("aide-compare.timer", "aide-compare-mail.service", "aide-compare-failed.service"):
         with open(os.path.join(folder, name)) as file:
-            trial.write("units/" + name, file.read().replace("/usr/local/bin/aide-compare", "/bin/true"))
+            trial.write(
+                "units/" + name, file.read().replace("/usr/local/bin/aide-compare", "/bin/true")
+            )
     done = trial.run(["systemd-analyze", "security", "--offline=true", "--threshold=10", copy])
     trial.holds("the service is exposed by 1.0 at most", done[0] == 0, done[1][-80:])
     done = trial.run(
-        ["systemd-analyze", "verify", "--man=no", copy, os.path.join(os.path.dirname(copy), "aide-compare.timer")]
+        [
+            "systemd-analyze",
+            "verify",
+            "--man=no",
+            copy,
+            os.path.join(os.path.dirname(copy), "aide-compare.timer"),
+        ]
     )
     trial.holds("systemd-analyze verify", done[0] == 0 and "aide-compare" not in done[2], done)
 
@@ -164,9 +219,15 @@ def try_cron(trial):
         if status is None:
             os.remove(tool)
         else:
-            trial.write("jobs/bin/aide-compare", '#!/bin/sh\necho "$0 $*" >> "%s"\nexit %d\n' % (called, status), 0o755)
+            trial.write(
+                "jobs/bin/aide-compare",
+                '#!/bin/sh\necho "$0 $*" >> "%s"\nexit %d\n' % (called, status),
+                0o755,
+            )
         done = trial.run([daily])
-        trial.holds("cron.daily, the tool's status %s" % status, done == (status or 0, "", ""), done)
+        trial.holds(
+            "cron.daily, the tool's status %s" % status, done == (status or 0, "", ""), done
+        )
     with open(called) as file:
         lines = file.read().splitlines()
     wanted = "%s mail --user %s --alarm-sent-is-success --max-age 50h --state %s" % (
@@ -181,7 +242,11 @@ def try_cron(trial):
             os.makedirs(os.path.dirname(target))
             shutil.copy(daily, target)
             done = trial.run(["run-parts", "--test", os.path.dirname(target)])
-            trial.holds("run-parts and the name " + name, (target in done[1]) == (name == "aide-compare"), done)
+            trial.holds(
+                "run-parts and the name " + name,
+                (target in done[1]) == (name == "aide-compare"),
+                done,
+            )
     else:
         trial.skip("the names that run-parts takes: it is not installed")
 
@@ -195,12 +260,16 @@ def try_version(trial):
     for name in ("README.md", "docs/RECIPES.md", "docs/MONITORING.md"):
         with open(os.path.join(HERE, name)) as file:
             found = re.findall(r"aide-compare[_-]\d[\w.-]*?(?:-x86_64|_amd64)", file.read())
-        wanted = ["aide-compare-%s-x86_64" % trial.version, "aide-compare_%s-1_amd64" % trial.version]
+        wanted = [
+            "aide-compare-%s-x86_64" % trial.version,
+            "aide-compare_%s-1_amd64" % trial.version,
+        ]
         trial.holds("the packages that %s names" % name, all(one in wanted for one in found), found)
 
 
 def try_unproved(trial):
-    """A program that is not proved, by its name, marks the version of each command, and is never packed."""
+    """A program that is not proved, by its name, marks the version of each command, and is never
+    packed."""
     program = trial.copied_programs(trial.program, "unproved programs", "aide-unproved")
     done = trial.install("--destdir", trial.path("unproved"), "--program", program)
     trial.holds("an unproved program is installed", done[0] == 0, done)

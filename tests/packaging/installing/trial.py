@@ -33,20 +33,26 @@ class Trial(Scratch, Tally):
         Scratch.__init__(self, "try-install-")
         Tally.__init__(self)
         self.program = self.copied_programs(program, "built programs", "aide")
-        self.newer = [self.make_newer(one) for one in (self.program, lines_program_of(self.program))]
+        self.newer = [
+            self.make_newer(one) for one in (self.program, lines_program_of(self.program))
+        ]
         self.source = self.copy("source")
         with open(os.path.join(self.source, "VERSION")) as file:
             self.version = file.read().strip()
         self.plain_path = self.make_plain_path()
 
     def copied_programs(self, program, folder, name):
-        """The path of a copy of the program in a new folder, with the program of lines beside it."""
+        """The path of a copy of the program in a new folder, with the program of lines beside
+        it."""
         os.mkdir(self.path(folder))
-        shutil.copy(lines_program_of(program), self.path(folder, name.replace("aide", "aide_lines")))
+        shutil.copy(
+            lines_program_of(program), self.path(folder, name.replace("aide", "aide_lines"))
+        )
         return shutil.copy(program, self.path(folder, name))
 
     def make_newer(self, program):
-        """A program beside another that stands for its build for newer processors, with the record of a proof."""
+        """A program beside another that stands for its build for newer processors, with the record
+        of a proof."""
         with open(program, "rb") as file:
             data = file.read() + bytes(1)
         digest = hashlib.sha256(data).hexdigest()
@@ -63,7 +69,9 @@ class Trial(Scratch, Tally):
             source = os.path.join(HERE, part)
             os.makedirs(os.path.dirname(os.path.join(target, part)), exist_ok=True)
             if os.path.isdir(source):
-                shutil.copytree(source, os.path.join(target, part), ignore=shutil.ignore_patterns("__pycache__"))
+                shutil.copytree(
+                    source, os.path.join(target, part), ignore=shutil.ignore_patterns("__pycache__")
+                )
             else:
                 shutil.copy2(source, os.path.join(target, part))
         subprocess.run(["chmod", "-R", "a+rX", target], check=True)
@@ -84,8 +92,14 @@ class Trial(Scratch, Tally):
 
     def run(self, words, **more):
         """The status and both outputs of a command."""
-        done = subprocess.run(words, stdin=subprocess.DEVNULL, stdout=subprocess.PIPE, stderr=subprocess.PIPE, **more)
-        return done.returncode, done.stdout.decode(errors="replace"), done.stderr.decode(errors="replace")
+        done = subprocess.run(
+            words, stdin=subprocess.DEVNULL, stdout=subprocess.PIPE, stderr=subprocess.PIPE, **more
+        )
+        return (
+            done.returncode,
+            done.stdout.decode(errors="replace"),
+            done.stderr.decode(errors="replace"),
+        )
 
     def install(self, *words, source=None, shell=("sh",), **more):
         """Runs packaging/install of a copy, in a folder that is not the repository."""

@@ -16,13 +16,14 @@ HOST = STORE + "/hosts/www/aide.db"
 
 
 def faults_in(errors):
-    """The lines on standard error that say more than which databases were read, how many changes are open, and how many
-    lines were sorted."""
+    """The lines on standard error that say more than which databases were read, how many changes
+    are open, and how many lines were sorted."""
     return [
         line
         for line in errors.splitlines()
         if not re.match(
-            "aide-compare(: ((old|new) database: |[0-9]+ open.* of )| sort: (out of order: |AIDE itself writes))", line
+            "aide-compare(: ((old|new) database: |[0-9]+ open.* of )| sort: (out of order: |AIDE itself writes))",
+            line,
         )
     ]
 
@@ -55,13 +56,17 @@ def lists(*paths):
 
     def look(sandbox, done):
         found = sorted(re.findall(r"^\S.{17}: (/.*)$", done[1], re.M))
-        sandbox.holds("the entries of the report", found == sorted(paths) and not faults_in(done[2]), done)
+        sandbox.holds(
+            "the entries of the report", found == sorted(paths) and not faults_in(done[2]), done
+        )
 
     return look
 
 
 def has_summary(sandbox, done):
-    sandbox.holds("the report", done[1].startswith(MINIMAL + "\n" + SUMMARY) and not faults_in(done[2]), done)
+    sandbox.holds(
+        "the report", done[1].startswith(MINIMAL + "\n" + SUMMARY) and not faults_in(done[2]), done
+    )
 
 
 def names_all(sandbox, done):
@@ -72,7 +77,11 @@ def names_all(sandbox, done):
 
 
 def is_minimal(sandbox, done):
-    sandbox.holds("the first line of the report and no more", done[1] == MINIMAL and not faults_in(done[2]), done)
+    sandbox.holds(
+        "the first line of the report and no more",
+        done[1] == MINIMAL and not faults_in(done[2]),
+        done,
+    )
 
 
 def is_refused(words):
@@ -102,16 +111,23 @@ def same_files(sandbox, *names):
 
 
 def is_accepted(sandbox, done):
-    sandbox.holds("the new database is the baseline", same_files(sandbox, AIDE, AIDE + ".new"), done)
+    sandbox.holds(
+        "the new database is the baseline", same_files(sandbox, AIDE, AIDE + ".new"), done
+    )
 
 
 def has_page(sandbox, done):
     text = sandbox.read("/tmp/page.html")
-    sandbox.holds("the page", not done[1] and not faults_in(done[2]) and text.endswith("</html>\n") and "/c" in text, done)
+    sandbox.holds(
+        "the page",
+        not done[1] and not faults_in(done[2]) and text.endswith("</html>\n") and "/c" in text,
+        done,
+    )
 
 
 def is_page(sandbox, done):
-    """The page is there, also if the run says more on standard error, as it does of the databases."""
+    """The page is there, also if the run says more on standard error, as it does of the
+    databases."""
     text = sandbox.read("/tmp/page.html")
     sandbox.holds("the page", text.endswith("</html>\n") and "/c" in text, done)
 
@@ -138,7 +154,10 @@ def put_logs(sandbox):
         "/var/log/dpkg.log",
         "/var/log/syslog",
     ]
-    texts = [HEAD + "".join("%s 100644 %d MA== 1\n" % (path, size) for path in paths) + "@@end_db\n" for size in (1, 2)]
+    texts = [
+        HEAD + "".join("%s 100644 %d MA== 1\n" % (path, size) for path in paths) + "@@end_db\n"
+        for size in (1, 2)
+    ]
     sandbox.fill(*texts)
 
 
@@ -173,24 +192,35 @@ def put_json(sandbox):
 
 def has_events(sandbox, done):
     """Each line has a host, a date, a kind and a path."""
-    event = re.compile(r"[^\t\n]+\t[0-9]{4}-[0-9]{2}-[0-9]{2}T[0-9:]{8}Z\t(added|removed|changed)\t/[^\t\n]*")
+    event = re.compile(
+        r"[^\t\n]+\t[0-9]{4}-[0-9]{2}-[0-9]{2}T[0-9:]{8}Z\t(added|removed|changed)\t/[^\t\n]*"
+    )
     lines = done[1].splitlines()
-    sandbox.holds("events that stand alone", lines and all(event.fullmatch(line) for line in lines), done)
+    sandbox.holds(
+        "events that stand alone", lines and all(event.fullmatch(line) for line in lines), done
+    )
 
 
 def is_logged(sandbox, done):
     words, _, line = (taken(sandbox.trial, "logged") or "").partition("\n")
     good = words == "-t aide-compare -p auth.notice"
-    good = good and re.match("differences: open=4 .* low=[0-9]+ status=7 added=1 removed=1 changed=2 ", line)
+    good = good and re.match(
+        "differences: open=4 .* low=[0-9]+ status=7 added=1 removed=1 changed=2 ", line
+    )
     sandbox.holds("the line in the log", good and not done[1] and not done[2], (words, line, done))
 
 
 def is_mailed(address, page):
-    """The mail is for the address, has the report, and a page if there is to be one; the state is written."""
+    """The mail is for the address, has the report, and a page if there is to be one; the state is
+    written."""
 
     def look(sandbox, done):
         mail = taken(sandbox.trial, "mailed") or ""
-        good = "To: %s\n" % address in mail and "4 changes are open" in mail and ("text/html" in mail) == page
+        good = (
+            "To: %s\n" % address in mail
+            and "4 changes are open" in mail
+            and ("text/html" in mail) == page
+        )
         sandbox.holds("the mail", good and not done[1] and not done[2], (mail[:600], done))
         has_state(sandbox, done)
 
@@ -207,27 +237,48 @@ def metrics(sandbox):
 
 def has_metrics(sandbox, done):
     text = metrics(sandbox)
-    wanted = ["aide_compare_status 7\n", "aide_compare_added_entries 1\n", "aide_compare_changed_entries 2\n"]
+    wanted = [
+        "aide_compare_status 7\n",
+        "aide_compare_added_entries 1\n",
+        "aide_compare_changed_entries 2\n",
+    ]
     sandbox.holds("the metrics", all("\n" + line in text for line in wanted), (text, done))
 
 
 def try_quiet_alarm(sandbox, text):
     """Each metric of the rule is one that a comparison writes."""
     compare(sandbox)
-    sandbox.run("aide-compare status --format prometheus /var/lib/prometheus/node-exporter/aide.prom")
+    sandbox.run(
+        "aide-compare status --format prometheus /var/lib/prometheus/node-exporter/aide.prom"
+    )
     names = set(re.findall(r"\baide_compare_\w+", text))
-    sandbox.holds("the metrics of the rule", names and all("\n%s " % name in metrics(sandbox) for name in names), names)
-    sandbox.holds("the words of the rule", set(re.findall(r"^[ -]*(\w+):", text, re.M)) == {"alert", "expr"})
+    sandbox.holds(
+        "the metrics of the rule",
+        names and all("\n%s " % name in metrics(sandbox) for name in names),
+        names,
+    )
+    sandbox.holds(
+        "the words of the rule", set(re.findall(r"^[ -]*(\w+):", text, re.M)) == {"alert", "expr"}
+    )
 
 
 def try_alarms(sandbox, text):
-    """Each metric of the rules is one that is written, and the words of the rules are those of Prometheus."""
+    """Each metric of the rules is one that is written, and the words of the rules are those of
+    Prometheus."""
     compare(sandbox)
-    sandbox.run("aide-compare status --format prometheus /var/lib/prometheus/node-exporter/aide.prom")
+    sandbox.run(
+        "aide-compare status --format prometheus /var/lib/prometheus/node-exporter/aide.prom"
+    )
     names = set(re.findall(r"\baide_compare_\w+", text))
-    sandbox.holds("the metrics of the rules", names and all("\n%s " % name in metrics(sandbox) for name in names), names)
+    sandbox.holds(
+        "the metrics of the rules",
+        names and all("\n%s " % name in metrics(sandbox) for name in names),
+        names,
+    )
     words = set(re.findall(r"^[ -]*(\w+):", text, re.M))
-    sandbox.holds("the words of the rules", words == {"groups", "name", "rules", "alert", "expr"}, words)
+    sandbox.holds(
+        "the words of the rules", words == {"groups", "name", "rules", "alert", "expr"}, words
+    )
 
 
 def is_private(sandbox, done):
@@ -239,7 +290,9 @@ def is_private(sandbox, done):
 
 def run_with(sandbox, text, words):
     sandbox.write("/tmp/compare.conf", sandbox.trial.below(text))
-    done = sandbox.trial.run(["aide-compare", "-E", "-c", sandbox.path("/tmp/compare.conf")] + words)
+    done = sandbox.trial.run(
+        ["aide-compare", "-E", "-c", sandbox.path("/tmp/compare.conf")] + words
+    )
     return done[0], sandbox.trial.above(done[1]), done[2]
 
 
@@ -257,11 +310,16 @@ def is_configuration(words):
 def is_database(sandbox, text):
     sandbox.fill(text, text)
     done = run_with(sandbox, sandbox.pair("/tmp/old.db", "/tmp/new.db"), [])
-    sandbox.holds("the database of the page", done[0] == 0 and "NO differences" in done[1] and not done[2], done)
+    sandbox.holds(
+        "the database of the page",
+        done[0] == 0 and "NO differences" in done[1] and not done[2],
+        done,
+    )
 
 
 def try_owners_and_modes(sandbox, text):
-    """Times, inodes and attributes of one run only are no change, and nothing is printed; modes are."""
+    """Times, inodes and attributes of one run only are no change, and nothing is printed; modes
+    are."""
     spec = "@@begin_db\n@@db_spec name perm uid size mtime inode sha256\n"
     digest = base64.b64encode(hashlib.sha256(b"").digest()).decode()
     line = spec + "/c %s 0 0 %s %d %s\n@@end_db\n"
@@ -277,7 +335,9 @@ def try_owners_and_modes(sandbox, text):
 
 def is_line_of_check(sandbox, text):
     """The line of the page is that of a state with its counts; the age is that of now."""
-    counts = [int(word) for word in re.findall(r"(\d+) (?:added|removed|changed)", text.partition("|")[0])]
+    counts = [
+        int(word) for word in re.findall(r"(\d+) (?:added|removed|changed)", text.partition("|")[0])
+    ]
     sandbox.holds("the counts of the line", len(counts) == 3, text)
     added = "".join("/a%d 100644 1 MA== 1\n" % k for k in range(counts[0]))
     removed = "".join("/r%d 100644 1 MA== 1\n" % k for k in range(counts[1]))
@@ -295,7 +355,11 @@ def put_baseline(sandbox):
 
 
 def is_first_of_host(sandbox, done):
-    sandbox.holds("the first baseline", "SHA-256 " in done[1] + done[2] and os.path.isfile(sandbox.path(HOST)), done)
+    sandbox.holds(
+        "the first baseline",
+        "SHA-256 " in done[1] + done[2] and os.path.isfile(sandbox.path(HOST)),
+        done,
+    )
 
 
 def compare_host(sandbox):
@@ -309,12 +373,19 @@ def compare_host(sandbox):
 def has_changes_of_host(sandbox, done):
     counts = "www 7 added 1, removed 1, changed 2: 4 open"
     good = done[1].startswith(counts) and "\n1 host: " in done[1] and "\nchanged File: " in done[1]
-    sandbox.holds("the changes of one host, and how to accept them", good and "accept --sha256 " in done[2], done)
+    sandbox.holds(
+        "the changes of one host, and how to accept them",
+        good and "accept --sha256 " in done[2],
+        done,
+    )
 
 
 def is_mailed_for_hosts(sandbox, done):
     mail = taken(sandbox.trial, "mailed") or ""
-    good = "To: root\nSubject: aide on 1 host: 1 differ, 0 not compared\n" in mail and "\n  www  " in mail
+    good = (
+        "To: root\nSubject: aide on 1 host: 1 differ, 0 not compared\n" in mail
+        and "\n  www  " in mail
+    )
     sandbox.holds("the mail", good and not done[1] and not done[2], (mail[:600], done))
 
 
@@ -328,7 +399,9 @@ def is_shortened_brief(sandbox, text):
     done = sandbox.trial.run(["aide-compare", folder + "/old.db", folder + "/new.db"])
     lines = iter([line.rstrip() for line in done[1].splitlines()])
     missing = [line for line in text.splitlines()[1:] if line.rstrip() not in lines]
-    sandbox.holds("lines that the brief has not, or not in this order", done[0] == 7 and not missing, missing)
+    sandbox.holds(
+        "lines that the brief has not, or not in this order", done[0] == 7 and not missing, missing
+    )
 
 
 def are_first_answers(sandbox, done):
@@ -353,14 +426,18 @@ def says_number(sentence, printed):
 
     def look(sandbox, done):
         said, got = re.search(sentence, read("examples/README.md")), re.search(printed, done[1])
-        sandbox.holds("the number, as the page says", said and got and said.group(1) == got.group(1), done)
+        sandbox.holds(
+            "the number, as the page says", said and got and said.group(1) == got.group(1), done
+        )
 
     return look
 
 
 def is_refused_as_said(sandbox, done):
     said = re.search(r"It prints `([^`]+)`\s+and\s+no\s+report", read("examples/README.md"))
-    sandbox.holds("the line, as the page says", said and done[2] == said.group(1) + "\n" and not done[1], done)
+    sandbox.holds(
+        "the line, as the page says", said and done[2] == said.group(1) + "\n" and not done[1], done
+    )
 
 
 def set_clone(sandbox):
@@ -368,7 +445,9 @@ def set_clone(sandbox):
     ignored = shutil.ignore_patterns("__pycache__")
     os.remove(sandbox.path("/tmp/clone/commands"))
     for name in ("commands", "contrib", "docs", "man", "packaging"):
-        shutil.copytree(os.path.join(HERE, name), sandbox.path("/tmp/clone/" + name), ignore=ignored)
+        shutil.copytree(
+            os.path.join(HERE, name), sandbox.path("/tmp/clone/" + name), ignore=ignored
+        )
     for name in ("CHANGELOG.md", "README.md", "SECURITY.md", "VERSION", "compare"):
         shutil.copy(os.path.join(HERE, name), sandbox.path("/tmp/clone/" + name))
 
@@ -396,5 +475,9 @@ def is_kit(sandbox, done):
 
 def are_examples(sandbox, done):
     said = re.search(r"^All three end with status (\d+):", read("examples/README.md"), re.M)
-    sandbox.holds("the status of all three, as the page says", said and done[0][1:] == [int(said.group(1))] * 3, done)
+    sandbox.holds(
+        "the status of all three, as the page says",
+        said and done[0][1:] == [int(said.group(1))] * 3,
+        done,
+    )
     sandbox.holds("three reports", done[1].count(MINIMAL) == 3 and not done[2], done)

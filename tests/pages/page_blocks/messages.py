@@ -13,7 +13,8 @@ ANY = re.compile(r"\b[A-Z]+\b|\b\d+\b|\.\.\.")
 
 
 def messages(page):
-    """The messages that are entries of a list, such as those under DIAGNOSTICS, and the word that begins each line."""
+    """The messages that are entries of a list, such as those under DIAGNOSTICS, and the word that
+    begins each line."""
     found = re.findall(r'^\.It Li "(.*)"$|^\.Ql (aide-compare.*:.*) \.$', read(page), re.M)
     return [plain(entry or word) for entry, word in found]
 
@@ -41,8 +42,14 @@ def commands_of(page):
 
 def source(page):
     """The text of the modules, if there is a command that a page is about."""
-    files = glob.glob(os.path.join(HERE, "commands/lib/aide_compare/*/*.py")) if commands_of(page) else []
-    return "".join(JOINT.sub("", PROSE.sub("", read(os.path.relpath(path, HERE)))) for path in files)
+    files = (
+        glob.glob(os.path.join(HERE, "commands/lib/aide_compare/*/*.py"))
+        if commands_of(page)
+        else []
+    )
+    return "".join(
+        JOINT.sub("", PROSE.sub("", read(os.path.relpath(path, HERE)))) for path in files
+    )
 
 
 def try_messages(holds):

@@ -1,4 +1,5 @@
-"""The displays of the pages: blocks of commands, configurations and reports, each with the sentences that lead to it."""
+"""The displays of the pages: blocks of commands, configurations and reports, each with the
+sentences that lead to it."""
 import glob
 import os
 import re
@@ -12,7 +13,8 @@ ESCAPES = [("\\&", ""), ("\\e", "\\"), ("\\-", "-"), ("\\(aq", "'"), ("\\(dq", '
 
 
 class Display:
-    """A display, and the key by which a row names it: the sentences before a block, a span's own text."""
+    """A display, and the key by which a row names it: the sentences before a block, a span's own
+    text."""
 
     def __init__(self, page, key, text):
         self.page, self.text, self.key = page, text, " ".join(key.split())
@@ -27,7 +29,9 @@ def read(name):
 
 
 def manual_pages():
-    return sorted("man/" + os.path.basename(name) for name in glob.glob(os.path.join(HERE, "man", "*.[1-8]")))
+    return sorted(
+        "man/" + os.path.basename(name) for name in glob.glob(os.path.join(HERE, "man", "*.[1-8]"))
+    )
 
 
 def plain(line):
@@ -40,7 +44,8 @@ def plain(line):
 
 
 def manual_displays(page, text):
-    """The `.Bd -literal` displays and the `.Dl` lines. A heading is the key where no sentence stands between."""
+    """The `.Bd -literal` displays and the `.Dl` lines. A heading is the key where no sentence
+    stands between."""
     found, heading, before, block = [], "", [], None
     for line in text.split("\n"):
         if block is not None and line != ".Ed":
@@ -62,7 +67,8 @@ def manual_displays(page, text):
 
 
 def paragraphs(text):
-    """The parts of a page between empty lines. A block between fences is one, and so is an indented block."""
+    """The parts of a page between empty lines. A block between fences is one, and so is an indented
+    block."""
     parts, fenced = [[]], False
     for line in text.split("\n"):
         if line.startswith("```"):

@@ -1,17 +1,24 @@
-"""How each display of the pages is tried: what its commands end with, and a look at what they print."""
+"""How each display of the pages is tried: what its commands end with, and a look at what they
+print."""
 import os
 import re
 
 from . import expectations
 from .pages import HERE
 
-README, EXAMPLES, RUN, MAIN = "README.md", "examples/README.md", "man/aide-compare-compare.1", "man/aide-compare-program.8"
+README, EXAMPLES, RUN, MAIN = (
+    "README.md",
+    "examples/README.md",
+    "man/aide-compare-compare.1",
+    "man/aide-compare-program.8",
+)
 FRONT, CONF, HOSTS = "man/aide-compare.1", "man/aide-compare.conf.5", "man/aide-compare-hosts.1"
 JSON = "man/aide-compare-json.1"
 
 
 class Row:
-    """The display of a page after the sentences of the key, of which "..." leaves out the rest. A span is its own key."""
+    """The display of a page after the sentences of the key, of which "..." leaves out the rest. A
+    span is its own key."""
 
     def __init__(self, page, key):
         self.page, self.key = page, key
@@ -22,9 +29,20 @@ class Row:
 
 
 class Commands(Row):
-    """Commands that are run. look(sandbox, done) compares more; needs names a program that may be missing."""
+    """Commands that are run. look(sandbox, done) compares more; needs names a program that may be
+    missing."""
 
-    def __init__(self, page, key, statuses, look=expectations.nothing, prepare=None, folder="/tmp", given=None, needs=None):
+    def __init__(
+        self,
+        page,
+        key,
+        statuses,
+        look=expectations.nothing,
+        prepare=None,
+        folder="/tmp",
+        given=None,
+        needs=None,
+    ):
         super().__init__(page, key)
         self.statuses, self.look, self.prepare, self.folder, self.given, self.needs = (
             statuses,
@@ -45,7 +63,11 @@ class Commands(Row):
         done = sandbox.run(display.text, self.folder, self.given)
         sandbox.holds("ends with %s" % self.statuses, done[0] == self.statuses, done)
         said = re.findall(r"\(?status (\d+)", display.key)
-        sandbox.holds("ends as the page says: %s" % said, not said or [int(word) for word in said] == done[0][-1:], done)
+        sandbox.holds(
+            "ends as the page says: %s" % said,
+            not said or [int(word) for word in said] == done[0][-1:],
+            done,
+        )
         self.look(sandbox, done)
 
 
@@ -69,9 +91,15 @@ class Elsewhere(Row):
         self.reason, self.file, self.look = reason, file, look
 
     def work(self, sandbox, display):
-        sandbox.holds("is tried by a file that is there: " + self.file, os.path.isfile(os.path.join(HERE, self.file)))
+        sandbox.holds(
+            "is tried by a file that is there: " + self.file,
+            os.path.isfile(os.path.join(HERE, self.file)),
+        )
         for name in re.findall(r"^(?:tools|packaging)/\S+", display.text, re.M):
-            sandbox.holds("names a command that is there: " + name, os.access(os.path.join(HERE, name), os.X_OK))
+            sandbox.holds(
+                "names a command that is there: " + name,
+                os.access(os.path.join(HERE, name), os.X_OK),
+            )
         self.look(sandbox, display.text)
 
 
@@ -95,7 +123,12 @@ LEVELS = [
     "added_removed_entries",
 ]
 ROWS = [
-    Commands(FRONT, "What differs between two databases, plain or compressed by gzip:", [7], expectations.names_all),
+    Commands(
+        FRONT,
+        "What differs between two databases, plain or compressed by gzip:",
+        [7],
+        expectations.names_all,
+    ),
     Commands(
         FRONT,
         "The same as a page:",
@@ -132,7 +165,9 @@ ROWS = [
         "man/aide-compare-accept.1",
         "Accept all changes but one, and keep the question open why /etc/hosts.deny is new:",
         [0],
-        expectations.prints("/var/lib/aide/aide.db.new is the baseline now, but for what stays open: "),
+        expectations.prints(
+            "/var/lib/aide/aide.db.new is the baseline now, but for what stays open: "
+        ),
         prepare=expectations.put_examples,
     ),
     Elsewhere(
@@ -147,10 +182,27 @@ ROWS = [
         "it needs what apt keeps",
         "tests/commands/test_archive.py",
     ),
-    Commands("man/aide-compare-page.1", "A page of the differences between two databases:", [7], expectations.has_page),
+    Commands(
+        "man/aide-compare-page.1",
+        "A page of the differences between two databases:",
+        [7],
+        expectations.has_page,
+    ),
     Commands("man/aide-compare-page.1", "A list for mail:", [7], expectations.has_lists),
-    Commands(JSON, "The paths of all entries that were added:", [0], expectations.prints("/a\n"), needs="jq"),
-    Commands(JSON, "Where, when and what, for an event that has to stand alone:", [0], expectations.has_events, needs="jq"),
+    Commands(
+        JSON,
+        "The paths of all entries that were added:",
+        [0],
+        expectations.prints("/a\n"),
+        needs="jq",
+    ),
+    Commands(
+        JSON,
+        "Where, when and what, for an event that has to stand alone:",
+        [0],
+        expectations.has_events,
+        needs="jq",
+    ),
     Commands(
         JSON,
         "All files whose new permissions let everybody write them:",
@@ -161,7 +213,11 @@ ROWS = [
         needs="jq",
     ),
     Commands(
-        "man/aide-compare-status.1", "A line for the system log:", [0], expectations.is_logged, prepare=expectations.compare
+        "man/aide-compare-status.1",
+        "A line for the system log:",
+        [0],
+        expectations.is_logged,
+        prepare=expectations.compare,
     ),
     Commands(
         "man/aide-compare-mail.1",
@@ -181,10 +237,21 @@ ROWS = [
         [7],
         expectations.is_mailed("root", False),
     ),
-    Commands("man/aide-compare-status.1", "Write the metrics after each comparison:", [7, 0], expectations.has_metrics),
-    Shown("man/aide-compare-status.1", "Rules for alarms, in a file of rules for Prometheus. ...", expectations.try_alarms),
+    Commands(
+        "man/aide-compare-status.1",
+        "Write the metrics after each comparison:",
+        [7, 0],
+        expectations.has_metrics,
+    ),
     Shown(
-        "man/aide-compare-status.1", "A rule that is silent if every change is. ...", expectations.try_quiet_alarm
+        "man/aide-compare-status.1",
+        "Rules for alarms, in a file of rules for Prometheus. ...",
+        expectations.try_alarms,
+    ),
+    Shown(
+        "man/aide-compare-status.1",
+        "A rule that is silent if every change is. ...",
+        expectations.try_quiet_alarm,
     ),
     Shown(RUN, "Without a difference it is one line, such as:", expectations.is_no_difference),
     Commands(RUN, "Compare two files:", [7], expectations.names_all),
@@ -195,7 +262,12 @@ ROWS = [
         expectations.has_state,
     ),
     Commands(RUN, "Ask only whether there is a difference:", [7], expectations.is_minimal),
-    Commands(RUN, "Show the difference, but not that of access times and inodes:", [7], expectations.lists("/a", "/b", "/c")),
+    Commands(
+        RUN,
+        "Show the difference, but not that of access times and inodes:",
+        [7],
+        expectations.lists("/a", "/b", "/c"),
+    ),
     Commands(
         RUN,
         "Leave out one directory with all that lies below:",
@@ -210,13 +282,36 @@ ROWS = [
         expectations.prints_after_comparing("/a\n/b\n/c\n/d\n"),
         needs="jq",
     ),
-    Commands(RUN, "Compare a database that comes from another host, of at most one gibibyte:", [7], expectations.names_all),
-    Commands("man/aide-compare-show.1", "One file, as both databases have it:", [0], expectations.prints("/c\nFile, in both")),
-    Commands("man/aide-compare-sort.1", "Sort a database and compare it with the baseline:", [0, 7], expectations.names_all),
     Commands(
-        MAIN, "Compare the two databases that AIDE has left on Debian, compressed or not:", [7], expectations.names_all
+        RUN,
+        "Compare a database that comes from another host, of at most one gibibyte:",
+        [7],
+        expectations.names_all,
     ),
-    Commands(MAIN, "The same by hand, where only you can read the unpacked copies:", [0, 0, 0, 7], expectations.is_private),
+    Commands(
+        "man/aide-compare-show.1",
+        "One file, as both databases have it:",
+        [0],
+        expectations.prints("/c\nFile, in both"),
+    ),
+    Commands(
+        "man/aide-compare-sort.1",
+        "Sort a database and compare it with the baseline:",
+        [0, 7],
+        expectations.names_all,
+    ),
+    Commands(
+        MAIN,
+        "Compare the two databases that AIDE has left on Debian, compressed or not:",
+        [7],
+        expectations.names_all,
+    ),
+    Commands(
+        MAIN,
+        "The same by hand, where only you can read the unpacked copies:",
+        [0, 0, 0, 7],
+        expectations.is_private,
+    ),
     Commands(
         MAIN,
         "With a configuration that names the databases, ask only whether there is a difference:",
@@ -225,15 +320,36 @@ ROWS = [
     ),
     Commands(MAIN, "Check a configuration:", [0], expectations.prints("good\n")),
     Commands(
-        MAIN, "Do not do this. A pipe cannot be read twice, ...", [18], expectations.is_refused("changed while it was read")
+        MAIN,
+        "Do not do this. A pipe cannot be read twice, ...",
+        [18],
+        expectations.is_refused("changed while it was read"),
     ),
-    Shown(CONF, "The configuration of aide-compare-program 8 ...", expectations.is_configuration([])),
+    Shown(
+        CONF, "The configuration of aide-compare-program 8 ...", expectations.is_configuration([])
+    ),
     Shown(CONF, "A database is plain text, ...", expectations.is_database),
-    Shown(CONF, "Report only changes of owners, modes and contents, ...", expectations.try_owners_and_modes),
-    Shown(CONF, "One file for all hosts. ...", expectations.is_configuration(["--before=@@define HOST www"])),
-    Shown("man/check_aide_compare.1", "The line has numbers for graphs: ...", expectations.is_line_of_check),
+    Shown(
+        CONF,
+        "Report only changes of owners, modes and contents, ...",
+        expectations.try_owners_and_modes,
+    ),
+    Shown(
+        CONF,
+        "One file for all hosts. ...",
+        expectations.is_configuration(["--before=@@define HOST www"]),
+    ),
+    Shown(
+        "man/check_aide_compare.1",
+        "The line has numbers for graphs: ...",
+        expectations.is_line_of_check,
+    ),
     Commands(
-        "man/check_aide_compare.1", "EXAMPLES", [2], expectations.prints("AIDE CRITICAL: "), prepare=expectations.compare
+        "man/check_aide_compare.1",
+        "EXAMPLES",
+        [2],
+        expectations.prints("AIDE CRITICAL: "),
+        prepare=expectations.compare,
     ),
     Commands(
         "man/check_aide_compare.1",
@@ -268,7 +384,9 @@ ROWS = [
         HOSTS,
         "The changes of today, those on one host first:",
         [7],
-        expectations.prints("aide on 1 host: 1 differ, 0 not compared, 0 without differences\n\nHosts that differ:"),
+        expectations.prints(
+            "aide on 1 host: 1 differ, 0 not compared, 0 without differences\n\nHosts that differ:"
+        ),
         prepare=expectations.compare_host,
     ),
     Commands(
@@ -285,7 +403,11 @@ ROWS = [
         expectations.is_mailed_for_hosts,
         prepare=expectations.put_baseline,
     ),
-    Shown(README, "[AIDE](https://aide.github.io/) records the files ...", expectations.is_shortened_brief),
+    Shown(
+        README,
+        "[AIDE](https://aide.github.io/) records the files ...",
+        expectations.is_shortened_brief,
+    ),
     Commands(
         README,
         "In a clone:",
@@ -341,12 +463,30 @@ ROWS = [
         "tests/packaging/try_install.py",
     ),
     Elsewhere(
-        RUN, "A line that means programs too begins with a reason:", "it is no command", "tests/commands/test_without.py"
+        RUN,
+        "A line that means programs too begins with a reason:",
+        "it is no command",
+        "tests/commands/test_without.py",
     ),
-    Elsewhere(RUN, "/etc/aide-compare/defaults has options ...", "it is no command", "tests/commands/test_hands.py"),
-    Elsewhere(MAIN, "A second program, ...", "lines of JSON, which are compared", "tests/pages/try_manual.py"),
+    Elsewhere(
+        RUN,
+        "/etc/aide-compare/defaults has options ...",
+        "it is no command",
+        "tests/commands/test_hands.py",
+    ),
+    Elsewhere(
+        MAIN,
+        "A second program, ...",
+        "lines of JSON, which are compared",
+        "tests/pages/try_manual.py",
+    ),
 ]
 ROWS += [
-    Elsewhere(MAIN, "Cm %s ..." % level, "a report, which is compared level for level", "tests/pages/try_manual.py")
+    Elsewhere(
+        MAIN,
+        "Cm %s ..." % level,
+        "a report, which is compared level for level",
+        "tests/pages/try_manual.py",
+    )
     for level in LEVELS
 ]

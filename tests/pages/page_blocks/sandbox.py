@@ -1,4 +1,5 @@
-"""A folder with the installed tools, prepared databases, and what the commands of the pages name; commands run in it."""
+"""A folder with the installed tools, prepared databases, and what the commands of the pages name;
+commands run in it."""
 import gzip
 import os
 import shutil
@@ -10,7 +11,8 @@ from tests.pages.recipes.trial import Trial
 from .pages import HERE
 
 HEAD = "@@begin_db\n@@db_spec name perm size atime inode\n"
-# One entry is removed, one added, and two are changed: /c can be written by everybody, of /d only atime and inode differ.
+# One entry is removed, one added, and two are changed: /c can be written by everybody, of /d only
+# atime and inode differ.
 OLD = HEAD + "/b 40755 4096 MA== 1\n/c 100644 10 MA== 2\n/d 100600 1 MA== 3\n@@end_db\n"
 NEW = HEAD + "/a 100644 5 MA== 4\n/c 100646 10 MA== 2\n/d 100600 1 MQ== 5\n@@end_db\n"
 SUMMARY = (
@@ -67,7 +69,8 @@ class Sandbox:
         return shutil.which(name) is not None
 
     def fill(self, old=OLD, new=NEW):
-        """Writes every database and configuration that a page names, as if no command had run before."""
+        """Writes every database and configuration that a page names, as if no command had run
+        before."""
         for folder in FRESH:
             shutil.rmtree(self.path(folder), ignore_errors=True)
             os.makedirs(self.path(folder), 0o700)
@@ -84,14 +87,21 @@ class Sandbox:
         lines = new.splitlines(True)
         self.write("/tmp/mixed.db", "".join(lines[:2] + lines[2:-1][::-1] + lines[-1:]))
         self.write(AIDE + ".new", gzip.compress(new.encode()))
-        self.write("/etc/aide/aide.conf", self.trial.below("database_in=file:%s\ndatabase_new=file:%s.new\n" % (AIDE, AIDE)))
+        self.write(
+            "/etc/aide/aide.conf",
+            self.trial.below("database_in=file:%s\ndatabase_new=file:%s.new\n" % (AIDE, AIDE)),
+        )
         self.write("/tmp/compare.conf", self.pair("/tmp/old.db", "/tmp/new.db"))
         self.write("/etc/aide-compare/hosts", "www\n")
         self.repository()
 
     def repository(self):
-        """What the commands of a clone use: the examples, and both programs where the build leaves them."""
-        for name, program in (("aide", self.trial.program), ("aide_lines", lines_program_of(self.trial.program))):
+        """What the commands of a clone use: the examples, and both programs where the build leaves
+        them."""
+        for name, program in (
+            ("aide", self.trial.program),
+            ("aide_lines", lines_program_of(self.trial.program)),
+        ):
             built = self.path("/tmp/clone/crates/%s/out/%s" % (name, name))
             os.makedirs(os.path.dirname(built))
             os.symlink(program, built)
@@ -112,7 +122,8 @@ class Sandbox:
         return found + ([part] if part else [])
 
     def run(self, text, folder="/tmp", given=None):
-        """Runs a block as it stands, with its folders below the root: the status of each command, output and errors."""
+        """Runs a block as it stands, with its folders below the root: the status of each command,
+        output and errors."""
         shell = "bash" if "<(" in text else "sh"
         statuses = self.path("/stubs/statuses")
         start = folder if folder == HERE else self.path(folder)

@@ -1,1 +1,2 @@
-"""What tests/pages/try_recipes.py tries: the recipes, the days of a watched host, the faults, many hosts."""
+"""What tests/pages/try_recipes.py tries: the recipes, the days of a watched host, the faults, many
+hosts."""

@@ -37,21 +37,33 @@ def no_room(size):
 
 
 def check_told(trial, page, name, status, reason, **more):
-    """No comparison: by the command, by mail, by the check, in the metrics and in the log. The job of cron ends with 0 and
-    prints nothing, since the mail went out."""
+    """No comparison: by the command, by mail, by the check, in the metrics and in the log. The job
+    of cron ends with 0 and prints nothing, since the mail went out."""
     done = page.run("compare", **more)
-    trial.holds(name + ": the command", done[0] == status and not done[1] and re.search(reason, done[2]), done)
+    trial.holds(
+        name + ": the command",
+        done[0] == status and not done[1] and re.search(reason, done[2]),
+        done,
+    )
     taken(trial, "mailed")
     done, mail = trial.shell(crons_command(trial), **more), taken(trial, "mailed") or ""
-    good = re.search(r"^Subject: .*: no comparison \(status %d\)$" % status, mail, re.M) and re.search(reason, mail)
+    good = re.search(
+        r"^Subject: .*: no comparison \(status %d\)$" % status, mail, re.M
+    ) and re.search(reason, mail)
     trial.holds(name + ": mail", done == (0, "", "") and good, (done, mail))
     done = page.run("check", rights=NOBODY)
-    trial.holds(name + ": the check", done[0] == 3 and "UNKNOWN" in done[1] and done[1].count("\n") == 1, done)
+    trial.holds(
+        name + ": the check",
+        done[0] == 3 and "UNKNOWN" in done[1] and done[1].count("\n") == 1,
+        done,
+    )
     done = page.run("metrics")
     text = trial.read("/var/lib/prometheus/node-exporter/aide-compare.prom")
     trial.holds(
         name + ": metrics",
-        done[0] == 0 and re.search(r"_status %d$" % status, text, re.M) and "added" not in text.replace("1 added", ""),
+        done[0] == 0
+        and re.search(r"_status %d$" % status, text, re.M)
+        and "added" not in text.replace("1 added", ""),
         text,
     )
     done, text = page.run("log"), taken(trial, "logged") or ""
@@ -120,7 +132,8 @@ def has_private_file(trial, process):
 
 
 def try_killed(trial):
-    """A run that is killed while it reads a pipe: the state before it stays, and nothing is left in the temporary folder."""
+    """A run that is killed while it reads a pipe: the state before it stays, and nothing is left in
+    the temporary folder."""
     put(trial, OLD, OLD)
     words = ["aide-compare", "--state", trial.path(STATE)]
     trial.holds("a whole run", trial.run(words)[0] == 0)
@@ -130,7 +143,9 @@ def try_killed(trial):
         trial.holds("the run has begun", until(lambda: has_private_file(trial, process)))
         process.send_signal(number)
         process.communicate()
-        trial.holds("killed by %d: the status" % number, process.returncode == -number, process.returncode)
+        trial.holds(
+            "killed by %d: the status" % number, process.returncode == -number, process.returncode
+        )
         trial.holds("killed by %d: the state stays" % number, trial.read(STATE) == before)
         left = os.listdir(trial.path("/var/tmp"))
         trial.holds("killed by %d: nothing is left" % number, not left, left)
@@ -141,7 +156,14 @@ def try_accept_killed(trial):
     texts = [gzip.compress(large(number).encode()) for number in (1, 2)]
     put(trial, *texts)
     write_state(trial, "the state before accepting")
-    words = ["aide-compare", "accept", "--sha256", digest_of(trial.path(NEWEST)), trial.path(NEWEST), trial.path(BASELINE)]
+    words = [
+        "aide-compare",
+        "accept",
+        "--sha256",
+        digest_of(trial.path(NEWEST)),
+        trial.path(NEWEST),
+        trial.path(BASELINE),
+    ]
     seen = set()
     for number in range(12):
         put(trial, *texts)
@@ -162,7 +184,11 @@ def try_twice(trial):
     answers = {(run.communicate()[0], run.returncode) for run in runs}
     trial.holds("four runs at once: one answer", len(answers) == 1 and answers.pop()[1] == 4)
     state = trial.read(STATE)
-    trial.holds("four runs at once: a whole state", state.count("\n") == 24 and "\nchanged=30000\n" in state, state)
+    trial.holds(
+        "four runs at once: a whole state",
+        state.count("\n") == 24 and "\nchanged=30000\n" in state,
+        state,
+    )
 
 
 def try_names(trial):
@@ -175,7 +201,10 @@ def try_names(trial):
     said = introduction(trial, old, new) + "aide-compare: 3 open of 3 changes\n"
     good = done[0] == 7 and "  /a é: " in done[1] and done[2] == said
     trial.holds("names with blanks and é", good, done)
-    trial.holds("they are accepted too", trial.run(["aide-compare", "accept", "--sha256", digest_of(new), new, old])[0] == 0)
+    trial.holds(
+        "they are accepted too",
+        trial.run(["aide-compare", "accept", "--sha256", digest_of(new), new, old])[0] == 0,
+    )
     trial.holds("and then quiet", trial.run(["aide-compare", old, new])[0] == 0)
 
 
@@ -184,7 +213,10 @@ def try_faults(trial, page, with_packages):
     put_stubs(trial)
     page.run("cron daily")
     names = (("database_in", BASELINE), ("database_new", NEWEST))
-    trial.write("/etc/aide/aide.conf", "".join("%s=file:%s\n" % (key, trial.path(name)) for key, name in names))
+    trial.write(
+        "/etc/aide/aide.conf",
+        "".join("%s=file:%s\n" % (key, trial.path(name)) for key, name in names),
+    )
     for part in (try_damaged, try_missing, try_no_room, try_no_right):
         part(trial, page)
     for part in (try_killed, try_accept_killed, try_twice, try_names):

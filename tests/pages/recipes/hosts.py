@@ -1,4 +1,5 @@
-"""Many hosts: fetched by a small program in ssh's place, compared, accepted; taken over, damaged and dead ones among them."""
+"""Many hosts: fetched by a small program in ssh's place, compared, accepted; taken over, damaged
+and dead ones among them."""
 import gzip
 import os
 import pty
@@ -215,7 +216,8 @@ def try_report(trial, page):
 
 
 def try_check(trial):
-    """A host that differed is UNKNOWN as soon as it cannot be fetched, and critical again when it can."""
+    """A host that differed is UNKNOWN as soon as it cannot be fetched, and critical again when it
+    can."""
     put_host(trial, "turns", NEW)
     words = [*tool(trial, "aide-compare hosts compare"), "--one", "turns"]
     check = [
@@ -279,7 +281,8 @@ def digest_in(state):
 
 
 def try_first(trial):
-    """A first baseline, then one that came after the report was read, a wrong digest, and the right one."""
+    """A first baseline, then one that came after the report was read, a wrong digest, and the right
+    one."""
     accept, fetch, compare = (
         tool(trial, "aide-compare hosts " + words)
         for words in ("accept", "fetch", "compare --no-fetch --one")
@@ -343,7 +346,8 @@ def try_stale(trial):
 
 
 def try_killed(trial):
-    """A fetch that is killed half way leaves the former database, and no copy that the next one does not clear away."""
+    """A fetch that is killed half way leaves the former database, and no copy that the next one
+    does not clear away."""
     put_host(trial, "same", OLD)
     folder = trial.path(STORE + "/hosts/same")
     began = trial.path("/tmp/began")
@@ -484,7 +488,8 @@ def try_words(trial):
 
 
 def on_terminal(trial, text, answer):
-    """The status of a shell's text on a terminal, and what that shows; its question gets an answer."""
+    """The status of a shell's text on a terminal, and what that shows; its question gets an
+    answer."""
     ours, theirs = pty.openpty()
     words = ["sh", "-c", trial.below(text)]
     streams = {"stdin": theirs, "stdout": theirs, "stderr": theirs}
@@ -524,7 +529,8 @@ def try_add(trial, page):
 
 
 def try_keys(trial):
-    """The forced command sends what aide-compare hosts fetch asks for: the new database, not the baseline."""
+    """The forced command sends what aide-compare hosts fetch asks for: the new database, not the
+    baseline."""
     keys = trial.read(EXAMPLES + "/authorized_keys")
     line = [line for line in keys.splitlines() if not line.startswith("#")]
     wanted = trial.below('command="cat /var/lib/aide/aide.db.new"')

@@ -1,4 +1,5 @@
-"""What needs Debian's packages and root: packages.sh, in namespaces of its own, so that nothing of this machine changes."""
+"""What needs Debian's packages and root: packages.sh, in namespaces of its own, so that nothing of
+this machine changes."""
 import os
 import shutil
 import subprocess
@@ -22,10 +23,18 @@ def try_packages(trial, page, with_packages):
     os.makedirs(folder)
     script = os.path.join(HERE, "tests", "pages", "recipes", "packages.sh")
     words = ["unshare"] + NAMESPACES + ["sh", script, HERE, trial.program, folder]
-    done = subprocess.run(words, stdin=subprocess.DEVNULL, stdout=subprocess.PIPE, stderr=subprocess.STDOUT, timeout=SECONDS)
+    done = subprocess.run(
+        words,
+        stdin=subprocess.DEVNULL,
+        stdout=subprocess.PIPE,
+        stderr=subprocess.STDOUT,
+        timeout=SECONDS,
+    )
     output = done.stdout.decode(errors="replace")
     print(output, end="")
     lines = output.split("\n")
     trial.passed += sum(line.startswith("passed: ") for line in lines)
     trial.failed += sum(line.startswith("FAILED: ") for line in lines)
-    trial.holds("something was tried with the packages", any(line.startswith("passed: ") for line in lines))
+    trial.holds(
+        "something was tried with the packages", any(line.startswith("passed: ") for line in lines)
+    )

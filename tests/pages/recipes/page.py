@@ -22,13 +22,21 @@ class Page:
                 found += FENCED.findall(file.read())
         self.trial, self.tried = trial, set()
         self.blocks = {(mark, name): text for mark, name, _, text in found}
-        trial.holds("recipes: each block has a mark of its own", found and len(self.blocks) == len(found))
+        trial.holds(
+            "recipes: each block has a mark of its own", found and len(self.blocks) == len(found)
+        )
         for mark, name, _, text in found:
-            trial.holds("recipes: a block without a mark that says how it is tried", mark in MARKS, text[:60])
+            trial.holds(
+                "recipes: a block without a mark that says how it is tried",
+                mark in MARKS,
+                text[:60],
+            )
 
     def text(self, name, mark="try"):
         self.tried.add((mark, name))
-        return self.blocks.get((mark, name), "exit 99 # no page has a block %s: %s\n" % (mark, name))
+        return self.blocks.get(
+            (mark, name), "exit 99 # no page has a block %s: %s\n" % (mark, name)
+        )
 
     def run(self, name, **more):
         """Runs a block as it stands, with its folders below the root."""

@@ -1,4 +1,5 @@
-"""Quiet days on Debian: logs and caches change every night, and what is no log is still reported."""
+"""Quiet days on Debian: logs and caches change every night, and what is no log is still
+reported."""
 import base64
 import gzip
 import hashlib
@@ -7,17 +8,32 @@ import os
 import re
 import shutil
 
-from .days import BASELINE, NEWEST, STATE, crons_command, put_packages, put_stubs, set_up, taken, unit_commands
+from .days import (
+    BASELINE,
+    NEWEST,
+    STATE,
+    crons_command,
+    put_packages,
+    put_stubs,
+    set_up,
+    taken,
+    unit_commands,
+)
 from .hosts import HEAD
 from .said import introduction, left_out
 from .trial import NOBODY
 
 WITHOUT = "/usr/local/share/doc/aide-compare/examples/aide/debian.without"
 OF_ALL = ("/etc/aide-compare/defaults", "/etc/aide-compare/without")
-# A night in which only logs, a cache and AIDE's own database have changed, and the same night with an intruder.
+# A night in which only logs, a cache and AIDE's own database have changed, and the same night with
+# an intruder.
 LOGS = ["/var/log/auth.log", "/var/log/kern.log", "/var/log/syslog"]
-OLD = dict.fromkeys(["/etc/passwd", "/var/cache/man/da", "/var/cache/man/de", "/var/lib/aide/aide.db"] + LOGS, 1)
-NIGHT = dict({"/etc/passwd": 1, "/var/lib/aide/aide.db": 2, "/var/log/syslog.1": 1}, **dict.fromkeys(LOGS, 2))
+OLD = dict.fromkeys(
+    ["/etc/passwd", "/var/cache/man/da", "/var/cache/man/de", "/var/lib/aide/aide.db"] + LOGS, 1
+)
+NIGHT = dict(
+    {"/etc/passwd": 1, "/var/lib/aide/aide.db": 2, "/var/log/syslog.1": 1}, **dict.fromkeys(LOGS, 2)
+)
 INTRUDER = dict(NIGHT, **{"/etc/passwd": 2, "/etc/ld.so.preload": 1})
 # The settings of Debian's package that are about mails, as it installs them.
 DEFAULTS = "#MAILTO=root\n#QUIETREPORTS=no\n#SILENTREPORTS=no\nCOMMAND=update\nCOPYNEWDB=no\n"
@@ -26,7 +42,9 @@ DEFAULTS = "#MAILTO=root\n#QUIETREPORTS=no\n#SILENTREPORTS=no\nCOMMAND=update\nC
 def put(trial, new):
     for name, sizes in ((BASELINE, OLD), (NEWEST, new)):
         lines = ["%s 36 100644 %d\n" % (trial.below(path), size) for path, size in sizes.items()]
-        trial.write(name, gzip.compress((HEAD + "".join(sorted(lines)) + "@@end_db\n").encode()), 0o600)
+        trial.write(
+            name, gzip.compress((HEAD + "".join(sorted(lines)) + "@@end_db\n").encode()), 0o600
+        )
 
 
 def places(trial):
@@ -45,7 +63,9 @@ def try_command(trial, page):
     page.prints("quiet", done[1])
     logs, caches, own = places(trial)
     left = left_out([(3, logs), (2, caches), (1, own)], [(4, logs), (1, own)])
-    verbose = trial.shell(trial.below(page.text("quiet")).replace("aide-compare ", "aide-compare -v ", 1))
+    verbose = trial.shell(
+        trial.below(page.text("quiet")).replace("aide-compare ", "aide-compare -v ", 1)
+    )
     trial.holds("quiet: by which line", left in verbose[2], (verbose, left))
     put(trial, INTRUDER)
     done = page.run("quiet")
@@ -54,12 +74,16 @@ def try_command(trial, page):
     named = "/etc/ld.so.preload: " in done[1] and "/etc/passwd: " in done[1]
     good = done[0] == 5 and named and "/var/" not in done[1]
     trial.holds(
-        "quiet: an intruder is reported, and the digests are of whole databases", good and said in done[2], (done, said)
+        "quiet: an intruder is reported, and the digests are of whole databases",
+        good and said in done[2],
+        (done, said),
     )
     os.chmod(trial.path(WITHOUT), 0o666)
     done = page.run("quiet")
     trial.holds(
-        "quiet: a file that others can write", done[0] == 18 and not done[1] and "other users can write" in done[2], done
+        "quiet: a file that others can write",
+        done[0] == 18 and not done[1] and "other users can write" in done[2],
+        done,
     )
     os.chmod(trial.path(WITHOUT), 0o644)
 
@@ -73,21 +97,30 @@ def mails_of(trial, commands):
 
 
 def try_job(trial, name, commands):
-    """A quiet night sends no mail. The one of an intruder does, and the mail says what was left out."""
+    """A quiet night sends no mail. The one of an intruder does, and the mail says what was left
+    out."""
     put(trial, NIGHT)
     mail, state = mails_of(trial, commands), trial.read(STATE)
-    good = mail is None and "\nstatus=0\n" in state and "\nleft_out_old=6\nleft_out_new=5\n" in state
+    good = (
+        mail is None and "\nstatus=0\n" in state and "\nleft_out_old=6\nleft_out_new=5\n" in state
+    )
     trial.holds("quiet %s: no mail of a night of logs" % name, good, (mail, state))
     put(trial, INTRUDER)
     mail = mails_of(trial, commands) or ""
     good = "Subject: " in mail and ": 2 open (" in mail and "/etc/ld.so.preload" in mail
-    trial.holds("quiet %s: the mail of an intruder" % name, good and "6 and 5 entries left out" in mail, mail)
+    trial.holds(
+        "quiet %s: the mail of an intruder" % name,
+        good and "6 and 5 entries left out" in mail,
+        mail,
+    )
 
 
 def try_timer(trial, page):
     put(trial, NIGHT)
     mail = mails_of(trial, unit_commands(trial)) or ""
-    trial.holds("the timer as installed mails a night of logs", ": 7 open of 7 changes" in mail, mail)
+    trial.holds(
+        "the timer as installed mails a night of logs", ": 7 open of 7 changes" in mail, mail
+    )
     done = page.run("quiet timer")
     trial.holds("quiet timer", done == (0, "", ""), done)
     try_job(trial, "timer", unit_commands(trial))
@@ -132,7 +165,10 @@ def try_own_files(trial, page):
         found = any(kind == wanted and pattern.match(path) for pattern, wanted in rules)
         trial.holds("own files: a rule for AIDE", found, (kind, path))
     other = trial.path(os.path.dirname(STATE) + "/other")
-    trial.holds("own files: no rule for any other file there", not any(pattern.match(other) for pattern, _ in rules))
+    trial.holds(
+        "own files: no rule for any other file there",
+        not any(pattern.match(other) for pattern, _ in rules),
+    )
     os.remove(trial.path(name))
     trial.shell(unit_commands(trial)[1])
 
@@ -146,7 +182,8 @@ def try_one_mail(trial, page):
 
 
 def try_owner(trial, page):
-    """The first comparison was root's, and the databases belong to another user: the job of cron can still write."""
+    """The first comparison was root's, and the databases belong to another user: the job of cron
+    can still write."""
     if os.geteuid() != 0:
         print("skipped: the job of cron for another user (it needs root)")
         return
@@ -154,14 +191,22 @@ def try_owner(trial, page):
     put(trial, INTRUDER)
     folder, owners = os.path.dirname(STATE), {}
     shutil.rmtree(trial.path(folder))
-    trial.holds("cron: a first comparison of root's", trial.run(["aide-compare", "--state", trial.path(STATE)])[0] == 7)
+    trial.holds(
+        "cron: a first comparison of root's",
+        trial.run(["aide-compare", "--state", trial.path(STATE)])[0] == 7,
+    )
     for path in ("/var/lib/aide", BASELINE, NEWEST):
         owners[path] = os.stat(trial.path(path))
         os.chown(trial.path(path), NOBODY, NOBODY)
-    for name, owner in (("the user of the databases", NOBODY), ("root, whose AIDE wrote the new one", 0)):
+    for name, owner in (
+        ("the user of the databases", NOBODY),
+        ("root, whose AIDE wrote the new one", 0),
+    ):
         os.chown(trial.path(NEWEST), owner, owner)
         mail = mails_of(trial, [crons_command(trial)]) or ""
-        trial.holds("cron: %s compares" % name, " open of 2 changes" in mail or " open (" in mail, mail)
+        trial.holds(
+            "cron: %s compares" % name, " open of 2 changes" in mail or " open (" in mail, mail
+        )
         trial.holds("cron: %s writes the state" % name, os.stat(trial.path(STATE)).st_uid == owner)
     for path, found in owners.items():
         os.chown(trial.path(path), found.st_uid, found.st_gid)
@@ -180,9 +225,12 @@ def sums_of(texts):
 def put_night(trial, name, texts):
     """A database of files with these texts, which root owns."""
     lines = [
-        "%s 4156 100755 0 0 1 %s\n" % (path, base64.b64encode(sum.digest()).decode()) for path, sum in sums_of(texts).items()
+        "%s 4156 100755 0 0 1 %s\n" % (path, base64.b64encode(sum.digest()).decode())
+        for path, sum in sums_of(texts).items()
     ]
-    trial.write(name, gzip.compress((COLUMNS + "".join(sorted(lines)) + "@@end_db\n").encode()), 0o600)
+    trial.write(
+        name, gzip.compress((COLUMNS + "".join(sorted(lines)) + "@@end_db\n").encode()), 0o600
+    )
 
 
 def is_sign_of_life(mail):
@@ -199,14 +247,22 @@ def try_upgrade(trial, page):
     put_night(trial, NEWEST, before)
     set_up(trial, page)
     trial.holds("a quiet night", is_sign_of_life(mails_of(trial, unit_commands(trial))))
-    put_packages(trial, "3.0.17-1", {path: sum.hexdigest() for path, sum in sums_of(after).items() if path in FILES})
+    put_packages(
+        trial,
+        "3.0.17-1",
+        {path: sum.hexdigest() for path, sum in sums_of(after).items() if path in FILES},
+    )
     put_night(trial, NEWEST, after)
     mail = mails_of(trial, unit_commands(trial)) or ""
     trial.holds(
-        "a night of an upgrade: a mail of what dpkg has recorded", ": 2 recorded (1 high) of 2 changes\n" in mail, mail
+        "a night of an upgrade: a mail of what dpkg has recorded",
+        ": 2 recorded (1 high) of 2 changes\n" in mail,
+        mail,
     )
     state = trial.read(STATE)
-    trial.holds("the state of an upgrade", "\nrecorded=2\n" in state and "\nopen=0\n" in state, state)
+    trial.holds(
+        "the state of an upgrade", "\nrecorded=2\n" in state and "\nopen=0\n" in state, state
+    )
     put_night(trial, NEWEST, {**after, "/usr/bin/ls": "with a back door"})
     mail = mails_of(trial, unit_commands(trial)) or ""
     subject, _, text = mail.partition("\n\n")
@@ -225,12 +281,16 @@ def try_lines(trial, page):
     """Lines with standings and with what was left out, and the page of them."""
     for name, sizes in (("old", OLD), ("new", INTRUDER)):
         lines = ["%s 36 100644 %d\n" % pair for pair in sizes.items()]
-        trial.write("/tmp/%s.db.gz" % name, gzip.compress((HEAD + "".join(sorted(lines)) + "@@end_db\n").encode()))
+        trial.write(
+            "/tmp/%s.db.gz" % name,
+            gzip.compress((HEAD + "".join(sorted(lines)) + "@@end_db\n").encode()),
+        )
     done = page.run("lines")
     trial.holds("lines", done[0] == 0, done)
     trial.holds(
         "lines: what was left out, and the page",
-        '"left_out":{"old":3,"new":4}' in trial.read("/tmp/lines") and "</html>" in trial.read("/tmp/page.html"),
+        '"left_out":{"old":3,"new":4}' in trial.read("/tmp/lines")
+        and "</html>" in trial.read("/tmp/page.html"),
         trial.read("/tmp/lines")[:500],
     )
     page.text("one object")
@@ -243,15 +303,30 @@ def try_lines(trial, page):
     counts = {kind: len(whole[kind]) for kind in kinds}
     given = {kind: whole["number_of_entries"][kind] for kind in kinds}
     paths = {path for kind in kinds for path in whole[kind]}
-    trial.holds("lines: all entries in it", counts == given and paths == set(whole["details"]) and paths, whole)
+    trial.holds(
+        "lines: all entries in it",
+        counts == given and paths == set(whole["details"]) and paths,
+        whole,
+    )
 
 
 def try_quiet(trial, page, with_packages):
     del with_packages
     put_stubs(trial)
     names = (("database_in", BASELINE), ("database_new", NEWEST))
-    trial.write("/etc/aide/aide.conf", "".join("%s=file:%s\n" % (key, trial.path(name)) for key, name in names))
-    for part in (try_timer, try_cron, try_own_files, try_owner, try_one_mail, try_upgrade, try_lines):
+    trial.write(
+        "/etc/aide/aide.conf",
+        "".join("%s=file:%s\n" % (key, trial.path(name)) for key, name in names),
+    )
+    for part in (
+        try_timer,
+        try_cron,
+        try_own_files,
+        try_owner,
+        try_one_mail,
+        try_upgrade,
+        try_lines,
+    ):
         part(trial, page)
         for name in OF_ALL:
             if os.path.exists(trial.path(name)):

@@ -13,19 +13,23 @@ def digest_of(path):
 
 
 def introduction(trial, old, new):
-    """The lines that say which databases differ: the names as they were given, when each was written, and its digest. A name
-    that does not begin with / is one in the folder in which the recipes are run."""
+    """The lines that say which databases differ: the names as they were given, when each was
+    written, and its digest. A name that does not begin with / is one in the folder in which the
+    recipes are run."""
     lines = []
     for side, name in (("old", old), ("new", new)):
         path = os.path.join(trial.path("/tmp"), name)
         written = time.strftime("%Y-%m-%dT%H:%M:%SZ", time.gmtime(int(os.stat(path).st_mtime)))
-        lines.append("aide-compare: %s database: %s, written %s, SHA-256 %s\n" % (side, name, written, digest_of(path)))
+        lines.append(
+            "aide-compare: %s database: %s, written %s, SHA-256 %s\n"
+            % (side, name, written, digest_of(path))
+        )
     return "".join(lines)
 
 
 def left_out(olds, news):
-    """The lines that say how many entries of each database were left out. olds, news: counts, greatest first, and what each
-    line of them says of its pattern."""
+    """The lines that say how many entries of each database were left out. olds, news: counts,
+    greatest first, and what each line of them says of its pattern."""
     lines = []
     for side, counts in (("old", olds), ("new", news)):
         total = sum(count for count, _ in counts)

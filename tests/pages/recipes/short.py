@@ -36,7 +36,10 @@ class Openings:
 
 def put_pair(trial, old, new):
     for name, text in (("old", old), ("new", new)):
-        trial.write("/tmp/%s.db.gz" % name, gzip.compress(text if isinstance(text, bytes) else text.encode()))
+        trial.write(
+            "/tmp/%s.db.gz" % name,
+            gzip.compress(text if isinstance(text, bytes) else text.encode()),
+        )
 
 
 def example(name):
@@ -64,23 +67,41 @@ def try_pair(trial, page):
     done = page.run("pair")
     said = introduction(trial, "old.db.gz", "new.db.gz")
     counts = "18 open (4 high) of 22 changes\n"
-    good = done[0] == 7 and done[1].startswith(counts) and done[2] == f"{said}aide-compare: {counts}"
+    good = (
+        done[0] == 7 and done[1].startswith(counts) and done[2] == f"{said}aide-compare: {counts}"
+    )
     trial.holds("pair", good, (done, said))
     page.prints("pair", done[1])
     trial.write("/etc/aide/compare.conf", "report_level=summary\n")
     done = page.run("options")
-    trial.holds("options", done[0] == 7 and done[2] == 2 * said and done[1].count("Summary:") == 2, done)
-    trial.holds("options: a list, no details", len(entries(done[1])) == 22 and "Detailed information" not in done[1], done[1])
+    trial.holds(
+        "options", done[0] == 7 and done[2] == 2 * said and done[1].count("Summary:") == 2, done
+    )
+    trial.holds(
+        "options: a list, no details",
+        len(entries(done[1])) == 22 and "Detailed information" not in done[1],
+        done[1],
+    )
     put_pair(trial, OLD, OLD)
     done = page.run("pair")
-    trial.holds("an equal pair", done[0] == 0 and done[1].startswith("no differences in ") and not done[2], done)
+    trial.holds(
+        "an equal pair",
+        done[0] == 0 and done[1].startswith("no differences in ") and not done[2],
+        done,
+    )
 
 
 def try_grouped(trial, page):
     put_pair(trial, example("old.db"), example("new.db"))
-    groups, one = trial.run(["aide-compare", "--report", "old.db.gz", "new.db.gz"]), page.run("grouped")
+    groups, one = trial.run(["aide-compare", "--report", "old.db.gz", "new.db.gz"]), page.run(
+        "grouped"
+    )
     trial.holds("grouped: the status", groups[0] == one[0] == 7 and one[2] == groups[2] != "", one)
-    trial.holds("grouped: the same entries", len(entries(one[1])) == 22 and entries(groups[1]) == entries(one[1]), one[1])
+    trial.holds(
+        "grouped: the same entries",
+        len(entries(one[1])) == 22 and entries(groups[1]) == entries(one[1]),
+        one[1],
+    )
     folder = trial.path("/tmp/openings")
     os.makedirs(folder)
     for name in ("old.db", "new.db"):
@@ -106,7 +127,9 @@ def try_measured(trial, page):
     columns = "lname size bcount perm uid gid atime mtime ctime inode lcount md5 acl xattrs selinux e2fsattrs capabilities"
     fields = "x 1 1 100644 1 1 1 1 1 1 1 1B2M2Y8AsgTpgAmY7PhCfg== 1 1 1 1 1"
     spec = "@@begin_db\n@@db_spec name attr %s\n" % columns
-    put_pair(trial, spec + "/a 0%s\n@@end_db\n" % (" 0" * 17), spec + "/a 4094 %s\n@@end_db\n" % fields)
+    put_pair(
+        trial, spec + "/a 0%s\n@@end_db\n" % (" 0" * 17), spec + "/a 4094 %s\n@@end_db\n" % fields
+    )
     done = page.run("measured")
     trial.holds("measured: the group has all attributes", done[0] == 0, done)
 
@@ -115,7 +138,10 @@ def try_debian(trial):
     """What the page says of two options about flags of the file system."""
     spec = "@@begin_db\n@@db_spec name attr e2fsattrs\n/a %d %%s\n@@end_db\n" % (1 << 36)
     put_pair(trial, spec % "1", spec % "17")
-    for option, status in (("report_ignore_e2fsattrs=VNIE", 4), ("report_ignore_changed_attrs=e2fsattrs", 0)):
+    for option, status in (
+        ("report_ignore_e2fsattrs=VNIE", 4),
+        ("report_ignore_changed_attrs=e2fsattrs", 0),
+    ):
         done = trial.run(["aide-compare", "old.db.gz", "new.db.gz", "-A", option])
         trial.holds(option, done[0] == status, done)
 
@@ -136,7 +162,11 @@ def try_page(trial, page):
     put_pair(trial, OLD, NEW)
     done = page.run("page")
     text = trial.read("/tmp/page.html")
-    trial.holds("page", done == (7, "", "") and "</html>" in text and "a é</code>" in text, (done, text[:300]))
+    trial.holds(
+        "page",
+        done == (7, "", "") and "</html>" in text and "a é</code>" in text,
+        (done, text[:300]),
+    )
 
 
 def try_order(trial, page):
@@ -146,7 +176,9 @@ def try_order(trial, page):
     mixed = HEAD + "".join(line % names[k] for k in (3, 0, 5, 2, 4, 1)) + "@@end_db\n"
     trial.write("/tmp/mixed.db", mixed)
     done = trial.run(["aide-compare", "mixed.db", "mixed.db"])
-    trial.holds("a mixed database is refused", done[0] == 24 and "entry out of path order" in done[2], done)
+    trial.holds(
+        "a mixed database is refused", done[0] == 24 and "entry out of path order" in done[2], done
+    )
     done = page.run("order")
     trial.holds("order", done[0] == 0 and trial.read("/tmp/sorted.db") == wanted, done)
     trial.holds("a sorted database", trial.run(["aide-compare", "sorted.db", "sorted.db"])[0] == 0)
@@ -159,19 +191,36 @@ def try_mail(trial, page):
     """The mail of --html has the text and the page."""
     trial.write(
         "/etc/aide/aide.conf",
-        trial.below("database_in=file:/var/lib/aide/aide.db\ndatabase_new=file:/var/lib/aide/aide.db.new\n"),
+        trial.below(
+            "database_in=file:/var/lib/aide/aide.db\ndatabase_new=file:/var/lib/aide/aide.db.new\n"
+        ),
     )
     for name, text in (("aide.db", OLD), ("aide.db.new", NEW)):
         trial.write("/var/lib/aide/" + name, gzip.compress(text.encode()), 0o600)
     done, mail = page.run("mail"), taken(trial, "mailed") or ""
-    trial.holds("mail", done == (7, "", "") and "multipart" in mail and "text/html" in mail, (done, mail[:1000]))
-    trial.holds("mail: the text of the report", "To: root\n" in mail and " open" in mail, mail[:1000])
+    trial.holds(
+        "mail",
+        done == (7, "", "") and "multipart" in mail and "text/html" in mail,
+        (done, mail[:1000]),
+    )
+    trial.holds(
+        "mail: the text of the report", "To: root\n" in mail and " open" in mail, mail[:1000]
+    )
     trial.holds("mail: the state", "\nadded=1\nremoved=1\nchanged=1\n" in trial.read(STATE))
 
 
 def try_short(trial, page, with_packages):
     del with_packages
     put_stubs(trial)
-    for part in (try_install, try_pair, try_grouped, try_measured, try_without, try_page, try_order, try_mail):
+    for part in (
+        try_install,
+        try_pair,
+        try_grouped,
+        try_measured,
+        try_without,
+        try_page,
+        try_order,
+        try_mail,
+    ):
         part(trial, page)
     try_debian(trial)

@@ -1,4 +1,5 @@
-"""A folder into which the program is installed with its tools, and the counts of what was tried there."""
+"""A folder into which the program is installed with its tools, and the counts of what was tried
+there."""
 import os
 import re
 import subprocess
@@ -50,7 +51,8 @@ class Trial(Scratch, Tally):
         return NAMED.sub(lambda found: self.root + found.group(1), text)
 
     def above(self, text):
-        """A text with the root taken out: what it is on a machine where nothing lies below a root."""
+        """A text with the root taken out: what it is on a machine where nothing lies below a
+        root."""
         return text.replace(self.root, "")
 
     def path(self, name):
@@ -58,7 +60,8 @@ class Trial(Scratch, Tally):
         return os.path.join(self.root, name.lstrip("/"))
 
     def read(self, name):
-        """The text of a file; nothing if there is none, so that one missing file fails one trial and not all."""
+        """The text of a file; nothing if there is none, so that one missing file fails one trial
+        and not all."""
         try:
             with open(self.root + name, encoding="utf-8", errors="surrogateescape") as file:
                 return file.read()
@@ -71,7 +74,8 @@ class Trial(Scratch, Tally):
         return dict(os.environ, PATH=path, TMPDIR=self.root + "/var/tmp", HOME=self.root + "/tmp")
 
     def run(self, words, rights=None, limits=None, **more):
-        """Runs a command: its status, output and errors. rights: a user's number to run as, if this is root."""
+        """Runs a command: its status, output and errors. rights: a user's number to run as, if this
+        is root."""
 
         def prepare():
             if limits:
@@ -95,7 +99,11 @@ class Trial(Scratch, Tally):
             )
         except subprocess.TimeoutExpired:
             return None, "", "no end after %d seconds" % SECONDS
-        return done.returncode, done.stdout.decode(errors="surrogateescape"), done.stderr.decode(errors="surrogateescape")
+        return (
+            done.returncode,
+            done.stdout.decode(errors="surrogateescape"),
+            done.stderr.decode(errors="surrogateescape"),
+        )
 
     def shell(self, text, **more):
         return self.run(["sh", "-c", text], **more)
@@ -112,8 +120,15 @@ class Trial(Scratch, Tally):
         )
 
     def install(self):
-        """Installs by packaging/install, and puts the folders that the installed texts name below the root."""
-        words = [os.path.join(HERE, "packaging", "install"), "--destdir", self.root, "--program", self.program]
+        """Installs by packaging/install, and puts the folders that the installed texts name below
+        the root."""
+        words = [
+            os.path.join(HERE, "packaging", "install"),
+            "--destdir",
+            self.root,
+            "--program",
+            self.program,
+        ]
         done = self.run(words)
         self.holds("packaging/install", done[0] == 0, done)
         if done[0] != 0:
@@ -134,12 +149,17 @@ class Trial(Scratch, Tally):
             file.write(text)
 
     def is_private(self, name, folders):
-        """Nobody but the owner can read what lies below the folders: by the modes, and as another user if this is root."""
+        """Nobody but the owner can read what lies below the folders: by the modes, and as another
+        user if this is root."""
         for folder in folders:
             for path, _, names in os.walk(self.root + folder):
                 for each in names:
                     file = os.path.join(path, each)
-                    self.holds(name + ": mode", os.stat(file).st_mode & 0o077 == 0 or self.is_shut(file), file)
+                    self.holds(
+                        name + ": mode",
+                        os.stat(file).st_mode & 0o077 == 0 or self.is_shut(file),
+                        file,
+                    )
                     if os.geteuid() == 0:
                         got = self.run(["cat", file], rights=NOBODY)
                         self.holds(name + ": another user", got[0] != 0 and not got[1], file)

@@ -1,4 +1,5 @@
-"""A watched host over several days: its files, and the databases that AIDE writes of them each night."""
+"""A watched host over several days: its files, and the databases that AIDE writes of them each
+night."""
 import gzip
 import os
 
@@ -6,7 +7,8 @@ from .trial import HERE
 
 # What is added, removed and changed between the stored databases.
 STORED = (3, 4, 15)
-# The parts of Debian's /etc/aide/aide.conf that matter here, with the rules in a program of their own, as there.
+# The parts of Debian's /etc/aide/aide.conf that matter here, with the rules in a program of their
+# own, as there.
 CONFIGURATION = """\
 @@x_include_setenv UPAC_settingsd /etc/aide/aide.settings.d
 @@x_include_setenv PATH /bin:/usr/bin
@@ -28,7 +30,8 @@ PASSED_OVER = (
 
 
 class Watched:
-    """With AIDE: a small tree, and its own --init and --update. Without: the stored databases of the examples."""
+    """With AIDE: a small tree, and its own --init and --update. Without: the stored databases of
+    the examples."""
 
     def __init__(self, trial, aide):
         self.trial, self.aide, self.night = trial, aide, 0
@@ -46,10 +49,13 @@ class Watched:
             self.call("--init", [0])
         else:
             self.store()
-        os.rename(self.trial.path("/var/lib/aide/aide.db.new"), self.trial.path("/var/lib/aide/aide.db"))
+        os.rename(
+            self.trial.path("/var/lib/aide/aide.db.new"), self.trial.path("/var/lib/aide/aide.db")
+        )
 
     def nightly(self):
-        """What Debian's dailyaidecheck does each night: aide --update writes aide.db.new and leaves aide.db alone."""
+        """What Debian's dailyaidecheck does each night: aide --update writes aide.db.new and leaves
+        aide.db alone."""
         self.night += 1
         if self.aide:
             self.call("--update", range(8))
