@@ -1,13 +1,24 @@
 """What accounts for a change: the old entry, that of a trusted machine, or nothing."""
 from .attributes import ATTRIBUTES
 
-# What each machine has of its own. The size and the link count of a directory follow from the names in it.
+# What each machine has of its own. The size and the link count of a directory follow from the names
+# in it.
 OWN = frozenset(["a", "m", "c", "i", "b"])
 OWN_OF_DIRECTORIES = OWN | {"s", "n"}
 DIGESTS = frozenset(attribute.name for attribute in ATTRIBUTES if isinstance(attribute.form, tuple))
-# The digests of at least 256 bits by which two files may be the same. The ways to attack GOST are known.
+# The digests of at least 256 bits by which two files may be the same. The ways to attack GOST are
+# known.
 STRONG = frozenset(
-    ["sha256", "sha512", "whirlpool", "stribog256", "stribog512", "sha512_256", "sha3_256", "sha3_512"]
+    [
+        "sha256",
+        "sha512",
+        "whirlpool",
+        "stribog256",
+        "stribog512",
+        "sha512_256",
+        "sha3_256",
+        "sha3_512",
+    ]
 )
 
 
@@ -26,7 +37,8 @@ def same_kept(first, second, kind):
 
 
 def agree(first, second):
-    """Whether two entries differ only in what each machine has of its own, and in digests that one lacks."""
+    """Whether two entries differ only in what each machine has of its own, and in digests that one
+    lacks."""
     kind = type_bits(first)
     if kind is None or kind != type_bits(second):
         return False
@@ -41,7 +53,8 @@ def agree(first, second):
 
 
 def same_as(old, new, trusted_old=None, trusted_new=None):
-    """What accounts for a change: 'old', 'trusted' or None. An argument is an entry, or None for no entry."""
+    """What accounts for a change: 'old', 'trusted' or None. An argument is an entry, or None for no
+    entry."""
     if old is not None and new is not None and agree(old, new):
         return "old"
     if new is not None and trusted_new is not None and agree(new, trusted_new):

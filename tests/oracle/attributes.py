@@ -4,8 +4,8 @@ from collections import namedtuple
 
 Attribute = namedtuple("Attribute", "name detail column bit slot form")
 
-# The forms of fields: 'type' and 'perm' (octal), 'number', 'time', 'link', 'opaque', or a digest's least and greatest
-# length.
+# The forms of fields: 'type' and 'perm' (octal), 'number', 'time', 'link', 'opaque', or a digest's
+# least and greatest length.
 ATTRIBUTES = [
     Attribute("ftype", "Type", "perm", None, "Y", "type"),
     Attribute("l", "Lname", "lname", 1, "l", "link"),
@@ -56,13 +56,15 @@ GROUPS = {
 NAME = re.compile(rb"[A-Za-z0-9_>]+")
 BLANK, TERM = rb"[ \t]*", rb"[ \t]*[A-Za-z0-9_>]+[ \t]*"
 EXPRESSION = re.compile(TERM + rb"(?:[+-]" + TERM + rb")*")
-# What an expression can begin with: blanks; or an expression, perhaps with a further sign and blanks.
+# What an expression can begin with: blanks; or an expression, perhaps with a further sign and
+# blanks.
 BEGINNING = re.compile(rb"(?:" + EXPRESSION.pattern + rb"(?:[+-]" + BLANK + rb")?)|" + BLANK)
 SIGNED = re.compile(rb"([+-]?)[ \t]*([A-Za-z0-9_>]+)")
 
 
 def set_of_name(name, defined):
-    """The set that a name stands for, groups of the configuration first; None where it stands for nothing."""
+    """The set that a name stands for, groups of the configuration first; None where it stands for
+    nothing."""
     name = name.decode("latin-1")
     for groups in (defined, GROUPS):
         if name in groups:
@@ -73,7 +75,8 @@ def set_of_name(name, defined):
 
 
 def expression_fault(text, defined):
-    """The kind of the first fault of an expression, or None; of two at one byte the bad byte counts."""
+    """The kind of the first fault of an expression, or None; of two at one byte the bad byte
+    counts."""
     good = BEGINNING.match(text).end()
     faults = []
     if good < len(text) or not EXPRESSION.fullmatch(text):
@@ -85,7 +88,8 @@ def expression_fault(text, defined):
 
 
 def meaning_of(text, defined):
-    """The attributes of an expression without a fault: those whose last term that holds them is added."""
+    """The attributes of an expression without a fault: those whose last term that holds them is
+    added."""
     terms = [(sign, set_of_name(name, defined)) for sign, name in SIGNED.findall(text)]
     meaning = set()
     for attribute in NAMES:

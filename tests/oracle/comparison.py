@@ -44,10 +44,16 @@ def shown(change, settings):
     """The attributes of an entry that its details show."""
     kind = kind_of(change, settings)
     if kind in ("added", "removed"):
-        return set(change.new or change.old or {}) if is_from("added_removed_entries", settings) else set()
+        return (
+            set(change.new or change.old or {})
+            if is_from("added_removed_entries", settings)
+            else set()
+        )
     if kind is None or not is_from("changed_attributes", settings):
         return set()
-    forced = {name for name in settings["report_force_attrs"] if name in change.old or name in change.new}
+    forced = {
+        name for name in settings["report_force_attrs"] if name in change.old or name in change.new
+    }
     if is_from("added_removed_attributes", settings):
         return reported(change.old, change.new, settings) | forced
     return changed_in(change.old, change.new) - settings["report_ignore_changed_attrs"] | forced
@@ -55,7 +61,10 @@ def shown(change, settings):
 
 def compared(old, new):
     """What both databases have at each path of either, in path order."""
-    return [Change(path, old.get(path), new.get(path)) for path in sorted(old.keys() | new.keys(), key=order_of)]
+    return [
+        Change(path, old.get(path), new.get(path))
+        for path in sorted(old.keys() | new.keys(), key=order_of)
+    ]
 
 
 def type_of(change):
@@ -75,9 +84,12 @@ def title_of(change):
 
 
 def sign_of(slot, old, new, settings):
-    """The letter of a slot for a changed entry: the first case that holds for an attribute of the slot."""
+    """The letter of a slot for a changed entry: the first case that holds for an attribute of the
+    slot."""
     here = {attribute.name for attribute in ATTRIBUTES if attribute.slot == slot}
-    changed, added, removed = (names & here for names in (changed_in(old, new), added_in(old, new), added_in(new, old)))
+    changed, added, removed = (
+        names & here for names in (changed_in(old, new), added_in(old, new), added_in(new, old))
+    )
     if changed - settings["report_ignore_changed_attrs"]:
         return slot if slot != "Z" else "<" if new["s"] < old["s"] else ">"
     if added - settings["report_ignore_added_attrs"]:

@@ -1,7 +1,7 @@
 """The settings of a configuration, or its first fault.
 
-A configuration is three texts, one after another. Each line that says something is marked with what it says. What a line
-says may depend only on the marks before it.
+A configuration is three texts, one after another. Each line that says something is marked with what
+it says. What a line says may depend only on the marks before it.
 """
 import re
 from collections import namedtuple
@@ -22,8 +22,17 @@ LEVELS = [
 ]
 BOOLS = {b"yes": True, b"true": True, b"no": False, b"false": False}
 BOOL_OPTIONS = ["report_grouped", "report_summarize_changes", "report_base16", "report_quiet"]
-SET_OPTIONS = ["report_ignore_added_attrs", "report_ignore_removed_attrs", "report_ignore_changed_attrs", "report_force_attrs"]
-URL_OPTIONS = {"database": "database_in", "database_in": "database_in", "database_new": "database_new"}
+SET_OPTIONS = [
+    "report_ignore_added_attrs",
+    "report_ignore_removed_attrs",
+    "report_ignore_changed_attrs",
+    "report_force_attrs",
+]
+URL_OPTIONS = {
+    "database": "database_in",
+    "database_in": "database_in",
+    "database_new": "database_new",
+}
 OLDER_OPTIONS = ["ignore_list", "report_attributes", "grouped", "summarize_changes"]
 WITHOUT_EFFECT = [
     "database_out",
@@ -67,9 +76,9 @@ DEFAULTS = {
 WORD = re.compile(rb"[A-Za-z0-9_]{1,64}")
 REFERENCE = re.compile(rb"@@\{([^}]*)\}", re.DOTALL)
 
-# A line that says something. `block` is O, D or C where it opens, divides or closes one; `first` is the part that an
-# opening line chooses; `says` is ('define', name, value), ('undef', name), ('option', name, value) or
-# ('group', name, set).
+# A line that says something. `block` is O, D or C where it opens, divides or closes one; `first` is
+# the part that an opening line chooses; `says` is ('define', name, value), ('undef', name),
+# ('option', name, value) or ('group', name, set).
 Mark = namedtuple("Mark", "text block used first says")
 Said = namedtuple("Said", "block first says")
 Fault = namedtuple("Fault", "text line kind")
@@ -81,20 +90,27 @@ class Refused(Exception):
 
 @lru_cache(maxsize=None)
 def is_balanced(blocks):
-    """Whether lines of blocks (O, D, C) are balanced: taking out blocks that hold none, again and again, leaves nothing."""
+    """Whether lines of blocks (O, D, C) are balanced: taking out blocks that hold none, again and
+    again, leaves nothing."""
     shorter = re.sub("OD?C", "", blocks)
     return shorter == "" if shorter == blocks else is_balanced(shorter)
 
 
 def enclosing(marks):
-    """The opening lines around the line after these marks of its text, each with whether it stands in its second part."""
+    """The opening lines around the line after these marks of its text, each with whether it stands
+    in its second part."""
     marks = [mark for mark in marks if mark.block]
     blocks = "".join(mark.block for mark in marks)
     around = []
     for index, mark in enumerate(marks):
         behind = range(index + 1, len(marks))
-        if mark.block == "O" and not any(blocks[end] == "C" and is_balanced(blocks[index : end + 1]) for end in behind):
-            divided = any(blocks[middle] == "D" and is_balanced(blocks[index + 1 : middle]) for middle in behind)
+        if mark.block == "O" and not any(
+            blocks[end] == "C" and is_balanced(blocks[index : end + 1]) for end in behind
+        ):
+            divided = any(
+                blocks[middle] == "D" and is_balanced(blocks[index + 1 : middle])
+                for middle in behind
+            )
             around.append((mark, divided))
     return around
 
@@ -271,7 +287,8 @@ def read_statement(line, marks):
 
 
 def read_line(line, around, marks):
-    """What a line without the blanks around it says, and whether it is used; None where it says nothing."""
+    """What a line without the blanks around it says, and whether it is used; None where it says
+    nothing."""
     used = all(mark.used and mark.first != divided for mark, divided in around)
     if used and len(line) > LINE_LIMIT:
         raise Refused("LineTooLong")
@@ -302,18 +319,22 @@ def marks_of(texts):
 
 
 def settings_of(marks):
-    """The last assignment of each option; of those of the report the last before the first report to standard output."""
+    """The last assignment of each option; of those of the report the last before the first report
+    to standard output."""
     said = [mark.says[1:] for mark in marks if mark.says and mark.says[0] == "option"]
     ends = [index for index, option in enumerate(said) if option == ("report_url", "stdout")]
     before = said[: ends[0]] if ends else said
     settings = {**DEFAULTS, "database_in": None, "database_new": None}
     settings.update((name, value) for name, value in before if name in DEFAULTS)
-    settings.update((name, value) for name, value in said if name in ("database_in", "database_new"))
+    settings.update(
+        (name, value) for name, value in said if name in ("database_in", "database_new")
+    )
     return settings
 
 
 def read(before, file, after, compares):
-    """The settings of a configuration, or its first fault; databases have to be named where it is read to compare."""
+    """The settings of a configuration, or its first fault; databases have to be named where it is
+    read to compare."""
     marks = marks_of([("before", before), ("config", file), ("after", after)])
     if isinstance(marks, Fault):
         return marks

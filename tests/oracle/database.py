@@ -1,4 +1,5 @@
-"""The first fault of a database, or its entries: a map from paths to maps from attributes to values."""
+"""The first fault of a database, or its entries: a map from paths to maps from attributes to
+values."""
 from collections import namedtuple
 from itertools import accumulate
 
@@ -21,10 +22,15 @@ def order_of(path):
 
 
 def parts_of(lines):
-    """The first line, the second one, the lines up to the end line, and the end line, as far as they are there."""
+    """The first line, the second one, the lines up to the end line, and the end line, as far as
+    they are there."""
     read = [(number, fields_of(line)) for number, line in enumerate(lines, 1)]
-    read = [(number, fields) for number, fields in read if fields and not fields[0].startswith(b"#")]
-    ends = [index for index in range(2, len(read)) if read[index][1][0] == b"@@end_db"] + [len(read)]
+    read = [
+        (number, fields) for number, fields in read if fields and not fields[0].startswith(b"#")
+    ]
+    ends = [index for index in range(2, len(read)) if read[index][1][0] == b"@@end_db"] + [
+        len(read)
+    ]
     return Parts(read[:1], read[1:2], read[2 : ends[0]], read[ends[0] :][:1])
 
 
@@ -105,7 +111,9 @@ def line_faults(lines, limit):
     parts = parts_of(lines)
     last = parts.end[0][0] if parts.end else len(lines)
     faults = [
-        (number, 0, Fault(number, "LineTooLong", None)) for number, line in enumerate(lines[:last], 1) if len(line) > limit
+        (number, 0, Fault(number, "LineTooLong", None))
+        for number, line in enumerate(lines[:last], 1)
+        if len(line) > limit
     ][:1]
     faults += [(fault.line, 1, fault) for fault in text_faults(parts)]
     return [fault for _, _, fault in sorted(faults, key=lambda known: known[:2])[:1]]
@@ -144,4 +152,6 @@ def database_of(text):
     parts = parts_of(lines_of(text))
     columns = parts.spec[0][1][1:]
     entries = {path_of(columns, fields): entry_of(columns, fields) for _, fields in parts.entries}
-    return Database(entries, [number for number, column in enumerate(columns, 1) if column not in KNOWN])
+    return Database(
+        entries, [number for number, column in enumerate(columns, 1) if column not in KNOWN]
+    )

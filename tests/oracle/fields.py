@@ -34,7 +34,11 @@ def decoded(field):
 
 def number_of(field, least=LEAST):
     found = NUMBER.fullmatch(field)
-    if not found or len(found.group(2)) > DIGITS or not least <= int(found.group(1) + b"0" + found.group(2)) <= GREATEST:
+    if (
+        not found
+        or len(found.group(2)) > DIGITS
+        or not least <= int(found.group(1) + b"0" + found.group(2)) <= GREATEST
+    ):
         raise Meaningless("BadNumber")
     return int(found.group(1) + b"0" + found.group(2))
 

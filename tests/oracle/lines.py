@@ -1,6 +1,8 @@
-"""The changes of two databases as JSON lines, from both databases to the counts; and what a configuration says.
+"""The changes of two databases as JSON lines, from both databases to the counts; and what a
+configuration says.
 
-Strings are spelled here and not by Python's `json`, which escapes other characters. The trial reads the lines back by it.
+Strings are spelled here and not by Python's `json`, which escapes other characters. The trial reads
+the lines back by it.
 """
 import hashlib
 import typing
@@ -15,9 +17,11 @@ from .report import KINDS, counts_of, status_of
 from .session import answer_of, job_beside
 
 FORMAT = 3
-# Many readers keep 53 bits of a number, so a greater one is a string of its digits (RFC 7493 section 2.2).
+# Many readers keep 53 bits of a number, so a greater one is a string of its digits (RFC 7493
+# section 2.2).
 EXACT = 2**53
-# Characters that no terminal or editor shows as they are: controls, ends of lines, and those that turn the direction of text.
+# Characters that no terminal or editor shows as they are: controls, ends of lines, and those that
+# turn the direction of text.
 HIDDEN = [
     *range(0x20),
     *range(0x7F, 0xA0),
@@ -86,8 +90,15 @@ def side_members(name, entry, names):
     """What one side has of these attributes, as a member; nothing if it has no entry."""
     if entry is None:
         return []
-    wanted = [attribute for attribute in ATTRIBUTES if attribute.name in names and attribute.name in entry]
-    return [(name, object_of([attribute_member(attribute, entry[attribute.name]) for attribute in wanted]))]
+    wanted = [
+        attribute for attribute in ATTRIBUTES if attribute.name in names and attribute.name in entry
+    ]
+    return [
+        (
+            name,
+            object_of([attribute_member(attribute, entry[attribute.name]) for attribute in wanted]),
+        )
+    ]
 
 
 def change_line(change, account, settings):
@@ -125,7 +136,8 @@ class Source(typing.NamedTuple):
 
 
 def numbers_of(new, counts, accounts, has_trusted):
-    """The members of the last line with the numbers of entries, and of the changes that each account explains."""
+    """The members of the last line with the numbers of entries, and of the changes that each
+    account explains."""
     numbers = [("total", len(new.entries))]
     numbers += [(kind, counts[kind]) for kind in KINDS]
     numbers.append(("same_as_old", accounts.count("old")))
@@ -136,13 +148,17 @@ def numbers_of(new, counts, accounts, has_trusted):
 
 
 def lines_over(old, new, trusted, settings):
-    """The lines over two databases and, if they are there, the old and the new one of a trusted pair, and the status."""
+    """The lines over two databases and, if they are there, the old and the new one of a trusted
+    pair, and the status."""
     changes = compared(old.database.entries, new.database.entries)
     counts = counts_of(changes, settings)
     status = status_of(counts)
     listed = [change for change in changes if kind_of(change, settings)]
     maps = [source.database.entries for source in trusted]
-    accounts = [same_as(change.old, change.new, *(entries.get(change.path) for entries in maps)) for change in listed]
+    accounts = [
+        same_as(change.old, change.new, *(entries.get(change.path) for entries in maps))
+        for change in listed
+    ]
     head = [("format", number(FORMAT))]
     for side, source in zip(("old", "new", "trusted_old", "trusted_new"), (old, new, *trusted)):
         head.append((side, origin_of(source.path, source.text, source.database.skipped)))
@@ -153,10 +169,14 @@ def lines_over(old, new, trusted, settings):
 
 
 def lines_of(old, new, texts, settings):
-    """The lines over two databases and the texts of all that are named, and the status of their report."""
+    """The lines over two databases and the texts of all that are named, and the status of their
+    report."""
     old_source = Source(settings["database_in"], texts[0], old)
     new_source = Source(settings["database_new"], texts[1], new)
-    trusted = [Source(path, text, database_of(text)) for path, text in zip(settings.get("trusted", ()), texts[2:])]
+    trusted = [
+        Source(path, text, database_of(text))
+        for path, text in zip(settings.get("trusted", ()), texts[2:])
+    ]
     return lines_over(old_source, new_source, trusted, settings)
 
 
@@ -169,7 +189,9 @@ def settings_line(settings):
     members.append(("report_level", string(settings["report_level"])))
     members += [(name, truth(settings[name])) for name in BOOL_OPTIONS]
     for name in SET_OPTIONS:
-        members.append((name, array([string(attribute) for attribute in NAMES if attribute in settings[name]])))
+        members.append(
+            (name, array([string(attribute) for attribute in NAMES if attribute in settings[name]]))
+        )
     return line(members)
 
 

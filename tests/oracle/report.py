@@ -37,11 +37,16 @@ def titled(title):
 
 
 def attribute_lines(attribute, change, settings):
-    """The lines of an attribute in the details: pieces of the old value beside pieces of the new one."""
-    old, new = (pieces_of(value_text(attribute, entry, settings)) for entry in (change.old, change.new))
+    """The lines of an attribute in the details: pieces of the old value beside pieces of the new
+    one."""
+    old, new = (
+        pieces_of(value_text(attribute, entry, settings)) for entry in (change.old, change.new)
+    )
     lines = []
     for index in range(max(len(old), len(new), 1)):
-        label = b"  " + attribute.detail.encode().ljust(NAME_WIDTH) + b": " if index == 0 else b" " * 14
+        label = (
+            b"  " + attribute.detail.encode().ljust(NAME_WIDTH) + b": " if index == 0 else b" " * 14
+        )
         left, right = (b"".join(pieces[index : index + 1]) for pieces in (old, new))
         lines.append(label + left.ljust(PIECE_WIDTH) + b" | " + right)
     return lines
@@ -58,11 +63,17 @@ def summary(total, counts):
         (b"Removed entries:", counts["removed"]),
         (b"Changed entries:", counts["changed"]),
     ]
-    return [b"", b"Summary:"] + [b"  " + label.ljust(SUMMARY_WIDTH) + b"%d" % number for label, number in labels]
+    return [b"", b"Summary:"] + [
+        b"  " + label.ljust(SUMMARY_WIDTH) + b"%d" % number for label, number in labels
+    ]
 
 
 def entry_line(change, settings):
-    label = summary_of(change, settings) if settings["report_summarize_changes"] else kind_of(change, settings)
+    label = (
+        summary_of(change, settings)
+        if settings["report_summarize_changes"]
+        else kind_of(change, settings)
+    )
     return label.encode() + b": " + printed(change.path)
 
 
@@ -73,7 +84,9 @@ def lists(changes, settings):
         sections = [("Added, removed and changed entries:", KINDS)]
     lines = []
     for title, kinds in sections:
-        entries = [entry_line(change, settings) for change in changes if kind_of(change, settings) in kinds]
+        entries = [
+            entry_line(change, settings) for change in changes if kind_of(change, settings) in kinds
+        ]
         if entries:
             lines += titled(title.encode()) + [b""] + entries
     return lines
@@ -94,9 +107,13 @@ def details(changes, settings):
 def databases(texts, settings):
     """The digests of both databases."""
     lines = titled(b"The attributes of the databases:") + [b""]
-    for label, path, text in zip((b"Old", b"New"), (settings["database_in"], settings["database_new"]), texts):
+    for label, path, text in zip(
+        (b"Old", b"New"), (settings["database_in"], settings["database_new"]), texts
+    ):
         lines.append(label + b" database: " + printed(path))
-        for index, piece in enumerate(pieces_of(digest_text(hashlib.sha256(text).digest(), settings))):
+        for index, piece in enumerate(
+            pieces_of(digest_text(hashlib.sha256(text).digest(), settings))
+        ):
             lines.append((b"  SHA256    : " if index == 0 else b" " * 14) + piece)
     return lines
 

@@ -56,7 +56,8 @@ class Unread:
 
 
 def option_of(word, known):
-    """The options that a word names, and the value that it brings along or None; no options where it is out of form."""
+    """The options that a word names, and the value that it brings along or None; no options where
+    it is out of form."""
     if word.startswith(b"--"):
         name, sign, value = word[2:].partition(b"=")
         name = name.decode("latin-1")
@@ -74,13 +75,18 @@ def option_of(word, known):
 
 
 def options_of(words, known):
-    """The known options of a command line as a map, None where it is not understood. A value may not begin with a hyphen."""
+    """The known options of a command line as a map, None where it is not understood. A value may
+    not begin with a hyphen."""
     given, rest = {}, list(words)
     while rest:
         word = rest.pop(0)
         if word == b"--" and not rest:
             break
-        names, value = option_of(word, known) if len(word) > 1 and word.startswith(b"-") and word != b"--" else ([], None)
+        names, value = (
+            option_of(word, known)
+            if len(word) > 1 and word.startswith(b"-") and word != b"--"
+            else ([], None)
+        )
         if not names or names[-1] in FLAGS and value is not None:
             return None
         if names[-1] not in FLAGS and value is None:
@@ -103,7 +109,8 @@ def job_of(words):
 
 
 def job_beside(words):
-    """The options of a command line that may name a trusted pair: both databases of it, and then only for a comparison."""
+    """The options of a command line that may name a trusted pair: both databases of it, and then
+    only for a comparison."""
     job = options_of(words, OPTIONS + TRUSTED)
     if job is None or not any(name in job for name in TRUSTED):
         return job_of(words)
@@ -130,9 +137,11 @@ def read_database(name, path, files):
 
 
 def compare(settings, files, written):
-    """The answer of a comparison under good settings: `written` gives what goes out, and the status.
+    """The answer of a comparison under good settings: `written` gives what goes out, and the
+    status.
 
-    The first fault counts, of the old database, then of the new one, and then of a trusted pair if one is named.
+    The first fault counts, of the old database, then of the new one, and then of a trusted pair if
+    one is named.
     """
     paths = [(b"old", settings["database_in"]), (b"new", settings["database_new"])]
     paths += zip((b"trusted old", b"trusted new"), settings["trusted"])
@@ -158,8 +167,9 @@ def says_nothing(settings):
 def answer_of(words, files, written=report_of, checked=says_nothing, read=job_of):
     """The answer to the words of a command line, the program's name aside.
 
-    `files` gives the bytes of a path, None for a file that is not there, and `Unread` for one that cannot be read. A
-    comparison puts out what `written` gives, and a check of the configuration what `checked` gives. `read` reads the words.
+    `files` gives the bytes of a path, None for a file that is not there, and `Unread` for one that
+    cannot be read. A comparison puts out what `written` gives, and a check of the configuration
+    what `checked` gives. `read` reads the words.
     """
     try:
         for word in words:
@@ -173,11 +183,18 @@ def answer_of(words, files, written=report_of, checked=says_nothing, read=job_of
     if text is None or text is Unread:
         return refused(b"cannot read the configuration " + printed(job["config"]), BAD_DEVICE)
     if len(text) > CONFIGURATION_LIMIT:
-        return refused(b"the configuration is longer than %d bytes" % CONFIGURATION_LIMIT, BAD_CONFIGURATION)
-    settings = configuration.read(job.get("before", b""), text, job.get("after", b""), "compare" in job)
+        return refused(
+            b"the configuration is longer than %d bytes" % CONFIGURATION_LIMIT, BAD_CONFIGURATION
+        )
+    settings = configuration.read(
+        job.get("before", b""), text, job.get("after", b""), "compare" in job
+    )
     if isinstance(settings, configuration.Fault):
         words_of_fault = CONFIGURATION_WORDS[settings.kind]
-        return refused(("%s:%d: %s" % (settings.text, settings.line, words_of_fault)).encode(), BAD_CONFIGURATION)
+        return refused(
+            ("%s:%d: %s" % (settings.text, settings.line, words_of_fault)).encode(),
+            BAD_CONFIGURATION,
+        )
     if "compare" not in job:
         return Answer(checked(settings), b"", 0)
     trusted = [job[name] for name in TRUSTED if name in job]

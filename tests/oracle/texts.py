@@ -16,8 +16,11 @@ def fields_of(line):
 
 
 def printed(name):
-    """A name as it is printed: control bytes and the backslash as a backslash and three octal digits."""
-    return b"".join(b"\\%03o" % byte if byte < 32 or byte in (92, 127) else bytes([byte]) for byte in name)
+    """A name as it is printed: control bytes and the backslash as a backslash and three octal
+    digits."""
+    return b"".join(
+        b"\\%03o" % byte if byte < 32 or byte in (92, 127) else bytes([byte]) for byte in name
+    )
 
 
 def pieces_of(text):

@@ -1,10 +1,12 @@
 #!/usr/bin/env python3
-"""Writes what the definitions answer into stored cases: whole sessions, each in one file, with their answers.
+"""Writes what the definitions answer into stored cases: whole sessions, each in one file, with
+their answers.
 
-A case begins with a sentence that says what it shows. Then come sections, each under a line `-- NAME --`: `words` (the
-arguments, with blanks between), files of the folder in which the case is run (`conf`, `old`, `new`), and the right answer:
-`stdout` and `stderr`, which are left out where they are empty, and a line `-- status NUMBER --`. `/@DIR@` is replaced by
-the folder. A section `NAME (escaped)` is read as one line, with backslashes as in C. So is each argument.
+A case begins with a sentence that says what it shows. Then come sections, each under a line `--
+NAME --`: `words` (the arguments, with blanks between), files of the folder in which the case is run
+(`conf`, `old`, `new`), and the right answer: `stdout` and `stderr`, which are left out where they
+are empty, and a line `-- status NUMBER --`. `/@DIR@` is replaced by the folder. A section `NAME
+(escaped)` is read as one line, with backslashes as in C. So is each argument.
 """
 import glob
 import os
@@ -60,7 +62,9 @@ def is_plain(text):
         lines = text.decode("utf-8").split("\n")
     except UnicodeDecodeError:
         return False
-    return lines[-1] == "" and all(line.replace("\t", "").isprintable() and not HEADER.match(line) for line in lines)
+    return lines[-1] == "" and all(
+        line.replace("\t", "").isprintable() and not HEADER.match(line) for line in lines
+    )
 
 
 def printed(case):
@@ -72,7 +76,9 @@ def printed(case):
             parts.append("-- %s --\n%s" % (name, text.decode()))
         else:
             lines = [line.encode("latin-1") for line in lines_of(text.decode("latin-1"))]
-            parts.append("-- %s (escaped) --\n%s" % (name, "".join(escaped(line) + "\n" for line in lines)))
+            parts.append(
+                "-- %s (escaped) --\n%s" % (name, "".join(escaped(line) + "\n" for line in lines))
+            )
     return "".join(parts)
 
 
@@ -82,7 +88,9 @@ def answers_in(case, folder, answer):
         if name not in ANSWERS + ["words"]:
             with open(os.path.join(folder, name.encode()), "wb") as file:
                 file.write(text.replace(DIR, folder) if name == "conf" else text)
-    return answer([unescaped(word).replace(DIR, folder) for word in case.sections["words"].decode().split()])
+    return answer(
+        [unescaped(word).replace(DIR, folder) for word in case.sections["words"].decode().split()]
+    )
 
 
 def stored(case, folder):
@@ -104,7 +112,9 @@ def write(path):
         answer = answers_in(case, folder, wanted_lines if is_of_lines else wanted)
         sections = {name: text for name, text in case.sections.items() if name not in ANSWERS}
         texts = [answer.output, answer.errors, b"%d" % answer.status]
-        sections.update((name, text.replace(folder, DIR)) for name, text in zip(ANSWERS, texts) if text)
+        sections.update(
+            (name, text.replace(folder, DIR)) for name, text in zip(ANSWERS, texts) if text
+        )
         case = Case(case.title, sections)
     with open(path, "w", encoding="utf-8") as file:
         file.write(printed(case))
@@ -116,7 +126,9 @@ def all_cases():
 
 def main():
     parser = parser_of("tests.program.cases", __doc__)
-    parser.add_argument("cases", nargs="+", metavar="CASE", help="a stored case, into which the answers are written")
+    parser.add_argument(
+        "cases", nargs="+", metavar="CASE", help="a stored case, into which the answers are written"
+    )
     for path in parser.parse_args().cases:
         write(path)
 

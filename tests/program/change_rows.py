@@ -2,8 +2,9 @@
 import base64
 from collections import namedtuple
 
-# The columns, and the fields of both entries; the options that leave out differences, and further ones; the attributes that
-# are reported, those that the details show, and the summary string, or "" if no attribute is reported.
+# The columns, and the fields of both entries; the options that leave out differences, and further
+# ones; the attributes that are reported, those that the details show, and the summary string, or ""
+# if no attribute is reported.
 Change = namedtuple("Change", "columns old new ignored options reported shown summary")
 
 MD5, SHA256 = base64.b64encode(bytes(16)), base64.b64encode(bytes(32))
@@ -31,8 +32,18 @@ CHANGES = [
     of_size(b"100644 1", b"100644 2", b"", b"", ["Size"], ["Size"], "f > .             "),
     of_size(b"100644 1", b"100644 2", NO_SIZE, b"", [], [], ""),
     of_size(b"100644 1", b"100644 2", NO_SIZE, FORCED, [], [], ""),
-    of_size(b"100644 1", b"100600 2", NO_SIZE, FORCED, ["Perm"], ["Size", "Perm"], "f : p             "),
-    of_size(b"100644 1", b"100600 2", NO_SIZE, FORCED + b"report_level=list_entries", ["Perm"], [], "f : p             "),
+    of_size(
+        b"100644 1", b"100600 2", NO_SIZE, FORCED, ["Perm"], ["Size", "Perm"], "f : p             "
+    ),
+    of_size(
+        b"100644 1",
+        b"100600 2",
+        NO_SIZE,
+        FORCED + b"report_level=list_entries",
+        ["Perm"],
+        [],
+        "f : p             ",
+    ),
     of_size(
         b"100644 2",
         b"100644 1",
@@ -68,8 +79,18 @@ CHANGES = [
         ["SHA3-256"],
         "?           +     ",
     ),
-    # With another reported attribute the entry is listed, and the letters of those left out are seen.
-    Change(b"perm size lcount", b"100644 1 1", b"100644 2 2", NO_SIZE, b"", LINKS, LINKS, "f : .      n      "),
+    # With another reported attribute the entry is listed, and the letters of those left out are
+    # seen.
+    Change(
+        b"perm size lcount",
+        b"100644 1 1",
+        b"100644 2 2",
+        NO_SIZE,
+        b"",
+        LINKS,
+        LINKS,
+        "f : .      n      ",
+    ),
     Change(
         b"lcount md5 sha256",
         b"1 " + MD5 + b" 0",
@@ -80,5 +101,14 @@ CHANGES = [
         LINKS,
         "?          n:     ",
     ),
-    Change(b"lcount sha3_256", b"1 " + SHA3[0], b"2 " + SHA3[1], NO_SHA3, b"", LINKS, LINKS, "?          n:     "),
+    Change(
+        b"lcount sha3_256",
+        b"1 " + SHA3[0],
+        b"2 " + SHA3[1],
+        NO_SHA3,
+        b"",
+        LINKS,
+        LINKS,
+        "?          n:     ",
+    ),
 ]

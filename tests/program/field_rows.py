@@ -1,6 +1,7 @@
 """Fields of an entry by their columns: what each means, or that it is out of form."""
 
-# Numbers and times: the column, the field, the name that a report gives it, and the value that it shows.
+# Numbers and times: the column, the field, the name that a report gives it, and the value that it
+# shows.
 NUMBERS = [
     (b"perm", b"37777777777", "Perm", "7777"),
     (b"perm", b"100644", "Perm", "0644"),
@@ -62,8 +63,20 @@ DIGESTS = [
     (b"haval", b"/w==", 1, 0xFF, 0xFF),
     (b"tiger", b"AAAB", 3, 0, 1),
     (b"sha1", b"2jmj7l5rSw0yVb/vlWAYkK/YBwk=", 20, 0xDA, 0x09),
-    (b"sha512", b"z4PhNX7vuL3xVChQ1m2AB9Yg5AULVxXcg/SpIdNs6c5H0NE8XYXysP+DGNKHfuwvY7kxvUdBeoGlODJ6+SfaPg==", 64, 0xCF, 0x3E),
-    (b"sha3_512", b"pp9zzKI6msXItWfcGFp1bpfJghZP4lhZ4NHcwUdcgKYVshI68fX5TBHj6UAsOsVY9QAZnZW20+MBdYWGKB3NJg==", 64, 0xA6, 0x26),
+    (
+        b"sha512",
+        b"z4PhNX7vuL3xVChQ1m2AB9Yg5AULVxXcg/SpIdNs6c5H0NE8XYXysP+DGNKHfuwvY7kxvUdBeoGlODJ6+SfaPg==",
+        64,
+        0xCF,
+        0x3E,
+    ),
+    (
+        b"sha3_512",
+        b"pp9zzKI6msXItWfcGFp1bpfJghZP4lhZ4NHcwUdcgKYVshI68fX5TBHj6UAsOsVY9QAZnZW20+MBdYWGKB3NJg==",
+        64,
+        0xA6,
+        0x26,
+    ),
     (b"stribog256", b"47DEQpj8HBSa+/TImW+5JCeuQeRkm5NMpJWZG3hSuFU=", 32, 0xE3, 0x55),
 ]
 
@@ -77,7 +90,8 @@ NAMES = [
     (b"/%C3%a9\xff", b"/\xc3\xa9\xff"),
 ]
 
-# Columns and the name of an attribute: fields with which an entry lacks it, and fields with which it has it.
+# Columns and the name of an attribute: fields with which an entry lacks it, and fields with which
+# it has it.
 LACKING = [
     (b"md5", "MD5", b"0", b"1B2M2Y8AsgTpgAmY7PhCfg=="),
     (b"perm", "Type", b"7777", b"10000"),
@@ -97,7 +111,12 @@ PAIRS = [
     (b"perm", b"100644", b"1100644", []),
     (b"perm", b"100644", b"100600", ["Perm"]),
     (b"perm", b"100644", b"120644", ["Type"]),
-    (b"sha256", b"AAAAAAAAAAAAAAAAAAAAAAAAAAAAAAAAAAAAAAAAAAA=", b"AAAAAAAAAAAAAAAAAAAAAAAAAAAAAAAAAAAAAAAAAAE=", ["SHA256"]),
+    (
+        b"sha256",
+        b"AAAAAAAAAAAAAAAAAAAAAAAAAAAAAAAAAAAAAAAAAAA=",
+        b"AAAAAAAAAAAAAAAAAAAAAAAAAAAAAAAAAAAAAAAAAAE=",
+        ["SHA256"],
+    ),
     (b"sha256", b"AAAAAAAAAAAAAAAAAAAAAAAAAAAAAAAAAAAAAAAAAAA=", b"0", []),
     (b"lname", b"0", b"0-", ["Lname"]),
     (b"lname", b"00", b"%30", []),
@@ -144,8 +163,9 @@ REFUSED = [
     (b"stribog512", b"47DEQpj8HBSa+/TImW+5JCeuQeRkm5NMpJWZG3hSuFU=", "bad digest"),
 ]
 
-# Two databases of one entry, and what the details show: by the name of an attribute its old and its new value. The path
-# of the first two is spelled in two ways, and of the last two an attribute is chosen by the bits of the entry.
+# Two databases of one entry, and what the details show: by the name of an attribute its old and its
+# new value. The path of the first two is spelled in two ways, and of the last two an attribute is
+# chosen by the bits of the entry.
 ENTRIES = [
     (
         b"@@begin_db\n@@db_spec name attr perm size mtime sha256 lname\n"

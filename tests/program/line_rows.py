@@ -1,4 +1,5 @@
-"""Fields of an entry and the members that the lines have for them, and whole answers, all written by hand."""
+"""Fields of an entry and the members that the lines have for them, and whole answers, all written
+by hand."""
 import base64
 
 ZEROS = {size: base64.b64encode(bytes(size)) for size in (1, 16, 20, 32, 64)}
@@ -8,7 +9,8 @@ def digest(column, name, size):
     return (column, ZEROS[size], '"%s":"%s"' % (name, "00" * size))
 
 
-# A column, a field, and the member of it at an added entry: nothing where the entry lacks the attribute.
+# A column, a field, and the member of it at an added entry: nothing where the entry lacks the
+# attribute.
 MEMBERS = [
     (b"perm", b"100644", '"Type":"File","Perm":"0644"'),
     (b"perm", b"40755", '"Type":"Directory","Perm":"0755"'),
@@ -66,7 +68,11 @@ MEMBERS = [
     (b"acl", b"\xc3", '"ACL_hex":"c3"'),
     (b"xattrs", b"\x01\x7f", '"XAttrs":"\\u0001\\u007f"'),
     (b"selinux", b"\xc2\x9b\xe2\x80\xae", '"SELinux":"\\u009b\\u202e"'),
-    (b"e2fsattrs", b"\xe2\x80\xa7\xe2\x80\xa8\xe2\x81\xa5\xe2\x81\xa6", '"E2FSAttrs":"\u2027\\u2028\u2065\\u2066"'),
+    (
+        b"e2fsattrs",
+        b"\xe2\x80\xa7\xe2\x80\xa8\xe2\x81\xa5\xe2\x81\xa6",
+        '"E2FSAttrs":"\u2027\\u2028\u2065\\u2066"',
+    ),
     (b"capabilities", b"0-", '"Caps":"0-"'),
     (b"capabilities", b"\xed\xa0\x80", '"Caps_hex":"eda080"'),
 ]
@@ -116,7 +122,8 @@ WHOLE = [
 ONES = {size: base64.b64encode(bytes([1]) * size) for size in (16, 32, 64)}
 FILE, DIRECTORY, LINK, FIFO = b"100644", b"40755", b"120777", b"10600"
 
-# Columns, the old and the new fields of an entry that changed, and whether the old entry accounts for the change.
+# Columns, the old and the new fields of an entry that changed, and whether the old entry accounts
+# for the change.
 ACCOUNTS = [
     (
         b"perm mtime ctime atime inode bcount sha256",

@@ -1,10 +1,13 @@
 #!/usr/bin/env python3
-"""Makes the databases in examples/ that AIDE has written, of a small tree before and after some changes.
+"""Makes the databases in examples/ that AIDE has written, of a small tree before and after some
+changes.
 
-It runs as root, with AIDE 0.18.3 installed. The tree is made in /srv/aide-example and removed again.
+It runs as root, with AIDE 0.18.3 installed. The tree is made in /srv/aide-example and removed
+again.
 
-For each folder of examples/ with an `aide.conf` that begins with the line of MARK, AIDE writes `old.db` and `new.db` by
-that configuration. `aide-counts.txt` gets what AIDE counts between the two.
+For each folder of examples/ with an `aide.conf` that begins with the line of MARK, AIDE writes
+`old.db` and `new.db` by that configuration. `aide-counts.txt` gets what AIDE counts between the
+two.
 """
 import glob
 import gzip
@@ -95,7 +98,9 @@ def aide(folder, command, *lines):
     """What AIDE answers under the configuration of a folder."""
     lines = ["@@define DIR " + folder] + list(lines)
     return subprocess.run(
-        ["aide", command, "-c", os.path.join(folder, "aide.conf"), "-B", "\n".join(lines)], stdout=subprocess.PIPE, check=False
+        ["aide", command, "-c", os.path.join(folder, "aide.conf"), "-B", "\n".join(lines)],
+        stdout=subprocess.PIPE,
+        check=False,
     )
 
 
@@ -113,7 +118,13 @@ def write_database(folder, name):
 def write_counts(folder):
     """What AIDE counts between the two databases, and its status."""
     done = aide(folder, "--compare")
-    counts = dict(re.findall(r"^\s+(%s):\s*(\d+)" % "|".join(LABELS), done.stdout.decode("utf-8", "replace"), re.MULTILINE))
+    counts = dict(
+        re.findall(
+            r"^\s+(%s):\s*(\d+)" % "|".join(LABELS),
+            done.stdout.decode("utf-8", "replace"),
+            re.MULTILINE,
+        )
+    )
     lines = ["%s %s" % (LABELS[label], counts[label]) for label in LABELS]
     with open(os.path.join(folder, "aide-counts.txt"), "w") as out:
         out.write("\n".join(["status %d" % done.returncode] + lines) + "\n")

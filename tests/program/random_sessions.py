@@ -1,4 +1,5 @@
-"""Random sessions: a configuration, a command line and two databases. Session NUMBER of a seed is always the same one."""
+"""Random sessions: a configuration, a command line and two databases. Session NUMBER of a seed is
+always the same one."""
 import collections
 import os
 import random
@@ -29,7 +30,8 @@ def make_session(seed, number, folder):
 
 
 def make_session_beside(seed, number, folder):
-    """Writes the files of a session of four databases, of which two are trusted, and gives its words."""
+    """Writes the files of a session of four databases, of which two are trusted, and gives its
+    words."""
     pick = random.Random("%d %d beside" % (seed, number))
     bad = pick.choice([0, 0, 0, 0, 0.3])
     config = os.path.join(folder, b"conf")
@@ -47,7 +49,8 @@ def beside_definitions(program, words):
 
 
 def try_session(check, seed, number, top, make):
-    """The status that is wanted of a session, and what is not as wanted; `check` gives both for words."""
+    """The status that is wanted of a session, and what is not as wanted; `check` gives both for
+    words."""
     folder = os.path.join(top, b"%d" % number)
     os.mkdir(folder)
     words = make(seed, number, folder)
@@ -60,11 +63,13 @@ def try_session(check, seed, number, top, make):
 
 
 def try_sessions(check, seed, numbers, jobs, tally, make=make_session):
-    """Tries so many sessions, which `make` writes; the files of those that went wrong are kept. Gives how many wanted
-    which status."""
+    """Tries so many sessions, which `make` writes; the files of those that went wrong are kept.
+    Gives how many wanted which status."""
     top = tempfile.mkdtemp(prefix="sessions-").encode()
     statuses = collections.Counter()
-    results = side_by_side(jobs, lambda number: try_session(check, seed, number, top, make), numbers)
+    results = side_by_side(
+        jobs, lambda number: try_session(check, seed, number, top, make), numbers
+    )
     for number, (status, faults) in zip(numbers, results):
         tally.add("seed %d, session %d" % (seed, number), faults)
         statuses[status] += 1

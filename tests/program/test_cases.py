@@ -18,6 +18,10 @@ class CasesTest(ProgramTest):
             with tempfile.TemporaryDirectory() as name:
                 folder = name.encode()
                 want = cases.stored(case, folder)
-                self.check(label, cases.answers_in(case, folder, lambda words: run(self.program, words)), want)
+                self.check(
+                    label,
+                    cases.answers_in(case, folder, lambda words: run(self.program, words)),
+                    want,
+                )
                 given = wanted(*[cases.answers_in(case, folder, list)], file_at)
                 self.add("the definitions at " + label, difference(given, want))

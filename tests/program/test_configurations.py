@@ -1,8 +1,9 @@
-"""Tries the built program over configurations: refused ones, those that are only just allowed, and random ones.
+"""Tries the built program over configurations: refused ones, those that are only just allowed, and
+random ones.
 
-The tables in configurations/ say where and why a configuration is refused, or what it sets. The definitions have to say
-the same. Of random configurations with blocks and variables the definitions alone know the answer. The last line is 'N
-passed, M failed'.
+The tables in configurations/ say where and why a configuration is refused, or what it sets. The
+definitions have to say the same. Of random configurations with blocks and variables the definitions
+alone know the answer. The last line is 'N passed, M failed'.
 """
 import base64
 import collections
@@ -20,13 +21,21 @@ DIFFERENT = b"AIDE found differences between the two databases.\n"
 SAME = b"AIDE found NO differences between the two databases.\n"
 ACCEPTED = Answer(b"", b"", 0)
 
-# An entry in which nothing but the owner changed: the details have a further line only if one is forced.
+# An entry in which nothing but the owner changed: the details have a further line only if one is
+# forced.
 OWNED = b"@@begin_db\n@@db_spec name attr perm size uid\n/c 44 100644 10 %d\n@@end_db\n"
 FORCED_LINES = {"Perm": b"  Perm      : 0644 ", "Size": b"  Size      : 10 "}
 
 # Fields of an entry that has every attribute.
 DETAIL = re.compile(rb"^  (\S+?) *: ", re.M)
-VALUES = {"type": b"120644", "perm": b"120644", "number": b"7", "time": base64.b64encode(b"7"), "link": b"x", "opaque": b"x"}
+VALUES = {
+    "type": b"120644",
+    "perm": b"120644",
+    "number": b"7",
+    "time": base64.b64encode(b"7"),
+    "link": b"x",
+    "opaque": b"x",
+}
 
 # What random texts are refused for: in so many configurations each of these has to come.
 ENOUGH = 1000
@@ -57,11 +66,19 @@ def refusal(said):
 def with_all(**more):
     """A database of one entry with all attributes, and these other fields."""
     fields = {
-        each.column: VALUES[each.form] if each.form in VALUES else base64.b64encode(bytes(each.form[0])) for each in ATTRIBUTES
+        each.column: VALUES[each.form]
+        if each.form in VALUES
+        else base64.b64encode(bytes(each.form[0]))
+        for each in ATTRIBUTES
     }
     bits = sum(1 << each.bit for each in ATTRIBUTES if each.bit)
     fields.update({"name": b"/c", "attr": b"%d" % bits, **more})
-    lines = (b"@@begin_db", b"@@db_spec " + " ".join(fields).encode(), b" ".join(fields.values()), b"@@end_db")
+    lines = (
+        b"@@begin_db",
+        b"@@db_spec " + " ".join(fields).encode(),
+        b" ".join(fields.values()),
+        b"@@end_db",
+    )
     return b"".join(line + b"\n" for line in lines)
 
 
@@ -88,7 +105,10 @@ class ConfigurationTest(ProgramTest):
 
     def compared(self, text, before=b"", after=b""):
         """The words that compare the databases of the folder."""
-        named = b"database_in=file:%s/old\ndatabase_new=file:%s/new\n" % (self.folder.path, self.folder.path)
+        named = b"database_in=file:%s/old\ndatabase_new=file:%s/new\n" % (
+            self.folder.path,
+            self.folder.path,
+        )
         return self.words(b"-E", text, named + before, after)
 
     def pair(self, old, new):
@@ -106,20 +126,26 @@ class ConfigurationTest(ProgramTest):
 
 def quiet_texts():
     """All that set `report_quiet`, as three texts."""
-    alone = accepted.QUIET + [front + line + back for front, back in accepted.AROUND for line in accepted.PASSED_OVER]
+    alone = accepted.QUIET + [
+        front + line + back for front, back in accepted.AROUND for line in accepted.PASSED_OVER
+    ]
     return [(b"", text, b"") for text in alone] + accepted.QUIET_TEXTS
 
 
 def detail_names(answer):
     """The names in the details of a report."""
-    details = answer.output.partition(b"Detailed information")[2].partition(b"The attributes of the databases")[0]
+    details = answer.output.partition(b"Detailed information")[2].partition(
+        b"The attributes of the databases"
+    )[0]
     return {name.decode() for name in DETAIL.findall(details)}
 
 
 class ConfigurationsTest(ConfigurationTest):
     def test_refused(self) -> None:
         for line, said, text in refused.ALL + limits.REFUSED:
-            self.check_words(shown(text), self.words(b"-D", text), refusal("config:%d: %s" % (line, said)))
+            self.check_words(
+                shown(text), self.words(b"-D", text), refusal("config:%d: %s" % (line, said))
+            )
         for flag, rows in ((b"-D", refused.CHECKED_TEXTS), (b"-E", refused.COMPARED_TEXTS)):
             for said, before, text, after in rows:
                 self.check_words(shown(text), self.words(flag, text, before, after), refusal(said))
@@ -137,7 +163,9 @@ class ConfigurationsTest(ConfigurationTest):
         for texts in quiet_texts():
             self.sets(shown(texts[1]), texts, usual, ACCEPTED)
         for text in accepted.MINIMAL:
-            self.sets(shown(text), (b"", text, b""), Answer(DIFFERENT, b"", 7), Answer(SAME, b"", 0))
+            self.sets(
+                shown(text), (b"", text, b""), Answer(DIFFERENT, b"", 7), Answer(SAME, b"", 0)
+            )
 
     def test_forced(self) -> None:
         self.pair(OWNED % 0, OWNED % 1)
@@ -153,12 +181,21 @@ class ConfigurationsTest(ConfigurationTest):
         for name, is_variable, is_group, fault in names.NAMES:
             for line, is_good in ((b"@@undef " + name, is_variable), (name + b" = p", is_group)):
                 if is_good is not None:
-                    self.check_words(shown(line), self.words(b"-D", line), ACCEPTED if is_good else refusal("config:1: bad name"))
+                    self.check_words(
+                        shown(line),
+                        self.words(b"-D", line),
+                        ACCEPTED if is_good else refusal("config:1: bad name"),
+                    )
             line = b"my = " + name
-            self.check_words(shown(line), self.words(b"-D", line), refusal("config:1: " + fault) if fault else ACCEPTED)
+            self.check_words(
+                shown(line),
+                self.words(b"-D", line),
+                refusal("config:1: " + fault) if fault else ACCEPTED,
+            )
 
     def test_names(self) -> None:
-        """What predefined names and expressions force: what is shown whether the owner or the group has changed."""
+        """What predefined names and expressions force: what is shown whether the owner or the group
+        has changed."""
         for before, rows in ((b"", accepted.NAMES), (accepted.OWN_GROUPS, accepted.EXPRESSIONS)):
             for text, names_shown in rows:
                 words = self.compared(before + b"report_force_attrs=" + text)
@@ -169,7 +206,9 @@ class ConfigurationsTest(ConfigurationTest):
                     self.agree(shown(text), words, answer)
                     shown_of.append(detail_names(answer))
                 got = shown_of[0] & shown_of[1]
-                self.add(shown(text), [] if got == set(names_shown) else ["forced are %r" % sorted(got)])
+                self.add(
+                    shown(text), [] if got == set(names_shown) else ["forced are %r" % sorted(got)]
+                )
 
     def test_levels(self) -> None:
         """Whether a report of each level has lists and details."""
@@ -177,8 +216,14 @@ class ConfigurationsTest(ConfigurationTest):
         for level, has_lists, has_details in accepted.LEVELS:
             words = self.compared(b"report_level=" + level)
             answer = run(self.program, words)
-            got = b"\nf < p             : /c\n" in answer.output, b"\nDetailed information" in answer.output
-            self.add(shown(level), [] if got == (has_lists, has_details) else ["lists and details: %r" % (got,)])
+            got = (
+                b"\nf < p             : /c\n" in answer.output,
+                b"\nDetailed information" in answer.output,
+            )
+            self.add(
+                shown(level),
+                [] if got == (has_lists, has_details) else ["lists and details: %r" % (got,)],
+            )
             self.agree(shown(level), words, answer)
 
     def test_paths(self) -> None:

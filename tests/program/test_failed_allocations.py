@@ -1,22 +1,24 @@
 """Makes each allocation of the built program fail in turn, over whole sessions.
 
-The program asks the C library for memory, by malloc and realloc. A library that is loaded before the C library (fail_allocation.c)
-refuses the n-th of these calls, for every n until the session asks for no more: only the n-th, and the n-th with all later
-ones. After each refusal the program has to end with status 22, the one line `aide: out of memory` and no output. A session
-without a refusal answers what the definitions say.
+The program asks the C library for memory, by malloc and realloc. A library that is loaded before
+the C library (fail_allocation.c) refuses the n-th of these calls, for every n until the session
+asks for no more: only the n-th, and the n-th with all later ones. After each refusal the program
+has to end with status 22, the one line `aide: out of memory` and no output. A session without a
+refusal answers what the definitions say.
 
-Two kinds of calls may be refused without an effect, so that the answer is the whole one: those of the C library itself, and
-those of a command line that is not understood. There the parser looks for names that are close, which are never printed.
-The sessions are the stored cases, the examples at each report level, long arguments, paths and configurations, and random
-ones.
+Two kinds of calls may be refused without an effect, so that the answer is the whole one: those of
+the C library itself, and those of a command line that is not understood. There the parser looks for
+names that are close, which are never printed. The sessions are the stored cases, the examples at
+each report level, long arguments, paths and configurations, and random ones.
 
-The same is done with the program that writes lines of JSON, over the examples at one level, the long and the random sessions,
-and random ones of four databases, of which two are trusted.
-Another program, crates/aide_in_memory, runs sessions over files in memory. Each call that is refused memory has to say so, and
-is made once more. So with one refusal the program has to print what is stored beside it; with all later ones refused too it has
-to end with status 22 behind a front of that.
+The same is done with the program that writes lines of JSON, over the examples at one level, the
+long and the random sessions, and random ones of four databases, of which two are trusted. Another
+program, crates/aide_in_memory, runs sessions over files in memory. Each call that is refused memory
+has to say so, and is made once more. So with one refusal the program has to print what is stored
+beside it; with all later ones refused too it has to end with status 22 behind a front of that.
 
-The library is built by a C compiler of the machine or by that of the toolchain; with neither the test fails.
+The library is built by a C compiler of the machine or by that of the toolchain; with neither the
+test fails.
 """
 import os
 import shutil
@@ -37,9 +39,13 @@ from tests.lib.tally import difference, side_by_side, wanted, wanted_lines
 SESSIONS = 20  # Random ones.
 NOTES = struct.Struct("3l")
 STARVED = refused(b"out of memory", NO_MEMORY)
-# The calls of a session in memory that take memory, and how many of their allocations fail at least.
+# The calls of a session in memory that take memory, and how many of their allocations fail at
+# least.
 IN_MEMORY = {b"push": 70, b"add": 20, b"read_words": 300, b"point": 10, b"session": 500}
-WAYS = {"only one allocation fails": lambda first: first, "one allocation and all later ones fail": lambda first: 2**31 - 1}
+WAYS = {
+    "only one allocation fails": lambda first: first,
+    "one allocation and all later ones fail": lambda first: 2**31 - 1,
+}
 SHOWN = 3
 NAME_LIMIT, PATH_LIMIT, FOLDER_NAME = 64, 4095, b"f" * 200
 
@@ -53,9 +59,16 @@ class Refuser:
         self.program, self.library, self.wanted = program, library, wanted
 
     def run(self, words, first=0, last=0):
-        """What the program answers where the calls for memory with these numbers are refused, and what was counted."""
+        """What the program answers where the calls for memory with these numbers are refused, and
+        what was counted."""
         answer, notes = run_with(
-            self.library, self.program, words, NOTES, "GROWTHS_NOTES", GROWTHS_FIRST=first, GROWTHS_LAST=last
+            self.library,
+            self.program,
+            words,
+            NOTES,
+            "GROWTHS_NOTES",
+            GROWTHS_FIRST=first,
+            GROWTHS_LAST=last,
         )
         return Refusal(answer, *(notes[0] if notes else (0, 0, 0)))
 
@@ -84,9 +97,13 @@ def try_session(refuser, words):
         found[way] = []
         for first in range(1, free.calls + 1):
             refusal = refuser.run(words, first, last_of(first))
-            counts.update(refused=1, not_felt=refusal.answer == whole != STARVED, of_others=not refusal.own)
+            counts.update(
+                refused=1, not_felt=refusal.answer == whole != STARVED, of_others=not refusal.own
+            )
             found[way] += ["growth %d: %s" % (first, fault) for fault in faults_of(refusal, whole)]
-        found[way] += faults_of_whole(refuser.run(words, free.calls + 1, last_of(free.calls + 1)), whole)
+        found[way] += faults_of_whole(
+            refuser.run(words, free.calls + 1, last_of(free.calls + 1)), whole
+        )
     return counts, found
 
 
@@ -110,11 +127,14 @@ def example_sessions(levels):
     """What AIDE has written, with every attribute too, at these report levels."""
     for folder in folders_of_aide():
         for level in levels:
-            yield "%s at %s" % (os.path.basename(folder), level), words_at(folder, "report_level=" + level)
+            yield "%s at %s" % (os.path.basename(folder), level), words_at(
+                folder, "report_level=" + level
+            )
 
 
 def definitions_of_each_length():
-    """A configuration with variables, blocks and groups whose names have each length up to the longest."""
+    """A configuration with variables, blocks and groups whose names have each length up to the
+    longest."""
     lines = [b"Base = p", b"@@define FIRST s"]
     for length in range(1, NAME_LIMIT + 1):
         variable, group = b"v" * length, b"g" * length
@@ -134,11 +154,27 @@ def definitions_of_each_length():
 def long_sessions(top):
     """Many definitions, and long words, configurations and paths."""
     pair = b"database_in=file:/@DIR@/old\ndatabase_new=file:/@DIR@/new\n"
-    conf = made(os.path.join(top, b"long"), conf=pair + definitions_of_each_length(), old=OLD, new=NEW)
+    conf = made(
+        os.path.join(top, b"long"), conf=pair + definitions_of_each_length(), old=OLD, new=NEW
+    )
     yield "many words", [b"-E", b"-c", conf] + [b"word"] * 40
     yield "long words", [b"-D", b"-c", conf, b"-B", b"#" * 9000, b"-A", b"\n" * 30000]
-    yield "many definitions, checked", [b"-D", b"-c", conf, b"-B", b"@@define A x", b"-A", b"mine = gggg+p"]
-    yield "many definitions, compared", [b"-E", b"-c", conf, b"-A", b"report_ignore_changed_attrs=gg"]
+    yield "many definitions, checked", [
+        b"-D",
+        b"-c",
+        conf,
+        b"-B",
+        b"@@define A x",
+        b"-A",
+        b"mine = gggg+p",
+    ]
+    yield "many definitions, compared", [
+        b"-E",
+        b"-c",
+        conf,
+        b"-A",
+        b"report_ignore_changed_attrs=gg",
+    ]
     yield "a fault behind many definitions", [b"-E", b"-c", conf, b"-A", b"mine = nope"]
     lines = pair + b"/a line without effect @@{A}\n" * 1000
     conf = made(os.path.join(top, b"lines"), conf=lines, old=SKIPPING, new=SKIPPING)
@@ -166,9 +202,16 @@ def long_sessions_beside(top):
     folder = os.path.join(top, b"beside", FOLDER_NAME, FOLDER_NAME)
     files = {"old": OLD, "new": NEW, "trusted_old": names(3000), "trusted_new": SKIPPING}
     conf = made(folder, conf=pair, **files)
-    trusted = [b"--trusted-old", os.path.join(folder, b"trusted_old"), b"--trusted-new", os.path.join(folder, b"trusted_new")]
+    trusted = [
+        b"--trusted-old",
+        os.path.join(folder, b"trusted_old"),
+        b"--trusted-new",
+        os.path.join(folder, b"trusted_new"),
+    ]
     yield "beside a long trusted database", [b"-E", b"-c", conf] + trusted
-    yield "beside no trusted database", [b"-E", b"-c", conf] + trusted[:3] + [trusted[3] + b"x" * 200]
+    yield "beside no trusted database", [b"-E", b"-c", conf] + trusted[:3] + [
+        trusted[3] + b"x" * 200
+    ]
     yield "a trusted pair in part", [b"-E", b"-c", conf] + trusted[:2]
 
 
@@ -192,7 +235,9 @@ def sessions_of_lines(top, seed, count):
 
 def try_sessions(refuser, known, jobs, tally):
     """Tries sessions."""
-    for (label, _), (_, found) in zip(known, side_by_side(jobs, lambda one: try_session(refuser, one[1]), known)):
+    for (label, _), (_, found) in zip(
+        known, side_by_side(jobs, lambda one: try_session(refuser, one[1]), known)
+    ):
         for way, faults in found.items():
             rest = ["and %d faults more" % (len(faults) - SHOWN)] if len(faults) > SHOWN else []
             tally.add("%s, %s" % (label, way), faults[:SHOWN] + rest)
@@ -206,9 +251,14 @@ def refused_call(refusal):
 
 
 def faults_in_memory(alone, onwards, free):
-    """What is not as wanted where a growth of the sessions in memory is refused: only this one, and all later ones too."""
+    """What is not as wanted where a growth of the sessions in memory is refused: only this one, and
+    all later ones too."""
     faults = [] if refused_call(alone) else ["no call told of it: %r" % alone.answer.errors]
-    faults += [] if alone.own == 1 and not alone.others else ["%d refused, %d of others" % (alone.own, alone.others)]
+    faults += (
+        []
+        if alone.own == 1 and not alone.others
+        else ["%d refused, %d of others" % (alone.own, alone.others)]
+    )
     faults += difference(alone.answer, free.answer._replace(errors=alone.answer.errors))
     if onwards.answer.status != NO_MEMORY or onwards.answer.errors != alone.answer.errors:
         faults.append("with all later ones: %r" % (onwards.answer,))
@@ -231,7 +281,9 @@ def try_in_memory(refuser, stored, jobs, tally):
     numbers = range(1, free.calls + 1)
     for first, (alone, onwards) in zip(numbers, side_by_side(jobs, both, numbers)):
         counts[refused_call(alone)] += 1
-        tally.add("sessions in memory, growth %d refused" % first, faults_in_memory(alone, onwards, free))
+        tally.add(
+            "sessions in memory, growth %d refused" % first, faults_in_memory(alone, onwards, free)
+        )
     for name, least in IN_MEMORY.items():
         few = ["%d refused, fewer than %d" % (counts[name], least)] if counts[name] < least else []
         tally.add("sessions in memory, allocations of " + name.decode(), few)
@@ -253,7 +305,9 @@ class FailedAllocationsTest(ProgramTest):
         try_sessions(Refuser(self.program, self.library, wanted), known, 2, self)
 
     def test_lines(self) -> None:
-        known = list(sessions_of_lines(os.path.join(self.directory, b"lines"), new_seed(), SESSIONS))
+        known = list(
+            sessions_of_lines(os.path.join(self.directory, b"lines"), new_seed(), SESSIONS)
+        )
         try_sessions(Refuser(self.lines_program, self.library, wanted_lines), known, 2, self)
 
     def test_sessions_in_memory(self) -> None:

@@ -1,12 +1,15 @@
-"""Makes each call go wrong by which the built program opens, closes, reads or writes a file, one call in a run.
+"""Makes each call go wrong by which the built program opens, closes, reads or writes a file, one
+call in a run.
 
-A library that is loaded before the C library (fail_call.c) makes the n-th call of a kind fail, take nothing or move half of
-its bytes, for every n. All later calls work again. So a failure that the program ignores, or a call that it makes once more,
-shows in its answer. The right answer to each run is exact: which file could not be opened, in which line of which database
-reading failed, and which bytes had gone out before. The openings of each undisturbed run are compared too.
-The program that writes lines of JSON is tried over a trusted pair too.
+A library that is loaded before the C library (fail_call.c) makes the n-th call of a kind fail, take
+nothing or move half of its bytes, for every n. All later calls work again. So a failure that the
+program ignores, or a call that it makes once more, shows in its answer. The right answer to each
+run is exact: which file could not be opened, in which line of which database reading failed, and
+which bytes had gone out before. The openings of each undisturbed run are compared too. The program
+that writes lines of JSON is tried over a trusted pair too.
 
-The library is built by a C compiler of the machine or by that of the toolchain; with neither the test fails.
+The library is built by a C compiler of the machine or by that of the toolchain; with neither the
+test fails.
 """
 import os
 import shutil
@@ -24,13 +27,19 @@ NOTE = struct.Struct("3l")
 OPEN, CLOSE, READ, WRITE = range(1, 5)
 KINDS = {OPEN: "opening", CLOSE: "closing", READ: "reading", WRITE: "writing"}
 FAILS, DOES_NOTHING, IS_SHORT = range(1, 4)
-WAYS = {OPEN: [FAILS], CLOSE: [FAILS], READ: [FAILS, IS_SHORT], WRITE: [FAILS, DOES_NOTHING, IS_SHORT]}
+WAYS = {
+    OPEN: [FAILS],
+    CLOSE: [FAILS],
+    READ: [FAILS, IS_SHORT],
+    WRITE: [FAILS, DOES_NOTHING, IS_SHORT],
+}
 WORDS = {FAILS: "fails", DOES_NOTHING: "takes nothing", IS_SHORT: "is short"}
 OUTPUT, ERRORS = 1, 2
 NOT_WRITTEN = refused(b"cannot write the report", BAD_DEVICE).errors
 LONG, SHOWN = 6000, 3
 
-# Of a session: its words, its whole answer, the calls that it makes undisturbed, and the texts of its files.
+# Of a session: its words, its whole answer, the calls that it makes undisturbed, and the texts of
+# its files.
 Session = namedtuple("Session", "words whole calls files")
 Call = namedtuple("Call", "kind descriptor result")
 # How often the sides are opened where the words ask for a comparison, and both texts are sound.
@@ -44,13 +53,15 @@ OPENINGS = {
 }
 # Lines are written in one pass, behind one that reads.
 MOST_OPENINGS, MOST_OF_LINES = 6, 2
-# The databases by the names of their files, in the order in which they are opened, and what a fault calls them.
+# The databases by the names of their files, in the order in which they are opened, and what a fault
+# calls them.
 FILES = ["old", "new", "trusted_old", "trusted_new"]
 NAMES = [b"old", b"new", b"trusted old", b"trusted new"]
 
 
 def sessions(folder):
-    """The labels of the sessions, their words, and the texts of the configuration and of both databases."""
+    """The labels of the sessions, their words, and the texts of the configuration and of both
+    databases."""
     texts = {
         "a report of all parts": (OLD, NEW, b""),
         "a report of several pages": (OLD, names(LONG), b"report_grouped=no"),
@@ -72,7 +83,8 @@ def sessions(folder):
 
 
 def sessions_of_lines(folder):
-    """Those of the program of lines, some of which have a trusted pair, so that the texts are those of four databases."""
+    """Those of the program of lines, some of which have a trusted pair, so that the texts are those
+    of four databases."""
     yield from sessions(folder)
     texts = {
         "lines beside a trusted pair": (OLD, NEW, OLD, NEW),
@@ -97,7 +109,8 @@ def opened_as(session, number):
 
 
 def file_of(session, index):
-    """Which file the call at an index reads, and how many of its bytes were read since it was opened."""
+    """Which file the call at an index reads, and how many of its bytes were read since it was
+    opened."""
     opened, taken, calls = 0, 0, session.calls
     for number, call in enumerate(calls[:index]):
         if call.kind == OPEN and call.result == calls[index].descriptor:
@@ -108,7 +121,11 @@ def file_of(session, index):
 
 
 def written_before(calls, index, descriptor):
-    return sum(call.result for call in calls[:index] if call.kind == WRITE and call.descriptor == descriptor)
+    return sum(
+        call.result
+        for call in calls[:index]
+        if call.kind == WRITE and call.descriptor == descriptor
+    )
 
 
 def config_of(session):
@@ -147,7 +164,8 @@ def answer_where(session, kind, number, way):
 
 
 def openings_of(calls):
-    """How often a file was opened, how many were open at most at a time, and how many were left open."""
+    """How often a file was opened, how many were open at most at a time, and how many were left
+    open."""
     at_once, most = 0, 0
     for call in calls:
         at_once += (call.kind == OPEN and call.result >= 0) - (call.kind == CLOSE)
@@ -156,7 +174,8 @@ def openings_of(calls):
 
 
 class Stumbler:
-    """A program, its sessions and what is wanted of them, and the library that lets its calls go wrong."""
+    """A program, its sessions and what is wanted of them, and the library that lets its calls go
+    wrong."""
 
     def __init__(self, program, library, tried):
         self.program, self.library = program, library
@@ -164,7 +183,14 @@ class Stumbler:
 
     def run(self, words, kind=0, number=0, way=0):
         answer, notes = run_with(
-            self.library, self.program, words, NOTE, "FAIL_NOTES", FAIL_KIND=kind, FAIL_NUMBER=number, FAIL_WAY=way
+            self.library,
+            self.program,
+            words,
+            NOTE,
+            "FAIL_NOTES",
+            FAIL_KIND=kind,
+            FAIL_NUMBER=number,
+            FAIL_WAY=way,
         )
         return answer, [Call(*note) for note in notes]
 
@@ -184,10 +210,20 @@ def try_session(stumbler, label, words, files, jobs, tally):
     sides = len(files) - 1
     known = 1 + sides * min(OPENINGS.get(label, 0), stumbler.most_openings)
     is_right = most <= sides and left == 0 and (label not in OPENINGS or openings == known)
-    tally.add(label + ", openings", [] if is_right else ["%d, %d at a time, %d left" % (openings, most, left)])
+    tally.add(
+        label + ", openings",
+        [] if is_right else ["%d, %d at a time, %d left" % (openings, most, left)],
+    )
     session, counts = Session(words, whole, calls, files), Counter(call.kind for call in calls)
-    tasks = [(kind, number, way) for kind in KINDS for number in range(1, counts[kind] + 1) for way in WAYS[kind]]
-    for (kind, _, way), faults in zip(tasks, side_by_side(jobs, lambda task: try_one(stumbler, session, *task), tasks)):
+    tasks = [
+        (kind, number, way)
+        for kind in KINDS
+        for number in range(1, counts[kind] + 1)
+        for way in WAYS[kind]
+    ]
+    for (kind, _, way), faults in zip(
+        tasks, side_by_side(jobs, lambda task: try_one(stumbler, session, *task), tasks)
+    ):
         tally.add("%s, a %s that %s" % (label, KINDS[kind], WORDS[way]), faults)
     return counts
 
@@ -197,7 +233,10 @@ def try_calls(stumbler, top, jobs, tally):
     counts = Counter()
     for label, words, files in stumbler.sessions(top):
         counts.update(try_session(stumbler, label, words, files, jobs, tally))
-    tally.add("calls of each kind", [] if all(counts[kind] > 1 for kind in KINDS) else ["are %r" % (counts,)])
+    tally.add(
+        "calls of each kind",
+        [] if all(counts[kind] > 1 for kind in KINDS) else ["are %r" % (counts,)],
+    )
 
 
 @slow
@@ -212,7 +251,12 @@ class FailedCallsTest(ProgramTest):
             self.fail("\n".join(faults))
 
     def test_report(self) -> None:
-        try_calls(Stumbler(self.program, self.library, (wanted, MOST_OPENINGS, sessions)), self.directory, 2, self)
+        try_calls(
+            Stumbler(self.program, self.library, (wanted, MOST_OPENINGS, sessions)),
+            self.directory,
+            2,
+            self,
+        )
 
     def test_lines(self) -> None:
         how = (wanted_lines, MOST_OF_LINES, sessions_of_lines)

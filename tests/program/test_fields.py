@@ -1,8 +1,9 @@
 """Tries what the built program makes of the fields of a database, by the details of its reports.
 
-The tables in field_rows.py and change_rows.py say what a field means, whether two of them differ, what a report makes of
-that, or why a field is refused. The table of attributes in oracle/attributes.py is tried row by row. The definitions have to
-say the same. The last line is 'N passed, M failed'.
+The tables in field_rows.py and change_rows.py say what a field means, whether two of them differ,
+what a report makes of that, or why a field is refused. The table of attributes in
+oracle/attributes.py is tried row by row. The definitions have to say the same. The last line is 'N
+passed, M failed'.
 """
 import base64
 import re
@@ -20,7 +21,8 @@ ALL_DETAILS = b"report_level=added_removed_entries\nreport_base16=yes\n"
 CHANGED_DETAILS = b"report_level=changed_attributes\n"
 NOTHING = b"@@begin_db\n@@db_spec name\n@@end_db\n"
 
-# A line of the details: the name of the attribute, or nothing where a value goes on, and the values of both sides.
+# A line of the details: the name of the attribute, or nothing where a value goes on, and the values
+# of both sides.
 LINE = re.compile(rb"^  (.{10})(?:: |  )(.{32}) \| (.*)$", re.MULTILINE)
 
 # Two fields of each form that is no digest, and their values in the details.
@@ -81,11 +83,14 @@ class FieldTest(ProgramTest):
 
 
 def fields_of(form):
-    """Pairs of an old and a new field of a form, each with its value. Digests are as short and as long as they may be."""
+    """Pairs of an old and a new field of a form, each with its value. Digests are as short and as
+    long as they may be."""
     if form in FIELDS:
         return [FIELDS[form]]
     digests = [[bytes(length), b"\xa5" * length] for length in sorted(set(form))]
-    return [[(base64.b64encode(digest), digest.hex().encode()) for digest in pair] for pair in digests]
+    return [
+        [(base64.b64encode(digest), digest.hex().encode()) for digest in pair] for pair in digests
+    ]
 
 
 class FieldsTest(FieldTest):
@@ -106,11 +111,17 @@ class FieldsTest(FieldTest):
     def test_letters(self) -> None:
         """The summary strings of entries of each type that were added or removed."""
         for field, _, letter in field_rows.TYPES:
-            for sign, sides in (("+", (NOTHING, database(b"perm", field))), ("-", (database(b"perm", field), NOTHING))):
-                self.is_value(field, summaries(self.answer(shown(field), *sides).output), [letter + 17 * sign])
+            for sign, sides in (
+                ("+", (NOTHING, database(b"perm", field))),
+                ("-", (database(b"perm", field), NOTHING)),
+            ):
+                self.is_value(
+                    field, summaries(self.answer(shown(field), *sides).output), [letter + 17 * sign]
+                )
 
     def test_attributes(self) -> None:
-        """An entry in which one attribute alone changes: its details, its letter, its name in configurations, and its bit."""
+        """An entry in which one attribute alone changes: its details, its letter, its name in
+        configurations, and its bit."""
         for each in ATTRIBUTES:
             name, columns = each.name.encode(), b"attr " + each.column.encode()
             letter = ">" if each.slot == "Z" else each.slot
@@ -120,12 +131,21 @@ class FieldsTest(FieldTest):
                 sides = [database(columns, b"%d %s" % (bits, field)) for field in (old, new)]
                 output = self.answer(shown(name), *sides).output
                 self.is_value(name, details(output), {each.detail: (old_value, new_value)})
-                self.is_value(name, summaries(output), [("!" if each.slot == "Y" else "?") + letters])
-                ignored = self.answer(shown(name), *sides, ALL_DETAILS + b"report_ignore_changed_attrs=" + name)
+                self.is_value(
+                    name, summaries(output), [("!" if each.slot == "Y" else "?") + letters]
+                )
+                ignored = self.answer(
+                    shown(name), *sides, ALL_DETAILS + b"report_ignore_changed_attrs=" + name
+                )
                 self.is_value(name, ignored.status, 0)
                 if each.bit:
-                    sides = [database(columns, b"%d %s" % (2**64 - 1 - bits, field)) for field in (old, new)]
-                    self.is_value(name, each.detail in details(self.answer(shown(name), *sides).output), False)
+                    sides = [
+                        database(columns, b"%d %s" % (2**64 - 1 - bits, field))
+                        for field in (old, new)
+                    ]
+                    self.is_value(
+                        name, each.detail in details(self.answer(shown(name), *sides).output), False
+                    )
             for length in () if each.form in FIELDS else (each.form[0] - 1, each.form[1] + 1):
                 if length:
                     other = database(each.column.encode(), base64.b64encode(bytes(length)))
@@ -135,7 +155,9 @@ class FieldsTest(FieldTest):
         """What is reported of a change, what the details show of it, and its summary string."""
         for row in change_rows.CHANGES:
             sides = [database(row.columns, fields) for fields in (row.old, row.new)]
-            at_all = self.answer(shown(row.ignored), *sides, row.ignored + b"report_level=added_removed_attributes")
+            at_all = self.answer(
+                shown(row.ignored), *sides, row.ignored + b"report_level=added_removed_attributes"
+            )
             self.is_value(row.ignored, list(details(at_all.output)), row.reported)
             output = self.answer(shown(row.options), *sides, row.ignored + row.options).output
             self.is_value(row.options, list(details(output)), row.shown)
@@ -145,7 +167,11 @@ class FieldsTest(FieldTest):
         for field, path in field_rows.NAMES:
             text = b"@@begin_db\n@@db_spec name acl\n%s POSIX,0\n@@end_db\n" % field
             answer = self.answer(shown(field), NOTHING, text)
-            self.is_value(field, re.findall(rb"^\?\+{17}: (.*)$", answer.output, re.MULTILINE), [printed(path)])
+            self.is_value(
+                field,
+                re.findall(rb"^\?\+{17}: (.*)$", answer.output, re.MULTILINE),
+                [printed(path)],
+            )
             self.is_value(field, details(answer.output), {"ACL": (b"", b"POSIX,0")})
 
     def test_lacking(self) -> None:
@@ -154,10 +180,13 @@ class FieldsTest(FieldTest):
             self.is_value(having, name in self.added(columns, having), True)
 
     def test_pairs(self) -> None:
-        """What has changed from a field to another. An attribute that only one side has is no change of a value."""
+        """What has changed from a field to another. An attribute that only one side has is no
+        change of a value."""
         for column, old, new, changed in field_rows.PAIRS:
             both = old + b" " + new
-            answer = self.answer(shown(both), database(column, old), database(column, new), CHANGED_DETAILS)
+            answer = self.answer(
+                shown(both), database(column, old), database(column, new), CHANGED_DETAILS
+            )
             self.is_value(both, list(details(answer.output)), changed)
 
     def test_entries(self) -> None:

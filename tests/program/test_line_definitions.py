@@ -1,9 +1,11 @@
-"""Tries the definitions of the lines (tests/oracle/lines.py) by what is written by hand and by other readers.
+"""Tries the definitions of the lines (tests/oracle/lines.py) by what is written by hand and by
+other readers.
 
-Members and whole answers come from the tables in line_rows.py, and the characters that need an escape from Python's table
-of Unicode. Python's `json` and, if it is there, jq read the lines back. Over random pairs of databases the lines have to
-say what the databases say, and to have the status, the counts, the paths and the attributes of the report of the same
-pair. The last line is 'N passed, M failed'.
+Members and whole answers come from the tables in line_rows.py, and the characters that need an
+escape from Python's table of Unicode. Python's `json` and, if it is there, jq read the lines back.
+Over random pairs of databases the lines have to say what the databases say, and to have the status,
+the counts, the paths and the attributes of the report of the same pair. The last line is 'N passed,
+M failed'.
 """
 import itertools
 import json
@@ -47,7 +49,8 @@ CHARACTER = (
 UTF8 = re.compile(b"(?:" + CHARACTER + b")*")
 # Bytes at which a rule of UTF-8 begins or ends.
 EDGES = b"\x00\x7f\x80\x8f\x90\x9f\xa0\xbf\xc0\xc1\xc2\xdf\xe0\xe1\xec\xed\xee\xef\xf0\xf1\xf3\xf4\xf5\xff"
-# The parts of a report: a count, an entry of the lists, and in the details an entry or the name of an attribute.
+# The parts of a report: a count, an entry of the lists, and in the details an entry or the name of
+# an attribute.
 COUNT = re.compile(rb"^  (?:Total|Added|Removed|Changed) .*?([0-9]+)$", re.MULTILINE)
 LISTED = re.compile(rb"^(.{18}): (/.*)$", re.MULTILINE)
 DETAIL = re.compile(rb"^(?:[A-Z][A-Za-z ]*: (?P<path>/.*)|  (?P<name>\S.{9}): .*)$", re.MULTILINE)
@@ -67,7 +70,10 @@ def pairs(members):
 
 def read(output):
     """The objects of the lines."""
-    return [json.loads(line.decode("utf-8"), object_pairs_hook=pairs) for line in output.split(b"\n")[:-1]]
+    return [
+        json.loads(line.decode("utf-8"), object_pairs_hook=pairs)
+        for line in output.split(b"\n")[:-1]
+    ]
 
 
 def needs_escape(character):
@@ -105,7 +111,8 @@ def value_of(attribute, members):
 
 
 def side_of(members):
-    """What an object says of one side, by the names of the attributes; each member has to be of an attribute."""
+    """What an object says of one side, by the names of the attributes; each member has to be of an
+    attribute."""
     known = [one for one in ATTRIBUTES if one.detail in members or one.detail + "_hex" in members]
     if len(known) != len(members):
         raise ValueError("unknown members: %r" % members)
@@ -118,7 +125,11 @@ def title_of(kind):
 
 def side_of_database(entry, names):
     """The same from the entry of a database: the attributes that the report shows."""
-    shows = [attribute.name for attribute in ATTRIBUTES if attribute.name in entry and attribute.detail in names]
+    shows = [
+        attribute.name
+        for attribute in ATTRIBUTES
+        if attribute.name in entry and attribute.detail in names
+    ]
     side = {name: entry[name] for name in shows}
     return {**side, "ftype": title_of(side["ftype"])} if "ftype" in side else side
 
@@ -144,9 +155,15 @@ def faults_beside(output, report, old, new):
     if [last[name] for name in counts] != numbers:
         faults.append("other counts: %r, %r" % (numbers, last))
     accounted = ["same_as" in entry for entry in entries]
-    if (last["same_as_old"], last["others"], last["end"]) != (sum(accounted), accounted.count(False), True):
+    if (last["same_as_old"], last["others"], last["end"]) != (
+        sum(accounted),
+        accounted.count(False),
+        True,
+    ):
         faults.append("the last line: %r" % last)
-    if [(entry["summary"].encode(), printed(bytes_of(entry, "path"))) for entry in entries] != LISTED.findall(report):
+    if [
+        (entry["summary"].encode(), printed(bytes_of(entry, "path"))) for entry in entries
+    ] != LISTED.findall(report):
         faults.append("other entries than those of the lists")
     for entry in entries:
         path = bytes_of(entry, "path")
@@ -156,7 +173,11 @@ def faults_beside(output, report, old, new):
         if entry.get("type") != titles[0]:
             faults.append("type of %r: wanted %r, given %r" % (path, titles[0], entry))
         for side, database, lacks in (("old", old, "added"), ("new", new, "removed")):
-            want = side_of_database(database.entries[path], names) if path in database.entries else None
+            want = (
+                side_of_database(database.entries[path], names)
+                if path in database.entries
+                else None
+            )
             given = side_of(entry[side]) if side in entry else None
             if given != want or (entry["kind"] == lacks) != (want is None):
                 faults.append("%s of %r: wanted %r, given %r" % (side, path, want, given))
@@ -173,7 +194,9 @@ class LineDefinitionsTest(AnswerTest):
                     continue
                 text = string(chr(code))
                 is_plain = text == b'"%s"' % chr(code).encode()
-                if is_plain == needs_escape(chr(code)) or json.loads(text.decode("utf-8")) != chr(code):
+                if is_plain == needs_escape(chr(code)) or json.loads(text.decode("utf-8")) != chr(
+                    code
+                ):
                     faults.append("U+%04X is written %r" % (code, text))
             self.add("characters from U+%X0000 on" % plane, faults)
 
@@ -184,12 +207,15 @@ class LineDefinitionsTest(AnswerTest):
             for text in map(bytes, itertools.product(pool, repeat=length)):
                 name, value = text_member("x", text)
                 value, is_utf8 = json.loads(value.decode("utf-8")), UTF8.fullmatch(text)
-                if (name, value) != (("x", text.decode("utf-8", "replace")) if is_utf8 else ("x_hex", text.hex())):
+                if (name, value) != (
+                    ("x", text.decode("utf-8", "replace")) if is_utf8 else ("x_hex", text.hex())
+                ):
                     faults.append("%r is written %r" % (text, (name, value)))
             self.add("lists of %d bytes" % length, faults)
 
     def test_members(self) -> None:
-        """Each form of each attribute, at an added entry, at a removed one, and at one that is changed."""
+        """Each form of each attribute, at an added entry, at a removed one, and at one that is
+        changed."""
         for column, field, member in line_rows.MEMBERS:
             text = b"@@begin_db\n@@db_spec name %s\n/a %s\n@@end_db\n" % (column, field)
             other = b"@@begin_db\n@@db_spec name\n/a\n@@end_db\n"
@@ -199,13 +225,21 @@ class LineDefinitionsTest(AnswerTest):
                 (other, text, '"old":{},"new":{%s}' % member if member else None),
             ):
                 lines = answer_to(COMPARE, NAMES, old, new).output.split(b"\n")[1:-2]
-                good = not lines if sides is None else len(lines) == 1 and lines[0].endswith(b"," + sides.encode() + b"}")
+                good = (
+                    not lines
+                    if sides is None
+                    else len(lines) == 1 and lines[0].endswith(b"," + sides.encode() + b"}")
+                )
                 self.holds("%s %s" % (column.decode(), shown(field)), good, lines)
         columns = {column for column, _, member in line_rows.MEMBERS if member}
-        self.holds("each attribute has a row", columns == {attribute.column.encode() for attribute in ATTRIBUTES})
+        self.holds(
+            "each attribute has a row",
+            columns == {attribute.column.encode() for attribute in ATTRIBUTES},
+        )
 
     def test_accounts(self) -> None:
-        """What accounts for a change, by entries that are written by hand; turned round the answer is the same."""
+        """What accounts for a change, by entries that are written by hand; turned round the answer
+        is the same."""
         for columns, old, new, accounts in line_rows.ACCOUNTS:
             sides = [
                 b"@@begin_db\n@@db_spec name %s\n/a %s\n@@end_db\n" % (columns, b" ".join(fields))
@@ -215,7 +249,10 @@ class LineDefinitionsTest(AnswerTest):
                 _, *entries, last = read(answer_to(COMPARE, NAMES, *turned).output)
                 given = [entry.get("same_as") for entry in entries]
                 numbers = (last["same_as_old"], last["others"])
-                good = given == ["old" if accounts else None] and numbers == (accounts, not accounts)
+                good = given == ["old" if accounts else None] and numbers == (
+                    accounts,
+                    not accounts,
+                )
                 self.holds("what accounts for %r and %r" % (old, new), good, (entries, last))
 
     def test_names(self) -> None:
@@ -236,34 +273,54 @@ class LineDefinitionsTest(AnswerTest):
         """Whole answers, under each layout of a report."""
         skipped = b"aide: %s database: column 5 skipped\n"
         layouts = [b"report_level=%s\n" % level.encode() for level in LEVELS]
-        layouts += [b"%s=%s\n" % (name.encode(), value) for name in BOOL_OPTIONS for value in (b"yes", b"no")]
+        layouts += [
+            b"%s=%s\n" % (name.encode(), value)
+            for name in BOOL_OPTIONS
+            for value in (b"yes", b"no")
+        ]
         for (options, output, status), layout in itertools.product(line_rows.WHOLE, layouts):
             errors = skipped % b"old" + (b"" if status else skipped % b"new")
             answer = answer_to(COMPARE, NAMES + options + layout, line_rows.OLD, line_rows.NEW)
-            self.check("%r with %r" % (options, layout), answer, Answer(output.encode(), errors, status))
+            self.check(
+                "%r with %r" % (options, layout), answer, Answer(output.encode(), errors, status)
+            )
         for options, output in line_rows.SETTINGS:
-            self.check("what %r says" % options, answer_to(CHECK, options), Answer(output.encode(), b"", 0))
+            self.check(
+                "what %r says" % options, answer_to(CHECK, options), Answer(output.encode(), b"", 0)
+            )
 
     def test_pairs(self) -> None:
-        """Random pairs; Python and, if it is here, jq read the lines of those that are sound alike."""
+        """Random pairs; Python and, if it is here, jq read the lines of those that are sound
+        alike."""
         seed, outputs = new_seed(), []
         for number in range(PAIRS):
             pick = random.Random("%d %d" % (seed, number))
             options = random_configuration(pick, b"", pick.choice([0, 0, 0, 0.3]))
             files = (options, *random_pair(pick))
             answer, report = answer_to(COMPARE, *files), answer_to(COMPARE, *files, asked=answer_of)
-            self.check("seed %d, pair %d" % (seed, number), answer._replace(output=b""), report._replace(output=b""))
+            self.check(
+                "seed %d, pair %d" % (seed, number),
+                answer._replace(output=b""),
+                report._replace(output=b""),
+            )
             if answer.status > 7:
                 self.holds("no output", not answer.output, answer)
                 continue
             settings = {**configuration.read(b"", options, b"", True), **WIDEST}
-            texts = [{b"/old": files[1], b"/new": files[2]}[settings[name][-4:]] for name in ("database_in", "database_new")]
+            texts = [
+                {b"/old": files[1], b"/new": files[2]}[settings[name][-4:]]
+                for name in ("database_in", "database_new")
+            ]
             old, new = map(database_of, texts)
             report = report_of(old, new, texts, settings)[0]
-            self.add("seed %d, pair %d" % (seed, number), faults_beside(answer.output, report, old, new))
+            self.add(
+                "seed %d, pair %d" % (seed, number), faults_beside(answer.output, report, old, new)
+            )
             outputs.append(answer.output)
         program, output = shutil.which("jq"), b"".join(outputs)
         if program is None:
             self.skipTest("not installed: jq")
-        done = subprocess.run([program, "-c", "."], input=output, stdout=subprocess.PIPE, check=False).stdout
+        done = subprocess.run(
+            [program, "-c", "."], input=output, stdout=subprocess.PIPE, check=False
+        ).stdout
         self.holds("jq reads what Python reads", output and read(done) == read(output))

@@ -1,6 +1,8 @@
-"""Random sessions: whole folders of files and a command line, to which the program has to answer as the definitions do.
+"""Random sessions: whole folders of files and a command line, to which the program has to answer as
+the definitions do.
 
-AIDE_SEED=NUMBER repeats the sessions of a seed, which each failure names, and AIDE_SESSIONS=NUMBER has so many of them.
+AIDE_SEED=NUMBER repeats the sessions of a seed, which each failure names, and AIDE_SESSIONS=NUMBER
+has so many of them.
 """
 from __future__ import annotations
 
@@ -14,4 +16,6 @@ COUNT = int(os.environ.get("AIDE_SESSIONS") or 200)
 
 class SessionsTest(ProgramTest):
     def test_random_sessions(self) -> None:
-        try_sessions(lambda words: beside_definitions(self.program, words), new_seed(), range(COUNT), 2, self)
+        try_sessions(
+            lambda words: beside_definitions(self.program, words), new_seed(), range(COUNT), 2, self
+        )

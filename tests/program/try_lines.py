@@ -1,11 +1,13 @@
 #!/usr/bin/env python3
-"""Tries the program that writes the changes as lines of JSON, crates/aide_lines, beside the definitions, byte by byte.
+"""Tries the program that writes the changes as lines of JSON, crates/aide_lines, beside the
+definitions, byte by byte.
 
-It tries the stored cases, random sessions, the tables of configurations, names of each byte, values of every attribute,
-lines of the greatest length, and outputs that fail. Each answer has to be that of tests/oracle/lines.py, and Python's
-`json` has to read it. With --report a second program is run, which writes the report of the same words: both have to
-print the same on standard error and to end with the same status. With --pairs only the databases below a folder are
-compared, each with the next one beside it. The last line is 'N passed, M failed'.
+It tries the stored cases, random sessions, the tables of configurations, names of each byte, values
+of every attribute, lines of the greatest length, and outputs that fail. Each answer has to be that
+of tests/oracle/lines.py, and Python's `json` has to read it. With --report a second program is run,
+which writes the report of the same words: both have to print the same on standard error and to end
+with the same status. With --pairs only the databases below a folder are compared, each with the
+next one beside it. The last line is 'N passed, M failed'.
 """
 import base64
 import gzip
@@ -29,8 +31,15 @@ from tests.program.real_files.test_outside import limited
 from tests.program.test_configurations import with_all
 
 EMPTY = b"@@begin_db\n@@db_spec name\n@@end_db\n"
-OTHER_VALUES = {"type": b"100600", "perm": b"100600", "number": b"18446744073709551615", "time": b"LTk=", "link": b"%ffz"}
-# Of names with each byte: alone, behind a letter, and behind the first byte of a character of two, three or four.
+OTHER_VALUES = {
+    "type": b"100600",
+    "perm": b"100600",
+    "number": b"18446744073709551615",
+    "time": b"LTk=",
+    "link": b"%ffz",
+}
+# Of names with each byte: alone, behind a letter, and behind the first byte of a character of two,
+# three or four.
 FRONTS = [b"", b"x", b"\xc3", b"\xe2\x80", b"\xf0\x9f\x98"]
 
 
@@ -41,7 +50,8 @@ def pairs(members):
 
 
 def faults_of_lines(output):
-    """What Python's `json` has against an output: each line is one object, in which no name stands twice."""
+    """What Python's `json` has against an output: each line is one object, in which no name stands
+    twice."""
     faults = []
     for number, line in enumerate(output.split(b"\n")[:-1], 1):
         try:
@@ -53,7 +63,8 @@ def faults_of_lines(output):
 
 
 class Lines:
-    """The program of lines, beside the definitions and, if it is given, beside the program of the report."""
+    """The program of lines, beside the definitions and, if it is given, beside the program of the
+    report."""
 
     def __init__(self, program, report, tally):
         self.program, self.report, self.tally = program, report, tally
@@ -71,7 +82,11 @@ class Lines:
     def check(self, label, words, *statuses):
         """Tries a session, which has to end with one of these statuses if there are any."""
         status, faults = self.beside(words)
-        self.tally.add(label, faults + ([] if not statuses or status in statuses else ["status %d is wanted" % status]))
+        self.tally.add(
+            label,
+            faults
+            + ([] if not statuses or status in statuses else ["status %d is wanted" % status]),
+        )
 
     def compared(self, label, old, new, *statuses, options=b""):
         with Folder() as folder:
@@ -86,7 +101,8 @@ class Lines:
 
 
 def try_cases(lines):
-    """The stored cases: the program of lines ends as the report does, with the same lines on standard error."""
+    """The stored cases: the program of lines ends as the report does, with the same lines on
+    standard error."""
     for path in cases.all_cases():
         case, label = cases.read(path), os.path.relpath(path, cases.FOLDER)
         with tempfile.TemporaryDirectory() as folder:
@@ -95,7 +111,9 @@ def try_cases(lines):
             answer, want = run(lines.program, words), wanted_lines(words)
             lines.tally.check(label, answer, want)
             ends = Answer(answer.output, stored.errors, stored.status)
-            lines.tally.add(label + ", its end", difference(answer, ends) + faults_of_lines(answer.output))
+            lines.tally.add(
+                label + ", its end", difference(answer, ends) + faults_of_lines(answer.output)
+            )
 
 
 def try_refused(lines):
@@ -107,37 +125,60 @@ def try_refused(lines):
 
 def try_accepted(lines):
     """Configurations that are accepted: the line of -D says what each sets."""
-    around = [front + line + back for front, back in accepted.AROUND for line in accepted.PASSED_OVER]
+    around = [
+        front + line + back for front, back in accepted.AROUND for line in accepted.PASSED_OVER
+    ]
     levels = [b"report_level=" + level for level, _, _ in accepted.LEVELS]
     forced = [b"report_force_attrs=" + text for text, _ in accepted.NAMES]
     own = [accepted.OWN_GROUPS + b"report_force_attrs=" + text for text, _ in accepted.EXPRESSIONS]
-    for text in accepted.QUIET + accepted.MINIMAL + around + levels + forced + own + limits.ACCEPTED:
+    for text in (
+        accepted.QUIET + accepted.MINIMAL + around + levels + forced + own + limits.ACCEPTED
+    ):
         lines.checked(text, 0)
     for _, text in accepted.FORCED:
         lines.checked(text, 0)
-    for before, text, after in accepted.QUIET_TEXTS + [(before, text, b"") for before, text, _, _ in accepted.PATHS]:
+    for before, text, after in accepted.QUIET_TEXTS + [
+        (before, text, b"") for before, text, _, _ in accepted.PATHS
+    ]:
         lines.checked(text, 0, before=before, after=after)
     for each in ATTRIBUTES:
-        for option in (b"report_ignore_added_attrs", b"report_ignore_removed_attrs", b"report_ignore_changed_attrs"):
+        for option in (
+            b"report_ignore_added_attrs",
+            b"report_ignore_removed_attrs",
+            b"report_ignore_changed_attrs",
+        ):
             lines.checked(b"%s=%s" % (option, each.name.encode()), 0, 17)
 
 
 def try_forms(lines):
-    """Which names a variable and a group may have: what is refused and what is not, the report knows."""
+    """Which names a variable and a group may have: what is refused and what is not, the report
+    knows."""
     for name, _, _, _ in names.NAMES:
         for text in (b"@@undef " + name, name + b" = p", b"my = " + name):
             lines.checked(text, 0, 17)
 
 
 def try_paths(lines):
-    """Paths of the databases with each byte, which the line of -D names, and which are missing if they are compared."""
+    """Paths of the databases with each byte, which the line of -D names, and which are missing if
+    they are compared."""
     for byte in range(1, 256):
         if byte != ord("\n"):
             text = b"database_in=file:/none/%c|\ndatabase_new=file:/none/new\n" % byte
             lines.checked(text, 0, 17)
     with Folder() as folder:
-        for name in (b"plain", b"a b", "h\xf6h".encode(), b"\xff\x80", b'"\\', b"\t\x7f", "\u202e\u2066".encode()):
-            folder.write("conf", b"database_in=file:%s/%s\ndatabase_new=file:%s/%s\n" % ((folder.path, name) * 2))
+        for name in (
+            b"plain",
+            b"a b",
+            "h\xf6h".encode(),
+            b"\xff\x80",
+            b'"\\',
+            b"\t\x7f",
+            "\u202e\u2066".encode(),
+        ):
+            folder.write(
+                "conf",
+                b"database_in=file:%s/%s\ndatabase_new=file:%s/%s\n" % ((folder.path, name) * 2),
+            )
             with open(os.path.join(folder.path, name), "wb") as file:
                 file.write(SKIPPING)
             lines.check("a database named %r" % name, folder.words(), 0, 17)
@@ -149,13 +190,23 @@ def coded(text):
 
 def try_names(lines):
     """Names of entries with each byte, and links to each."""
-    texts = sorted({front + bytes([byte]) + back for front in FRONTS for byte in range(1, 256) for back in (b"", b"a")})
+    texts = sorted(
+        {
+            front + bytes([byte]) + back
+            for front in FRONTS
+            for byte in range(1, 256)
+            for back in (b"", b"a")
+        }
+    )
     named = b"".join(b"/" + coded(text) + b" 1\n" for text in texts if b"/" not in text)
     named = b"@@begin_db\n@@db_spec name size\n" + named + b"@@end_db\n"
     lines.compared("names of each byte, removed", named, EMPTY, 2)
     lines.compared("names of each byte, added", EMPTY, named, 1)
     linked = b"".join(b"/%05d %%s%s\n" % (number, coded(text)) for number, text in enumerate(texts))
-    old, new = (b"@@begin_db\n@@db_spec name lname\n" + linked.replace(b"%s", end) + b"@@end_db\n" for end in (b"x", b"y"))
+    old, new = (
+        b"@@begin_db\n@@db_spec name lname\n" + linked.replace(b"%s", end) + b"@@end_db\n"
+        for end in (b"x", b"y")
+    )
     lines.compared("links to each byte", old, new, 4)
 
 
@@ -167,12 +218,19 @@ def other_value(each):
 
 
 def try_attributes(lines):
-    """Every attribute: added, removed and changed, alone and with all others, forced and ignored."""
+    """Every attribute: added, removed and changed, alone and with all others, forced and
+    ignored."""
     lines.compared("all attributes, added", EMPTY, with_all(), 1)
     lines.compared("all attributes, removed", with_all(), EMPTY, 2)
     every = with_all(**{each.column: other_value(each) for each in ATTRIBUTES})
     lines.compared("all attributes, changed", with_all(), every, 4)
-    lines.compared("all attributes, forced", with_all(), with_all(uid=b"9"), 4, options=b"report_force_attrs=R+H+X\n")
+    lines.compared(
+        "all attributes, forced",
+        with_all(),
+        with_all(uid=b"9"),
+        4,
+        options=b"report_force_attrs=R+H+X\n",
+    )
     for each in ATTRIBUTES:
         one = with_all(**{each.column: other_value(each)})
         lines.compared("another " + each.name, with_all(), one, 4)
@@ -181,7 +239,8 @@ def try_attributes(lines):
 
 
 def try_long_lines(lines):
-    """Lines of the greatest length, and one byte longer: paths and values of a megabyte in one line of JSON."""
+    """Lines of the greatest length, and one byte longer: paths and values of a megabyte in one line
+    of JSON."""
     for more, status in ((0, 2), (1, 24)):
         path = b"/%ff" + b"a" * (LINE_LIMIT - 6 + more) + b" 1"
         old = b"@@begin_db\n@@db_spec name size\n" + path + b"\n@@end_db\n"
@@ -197,9 +256,17 @@ def try_outputs(lines):
         folder.pair(OLD, NEW)
         for label, words in both_jobs(folder):
             with open("/dev/full", "wb") as full:
-                lines.tally.check(label + " to a full device", run(lines.program, words, stdout=full), (None, NOT_WRITTEN, 18))
+                lines.tally.check(
+                    label + " to a full device",
+                    run(lines.program, words, stdout=full),
+                    (None, NOT_WRITTEN, 18),
+                )
             writing = closed_pipe()
-            lines.tally.check(label + " to a closed pipe", run(lines.program, words, stdout=writing), (None, NOT_WRITTEN, 18))
+            lines.tally.check(
+                label + " to a closed pipe",
+                run(lines.program, words, stdout=writing),
+                (None, NOT_WRITTEN, 18),
+            )
             os.close(writing)
             answer = run(lines.program, words, preexec_fn=lambda: os.close(1))
             lines.tally.check(label + " without standard output", answer, (b"", NOT_WRITTEN, 18))
@@ -218,10 +285,16 @@ def try_sizes(lines):
             for most in [*range(0, len(want.output), 7), len(want.output) - 1, len(want.output)]:
                 before = limited(resource.RLIMIT_FSIZE, most)
                 with open(folder.at("out"), "wb") as out:
-                    answer = run(lines.program, words, stdout=out, restore_signals=False, preexec_fn=before)
+                    answer = run(
+                        lines.program, words, stdout=out, restore_signals=False, preexec_fn=before
+                    )
                 with open(folder.at("out"), "rb") as out:
                     given = Answer(out.read(), answer.errors, answer.status)
-                wanted = want if most == len(want.output) else Answer(want.output[:most], NOT_WRITTEN, 18)
+                wanted = (
+                    want
+                    if most == len(want.output)
+                    else Answer(want.output[:most], NOT_WRITTEN, 18)
+                )
                 lines.tally.check("%s to a file of %d bytes" % (label, most), given, wanted)
 
 
@@ -239,18 +312,38 @@ def try_pairs(lines, top):
             lines.compared("%s, %s and %s" % (folder, name, other), old, new)
 
 
-QUICK = [try_cases, try_refused, try_accepted, try_forms, try_paths, try_names, try_attributes, try_outputs]
+QUICK = [
+    try_cases,
+    try_refused,
+    try_accepted,
+    try_forms,
+    try_paths,
+    try_names,
+    try_attributes,
+    try_outputs,
+]
 
 
 def main():
     parser = parser_of("tests.program.try_lines", __doc__)
-    parser.add_argument("program", type=executable, help="the program of lines, crates/aide_lines/out/aide_lines")
-    parser.add_argument("--report", metavar="PROGRAM", type=executable, help="the program of the report")
-    parser.add_argument("--pairs", metavar="FOLDER", help="compare the databases below a folder, and nothing else")
-    parser.add_argument("--quick", action="store_true", help="without lines of a megabyte and files of little room")
+    parser.add_argument(
+        "program", type=executable, help="the program of lines, crates/aide_lines/out/aide_lines"
+    )
+    parser.add_argument(
+        "--report", metavar="PROGRAM", type=executable, help="the program of the report"
+    )
+    parser.add_argument(
+        "--pairs", metavar="FOLDER", help="compare the databases below a folder, and nothing else"
+    )
+    parser.add_argument(
+        "--quick", action="store_true", help="without lines of a megabyte and files of little room"
+    )
     parser.add_argument("--sessions", type=int, default=2000, help="how many random sessions")
     parser.add_argument(
-        "--seed", type=int, default=random.SystemRandom().randrange(10**9), help="the seed of the random sessions"
+        "--seed",
+        type=int,
+        default=random.SystemRandom().randrange(10**9),
+        help="the seed of the random sessions",
     )
     parser.add_argument("--jobs", type=int, default=2, help="how many random sessions at a time")
     given, tally = parser.parse_args(), Tally()

@@ -1,10 +1,12 @@
 #!/usr/bin/env python3
-"""Tries the program of lines, crates/aide_lines, over four databases: a pair that is compared and a trusted pair beside it.
+"""Tries the program of lines, crates/aide_lines, over four databases: a pair that is compared and a
+trusted pair beside it.
 
-Each answer has to be that of tests/oracle/lines.py, byte by byte. It tries stored cases, each way of naming the pair,
-damages of each of the four, databases that change while they are read, long lines, outputs that fail, and random
-sessions. With --nights only the nights of a folder are compared, each with its clean twin as the trusted pair, and what
-nothing accounts for has to be what tests/program/nights_beside_twin.txt lists. The last line is 'N passed, M failed'.
+Each answer has to be that of tests/oracle/lines.py, byte by byte. It tries stored cases, each way
+of naming the pair, damages of each of the four, databases that change while they are read, long
+lines, outputs that fail, and random sessions. With --nights only the nights of a folder are
+compared, each with its clean twin as the trusted pair, and what nothing accounts for has to be what
+tests/program/nights_beside_twin.txt lists. The last line is 'N passed, M failed'.
 """
 import collections
 import glob
@@ -45,7 +47,10 @@ BEFORE = {
     "n10-kernel": "n9-remove",
     "n11-rotate": "n10-kernel",
 }
-DIGESTS = b"47DEQpj8HBSa+/TImW+5JCeuQeRkm5NMpJWZG3hSuFU=", b"1N8IG5grI+ZsrHEC+dkQMvKWyvEwMZkdkK9E7my/bjs="
+DIGESTS = (
+    b"47DEQpj8HBSa+/TImW+5JCeuQeRkm5NMpJWZG3hSuFU=",
+    b"1N8IG5grI+ZsrHEC+dkQMvKWyvEwMZkdkK9E7my/bjs=",
+)
 HEAD = b"@@begin_db\n@@db_spec name perm mtime sha256\n"
 FOUR = [
     HEAD + b"/a 100644 1 %s\n/b 100644 1 %s\n@@end_db\n" % DIGESTS,
@@ -74,7 +79,11 @@ class Trusted:
     def check(self, label, words, *statuses):
         """Tries a session, which has to end with one of these statuses if there are any."""
         status, faults = self.beside(words)
-        self.tally.add(label, faults + ([] if not statuses or status in statuses else ["status %d is wanted" % status]))
+        self.tally.add(
+            label,
+            faults
+            + ([] if not statuses or status in statuses else ["status %d is wanted" % status]),
+        )
 
 
 def folder_of(folder, four):
@@ -94,7 +103,11 @@ def try_stored(trusted):
             words = cases.answers_in(case, folder, list)
             trusted.tally.check(label, run(trusted.program, words), want)
             trusted.tally.add("the definitions at " + label, difference(wanted_lines(words), want))
-            found = [fault for line in want.output.splitlines() for fault in VALIDATOR.faults(json.loads(line))]
+            found = [
+                fault
+                for line in want.output.splitlines()
+                for fault in VALIDATOR.faults(json.loads(line))
+            ]
             trusted.tally.add("the schema at " + label, found)
 
 
@@ -102,7 +115,10 @@ def try_words(trusted):
     """Each way to name a pair, and to name less or more than one."""
     with Folder() as folder:
         folder_of(folder, FOUR)
-        old, new = [b"--trusted-old", folder.at("trusted_old")], [b"--trusted-new", folder.at("trusted_new")]
+        old, new = [b"--trusted-old", folder.at("trusted_old")], [
+            b"--trusted-new",
+            folder.at("trusted_new"),
+        ]
         compared = folder.words()
         for label, words, status in (
             ("a pair", compared + old + new, 7),
@@ -132,15 +148,23 @@ def try_words(trusted):
         ):
             trusted.check(label, words, status)
             if status == 15:
-                trusted.tally.check(label, run(trusted.program, words), Answer(b"", USAGE_LINE + b"\n", 15))
+                trusted.tally.check(
+                    label, run(trusted.program, words), Answer(b"", USAGE_LINE + b"\n", 15)
+                )
 
 
 def try_refused(report, tally):
     """The program of the report refuses both options."""
     with Folder() as folder:
         folder_of(folder, FOUR)
-        for words in (folder.words_beside(), folder.words_beside()[:5], [b"-D"] + folder.words_beside()[1:]):
-            tally.check("a report beside a pair", run(report, words), Answer(b"", USAGE_LINE + b"\n", 15))
+        for words in (
+            folder.words_beside(),
+            folder.words_beside()[:5],
+            [b"-D"] + folder.words_beside()[1:],
+        ):
+            tally.check(
+                "a report beside a pair", run(report, words), Answer(b"", USAGE_LINE + b"\n", 15)
+            )
 
 
 def try_four(trusted, four):
@@ -161,12 +185,22 @@ def try_damages(trusted, jobs):
 def try_first_faults(trusted):
     """Of several databases with a fault the first one is named."""
     for faulty in range(1, 16):
-        four = [text.replace(b"@@end_db\n", b"") if faulty >> at & 1 else text for at, text in enumerate(FOUR)]
+        four = [
+            text.replace(b"@@end_db\n", b"") if faulty >> at & 1 else text
+            for at, text in enumerate(FOUR)
+        ]
         first = [at for at in range(4) if faulty >> at & 1][0]
         with Folder() as folder:
             folder_of(folder, four)
-            want = Answer(b"", b"aide: %s database:%d: no @@end_db\n" % (NAMES[first], four[first].count(b"\n") + 1), 24)
-            trusted.tally.check("faults %s" % bin(faulty), run(trusted.program, folder.words_beside()), want)
+            want = Answer(
+                b"",
+                b"aide: %s database:%d: no @@end_db\n"
+                % (NAMES[first], four[first].count(b"\n") + 1),
+                24,
+            )
+            trusted.tally.check(
+                "faults %s" % bin(faulty), run(trusted.program, folder.words_beside()), want
+            )
             trusted.check("faults %s, by the definitions" % bin(faulty), folder.words_beside(), 24)
             for at in range(4):
                 if faulty >> at & 1:
@@ -188,9 +222,13 @@ def fed(trusted, folder, texts):
 
 
 def try_changes(trusted):
-    """Each database is opened twice. One that is another one at its second opening is named, and the lines are cut."""
+    """Each database is opened twice. One that is another one at its second opening is named, and
+    the lines are cut."""
     with Folder() as folder:
-        for label, four in (("small databases", FOUR), ("long databases", [FOUR[0], names(6000), FOUR[2], names(6000)])):
+        for label, four in (
+            ("small databases", FOUR),
+            ("long databases", [FOUR[0], names(6000), FOUR[2], names(6000)]),
+        ):
             folder_of(folder, four)
             whole = wanted_lines(folder.words_beside())
             answer, openings = fed(trusted, folder, [[text] for text in four])
@@ -198,22 +236,38 @@ def try_changes(trusted):
             trusted.tally.holds(label + ", openings", openings == [2, 2, 2, 2], openings)
             for at, name in enumerate(NAMES):
                 text = four[at]
-                for other in (text[:-9], text[:40], b"", text + b"#", text.replace(b"/", b"/x", 1), text.replace(b"1", b"2", 1)):
+                for other in (
+                    text[:-9],
+                    text[:40],
+                    b"",
+                    text + b"#",
+                    text.replace(b"/", b"/x", 1),
+                    text.replace(b"1", b"2", 1),
+                ):
                     texts = [[each] for each in four]
                     texts[at] = [text, other]
                     answer, _ = fed(trusted, folder, texts)
                     line = b"aide: the %s database changed while it was read\n" % name
                     is_told = (answer.errors, answer.status) == (line, 18)
-                    is_cut = whole.output.startswith(answer.output) and len(answer.output) < len(whole.output)
+                    is_cut = whole.output.startswith(answer.output) and len(answer.output) < len(
+                        whole.output
+                    )
                     is_right = is_told and is_cut if other != text else answer == whole
-                    trusted.tally.holds("%s, the %s one changes" % (label, name.decode()), is_right, answer)
+                    trusted.tally.holds(
+                        "%s, the %s one changes" % (label, name.decode()), is_right, answer
+                    )
 
 
 def try_replaced(trusted):
-    """A trusted database that is replaced, or grows and shrinks, while it is read: a fault, or the lines of a whole one."""
+    """A trusted database that is replaced, or grows and shrinks, while it is read: a fault, or the
+    lines of a whole one."""
     for way in (replace, resize):
         for at, name in ((2, "trusted_old"), (3, "trusted_new")):
-            texts = [database(1), database(1) + b"more\n"] if way is resize else [database(1), database(2)]
+            texts = (
+                [database(1), database(1) + b"more\n"]
+                if way is resize
+                else [database(1), database(2)]
+            )
             with Folder() as folder:
                 folder_of(folder, [database(1), database(2), database(1), database(1)])
                 answers = []
@@ -226,7 +280,11 @@ def try_replaced(trusted):
                 for answer in given:
                     is_told = (answer.errors, answer.status) == (line, 18)
                     is_front = any(whole.output.startswith(answer.output) for whole in answers)
-                    trusted.tally.holds("%s, %s" % (way.__name__, name), answer in answers or is_told and is_front, answer)
+                    trusted.tally.holds(
+                        "%s, %s" % (way.__name__, name),
+                        answer in answers or is_told and is_front,
+                        answer,
+                    )
 
 
 def try_long_lines(trusted):
@@ -237,7 +295,11 @@ def try_long_lines(trusted):
             four = FOUR[:at] + [FOUR[at].replace(b"@@end_db", path + b"@@end_db")] + FOUR[at + 1 :]
             with Folder() as folder:
                 folder_of(folder, four)
-                trusted.check("a line of %d bytes, %s" % (len(path) - 1, FILES[at]), folder.words_beside(), status)
+                trusted.check(
+                    "a line of %d bytes, %s" % (len(path) - 1, FILES[at]),
+                    folder.words_beside(),
+                    status,
+                )
 
 
 def try_outputs(trusted):
@@ -246,9 +308,13 @@ def try_outputs(trusted):
         folder_of(folder, FOUR)
         words = folder.words_beside()
         with open("/dev/full", "wb") as full:
-            trusted.tally.check("a full device", run(trusted.program, words, stdout=full), (None, NOT_WRITTEN, 18))
+            trusted.tally.check(
+                "a full device", run(trusted.program, words, stdout=full), (None, NOT_WRITTEN, 18)
+            )
         writing = closed_pipe()
-        trusted.tally.check("a closed pipe", run(trusted.program, words, stdout=writing), (None, NOT_WRITTEN, 18))
+        trusted.tally.check(
+            "a closed pipe", run(trusted.program, words, stdout=writing), (None, NOT_WRITTEN, 18)
+        )
         os.close(writing)
         answer = run(trusted.program, words, preexec_fn=lambda: os.close(1))
         trusted.tally.check("no standard output", answer, (b"", NOT_WRITTEN, 18))
@@ -258,18 +324,31 @@ def try_random(trusted, given):
     """Random sessions, in which both accounts have to come often."""
     trusted.accounts.clear()
     numbers = range(given.sessions)
-    statuses = try_sessions(trusted.beside, given.seed, numbers, given.jobs, trusted.tally, make_session_beside)
+    statuses = try_sessions(
+        trusted.beside, given.seed, numbers, given.jobs, trusted.tally, make_session_beside
+    )
     print("by status: %s" % ", ".join("%d: %d" % known for known in sorted(statuses.items())))
-    print(", ".join("%d %s" % (count, account.decode()) for account, count in trusted.accounts.items()), flush=True)
+    print(
+        ", ".join(
+            "%d %s" % (count, account.decode()) for account, count in trusted.accounts.items()
+        ),
+        flush=True,
+    )
     if given.sessions >= 1000:
         for account, count in trusted.accounts.items():
-            trusted.tally.holds("lines with %s" % account.decode(), count > given.sessions // 8, count)
+            trusted.tally.holds(
+                "lines with %s" % account.decode(), count > given.sessions // 8, count
+            )
 
 
 def left_in(output):
     """The lines that nothing accounts for, each as its kind and its path."""
     lines = [json.loads(line) for line in output.splitlines()]
-    return ["%s %s" % (line["kind"], line["path"]) for line in lines if "kind" in line and "same_as" not in line]
+    return [
+        "%s %s" % (line["kind"], line["path"])
+        for line in lines
+        if "kind" in line and "same_as" not in line
+    ]
 
 
 def listed_nights():
@@ -285,7 +364,8 @@ def listed_nights():
 
 
 def try_nights(trusted, top):
-    """Each night of an intruder, with the night without him as the trusted pair, and each night without him beside itself."""
+    """Each night of an intruder, with the night without him as the trusted pair, and each night
+    without him beside itself."""
     nights = listed_nights()
     for name, before in BEFORE.items():
         for twin in (name + "-intruder", name):
@@ -301,19 +381,36 @@ def try_nights(trusted, top):
                 trusted.tally.check(twin, answer, wanted_lines(folder.words_beside()))
                 left = left_in(answer.output)
                 want = nights[twin] + (nights["every intruder"] if twin != name else [])
-                trusted.tally.add(twin + ", what is left", ["- " + line for line in want if line not in left])
-                trusted.tally.add(twin + ", no more is left", ["+ " + line for line in left if line not in want])
+                trusted.tally.add(
+                    twin + ", what is left", ["- " + line for line in want if line not in left]
+                )
+                trusted.tally.add(
+                    twin + ", no more is left", ["+ " + line for line in left if line not in want]
+                )
 
 
 def main():
     parser = parser_of("tests.program.try_trusted", __doc__)
-    parser.add_argument("program", type=executable, help="the program of lines, crates/aide_lines/out/aide_lines")
-    parser.add_argument("--report", metavar="PROGRAM", type=executable, help="the program of the report")
-    parser.add_argument("--nights", metavar="FOLDER", help="compare the nights of a folder, NAME.db.gz, and nothing else")
-    parser.add_argument("--quick", action="store_true", help="without damages, and files that are replaced")
+    parser.add_argument(
+        "program", type=executable, help="the program of lines, crates/aide_lines/out/aide_lines"
+    )
+    parser.add_argument(
+        "--report", metavar="PROGRAM", type=executable, help="the program of the report"
+    )
+    parser.add_argument(
+        "--nights",
+        metavar="FOLDER",
+        help="compare the nights of a folder, NAME.db.gz, and nothing else",
+    )
+    parser.add_argument(
+        "--quick", action="store_true", help="without damages, and files that are replaced"
+    )
     parser.add_argument("--sessions", type=int, default=2000, help="how many random sessions")
     parser.add_argument(
-        "--seed", type=int, default=random.SystemRandom().randrange(10**9), help="the seed of the random sessions"
+        "--seed",
+        type=int,
+        default=random.SystemRandom().randrange(10**9),
+        help="the seed of the random sessions",
     )
     parser.add_argument("--jobs", type=int, default=2, help="how many runs at a time")
     given, tally = parser.parse_args(), Tally()
@@ -321,7 +418,14 @@ def main():
     if given.nights:
         try_nights(trusted, given.nights)
         tally.end()
-    for trial in (try_stored, try_words, try_first_faults, try_changes, try_long_lines, try_outputs):
+    for trial in (
+        try_stored,
+        try_words,
+        try_first_faults,
+        try_changes,
+        try_long_lines,
+        try_outputs,
+    ):
         trial(trusted)
     if given.report:
         try_refused(program_of(given.report), tally)

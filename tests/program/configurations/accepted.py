@@ -100,7 +100,8 @@ PASSED_OVER = [
     b"@@ifdef @@{A}\n@@ifdef =\n@@endif\n@@endif",
 ]
 
-# What stands before and behind such lines in configurations that set `report_quiet`, and nothing else.
+# What stands before and behind such lines in configurations that set `report_quiet`, and nothing
+# else.
 AROUND = [
     (b"@@ifdef A\n", b"\n@@else\nreport_quiet=yes\n@@endif"),
     (b"@@ifndef A\nreport_quiet=yes\n@@else\n", b"\n@@endif"),
@@ -124,7 +125,19 @@ FORCED = [
 # The predefined names, and the details of an entry with all attributes that each of them forces.
 RIGHTS = ["ACL", "XAttrs", "SELinux", "E2FSAttrs", "Caps"]
 INODE = ["Type", "Lname", "Perm", "UID", "GID", "Inode", "Linkcount"]
-DIGESTS = ["MD5", "SHA1", "SHA256", "SHA512", "RMD160", "TIGER", "CRC32", "CRC32B", "HAVAL", "GOST", "WHIRLPOOL"]
+DIGESTS = [
+    "MD5",
+    "SHA1",
+    "SHA256",
+    "SHA512",
+    "RMD160",
+    "TIGER",
+    "CRC32",
+    "CRC32B",
+    "HAVAL",
+    "GOST",
+    "WHIRLPOOL",
+]
 DIGESTS += ["STRIBOG256", "STRIBOG512", "SHA512/256", "SHA3-256", "SHA3-512"]
 NAMES = [
     (b"E", []),
@@ -144,7 +157,8 @@ NAMES = [
     (b"X+L-X+growing", INODE),
 ]
 
-# Groups: one defined by itself, one in the place of a predefined name, one with the name of a column.
+# Groups: one defined by itself, one in the place of a predefined name, one with the name of a
+# column.
 OWN_GROUPS = b"my = p+s\nmy = my+u\n> = my\nsize = E\n"
 
 # What expressions over these groups force.
@@ -179,9 +193,15 @@ LEVELS = [
     (b"added_removed_entries", True, True),
 ]
 
-# A text before the file and the file, by which a database is looked for that is not there: the side and the path.
+# A text before the file and the file, by which a database is looked for that is not there: the side
+# and the path.
 PATHS = [
-    (b"", b"database_in=file:///none/old\ndatabase=file:/none/older\ndatabase_new=file:/none/new", b"old", b"/none/older"),
+    (
+        b"",
+        b"database_in=file:///none/old\ndatabase=file:/none/older\ndatabase_new=file:/none/new",
+        b"old",
+        b"/none/older",
+    ),
     (b"", b"database_in=file:///none/old\ndatabase_new=file:////none/new", b"old", b"/none/old"),
     (b"", b"database_new=file:////none/new", b"new", b"//none/new"),
     (b"@@define DIR /none/lib\n", b"database_in=file:@@{DIR}/old.db", b"old", b"/none/lib/old.db"),

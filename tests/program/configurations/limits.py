@@ -1,4 +1,5 @@
-"""Configurations of just the greatest depth, length and number of names, and beyond: the first fault, or none."""
+"""Configurations of just the greatest depth, length and number of names, and beyond: the first
+fault, or none."""
 
 # `A12` has 4,096 times x.
 DOUBLED = b"@@define A0 x\n" + b"".join(
@@ -48,10 +49,18 @@ REFUSED = [
     (1025, "too many definitions", VARIABLES + b"@@define NEW x"),
     (1026, "too many definitions", VARIABLES + b"@@undef NEW\n@@define NEW x"),
     (1027, "too many definitions", VARIABLES + b"@@undef v0007\n@@define v0007 x\n@@define NEW x"),
-    (1028, "too many definitions", VARIABLES + b"@@undef v0007\n@@define NEW x\n@@define v0001\n@@define MORE"),
+    (
+        1028,
+        "too many definitions",
+        VARIABLES + b"@@undef v0007\n@@define NEW x\n@@define v0001\n@@define MORE",
+    ),
     (1028, "bad name", VARIABLES + b"@@ifdef NEW\n@@undef v0000\n@@endif\n@@define A-B x"),
     (1025, "too many definitions", GROUPS + b"NEW = p"),
-    (1030, "too many definitions", GROUPS + b"@@define A\nv0007 = s\n@@ifdef NEW\nNEW = p\n@@endif\nNEW = v0000"),
+    (
+        1030,
+        "too many definitions",
+        GROUPS + b"@@define A\nv0007 = s\n@@ifdef NEW\nNEW = p\n@@endif\nNEW = v0000",
+    ),
     (1026, "unknown attribute", GROUPS + b"v1023 = s\nNEW = nope"),
 ]
 
@@ -77,5 +86,6 @@ ACCEPTED = [
     GROUPS,
 ]
 
-# Without a fault too, and so long that the definitions, which look back from each line, would take hours.
+# Without a fault too, and so long that the definitions, which look back from each line, would take
+# hours.
 WHOLE = [b"report_quiet=yes\n" * 246723, b"\n" * 4194304]

@@ -1,8 +1,8 @@
 """Names: which a variable and a group may have, and what is said of `my = NAME`."""
 from tests.oracle.attributes import NAMES as ATTRIBUTES
 
-# A name; whether a variable and whether a group may have it; and the fault of an expression of this name, or None. No line
-# defines a group without a name: one that begins with `=` chooses files.
+# A name; whether a variable and whether a group may have it; and the fault of an expression of this
+# name, or None. No line defines a group without a name: one that begins with `=` chooses files.
 NAMES = [
     (b"S", True, False, None),
     (b"I", True, False, None),

@@ -101,7 +101,10 @@ def random_line(pick, depth):
 
 def named(pick, line):
     """A line with a name in place of each `$`."""
-    return b"".join(pick.choice([b"A", b"B", b"C"]) if piece == b"$" else piece for piece in re.split(rb"(\$)", line))
+    return b"".join(
+        pick.choice([b"A", b"B", b"C"]) if piece == b"$" else piece
+        for piece in re.split(rb"(\$)", line)
+    )
 
 
 def random_text(pick):
@@ -114,7 +117,8 @@ def random_text(pick):
 
 
 def random_texts(seed, number):
-    """Three texts: always the same for a seed and a number. One line of half of them is hostile, each in its turn."""
+    """Three texts: always the same for a seed and a number. One line of half of them is hostile,
+    each in its turn."""
     pick = random.Random("%d %d" % (seed, number))
     texts = [random_text(pick) for _ in range(3)]
     if number % 2:

@@ -165,9 +165,19 @@ CHECKED_TEXTS = [
 COMPARED_TEXTS = [
     ("after:2: missing @@endif", b"", b"", b"@@ifdef A"),
     ("after:3: no old database", b"", b"", b"@@ifdef A\n@@endif\n"),
-    ("after:3: missing @@endif", b"", b"database_in=file:/old\ndatabase_new=file:/new", b"@@ifndef A\n\n"),
+    (
+        "after:3: missing @@endif",
+        b"",
+        b"database_in=file:/old\ndatabase_new=file:/new",
+        b"@@ifndef A\n\n",
+    ),
     ("after:1: no old database", b"@@ifdef A\ndatabase_in=file:/old\n@@endif", b"", b""),
-    ("after:1: no new database", b"", b"database_in=file:/old\n@@ifdef A\ndatabase_new=file:/new\n@@endif", b""),
+    (
+        "after:1: no new database",
+        b"",
+        b"database_in=file:/old\n@@ifdef A\ndatabase_new=file:/new\n@@endif",
+        b"",
+    ),
     ("after:1: no old database", b"", b"", b""),
     ("after:3: no old database", b"database_new=file:/new", b"", b"# a\n# b\n"),
     ("after:3: no new database", b"", b"database_in=file:/old", b"# a\n# b"),

@@ -79,7 +79,9 @@ def random_expression(pick):
 
 
 def random_option(pick):
-    name = pick.choice(["report_level", "report_level"] + BOOL_OPTIONS + SET_OPTIONS + SET_OPTIONS + ["other"])
+    name = pick.choice(
+        ["report_level", "report_level"] + BOOL_OPTIONS + SET_OPTIONS + SET_OPTIONS + ["other"]
+    )
     if name == "report_level":
         return b"report_level", pick.choice(LEVELS + LEVELS[4:]).encode()
     if name in BOOL_OPTIONS:
@@ -106,20 +108,52 @@ def random_line(pick):
     if way < 0.65:
         return b"@@define LEVEL " + pick.choice(LEVELS).encode()
     if way < 0.75:
-        value = pick.choice([b"minimal", b"", b"summary", b"@@{A}", b"x @@{B} y", b"p+s", b"@@{NOPE}", b"yes", b"@@{A"])
+        value = pick.choice(
+            [
+                b"minimal",
+                b"",
+                b"summary",
+                b"@@{A}",
+                b"x @@{B} y",
+                b"p+s",
+                b"@@{NOPE}",
+                b"yes",
+                b"@@{A",
+            ]
+        )
         return b"@@define " + pick.choice(VARIABLES) + b" " + value
     if way < 0.8:
         return b"@@undef " + pick.choice(VARIABLES)
     if way < 0.9:
         return pick.choice(
-            [b"", b"# comment", b"/etc R", b"!/tmp", b"=/x p", b"-x", b" \t", b"@@{NOPE}", b"@@{NOPE}# x", b"/@@{A}"]
+            [
+                b"",
+                b"# comment",
+                b"/etc R",
+                b"!/tmp",
+                b"=/x p",
+                b"-x",
+                b" \t",
+                b"@@{NOPE}",
+                b"@@{NOPE}# x",
+                b"/@@{A}",
+            ]
         )
     if way < 0.99:
         return pick.choice(
-            [b"@@{NOPE}report_grouped=no", b"report_level = @@{NOPE}summary", b"report_force_attrs = s@@{NOPE}+p"]
+            [
+                b"@@{NOPE}report_grouped=no",
+                b"report_level = @@{NOPE}summary",
+                b"report_force_attrs = s@@{NOPE}+p",
+            ]
         )
     return pick.choice(
-        [b"report_level=@@{LEVEL}", b"report_quiet=@@{A}", b"@@{B}report_grouped=no", b"report_force_attrs=@@{V_1}+s"]
+        [
+            b"report_level=@@{LEVEL}",
+            b"report_quiet=@@{A}",
+            b"@@{B}report_grouped=no",
+            b"report_force_attrs=@@{V_1}+s",
+        ]
     )
 
 
@@ -128,7 +162,15 @@ def random_block(pick, depth=0):
     lines = []
     for _ in range(pick.choice([0, 1, 2, 4])):
         if pick.random() < 0.25 and depth < 4:
-            word = pick.choice([b"@@ifdef ", b"@@ifndef ", b"@@if defined ", b"@@if not defined ", b"@@if\tnot  defined\t"])
+            word = pick.choice(
+                [
+                    b"@@ifdef ",
+                    b"@@ifndef ",
+                    b"@@if defined ",
+                    b"@@if not defined ",
+                    b"@@if\tnot  defined\t",
+                ]
+            )
             lines.append(word + pick.choice(VARIABLES + [b"NOPE"]))
             lines += random_block(pick, depth + 1)
             if pick.random() < 0.5:
@@ -144,7 +186,9 @@ def random_text(pick, bad):
     if pick.random() < bad:
         lines.insert(pick.randint(0, len(lines)), pick.choice(BAD_LINES))
     if pick.random() < bad / 8:
-        opening = pick.choice([b"@@ifdef A", b"@@ifndef A", b"@@if defined A", b"@@if not defined NOPE"])
+        opening = pick.choice(
+            [b"@@ifdef A", b"@@ifndef A", b"@@if defined A", b"@@if not defined NOPE"]
+        )
         depth = pick.choice([32, 33])
         lines = [opening] * depth + lines + [b"@@endif"] * depth
     return b"\n".join(lines) + pick.choice([b"\n", b"\n", b""])
@@ -154,7 +198,11 @@ def random_configuration(pick, folder, bad):
     """The text of a configuration file that names two databases of a folder."""
     named = [b"database_in=file:" + folder + b"/old", b"database_new = file://" + folder + b"/new"]
     if pick.random() < 0.1:
-        named = [b"@@define DIR " + folder, b"database=file:@@{DIR}/old", b"database_new=file:@@{DIR}/./new"]
+        named = [
+            b"@@define DIR " + folder,
+            b"database=file:@@{DIR}/old",
+            b"database_new=file:@@{DIR}/./new",
+        ]
     if pick.random() < 0.03:
         del named[pick.randrange(len(named))]
     text = random_text(pick, bad)
@@ -166,12 +214,18 @@ def random_words(pick, path, bad):
     """A command line that reads the configuration at a path."""
     compares = pick.random() < 0.93
     flag = pick.choice([[b"-E"], [b"--compare"]] if compares else [[b"-D"], [b"--config-check"]])
-    config = pick.choice([[b"-c", path], [b"-c" + path], [b"--config", path], [b"--config=" + path], [b"-c=" + path]])
+    config = pick.choice(
+        [[b"-c", path], [b"-c" + path], [b"--config", path], [b"--config=" + path], [b"-c=" + path]]
+    )
     parts = [flag, config]
     for short, long in ((b"-B", b"--before"), (b"-A", b"--after")):
         if pick.random() < 0.4:
             text = random_text(pick, bad / 4)
-            parts.append(pick.choice([[short + b"=" + text], [long + b"=" + text], [short, text], [long, text]]))
+            parts.append(
+                pick.choice(
+                    [[short + b"=" + text], [long + b"=" + text], [short, text], [long, text]]
+                )
+            )
     if pick.random() < bad / 4:
         parts.append(
             pick.choice(

@@ -1,4 +1,5 @@
-"""Random pairs of databases: all columns, all forms of fields, edits between the two, and faults of every kind."""
+"""Random pairs of databases: all columns, all forms of fields, edits between the two, and faults of
+every kind."""
 import base64
 
 from tests.oracle.attributes import ATTRIBUTES
@@ -26,7 +27,20 @@ PIECES = [
     b"\x7f",
     b"0",
 ]
-NUMBERS = [0, 1, -1, 7, 10, 4096, 1234567890, 2**31, 2**63 - 1, 2**63, 2**64 - 1, -(2**63)]
+NUMBERS = [
+    0,
+    1,
+    -1,
+    7,
+    10,
+    4096,
+    1234567890,
+    2**31,
+    2**63 - 1,
+    2**63,
+    2**64 - 1,
+    -(2**63),
+]
 MODES = [
     0o100644,
     0o100755,
@@ -78,7 +92,17 @@ OPAQUE = [
 ]
 UNKNOWN = [b"foo", b"caps", b"ftype", b"Size", b"linkcount", b"foo", b"l", b"%6eame"]
 BAD_FIELDS = {
-    "number": [b"18446744073709551616", b"-9223372036854775809", b"+1", b"-", b"x", b"1x", b"1.0", b"--1", b"0x1"],
+    "number": [
+        b"18446744073709551616",
+        b"-9223372036854775809",
+        b"+1",
+        b"-",
+        b"x",
+        b"1x",
+        b"1.0",
+        b"--1",
+        b"0x1",
+    ],
     "mode": [b"40000000000", b"8", b"-1", b"0o7", b"x", b"100648"],
     "time": [
         b"x!",
@@ -92,7 +116,17 @@ BAD_FIELDS = {
         b"=",
         b"MDAwMDAwMDAwMDAwMDAwMDAwMDAwMDAwMDAwMDAwMDAwMDE=",
     ],
-    "digest": [b"1", b"00", b"AAA", b"AAAA!", b"AAB=", b"====", b"QQ", b"A" * 43 + b"=A", b"A" * 92],
+    "digest": [
+        b"1",
+        b"00",
+        b"AAA",
+        b"AAAA!",
+        b"AAB=",
+        b"====",
+        b"QQ",
+        b"A" * 43 + b"=A",
+        b"A" * 92,
+    ],
 }
 BREAKS = [
     "cut",
@@ -115,7 +149,17 @@ BREAKS = [
     "long",
 ]
 BAD_SPECS = [b"", b" size", b" name name", b" name size size", b" name" + b" x" * 64, b" Name size"]
-STRAYS = [b"@@begin_db", b"@@db_spec name", b"@@foo", b"@@", b"@@end_dbx", b"@@end_db", b"@ x", b"/a", b"x"]
+STRAYS = [
+    b"@@begin_db",
+    b"@@db_spec name",
+    b"@@foo",
+    b"@@",
+    b"@@end_dbx",
+    b"@@end_db",
+    b"@ x",
+    b"/a",
+    b"x",
+]
 
 
 def random_path(pick):
@@ -126,7 +170,9 @@ def random_digest(pick, least, most):
     if pick.random() < 0.3:
         return None
     size = pick.randint(least, most)
-    return pick.choice([bytes(size), b"\xab" * size, bytes(pick.getrandbits(8) for _ in range(size))])
+    return pick.choice(
+        [bytes(size), b"\xab" * size, bytes(pick.getrandbits(8) for _ in range(size))]
+    )
 
 
 def random_value(pick, form):
@@ -146,7 +192,10 @@ def escaped(pick, name):
     """One of the spellings of a name."""
     often = pick.choice([0, 0, 0.3])
     must = b" \t\n%"
-    return b"".join(b"%%%02x" % byte if byte in must or pick.random() < often else bytes([byte]) for byte in name)
+    return b"".join(
+        b"%%%02x" % byte if byte in must or pick.random() < often else bytes([byte])
+        for byte in name
+    )
 
 
 def spelled_number(pick, number):
@@ -176,7 +225,11 @@ def spelled(pick, form, value):
 
 def random_row(pick, columns):
     """Values for the columns that have a form."""
-    return {column: random_value(pick, form) for column, form in columns if form not in ("name", "attr", "unknown")}
+    return {
+        column: random_value(pick, form)
+        for column, form in columns
+        if form not in ("name", "attr", "unknown")
+    }
 
 
 def random_columns(pick):
@@ -208,7 +261,9 @@ def edited(pick, columns, entries):
     """The same entries, some of them changed, gone or new."""
     few = pick.choice([0, 0.1, 0.4])
     kept = {path: dict(row) for path, row in entries.items() if pick.random() >= few}
-    kept.update((path, row) for path, row in random_entries(pick, columns).items() if pick.random() < few)
+    kept.update(
+        (path, row) for path, row in random_entries(pick, columns).items() if pick.random() < few
+    )
     for row in kept.values():
         for column, form in columns:
             if form == "attr" and pick.random() < few:
@@ -226,9 +281,17 @@ def line_of(pick, columns, path, row):
         elif form == "attr":
             fields.append(b"%d" % row[b"attr"])
         else:
-            fields.append(pick.choice([b"x", b"0", b"\xff"]) if form == "unknown" else spelled(pick, form, row[column]))
+            fields.append(
+                pick.choice([b"x", b"0", b"\xff"])
+                if form == "unknown"
+                else spelled(pick, form, row[column])
+            )
     blank = pick.choice([b" ", b" ", b" ", b"\t", b"  \t"])
-    return pick.choice([b"", b"", b"", b" "]) + blank.join(fields) + pick.choice([b"", b"", b" ", b"\t"])
+    return (
+        pick.choice([b"", b"", b"", b" "])
+        + blank.join(fields)
+        + pick.choice([b"", b"", b" ", b"\t"])
+    )
 
 
 def lines_of_database(pick, columns, entries):
@@ -237,13 +300,19 @@ def lines_of_database(pick, columns, entries):
     lines += [line_of(pick, columns, path, entries[path]) for path in sorted(entries, key=order_of)]
     lines.append(pick.choice([b"@@end_db", b"@@end_db", b" @@end_db x"]))
     for _ in range(pick.choice([0, 0, 0, 1, 3])):
-        lines.insert(pick.randint(0, len(lines)), pick.choice([b"", b" \t", b"# comment", b"\t#", b"#"]))
+        lines.insert(
+            pick.randint(0, len(lines)), pick.choice([b"", b" \t", b"# comment", b"\t#", b"#"])
+        )
     return lines
 
 
 def bad_field(pick, columns, lines):
     """The lines with a field that has not its column's form."""
-    whole = [place for place, line in enumerate(lines) if b"/" in line and not line.strip().startswith((b"@", b"#"))]
+    whole = [
+        place
+        for place, line in enumerate(lines)
+        if b"/" in line and not line.strip().startswith((b"@", b"#"))
+    ]
     place, column = pick.choice(whole or [0]), pick.randrange(len(columns))
     fields, form = lines[place].split(), columns[column][1]
     if form in ("type", "perm"):
@@ -262,7 +331,11 @@ def broken(pick, columns, lines, text, way):
         return text[: pick.randint(0, len(text))]
     if way == "byte":
         at = pick.randrange(len(text))
-        return text[:at] + pick.choice([b"\n", b" ", b"@", b"#", b"/", b"\0", b"%", b"0", b"\r", b"="]) + text[at + 1 :]
+        return (
+            text[:at]
+            + pick.choice([b"\n", b" ", b"@", b"#", b"/", b"\0", b"%", b"0", b"\r", b"="])
+            + text[at + 1 :]
+        )
     if way == "drop":
         del lines[place]
     elif way == "double":
@@ -280,7 +353,10 @@ def broken(pick, columns, lines, text, way):
     elif way == "name":
         lines[place] = lines[place].replace(b"/", pick.choice([b"%2f", b"a", b"%2"]), 1)
     elif way == "spec":
-        lines = [b"@@db_spec" + pick.choice(BAD_SPECS) if line.startswith(b"@@db_spec") else line for line in lines]
+        lines = [
+            b"@@db_spec" + pick.choice(BAD_SPECS) if line.startswith(b"@@db_spec") else line
+            for line in lines
+        ]
     elif way == "stray":
         lines.insert(place, pick.choice(STRAYS))
     elif way == "long":

@@ -1,4 +1,5 @@
-"""Random databases of a trusted machine beside a random pair: its entries are often those of the pair, in its own state."""
+"""Random databases of a trusted machine beside a random pair: its entries are often those of the
+pair, in its own state."""
 import os
 
 from tests.oracle.attributes import ATTRIBUTES
@@ -49,7 +50,8 @@ def usual_entries(pick, columns):
 
 
 def in_own_state(pick, columns, entries):
-    """The same entries as another machine has them: with its own times, inodes and sizes of directories."""
+    """The same entries as another machine has them: with its own times, inodes and sizes of
+    directories."""
     restated = {}
     for path, row in entries.items():
         row = dict(row)
@@ -69,7 +71,9 @@ def text_of(pick, columns, entries, often):
     rows = {path: {**random_row(pick, columns), **row} for path, row in entries.items()}
     lines = lines_of_database(pick, columns, rows)
     text = b"\n".join(lines) + b"\n"
-    return broken(pick, columns, lines, text, pick.choice(BREAKS)) if pick.random() < often else text
+    return (
+        broken(pick, columns, lines, text, pick.choice(BREAKS)) if pick.random() < often else text
+    )
 
 
 def random_four(pick):
@@ -77,7 +81,9 @@ def random_four(pick):
     columns = usual_columns(pick)
     old = usual_entries(pick, columns)
     new = edited(pick, columns, old)
-    new.update(in_own_state(pick, columns, {path: row for path, row in new.items() if pick.random() < 0.3}))
+    new.update(
+        in_own_state(pick, columns, {path: row for path, row in new.items() if pick.random() < 0.3})
+    )
     trusted = [in_own_state(pick, columns, edited(pick, columns, side)) for side in (old, new)]
     other = columns if pick.random() < 0.8 else usual_columns(pick)
     often = pick.choice([0, 0, 0.1])
@@ -95,6 +101,14 @@ def random_words_beside(pick, folder, config, bad):
         if pick.random() < 0.98:
             trusted += pick.choice([[option, path], [option + b"=" + path]])
     if pick.random() < bad / 4:
-        trusted += pick.choice([[b"--trusted-old"], [b"--trusted-new", b"x"], [b"--trusted"], [b"--trusted-old="], [b"-t"]])
+        trusted += pick.choice(
+            [
+                [b"--trusted-old"],
+                [b"--trusted-new", b"x"],
+                [b"--trusted"],
+                [b"--trusted-old="],
+                [b"-t"],
+            ]
+        )
     words = random_words(pick, config, bad)
     return trusted + words if pick.random() < 0.3 else words + trusted

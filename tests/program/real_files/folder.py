@@ -12,7 +12,11 @@ SKIPPING = b"@@begin_db\n@@db_spec name size foo\n/a 1 x\n@@end_db\n"
 
 def names(count):
     """A database of so many names."""
-    return b"@@begin_db\n@@db_spec name\n" + b"".join(b"/%06d\n" % number for number in range(count)) + b"@@end_db\n"
+    return (
+        b"@@begin_db\n@@db_spec name\n"
+        + b"".join(b"/%06d\n" % number for number in range(count))
+        + b"@@end_db\n"
+    )
 
 
 class Folder:
@@ -34,7 +38,11 @@ class Folder:
 
     def pair(self, old=OLD, new=NEW, options=b""):
         """Writes two databases and a configuration that names them."""
-        self.write("conf", b"database_in=file:%s/old\ndatabase_new=file:%s/new\n%s" % (self.path, self.path, options))
+        self.write(
+            "conf",
+            b"database_in=file:%s/old\ndatabase_new=file:%s/new\n%s"
+            % (self.path, self.path, options),
+        )
         self.write("old", old)
         self.write("new", new)
 
@@ -45,7 +53,13 @@ class Folder:
 
     def words_beside(self, *more):
         """The words of a comparison beside the trusted pair."""
-        return self.words(b"--trusted-old", self.at("trusted_old"), b"--trusted-new", self.at("trusted_new"), *more)
+        return self.words(
+            b"--trusted-old",
+            self.at("trusted_old"),
+            b"--trusted-new",
+            self.at("trusted_new"),
+            *more,
+        )
 
     def words(self, *more):
         return [b"-E", b"-c", self.at("conf")] + list(more)

@@ -42,7 +42,11 @@ def changed_bytes(text):
 
 
 def inserted_bytes(text):
-    return (text[:index] + bytes([byte]) + text[index:] for index in range(len(text) + 1) for byte in b"\n 0")
+    return (
+        text[:index] + bytes([byte]) + text[index:]
+        for index in range(len(text) + 1)
+        for byte in b"\n 0"
+    )
 
 
 def cuts(text):
@@ -71,7 +75,9 @@ def exchanged_lines(text):
     lines = text.split(b"\n")
     for one in range(len(lines)):
         for two in range(one + 1, len(lines)):
-            yield joined(lines[:one] + [lines[two]] + lines[one + 1 : two] + [lines[one]] + lines[two + 1 :])
+            yield joined(
+                lines[:one] + [lines[two]] + lines[one + 1 : two] + [lines[one]] + lines[two + 1 :]
+            )
 
 
 WAYS = [

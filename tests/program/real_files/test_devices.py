@@ -49,13 +49,18 @@ def become_nobody():
 @slow
 class DevicesTest(ProgramTest):
     def test_standard_output(self) -> None:
-        """A report that is not written ends with 18, however it fails; a quiet run without differences writes nothing."""
+        """A report that is not written ends with 18, however it fails; a quiet run without
+        differences writes nothing."""
         with Folder() as folder:
             folder.pair(SKIPPING, SKIPPING)
             with open("/dev/full", "wb") as full:
-                self.check("a full device", folder.run(self.program, stdout=full), (None, NOT_WRITTEN, 18))
+                self.check(
+                    "a full device", folder.run(self.program, stdout=full), (None, NOT_WRITTEN, 18)
+                )
             writing = closed_pipe()
-            self.check("a closed pipe", folder.run(self.program, stdout=writing), (None, NOT_WRITTEN, 18))
+            self.check(
+                "a closed pipe", folder.run(self.program, stdout=writing), (None, NOT_WRITTEN, 18)
+            )
             os.close(writing)
             answer = folder.run(self.program, preexec_fn=lambda: os.close(1))
             self.check("no standard output", answer, (b"", NOT_WRITTEN, 18))
@@ -69,7 +74,11 @@ class DevicesTest(ProgramTest):
             with open(long, "wb") as file:
                 answer = folder.run(self.program, stdout=file)
             with open(long, "rb") as file:
-                self.check("a long report", Answer(file.read(), answer.errors, answer.status), folder.wanted())
+                self.check(
+                    "a long report",
+                    Answer(file.read(), answer.errors, answer.status),
+                    folder.wanted(),
+                )
 
     def test_standard_error(self) -> None:
         """What becomes of standard error changes neither the output nor the status."""
@@ -79,25 +88,44 @@ class DevicesTest(ProgramTest):
                 folder.pair(old, new)
                 want = Answer(folder.wanted().output, None, folder.wanted().status)
                 with open("/dev/full", "wb") as full:
-                    self.check("a full standard error, " + label, folder.run(self.program, stderr=full), want)
+                    self.check(
+                        "a full standard error, " + label,
+                        folder.run(self.program, stderr=full),
+                        want,
+                    )
                 writing = closed_pipe()
-                self.check("a closed standard error, " + label, folder.run(self.program, stderr=writing), want)
+                self.check(
+                    "a closed standard error, " + label,
+                    folder.run(self.program, stderr=writing),
+                    want,
+                )
                 os.close(writing)
                 answer = folder.run(self.program, preexec_fn=lambda: os.close(2))
                 self.check("no standard error, " + label, answer, (want.output, b"", want.status))
 
     def test_writes(self) -> None:
-        """A line on standard error is never cut between two writes, and a long report goes out in pages."""
+        """A line on standard error is never cut between two writes, and a long report goes out in
+        pages."""
         with Folder() as folder:
-            for label, old, new in (("skipped columns", SKIPPING, SKIPPING), ("a fault", OLD[:40], NEW)):
+            for label, old, new in (
+                ("skipped columns", SKIPPING, SKIPPING),
+                ("a fault", OLD[:40], NEW),
+            ):
                 folder.pair(old, new)
                 parts = written(folder, self.program, "stderr")
-                is_whole = b"".join(parts) == folder.wanted().errors and all(part.endswith(b"\n") for part in parts)
-                self.add("writes of whole lines, " + label, [] if is_whole else ["wrote %r" % parts])
+                is_whole = b"".join(parts) == folder.wanted().errors and all(
+                    part.endswith(b"\n") for part in parts
+                )
+                self.add(
+                    "writes of whole lines, " + label, [] if is_whole else ["wrote %r" % parts]
+                )
             folder.pair(OLD, names(20000))
             parts, want = written(folder, self.program, "stdout"), folder.wanted().output
             is_good = b"".join(parts) == want and len(parts) < len(want) / LEAST_PAGE
-            self.add("writes of pages", [] if is_good else ["wrote %d parts of %d bytes" % (len(parts), len(want))])
+            self.add(
+                "writes of pages",
+                [] if is_good else ["wrote %d parts of %d bytes" % (len(parts), len(want))],
+            )
 
     def test_files(self) -> None:
         """Databases exchanged, missing, a folder, a device, the same file twice."""
@@ -117,7 +145,9 @@ class DevicesTest(ProgramTest):
                 self.check("a folder as " + name, folder.run(self.program), folder.wanted())
                 os.rmdir(folder.at(name))
                 os.symlink("nowhere", folder.at(name))
-                self.check("a link to nowhere as " + name, folder.run(self.program), folder.wanted())
+                self.check(
+                    "a link to nowhere as " + name, folder.run(self.program), folder.wanted()
+                )
                 os.unlink(folder.at(name))
                 os.symlink("/dev/null", folder.at(name))
                 self.check("the null device as " + name, folder.run(self.program), folder.wanted())

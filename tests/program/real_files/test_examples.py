@@ -7,7 +7,9 @@ from tests.lib.program_test import ProgramTest
 from tests.oracle.configuration import LEVELS
 from tests.lib.tally import run, wanted
 
-EXAMPLES = os.path.realpath(os.path.join(os.path.dirname(os.path.abspath(__file__)), "..", "..", "..", "examples"))
+EXAMPLES = os.path.realpath(
+    os.path.join(os.path.dirname(os.path.abspath(__file__)), "..", "..", "..", "examples")
+)
 LABELS = {
     "total": "Total number of entries",
     "added": "Added entries",
@@ -19,20 +21,28 @@ HEAD = b"AIDE found differences between the two databases.\n"
 
 
 def words_for(folder, *more):
-    return [b"-E", b"-c", os.fsencode(os.path.join(folder, "aide.conf")), b"-B", os.fsencode("@@define DIR " + folder)] + list(
-        more
-    )
+    return [
+        b"-E",
+        b"-c",
+        os.fsencode(os.path.join(folder, "aide.conf")),
+        b"-B",
+        os.fsencode("@@define DIR " + folder),
+    ] + list(more)
 
 
 def words_at(folder, options):
-    """The words that compare the databases of a folder under these options, which leave out those of its configuration."""
+    """The words that compare the databases of a folder under these options, which leave out those
+    of its configuration."""
     before = "@@define DIR %s\n%s\nreport_url=stdout" % (folder, options)
     return words_for(folder)[:-1] + [os.fsencode(before)]
 
 
 def folders_of_aide():
     """The folders with databases that AIDE has written."""
-    return sorted(os.path.dirname(found) for found in glob.glob(os.path.join(EXAMPLES, "*", "aide-counts.txt")))
+    return sorted(
+        os.path.dirname(found)
+        for found in glob.glob(os.path.join(EXAMPLES, "*", "aide-counts.txt"))
+    )
 
 
 def told_by_aide(folder):
@@ -45,26 +55,53 @@ def told_by_aide(folder):
 def counted(output):
     """The counts of a report's summary, by label."""
     text = output.decode("utf-8", "replace")
-    found = {label: re.search("^  %s: +([0-9]+)$" % words, text, re.MULTILINE) for label, words in LABELS.items()}
+    found = {
+        label: re.search("^  %s: +([0-9]+)$" % words, text, re.MULTILINE)
+        for label, words in LABELS.items()
+    }
     return {label: int(match.group(1)) if match else None for label, match in found.items()}
 
 
 class ExamplesTest(ProgramTest):
     def test_made_by_hand(self) -> None:
         answer = run(self.program, words_for(EXAMPLES))
-        faults = [] if (answer.output, answer.errors, answer.status) == (HEAD, b"", 7) else ["gave %r" % (answer,)]
+        faults = (
+            []
+            if (answer.output, answer.errors, answer.status) == (HEAD, b"", 7)
+            else ["gave %r" % (answer,)]
+        )
         self.add("examples", faults)
-        self.check("examples, checked", run(self.program, [b"-D"] + words_for(EXAMPLES)[1:]), (b"", b"", 0))
+        self.check(
+            "examples, checked", run(self.program, [b"-D"] + words_for(EXAMPLES)[1:]), (b"", b"", 0)
+        )
 
     def test_written_by_aide(self) -> None:
-        """Databases that AIDE has written: its counts and status, nothing skipped, and the definitions' report at each level."""
+        """Databases that AIDE has written: its counts and status, nothing skipped, and the
+        definitions' report at each level."""
         self.add("examples by AIDE", [] if folders_of_aide() else ["there is none in " + EXAMPLES])
         for folder in folders_of_aide():
             label = "examples/" + os.path.basename(folder)
             status, counts = told_by_aide(folder)
             answer = run(self.program, words_for(folder))
-            known, given = (status, counts, b""), (answer.status, counted(answer.output), answer.errors)
-            self.add(label, [] if given == known else ["wanted status, counts and errors %r, has %r" % (known, given)])
-            for options in ("report_level=%s\nreport_grouped=%s" % (level, yes) for level in LEVELS for yes in BOOLS):
+            known, given = (status, counts, b""), (
+                answer.status,
+                counted(answer.output),
+                answer.errors,
+            )
+            self.add(
+                label,
+                []
+                if given == known
+                else ["wanted status, counts and errors %r, has %r" % (known, given)],
+            )
+            for options in (
+                "report_level=%s\nreport_grouped=%s" % (level, yes)
+                for level in LEVELS
+                for yes in BOOLS
+            ):
                 words = words_at(folder, options)
-                self.check("%s with %s" % (label, options.replace("\n", ", ")), run(self.program, words), wanted(words))
+                self.check(
+                    "%s with %s" % (label, options.replace("\n", ", ")),
+                    run(self.program, words),
+                    wanted(words),
+                )

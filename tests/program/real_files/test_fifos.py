@@ -1,4 +1,5 @@
-"""Databases that come through FIFOs: each opening can be given a text of its own, and the openings are counted."""
+"""Databases that come through FIFOs: each opening can be given a text of its own, and the openings
+are counted."""
 import os
 import threading
 
@@ -107,7 +108,12 @@ class FifosTest(ProgramTest):
                 answer, openings = fed(self.program, folder, [old], [new])
                 self.check("databases through FIFOs", answer, want)
                 label = "openings of databases"
-                self.add(label, [] if openings == tuple(wanted) else ["%r: wanted %r, are %r" % (options, wanted, openings)])
+                self.add(
+                    label,
+                    []
+                    if openings == tuple(wanted)
+                    else ["%r: wanted %r, are %r" % (options, wanted, openings)],
+                )
 
     def test_changes(self) -> None:
         """A database that is another one, cut or damaged, from its second or a later opening on."""
@@ -115,15 +121,27 @@ class FifosTest(ProgramTest):
             folder.pair()
             report = folder.wanted().output
             for side, text in ((b"old", OLD), (b"new", NEW)):
-                for other in (OTHER, text[:-9], text[:40], b"", text + b"#", text.replace(b"/c", b"/d"), UNSORTED):
+                for other in (
+                    OTHER,
+                    text[:-9],
+                    text[:40],
+                    b"",
+                    text + b"#",
+                    text.replace(b"/c", b"/d"),
+                    UNSORTED,
+                ):
                     for number in range(2, 7):
                         texts = [text] * (number - 1) + [other]
                         pair = (texts, [NEW]) if side == b"old" else ([OLD], texts)
                         answer, _ = fed(self.program, folder, *pair)
-                        self.add("a database changed from an opening on", change_faults(answer, side, number, report))
+                        self.add(
+                            "a database changed from an opening on",
+                            change_faults(answer, side, number, report),
+                        )
 
     def test_late_changes(self) -> None:
-        """A long report of which pages have gone out before a change shows: they begin with the head and the summary."""
+        """A long report of which pages have gone out before a change shows: they begin with the
+        head and the summary."""
         with Folder() as folder:
             new = names(LONG)
             folder.pair(OLD, new)

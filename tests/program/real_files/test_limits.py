@@ -7,7 +7,8 @@ from tests.lib.tally import difference, run, wanted
 
 from .folder import OLD, Folder
 
-# The first fault of the old database cut after so many bytes: the last length with this fault, its line, its words.
+# The first fault of the old database cut after so many bytes: the last length with this fault, its
+# line, its words.
 CUTS = [
     (9, 1, b"no @@begin_db"),
     (11, 2, b"no @@end_db"),
@@ -32,7 +33,10 @@ def configurations():
     """Configurations at their limits, with the status that each is to have."""
     variables = b"".join(b"@@define V%d x\n" % number for number in range(COUNT_LIMIT))
     groups = b"".join(b"g%d = p\n" % number for number in range(COUNT_LIMIT))
-    doublings = [b"@@define A%d @@{A%d}@@{A%d}\n" % (number, number - 1, number - 1) for number in range(1, 13)]
+    doublings = [
+        b"@@define A%d @@{A%d}@@{A%d}\n" % (number, number - 1, number - 1)
+        for number in range(1, 13)
+    ]
     doubled = b"@@define A0 x\n" + b"".join(doublings)
     return [
         ("lines", b"\n" * CONFIGURATION_LIMIT, 0),
@@ -72,20 +76,33 @@ class LimitsTest(ProgramTest):
                 if told:
                     want = (b"", b"aide: old database:%d: %s\n" % told[0], 24)
                 self.check("cut after %d bytes" % length, folder.run(self.program), want)
-                self.add("the definitions after %d bytes" % length, difference(folder.wanted(), want))
+                self.add(
+                    "the definitions after %d bytes" % length, difference(folder.wanted(), want)
+                )
 
     def test_long_lines(self) -> None:
         """Lines of a database of just the greatest length, and one byte longer."""
         with Folder() as folder:
             for more, statuses in ((0, (3, 1, 0)), (1, (24, 24, 24))):
-                entry, comment = b"/" + b"a" * (LINE_LIMIT - 3 + more) + b" 1", b"#" * (LINE_LIMIT + more)
+                entry, comment = b"/" + b"a" * (LINE_LIMIT - 3 + more) + b" 1", b"#" * (
+                    LINE_LIMIT + more
+                )
                 end = b"@@end_db" + b" " * (LINE_LIMIT - 8 + more)
                 texts = [database(entry), database(comment), database(b"/a 1", end)]
-                for label, status, text in zip(("an entry", "a comment", "an end line"), statuses, texts):
+                for label, status, text in zip(
+                    ("an entry", "a comment", "an end line"), statuses, texts
+                ):
                     folder.pair(text, database(b"/a 1"), b"report_level=list_entries\n")
                     want = folder.wanted()
-                    self.add("the definitions at " + label, [] if want.status == status else ["status %d" % want.status])
-                    self.check("%s of %d bytes" % (label, LINE_LIMIT + more), folder.run(self.program), want)
+                    self.add(
+                        "the definitions at " + label,
+                        [] if want.status == status else ["status %d" % want.status],
+                    )
+                    self.check(
+                        "%s of %d bytes" % (label, LINE_LIMIT + more),
+                        folder.run(self.program),
+                        want,
+                    )
             folder.pair(database(b"/a 1", b"@@end_db\n" + b"x" * 3 * LINE_LIMIT), database(b"/a 1"))
             self.check("a long line behind the end", folder.run(self.program), folder.wanted())
 
@@ -95,5 +112,8 @@ class LimitsTest(ProgramTest):
                 folder.write("conf", text)
                 words = [b"-D", b"-c", folder.at("conf")]
                 want = wanted(words)
-                self.add("the definitions at " + label, [] if want.status == status else ["status %d" % want.status])
+                self.add(
+                    "the definitions at " + label,
+                    [] if want.status == status else ["status %d" % want.status],
+                )
                 self.check("a configuration with " + label, run(self.program, words), want)

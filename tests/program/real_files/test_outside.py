@@ -25,7 +25,8 @@ DEVICES = [
 MOST_TAKEN = 2 * MEGABYTE
 KINDS = RIGHT, TOLD, UNBORN = "right", "told", "unborn"
 JOBS = 2
-# Limits of memory in kB: the steps in which the range is looked for, the last one, and the steps through the range.
+# Limits of memory in kB: the steps in which the range is looked for, the last one, and the steps
+# through the range.
 COARSE, MOST_MEMORY, PAGE = 64, 16 * 1024, 4
 LIMITED = b'ulimit -v $0; exec "$@"'
 
@@ -35,13 +36,20 @@ def limited(what, most):
 
 
 def is_unborn(answer, has_opened):
-    """Whether the system could not start the program: it ended before it opened a file, and not by its own words."""
+    """Whether the system could not start the program: it ended before it opened a file, and not by
+    its own words."""
     is_ended = answer.status < 0 or answer.status in (126, 127)
-    return not has_opened and is_ended and answer.output == b"" and not answer.errors.startswith(b"aide: ")
+    return (
+        not has_opened
+        and is_ended
+        and answer.output == b""
+        and not answer.errors.startswith(b"aide: ")
+    )
 
 
 def kind_of(answer, want, has_opened):
-    """What less memory has led to: the right answer, want of memory, no start, or else what it was."""
+    """What less memory has led to: the right answer, want of memory, no start, or else what it
+    was."""
     if answer == want:
         return RIGHT
     if answer == Answer(b"", NO_MEMORY, 22):
@@ -63,24 +71,34 @@ def kinds_in_turn(program, limits):
 
 def kinds_by_limit(program, limits):
     """The same, several at a time."""
-    parts = side_by_side(JOBS, lambda part: kinds_in_turn(program, part), [limits[job::JOBS] for job in range(JOBS)])
+    parts = side_by_side(
+        JOBS, lambda part: kinds_in_turn(program, part), [limits[job::JOBS] for job in range(JOBS)]
+    )
     return {most: kind for part in parts for most, kind in part.items()}
 
 
 def check_file_sizes(program, test, step=1):
-    """A report that goes to a file which may not grow over so many bytes: the last write before is cut short."""
+    """A report that goes to a file which may not grow over so many bytes: the last write before is
+    cut short."""
     with Folder() as folder:
         folder.pair()
         want = folder.wanted()
         for most in [*range(0, len(want.output), step), len(want.output)]:
             with open(folder.at("out"), "wb") as out:
                 answer = folder.run(
-                    program, stdout=out, restore_signals=False, preexec_fn=limited(resource.RLIMIT_FSIZE, most)
+                    program,
+                    stdout=out,
+                    restore_signals=False,
+                    preexec_fn=limited(resource.RLIMIT_FSIZE, most),
                 )
             with open(folder.at("out"), "rb") as out:
                 given = Answer(out.read(), answer.errors, answer.status)
             whole = most == len(want.output)
-            test.check("a file of little room", given, want if whole else Answer(want.output[:most], NOT_WRITTEN, 18))
+            test.check(
+                "a file of little room",
+                given,
+                want if whole else Answer(want.output[:most], NOT_WRITTEN, 18),
+            )
 
 
 def sparse(folder, name, front, size):
@@ -99,7 +117,8 @@ class OutsideTest(ProgramTest):
         check_file_sizes(self.program, self, 1)
 
     def test_memory(self) -> None:
-        """Less and less memory, a page at a time between no start and the right answer: nothing else comes but 22."""
+        """Less and less memory, a page at a time between no start and the right answer: nothing
+        else comes but 22."""
         coarse = kinds_by_limit(self.program, range(COARSE, MOST_MEMORY, COARSE))
         born = min(most for most, kind in coarse.items() if kind != UNBORN)
         works = max(most for most, kind in coarse.items() if kind != RIGHT)
@@ -108,7 +127,10 @@ class OutsideTest(ProgramTest):
             for most, kind in sorted(kinds.items()):
                 self.add("little memory", [] if kind in KINDS else ["%d kB gave %s" % (most, kind)])
         seen = set(KINDS) & set(fine.values())
-        self.add("little memory, all answers", [] if len(seen) == len(KINDS) else ["saw only %r" % (seen,)])
+        self.add(
+            "little memory, all answers",
+            [] if len(seen) == len(KINDS) else ["saw only %r" % (seen,)],
+        )
 
     def test_descriptors(self) -> None:
         """So few descriptors that not both databases can be open: of four, three are taken."""
@@ -128,17 +150,23 @@ class OutsideTest(ProgramTest):
             want = folder.wanted()
             for most in (1, 100, 4096, 65536, 100000):
                 process = subprocess.Popen(
-                    [self.program] + folder.words(), stdin=subprocess.DEVNULL, stdout=subprocess.PIPE, stderr=subprocess.PIPE
+                    [self.program] + folder.words(),
+                    stdin=subprocess.DEVNULL,
+                    stdout=subprocess.PIPE,
+                    stderr=subprocess.PIPE,
                 )
                 front = process.stdout.read(most)
                 process.stdout.close()
                 errors = process.stderr.read()
                 process.stderr.close()
                 given = Answer(front, errors, process.wait())
-                self.check("a pipe whose reader goes", given, Answer(want.output[:most], NOT_WRITTEN, 18))
+                self.check(
+                    "a pipe whose reader goes", given, Answer(want.output[:most], NOT_WRITTEN, 18)
+                )
 
     def test_devices(self) -> None:
-        """Devices as files: the null device is empty, the others never end a line or give anything."""
+        """Devices as files: the null device is empty, the others never end a line or give
+        anything."""
         with Folder() as folder:
             for name, device, words in DEVICES:
                 folder.pair()
@@ -152,7 +180,8 @@ class OutsideTest(ProgramTest):
             self.check("a device as a configuration", answer, (b"", TOO_LARGE, 17))
 
     def test_long_lines(self) -> None:
-        """Sparse files of 2 GB that have one line, and FIFOs with a line of 32 MB: no more is read than shows that it is too long."""
+        """Sparse files of 2 GB that have one line, and FIFOs with a line of 32 MB: no more is read
+        than shows that it is too long."""
         with Folder() as folder:
             begun = b"@@begin_db\n@@db_spec name\n"
             for front, line in ((b"", 1), (begun, 3), (begun + b"/a", 3), (b"@@begin_db\n#", 2)):
@@ -168,7 +197,8 @@ class OutsideTest(ProgramTest):
                 self.add("a line of 32 MB", faults)
 
     def test_twenty_megabytes(self) -> None:
-        """A database of 20 MB, most of it comments, whose last entry is compared and whose whole is hashed."""
+        """A database of 20 MB, most of it comments, whose last entry is compared and whose whole is
+        hashed."""
         comments = (b"#" * 999999 + b"\n") * 20
         with Folder() as folder:
             for old, new in ((OLD, NEW), (NEW, OLD)):
@@ -185,7 +215,11 @@ class OutsideTest(ProgramTest):
             folder.pair(NEW, NEW, MINIMAL)
             sparse(folder, "old", NEW, 2 * GIGABYTE)
             answer = folder.run(self.program, preexec_fn=limited(resource.RLIMIT_AS, 64 * MEGABYTE))
-            self.check("2 GB behind the end", answer, (b"AIDE found NO differences between the two databases.\n", b"", 0))
+            self.check(
+                "2 GB behind the end",
+                answer,
+                (b"AIDE found NO differences between the two databases.\n", b"", 0),
+            )
             sparse(folder, "conf", b"", 2 * GIGABYTE)
             answer = folder.run(self.program, preexec_fn=limited(resource.RLIMIT_AS, 64 * MEGABYTE))
             self.check("a configuration of 2 GB", answer, (b"", TOO_LARGE, 17))
@@ -197,5 +231,13 @@ class OutsideTest(ProgramTest):
             gone = folder.at("gone")
             os.mkdir(gone)
             self.check("other surroundings", folder.run(self.program, env={}), folder.wanted())
-            self.check("other surroundings", folder.run(self.program, preexec_fn=lambda: os.close(0)), folder.wanted())
-            self.check("other surroundings", folder.run(self.program, cwd=gone, preexec_fn=lambda: os.rmdir(gone)), folder.wanted())
+            self.check(
+                "other surroundings",
+                folder.run(self.program, preexec_fn=lambda: os.close(0)),
+                folder.wanted(),
+            )
+            self.check(
+                "other surroundings",
+                folder.run(self.program, cwd=gone, preexec_fn=lambda: os.rmdir(gone)),
+                folder.wanted(),
+            )

@@ -1,5 +1,5 @@
-"""Folders whose names and arguments whose forms are unusual: blanks, newlines, bytes above 127, great lengths; and files
-that are almost the ones that were named."""
+"""Folders whose names and arguments whose forms are unusual: blanks, newlines, bytes above 127,
+great lengths; and files that are almost the ones that were named."""
 import gzip
 import os
 
@@ -46,7 +46,8 @@ def answer_in(folder, words):
 
 
 def check_folder(program, test, label, folder, is_nameable):
-    """Relative and absolute paths of a configuration and of databases, files that are missing among them."""
+    """Relative and absolute paths of a configuration and of databases, files that are missing among
+    them."""
     os.makedirs(folder)
     files = {
         b"conf": named(HERE, b"old", b"new"),
@@ -88,20 +89,27 @@ def check_folder(program, test, label, folder, is_nameable):
 
 
 def almost_named(at):
-    """Command lines that name no file, beside one that a helpful program would take: it is packed, or it has no `/` at the
-    end of its path. `at` gives the path of a file of the folder."""
+    """Command lines that name no file, beside one that a helpful program would take: it is packed,
+    or it has no `/` at the end of its path. `at` gives the path of a file of the folder."""
     lines = []
     for what, end in (("a packed file beside it", b"_packed"), ("a `/` at its end", b"/")):
         lines += [
             ("a configuration with " + what, [b"-E", b"-c", at("conf") + end]),
-            ("an old database with " + what, [b"-E", b"-c", at("conf"), b"-A", b"database_in=file:" + at("old") + end]),
-            ("a new database with " + what, [b"-E", b"-c", at("conf"), b"-A", b"database_new=file:" + at("new") + end]),
+            (
+                "an old database with " + what,
+                [b"-E", b"-c", at("conf"), b"-A", b"database_in=file:" + at("old") + end],
+            ),
+            (
+                "a new database with " + what,
+                [b"-E", b"-c", at("conf"), b"-A", b"database_new=file:" + at("new") + end],
+            ),
         ]
     return lines
 
 
 def command_lines(conf):
-    """Command lines of many, long, empty and blank arguments, with the status that each is to have."""
+    """Command lines of many, long, empty and blank arguments, with the status that each is to
+    have."""
     full = [b"-E", b"-c", conf] + FULL
     long = 130000
     lines = [
@@ -114,7 +122,11 @@ def command_lines(conf):
         ("1,000 arguments", full + [b"extra"] * 993, 15),
         ("1,000 empty arguments", full + [b""] * 993, 15),
         ("a long comment", [b"-E", b"-c", conf, b"-B", b"#" * long], 7),
-        ("a long argument with a fault at its end", [b"-E", b"-c", conf, b"-A", b"\n" * (long - 5) + b"hello"], 17),
+        (
+            "a long argument with a fault at its end",
+            [b"-E", b"-c", conf, b"-A", b"\n" * (long - 5) + b"hello"],
+            17,
+        ),
         (
             "a long argument with an option at its end",
             [b"-E", b"-c", conf, b"-A", b"#" * (long - 22) + b"\nreport_level=minimal"],
@@ -151,11 +163,16 @@ class PathsTest(ProgramTest):
         with Folder() as folder:
             folder.pair()
             for name in ("conf", "old", "new"):
-                with open(folder.at(name), "rb") as plain, open(folder.at(name) + b"_packed.gz", "wb") as packed:
+                with open(folder.at(name), "rb") as plain, open(
+                    folder.at(name) + b"_packed.gz", "wb"
+                ) as packed:
                     packed.write(gzip.compress(plain.read()))
             for label, words in almost_named(folder.at):
                 want = wanted(words)
-                self.add("the definitions at " + label, [] if want.status == 18 else ["status %d" % want.status])
+                self.add(
+                    "the definitions at " + label,
+                    [] if want.status == 18 else ["status %d" % want.status],
+                )
                 self.check(label, run(self.program, words), want)
 
     def test_arguments(self) -> None:
@@ -163,7 +180,10 @@ class PathsTest(ProgramTest):
             folder.pair()
             for label, words, status in command_lines(folder.at("conf")):
                 want = wanted(words)
-                self.add("the definitions at " + label, [] if want.status == status else ["status %d" % want.status])
+                self.add(
+                    "the definitions at " + label,
+                    [] if want.status == status else ["status %d" % want.status],
+                )
                 self.check(label, run(self.program, words), want)
             twice = run(self.program, folder.words(b"-A", b"#", b"-A", b"#"))
             self.check("an option twice", twice, Answer(b"", wanted([]).errors, 15))

@@ -9,7 +9,10 @@ from tests.lib.tally import wanted
 from .folder import Folder
 
 RUNS, ENTRIES = 150, 3000
-CHANGED = [b"aide: the old database changed while it was read\n", b"aide: the new database changed while it was read\n"]
+CHANGED = [
+    b"aide: the old database changed while it was read\n",
+    b"aide: the new database changed while it was read\n",
+]
 
 
 def database(size):
@@ -44,7 +47,8 @@ def replace(folder, name, text):
 
 
 def resize(folder, name, text):
-    """Makes a file that holds the front of a text, or more than it, hold just this text, in one step."""
+    """Makes a file that holds the front of a text, or more than it, hold just this text, in one
+    step."""
     size = os.path.getsize(folder.at(name))
     with open(folder.at(name), "ab", buffering=0) as file:
         if size > len(text):
@@ -76,14 +80,19 @@ def check_runs(program, test, label, folder, steps, answers):
 @thorough
 class ReplacedTest(ProgramTest):
     def test_replaced(self) -> None:
-        """Each run either tells that a database changed, or gives one of the reports of whole databases, nothing between."""
+        """Each run either tells that a database changed, or gives one of the reports of whole
+        databases, nothing between."""
         for label, way in (
             ("a database replaced during the run", replace),
             ("a database that grows and shrinks during the run", resize),
         ):
             for name in ("old", "new"):
                 with Folder() as folder:
-                    texts = [database(1), database(1) + b"more\n"] if way is resize else [database(1), database(2)]
+                    texts = (
+                        [database(1), database(1) + b"more\n"]
+                        if way is resize
+                        else [database(1), database(2)]
+                    )
                     folder.pair(database(1), database(1), b"report_level=list_entries\n")
                     check_runs(
                         self.program,

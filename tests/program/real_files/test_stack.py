@@ -16,14 +16,21 @@ STACK = 64 * 1024
 @slow
 class StackTest(ProgramTest):
     def test_stack(self) -> None:
-        """Every stored session, and the examples at each level, with 64 kB of stack, the arguments among them."""
+        """Every stored session, and the examples at each level, with 64 kB of stack, the arguments
+        among them."""
         settings = {"preexec_fn": limited(resource.RLIMIT_STACK, STACK), "env": {}}
         for path in cases.all_cases():
             case = cases.read(path)
             with tempfile.TemporaryDirectory() as folder:
                 folder = os.fsencode(folder)
-                answer = cases.answers_in(case, folder, lambda words: run(self.program, words, **settings))
-                self.check("%s with little stack" % os.path.relpath(path, cases.FOLDER), answer, cases.stored(case, folder))
+                answer = cases.answers_in(
+                    case, folder, lambda words: run(self.program, words, **settings)
+                )
+                self.check(
+                    "%s with little stack" % os.path.relpath(path, cases.FOLDER),
+                    answer,
+                    cases.stored(case, folder),
+                )
         for folder in folders_of_aide():
             for level in LEVELS:
                 words = words_at(folder, "report_level=" + level)
