@@ -1,4 +1,5 @@
-"""Makes pairs of databases of any size, as AIDE writes them, which differ in one way each: see `PAIRS`."""
+"""Makes pairs of databases of any size, as AIDE writes them, which differ in one way each: see
+`PAIRS`."""
 from __future__ import annotations
 
 import base64
@@ -20,8 +21,8 @@ DIGESTS = {
     "stribog512": 64,
 }
 MORE_DIGESTS = {"stribog256": 32, "sha512_256": 32, "sha3_256": 32, "sha3_512": 64}
-# The columns of the forms, by the length of their lines in bytes, about. Lines of 77 bytes are those
-# of a configuration without digests. Lines of 64 short fields have 138 bytes.
+# The columns of the forms, by the length of their lines in bytes, about. Lines of 77 bytes are
+# those of a configuration without digests. Lines of 64 short fields have 138 bytes.
 UNKNOWN = [f"unknown{number:02}" for number in range(30)]
 SHORT = (
     "name attr perm lname size bcount uid gid atime mtime ctime inode lcount md5 sha1 sha256 sha512"
@@ -70,8 +71,8 @@ class Pair(NamedTuple):
         return not self.alone or number % self.alone != (77 if is_new else 78)
 
 
-# A few of each: one entry in 1,000 is changed, and one in 10,000 on either side is alone. An upgrade
-# gives a tenth of the files new times, and a third of these other bytes.
+# A few of each: one entry in 1,000 is changed, and one in 10,000 on either side is alone. An
+# upgrade gives a tenth of the files new times, and a third of these other bytes.
 PAIRS = {
     "0.1 % changed": Pair(changed=1000),
     "a few of each": Pair(changed=1000, alone=10000, sections=4),

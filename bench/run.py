@@ -112,7 +112,8 @@ def instructions_of(command: list[str]) -> int:
 
 
 def usage_of(command: list[str], directory: str) -> Usage:
-    """Runs a command by GNU time, which is small: a child of this process begins with its memory."""
+    """Runs a command by GNU time, which is small: a child of this process begins with its
+    memory."""
     output = os.path.join(directory, "output")
     figures = os.path.join(directory, "figures")
     with open(output, "wb") as target:

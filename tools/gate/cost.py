@@ -1,8 +1,10 @@
-"""What the tests cost: the processor time of `rt ci` by crate, seen from outside, and that of each other part.
+"""What the tests cost: the processor time of `rt ci` by crate, seen from outside, and that of each
+other part.
 
-`rt ci` says nothing of times. So a thread looks at its processes once a second, and notes the time that each has used by
-its crate, and by what it does. A process that began and ended between two looks is not seen: the sum of the crates is less
-than what the whole `rt ci` took, and the table says by how much.
+`rt ci` says nothing of times. So a thread looks at its processes once a second, and notes the time
+that each has used by its crate, and by what it does. A process that began and ended between two
+looks is not seen: the sum of the crates is less than what the whole `rt ci` took, and the table
+says by how much.
 """
 import collections
 import json
@@ -26,7 +28,8 @@ def read(path):
 
 
 def what_of(number, words):
-    """The crate that a process works on, and what it does there; None if it is no part of `rt ci`."""
+    """The crate that a process works on, and what it does there; None if it is no part of `rt
+    ci`."""
     if b"--crate-name" in words:
         crate = words[words.index(b"--crate-name") + 1].decode()
         if b"--test" in words:
@@ -52,7 +55,8 @@ def look(seen):
 
 
 class Watch:
-    """Looks at the processes of the machine while something runs. Another `rt ci` at the same time would be counted too."""
+    """Looks at the processes of the machine while something runs. Another `rt ci` at the same time
+    would be counted too."""
 
     def __enter__(self):
         self.seen, self.ended = {}, threading.Event()
@@ -88,7 +92,10 @@ def rows(crates, spent):
     yield "| Crate | Its proof | Its edits | Its tests |"
     yield "|---|---|---|---|"
     for crate in sorted(crates, key=lambda crate: -sum(crates[crate].values())):
-        cells = ("%.0f" % crates[crate][kind] if kind in crates[crate] else "" for kind in (PROOF, EDITS, TESTS))
+        cells = (
+            "%.0f" % crates[crate][kind] if kind in crates[crate] else ""
+            for kind in (PROOF, EDITS, TESTS)
+        )
         yield "| `%s` | %s |" % (crate, " | ".join(cells))
     seen = sum(sum(kinds.values()) for kinds in crates.values())
     yield ""
@@ -97,7 +104,10 @@ def rows(crates, spent):
     for name, seconds, clock in spent:
         more = " (of which the crates above %.0f)" % seen if name == "rt ci" else ""
         yield "| `%s`%s | %.0f | %.0f |" % (name, more, seconds, clock)
-    yield "| all, in minutes | %.0f | %.0f |" % (sum(one[1] for one in spent) / 60, sum(one[2] for one in spent) / 60)
+    yield "| all, in minutes | %.0f | %.0f |" % (
+        sum(one[1] for one in spent) / 60,
+        sum(one[2] for one in spent) / 60,
+    )
 
 
 def printed():

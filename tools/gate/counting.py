@@ -14,7 +14,9 @@ NOTHING = "0 passed, 0 failed"
 
 def command_of(words):
     """The words of a part: a module of the tools or tests, or a command of the machine."""
-    return [sys.executable, "-m", *words] if words[0].startswith(("tools.", "tests.")) else list(words)
+    return (
+        [sys.executable, "-m", *words] if words[0].startswith(("tools.", "tests.")) else list(words)
+    )
 
 
 class Count:
@@ -69,7 +71,9 @@ class Count:
 def echoed(words):
     """Runs a command in the top folder and prints what it prints: its status and its last line."""
     last = ""
-    with subprocess.Popen(words, cwd=TOP, stdout=subprocess.PIPE, stderr=subprocess.STDOUT) as process:
+    with subprocess.Popen(
+        words, cwd=TOP, stdout=subprocess.PIPE, stderr=subprocess.STDOUT
+    ) as process:
         for line in process.stdout:
             sys.stdout.buffer.write(line)
             sys.stdout.flush()
@@ -80,7 +84,9 @@ def echoed(words):
 def finished(part):
     """A part that has run, with all that it printed."""
     words = command_of(part)
-    return subprocess.run(words, cwd=TOP, stdin=subprocess.DEVNULL, stdout=subprocess.PIPE, stderr=subprocess.STDOUT)
+    return subprocess.run(
+        words, cwd=TOP, stdin=subprocess.DEVNULL, stdout=subprocess.PIPE, stderr=subprocess.STDOUT
+    )
 
 
 def processor_time():

@@ -34,7 +34,15 @@ def faults():
 
 def said(words, folder):
     """What a command says that refuses something."""
-    done = subprocess.run(words, cwd=folder, stdin=subprocess.DEVNULL, stdout=subprocess.PIPE, stderr=subprocess.STDOUT)
+    done = subprocess.run(
+        words,
+        cwd=folder,
+        stdin=subprocess.DEVNULL,
+        stdout=subprocess.PIPE,
+        stderr=subprocess.STDOUT,
+    )
     return (
-        ["%s: %s" % (os.path.relpath(folder, TOP), done.stdout.decode("utf-8", "replace")[-2000:])] if done.returncode else []
+        ["%s: %s" % (os.path.relpath(folder, TOP), done.stdout.decode("utf-8", "replace")[-2000:])]
+        if done.returncode
+        else []
     )

@@ -37,7 +37,8 @@ def trials(program: str, lines: str) -> List[Part]:
 
 
 def newer_trials(program: str, lines: str) -> List[Part]:
-    """The trials of the builds for newer processors, whose answers have to be those of the other builds, byte for byte."""
+    """The trials of the builds for newer processors, whose answers have to be those of the other
+    builds, byte for byte."""
     return [
         ("tools.gate.unit_tests", program, "--quick", "tests.program"),
         ("tests.program.try_lines", lines, "--report", program, "--quick"),
@@ -46,8 +47,8 @@ def newer_trials(program: str, lines: str) -> List[Part]:
 
 
 def quick_trials(program: str, lines: str) -> List[Part]:
-    """Those that take seconds, the longest first. The others prove something, let each allocation fail, install, or wait for
-    processes."""
+    """Those that take seconds, the longest first. The others prove something, let each allocation
+    fail, install, or wait for processes."""
     return [
         ("tools.gate.unit_tests", program, "--quick"),
         ("tests.pages.try_commands", program),

@@ -1,9 +1,11 @@
-"""A verdict on what was changed: the checks of the files, the formats, and the tests of the changed modules.
+"""A verdict on what was changed: the checks of the files, the formats, and the tests of the changed
+modules.
 
-Changed is what differs from --since (origin/main), and what git does not know yet. With --all every test runs that proves
-nothing and takes no minutes. PROGRAM is the built program; without it the last one that was proved here is taken, or else an
-unproved one, which `tools/build_unproved` makes of the sources as they are. The last line is 'N passed, M failed'. This is no
-gate: only `tools/test` proves what it runs.
+Changed is what differs from --since (origin/main), and what git does not know yet. With --all every
+test runs that proves nothing and takes no minutes. PROGRAM is the built program; without it the
+last one that was proved here is taken, or else an unproved one, which `tools/build_unproved` makes
+of the sources as they are. The last line is 'N passed, M failed'. This is no gate: only
+`tools/test` proves what it runs.
 """
 from __future__ import annotations
 
@@ -17,10 +19,15 @@ from tools.gate.counting import TOP, Count
 from tools.lib.arguments import executable, parser_of
 
 JOBS = 3
-# The tests of each directory of modules of the commands, and of a module that has its own. They are beginnings of names.
+# The tests of each directory of modules of the commands, and of a module that has its own. They are
+# beginnings of names.
 TESTS = {
     "commands/lib/aide_compare/archive/": ("tests.commands.test_archive",),
-    "commands/lib/aide_compare/base/": ("tests.commands.base", "tests.commands.test_front", "tests.commands.test_run"),
+    "commands/lib/aide_compare/base/": (
+        "tests.commands.base",
+        "tests.commands.test_front",
+        "tests.commands.test_run",
+    ),
     "commands/lib/aide_compare/changes/": (
         "tests.commands.base.test_severity",
         "tests.commands.test_nights",
@@ -32,7 +39,10 @@ TESTS = {
     "commands/lib/aide_compare/commands/sort.py": ("tests.commands.test_sorting",),
     "commands/lib/aide_compare/commands/json.py": ("tests.commands.test_viewers",),
     "commands/lib/aide_compare/commands/page.py": ("tests.commands.test_viewers",),
-    "commands/lib/aide_compare/commands/compare.py": ("tests.commands.test_run", "tests.commands.test_terminal"),
+    "commands/lib/aide_compare/commands/compare.py": (
+        "tests.commands.test_run",
+        "tests.commands.test_terminal",
+    ),
     "commands/lib/aide_compare/compare/": (
         "tests.commands.base",
         "tests.commands.test_age",
@@ -42,8 +52,15 @@ TESTS = {
     ),
     "commands/lib/aide_compare/hosts/": ("tests.commands.test_fleet", "tests.commands.test_hosts_"),
     "commands/lib/aide_compare/lines/": ("tests.commands.test_viewers", "tests.commands.test_show"),
-    "commands/lib/aide_compare/mail/": ("tests.commands.test_mail", "tests.commands.test_smtp", "tests.commands.test_hands"),
-    "commands/lib/aide_compare/show/": ("tests.commands.test_standings", "tests.commands.test_viewers"),
+    "commands/lib/aide_compare/mail/": (
+        "tests.commands.test_mail",
+        "tests.commands.test_smtp",
+        "tests.commands.test_hands",
+    ),
+    "commands/lib/aide_compare/show/": (
+        "tests.commands.test_standings",
+        "tests.commands.test_viewers",
+    ),
     "commands/bin/": ("tests.commands.test_front", "tests.commands.test_lost_modules"),
     "commands/share/": ("tests.commands.base.test_severity",),
     "contrib/": ("tests.commands.test_hands", "tests.commands.test_state"),
@@ -57,7 +74,9 @@ def changed(since: str) -> list[str]:
     """The files that differ from a revision, and new ones."""
     names: set[str] = set()
     for words in (["diff", "--name-only", since], ["ls-files", "--others", "--exclude-standard"]):
-        done = subprocess.run(["git", "-C", TOP, *words], stdout=subprocess.PIPE, check=True, text=True)
+        done = subprocess.run(
+            ["git", "-C", TOP, *words], stdout=subprocess.PIPE, check=True, text=True
+        )
         names.update(done.stdout.splitlines())
     return sorted(names)
 
@@ -78,7 +97,9 @@ def beginnings_for(name: str) -> tuple[str, ...]:
 def tests_for(names: list[str]) -> list[str]:
     """The modules of tests for these files."""
     beginnings = tuple(one for name in names for one in beginnings_for(name))
-    return [module for module in unit_tests.modules([]) if beginnings and module.startswith(beginnings)]
+    return [
+        module for module in unit_tests.modules([]) if beginnings and module.startswith(beginnings)
+    ]
 
 
 def program_for(given: str | None) -> str | None:
@@ -95,14 +116,31 @@ def program_for(given: str | None) -> str | None:
 
 def main() -> int:
     parser = parser_of("tools.gate.quick", __doc__)
-    parser.add_argument("program", metavar="PROGRAM", nargs="?", type=executable, help="a built program")
-    parser.add_argument("--files", action="store_true", help="only the checks of files and the formats, before a commit")
-    parser.add_argument("--all", action="store_true", help="all tests that prove nothing and take no minutes")
-    parser.add_argument("--since", default="origin/main", metavar="REVISION", help="what counts as changed (origin/main)")
+    parser.add_argument(
+        "program", metavar="PROGRAM", nargs="?", type=executable, help="a built program"
+    )
+    parser.add_argument(
+        "--files",
+        action="store_true",
+        help="only the checks of files and the formats, before a commit",
+    )
+    parser.add_argument(
+        "--all", action="store_true", help="all tests that prove nothing and take no minutes"
+    )
+    parser.add_argument(
+        "--since",
+        default="origin/main",
+        metavar="REVISION",
+        help="what counts as changed (origin/main)",
+    )
     args = parser.parse_args()
     names = changed(args.since)
     count = Count()
-    if args.files or args.all or not all(name.startswith(("commands/", "tests/commands/")) for name in names):
+    if (
+        args.files
+        or args.all
+        or not all(name.startswith(("commands/", "tests/commands/")) for name in names)
+    ):
         count.run_side_by_side(parts.FILES, JOBS)
     else:
         count.run_side_by_side([("tests.source.check_layers",)], JOBS)

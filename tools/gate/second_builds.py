@@ -1,12 +1,13 @@
 """Builds both programs for newer processors too, and notes which files are proved builds.
 
-`rt ci` and `rt run` build a program for x86-64-v2. Over the libraries that they have proved, this checks the one function of
-a program's own crate again and compiles the whole for x86-64-v3: `crates/NAME/out/NAME-v3`. Such a program ends with status
-127 on a processor that lacks an instruction of it; the commands then run the other build.
+`rt ci` and `rt run` build a program for x86-64-v2. Over the libraries that they have proved, this
+checks the one function of a program's own crate again and compiles the whole for x86-64-v3:
+`crates/NAME/out/NAME-v3`. Such a program ends with status 127 on a processor that lacks an
+instruction of it; the commands then run the other build.
 
-Beside each proved build stands a record, `NAME.proved` or `NAME-v3.proved`: the SHA-256 of the file, and the toolchain. It is
-written at once after the proof. With --ran-now the builds for x86-64-v2, which the caller has just proved, get theirs too.
-The last line is 'N passed, M failed'.
+Beside each proved build stands a record, `NAME.proved` or `NAME-v3.proved`: the SHA-256 of the
+file, and the toolchain. It is written at once after the proof. With --ran-now the builds for
+x86-64-v2, which the caller has just proved, get theirs too. The last line is 'N passed, M failed'.
 """
 import hashlib
 import os
@@ -54,7 +55,9 @@ def build(crate: str, uses: Dict[str, List[str]]) -> List[str]:
     words += ["--links", f"{crate}=", "--cpu", PROCESSOR, "--backend", "llvm"]
     words += ["--toolchain", os.path.join(kit, "toolchain"), "-o", f"{program}.o"]
     folder = os.path.join(checker.TOP, "crates", crate)
-    proved = subprocess.run(words, cwd=folder, stdout=subprocess.PIPE, stderr=subprocess.STDOUT, check=False)
+    proved = subprocess.run(
+        words, cwd=folder, stdout=subprocess.PIPE, stderr=subprocess.STDOUT, check=False
+    )
     said = proved.stdout.decode("utf-8", "replace")
     if proved.returncode or not is_proved(said):
         return [f"it was not proved: {said[-2000:]}"]
@@ -71,11 +74,19 @@ def build(crate: str, uses: Dict[str, List[str]]) -> List[str]:
 def main() -> None:
     """Builds the programs that were named, or both."""
     parser = parser_of("tools.gate.second_builds", __doc__)
-    parser.add_argument("names", nargs="*", metavar="NAME", help="one of %s (both)" % " and ".join(PROGRAMS))
-    parser.add_argument("--ran-now", action="store_true", help="the caller has just proved the builds that are there")
+    parser.add_argument(
+        "names", nargs="*", metavar="NAME", help="one of %s (both)" % " and ".join(PROGRAMS)
+    )
+    parser.add_argument(
+        "--ran-now",
+        action="store_true",
+        help="the caller has just proved the builds that are there",
+    )
     given = parser.parse_args()
     if not set(given.names) <= set(PROGRAMS):
-        parser.error("no program of this name: " + " ".join(sorted(set(given.names) - set(PROGRAMS))))
+        parser.error(
+            "no program of this name: " + " ".join(sorted(set(given.names) - set(PROGRAMS)))
+        )
     tally, uses = Tally(), checker.libraries()
     for crate in given.names or PROGRAMS:
         if given.ran_now:

@@ -1,7 +1,8 @@
-"""The tests of the whole repository: the layout of the crates, `rt ci`, then the built program over real files.
+"""The tests of the whole repository: the layout of the crates, `rt ci`, then the built program over
+real files.
 
-The very last line is 'N passed, M failed' of all together; the status is 1 if something failed. What the run cost is kept
-in `out/cost.json`.
+The very last line is 'N passed, M failed' of all together; the status is 1 if something failed.
+What the run cost is kept in `out/cost.json`.
 """
 import os
 import subprocess
@@ -16,9 +17,9 @@ from tools.lib.arguments import parser_of
 def jobs():
     """How many checks at a time: three for each four processors, with 4 GB of memory for each.
 
-    A check reads its libraries with two threads, so with more checks than that they get in each other's way, and all take
-    more processor time. Without a number `rt ci` counts a gigabyte for each thousand lines of a crate, and runs few checks
-    beside that of a crate of tests.
+    A check reads its libraries with two threads, so with more checks than that they get in each
+    other's way, and all take more processor time. Without a number `rt ci` counts a gigabyte for
+    each thousand lines of a crate, and runs few checks beside that of a crate of tests.
     """
     processors = len(os.sched_getaffinity(0))
     with open("/proc/meminfo") as file:
@@ -27,7 +28,8 @@ def jobs():
 
 
 def prove(count):
-    """What the gate has proved it builds too: those very programs are tried, and none that was there before."""
+    """What the gate has proved it builds too: those very programs are tried, and none that was
+    there before."""
     for name in (parts.PROGRAM, parts.LINES, parts.IN_MEMORY):
         if os.path.lexists(os.path.join(TOP, name)):
             os.remove(os.path.join(TOP, name))
@@ -38,14 +40,17 @@ def prove(count):
 
 
 def runs_here(program):
-    """Whether this machine's processor runs a build. One that lacks an instruction is answered with status 127."""
+    """Whether this machine's processor runs a build. One that lacks an instruction is answered with
+    status 127."""
     words = [os.path.join(TOP, program), "-D", "-c", "/dev/null"]
     return os.access(words[0], os.X_OK) and subprocess.call(words) != 127
 
 
 def main():
     parser = parser_of("tools.gate.whole", __doc__)
-    parser.add_argument("--cost", action="store_true", help="run nothing, and print what the last run here cost")
+    parser.add_argument(
+        "--cost", action="store_true", help="run nothing, and print what the last run here cost"
+    )
     if parser.parse_args().cost:
         print(cost.printed())
         return 0

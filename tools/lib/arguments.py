@@ -1,4 +1,5 @@
-"""The arguments of the tools: each says by --help what it does, and does nothing before it has read its arguments."""
+"""The arguments of the tools: each says by --help what it does, and does nothing before it has read
+its arguments."""
 import argparse
 import os
 
@@ -6,7 +7,9 @@ import os
 def parser_of(module, text):
     """A parser for a tool that is run as a module; `text` is its docstring."""
     raw = argparse.RawDescriptionHelpFormatter
-    return argparse.ArgumentParser(prog="python3 -m " + module, description=text, formatter_class=raw)
+    return argparse.ArgumentParser(
+        prog="python3 -m " + module, description=text, formatter_class=raw
+    )
 
 
 def executable(path):
@@ -17,4 +20,9 @@ def executable(path):
 
 
 def add_program(parser):
-    parser.add_argument("program", metavar="PROGRAM", type=executable, help="the built program, crates/aide/out/aide")
+    parser.add_argument(
+        "program",
+        metavar="PROGRAM",
+        type=executable,
+        help="the built program, crates/aide/out/aide",
+    )

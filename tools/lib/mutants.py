@@ -1,5 +1,6 @@
-"""Small mistakes in a text in Python, made by a walk over its syntax tree: a comparison or condition turned round, another
-number, a flag, argument or statement left out. Each mutant differs from the text at one place.
+"""Small mistakes in a text in Python, made by a walk over its syntax tree: a comparison or
+condition turned round, another number, a flag, argument or statement left out. Each mutant differs
+from the text at one place.
 """
 import ast
 import copy
@@ -33,7 +34,9 @@ def without(list_, at):
 
 def of_compare(node):
     for at, sign in enumerate(node.ops):
-        yield "comparison", replaced(node, ops=[*node.ops[:at], TURNED[type(sign)](), *node.ops[at + 1 :]])
+        yield "comparison", replaced(
+            node, ops=[*node.ops[:at], TURNED[type(sign)](), *node.ops[at + 1 :]]
+        )
 
 
 def of_bool(node):
@@ -119,9 +122,9 @@ def mutants(text):
     tree = ast.parse(text)
     for node, place in list(places(tree)):
         for kind, other in WAYS[type(node)](node) if type(node) in WAYS else ():
-            yield getattr(node, "lineno", 0), kind, lambda node=node, place=place, other=other: written(
-                tree, place, node, other
-            )
+            yield getattr(
+                node, "lineno", 0
+            ), kind, lambda node=node, place=place, other=other: written(tree, place, node, other)
 
 
 def written(tree, place, node, other):

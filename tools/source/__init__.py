@@ -1,1 +1,2 @@
-"""Tools for the source: its layout, must-fail edits, pages, and the definitions that public contracts cite."""
+"""Tools for the source: its layout, must-fail edits, pages, and the definitions that public
+contracts cite."""

@@ -1,4 +1,5 @@
-"""How the checker of the toolchain is called for one crate, over the libraries that are built already."""
+"""How the checker of the toolchain is called for one crate, over the libraries that are built
+already."""
 import os
 import subprocess
 import sys
@@ -46,8 +47,20 @@ def built(crate):
 def words_of(crate, uses, folder):
     """The arguments of a check of the crate over its built libraries."""
     top = kit()
-    root = "src/main.rt" if os.path.isfile(os.path.join(TOP, "crates", crate, "src", "main.rt")) else "src/lib.rt"
-    words = [os.path.join(top, "bin", "rattle"), "check", "--crate-name", crate, root, "--jobs", "1"]
+    root = (
+        "src/main.rt"
+        if os.path.isfile(os.path.join(TOP, "crates", crate, "src", "main.rt"))
+        else "src/lib.rt"
+    )
+    words = [
+        os.path.join(top, "bin", "rattle"),
+        "check",
+        "--crate-name",
+        crate,
+        root,
+        "--jobs",
+        "1",
+    ]
     for name in ["std"] + uses[crate]:
         place = built(name) if name in uses else os.path.join(top, "rlibs")
         words += ["--extern", "%s=%s.rlib" % (name, os.path.join(place, name))]

@@ -1,10 +1,12 @@
 """Compares what the public calls promise at two revisions, clause by clause.
 
-NEW is the working tree if it is left out. The calls are those of the traits and impls of public types and the public functions
-of all crates. A clause that cites a record of specs/ is followed by the fields of this record, one level deep. Prints each call
-whose lines differ, with `-` before a line of OLD alone and `+` before one of NEW alone; with --all also the calls whose lines do
-not differ. A line that went is not yet a promise that went: a field of a record may say the same. So a reader judges. The last
-line counts the calls; the status is 1 if there are none at one of the revisions.
+NEW is the working tree if it is left out. The calls are those of the traits and impls of public
+types and the public functions of all crates. A clause that cites a record of specs/ is followed by
+the fields of this record, one level deep. Prints each call whose lines differ, with `-` before a
+line of OLD alone and `+` before one of NEW alone; with --all also the calls whose lines do not
+differ. A line that went is not yet a promise that went: a field of a record may say the same. So a
+reader judges. The last line counts the calls; the status is 1 if there are none at one of the
+revisions.
 """
 import os
 import re
@@ -15,7 +17,9 @@ from tools.lib.arguments import parser_of
 from tools.source.checker import TOP, stop
 from tools.source.public_specs import owner_of
 
-CLAUSE = re.compile(r"(ensures|requires)\b\s*([\w]*)\s*\{(.*?)\}\s*(?=$|(?:ensures|requires)\b)", re.S)
+CLAUSE = re.compile(
+    r"(ensures|requires)\b\s*([\w]*)\s*\{(.*?)\}\s*(?=$|(?:ensures|requires)\b)", re.S
+)
 FUNCTION = re.compile(r"^    (?:pub )?(?:const )?fn (\w+)|^pub (?:const )?fn (\w+)")
 OWNER = re.compile(r"^(?:pub )?(?:impl|trait)\b")
 RECORD = re.compile(r"^pub record (\w+)\b[^=]*?\bwhere\n((?:  [^\n]*\n|\n(?=  ))*)", re.M)
@@ -36,7 +40,11 @@ class Revision:
         self.name = name
 
     def paths(self):
-        listed = git("ls-tree", "-r", "--name-only", self.name) if self.name else git("ls-files", "-co", "--exclude-standard")
+        listed = (
+            git("ls-tree", "-r", "--name-only", self.name)
+            if self.name
+            else git("ls-files", "-co", "--exclude-standard")
+        )
         return [path for path in listed.split("\n") if re.match(r"crates/\w+/(src|specs)/", path)]
 
     def text(self, path):
@@ -58,10 +66,18 @@ def records_of(revision):
     found = {}
     for path in revision.paths():
         if path.endswith(".antt"):
-            lines = [line for line in revision.text(path).split("\n") if not line.lstrip().startswith("--")]
+            lines = [
+                line
+                for line in revision.text(path).split("\n")
+                if not line.lstrip().startswith("--")
+            ]
             text = "\n".join(line.split("--")[0].rstrip() for line in lines) + "\n"
             for name, fields in RECORD.findall(text):
-                found[name] = [joined(field) for field in re.split(r"^  pub ", fields, flags=re.M) if field.strip()]
+                found[name] = [
+                    joined(field)
+                    for field in re.split(r"^  pub ", fields, flags=re.M)
+                    if field.strip()
+                ]
     return found
 
 
@@ -77,12 +93,15 @@ def lines_of(contract, records):
 
 def ends_contract(line, kept):
     """Whether a contract ends here: a body begins, or a method of a trait has none."""
-    bodiless = line.endswith("};") or line.endswith(";") and not any("ensures" in each for each in kept)
+    bodiless = (
+        line.endswith("};") or line.endswith(";") and not any("ensures" in each for each in kept)
+    )
     return bodiless or line.strip() == "{" or line.endswith(") {")
 
 
 def contracts_in(text):
-    """The public functions and trait methods of a source file, each with the text of its contract."""
+    """The public functions and trait methods of a source file, each with the text of its
+    contract."""
     owner, public, taking = "", False, None
     for line in text.split("\n"):
         if OWNER.match(line):
@@ -131,7 +150,9 @@ def main():
     given = parser.parse_args()
     old, new = promises(Revision(given.old)), promises(Revision(given.new))
     calls = sorted(set(old) | set(new))
-    differ = sum(print_call(call, old.get(call, []), new.get(call, []), given.all) for call in calls)
+    differ = sum(
+        print_call(call, old.get(call, []), new.get(call, []), given.all) for call in calls
+    )
     print("%d calls before, %d after, %d differ" % (len(old), len(new), differ))
     return 0 if old and new else 1
 

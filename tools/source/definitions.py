@@ -1,4 +1,5 @@
-"""Reads the definitions in the crates' specs/: the text of each, the sentence over it, and what it uses."""
+"""Reads the definitions in the crates' specs/: the text of each, the sentence over it, and what it
+uses."""
 import os
 import re
 
@@ -7,7 +8,9 @@ IMPORT = re.compile(r"use\s+Rattle\.(\w+)\.specs\.([\w.]+?)\.\{([^}]*)\}", re.S)
 ALIAS = re.compile(r"use\s+Rattle\.(\w+)\.specs\.([\w.]+) as (\w+)\s*$", re.M)
 REEXPORT = re.compile(r"^pub use Rattle\.(\w+)\.specs\.([\w.]+)\s*$", re.M)
 WORD = re.compile(r"[A-Za-z_][\w']*")
-DEFINED = re.compile(r"^(?:abbrev |unfoldable |pub |private )*(?:record |data )?([A-Za-z_][\w']*)\b")
+DEFINED = re.compile(
+    r"^(?:abbrev |unfoldable |pub |private )*(?:record |data )?([A-Za-z_][\w']*)\b"
+)
 CONSTRUCTOR = re.compile(r"^  ([A-Za-z_][\w']*) :")
 
 
@@ -18,8 +21,8 @@ def crates():
 
 
 def imports_of(text):
-    """For each name that a file imports, the crate and the file of specs/ that it comes from. Types of the code come from
-    files whose names begin with `declared`."""
+    """For each name that a file imports, the crate and the file of specs/ that it comes from. Types
+    of the code come from files whose names begin with `declared`."""
     found = {}
     for crate, file, names in IMPORT.findall(text):
         for name in names.split(","):
@@ -31,7 +34,8 @@ def imports_of(text):
 
 
 class Definition:
-    """A definition: the sentence over it, its lines, and the line of the module that it is in, if it has one."""
+    """A definition: the sentence over it, its lines, and the line of the module that it is in, if
+    it has one."""
 
     def __init__(self, module):
         self.module, self.sentence, self.lines = module, "", []
@@ -50,8 +54,8 @@ class Definition:
 
 
 class File:
-    """One file of specs/: the sentence at its head, what it imports, its definitions in their order, and for each
-    constructor the definition that has it."""
+    """One file of specs/: the sentence at its head, what it imports, its definitions in their
+    order, and for each constructor the definition that has it."""
 
     def __init__(self, text):
         self.imports, self.definitions, self.owners = imports_of(text), {}, {}
@@ -97,7 +101,9 @@ class Definitions:
             folder = os.path.join(TOP, "crates", crate, "specs")
             for path, _, inside in os.walk(folder):
                 for file in inside:
-                    name = os.path.relpath(os.path.join(path, file), folder)[: -len(".antt")].replace(os.sep, ".")
+                    name = os.path.relpath(os.path.join(path, file), folder)[
+                        : -len(".antt")
+                    ].replace(os.sep, ".")
                     with open(os.path.join(path, file), encoding="utf-8") as opened:
                         self.take(crate, name, opened.read())
 
@@ -109,7 +115,8 @@ class Definitions:
             self.files[crate, name] = File(text)
 
     def found(self, target):
-        """Where a name that was imported is defined: crate, file and name; `None` if it is in no crate's specs/."""
+        """Where a name that was imported is defined: crate, file and name; `None` if it is in no
+        crate's specs/."""
         crate, file, name = target
         if (crate, file) not in self.files and (crate, file) in self.again:
             crate, file = self.again[crate, file]
@@ -140,11 +147,14 @@ class Definitions:
         """What a definition names."""
         if place not in self.used:
             definition, imports = self.definition(place), self.files[place[:2]].imports
-            self.used[place] = self.named_by(definition.words(), imports, place[:2]) if definition else ([], [])
+            self.used[place] = (
+                self.named_by(definition.words(), imports, place[:2]) if definition else ([], [])
+            )
         return self.used[place]
 
     def reached(self, places, stops=()):
-        """The definitions that these need, in the order in which they are met, and what they name elsewhere."""
+        """The definitions that these need, in the order in which they are met, and what they name
+        elsewhere."""
         order, outside, waiting = [], [], list(places)
         while waiting:
             place = waiting.pop(0)

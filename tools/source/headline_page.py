@@ -1,9 +1,10 @@
-"""Prints docs/HEADLINE.md and docs/HEADLINE_LINES.md: the headline, of the report and of the lines of JSON, and each definition
-that it rests on, with the sentence over it.
+"""Prints docs/HEADLINE.md and docs/HEADLINE_LINES.md: the headline, of the report and of the lines
+of JSON, and each definition that it rests on, with the sentence over it.
 
-From the contracts of `aide_headline` this follows each name to its definition, and from there to the definitions that it
-uses, as tools/source/public_specs.py does for all public calls. A definition stands before those that it uses. With --write
-the pages are written; tests/source/check_docs.py compares them with the definitions.
+From the contracts of `aide_headline` this follows each name to its definition, and from there to
+the definitions that it uses, as tools/source/public_specs.py does for all public calls. A
+definition stands before those that it uses. With --write the pages are written;
+tests/source/check_docs.py compares them with the definitions.
 """
 import os
 import re
@@ -32,10 +33,12 @@ TRAITS = {
     "Site": "crates/aide_db/src/sources.rt",
     "Sink": "crates/aide_text/src/sink.rt",
 }
-# What a configuration means and what arguments ask for are premises of the second call. Their definitions are not printed.
+# What a configuration means and what arguments ask for are premises of the second call. Their
+# definitions are not printed.
 PREMISES = [("aide_conf", "ReadResult", "ReadsAs"), ("aide_words", "Job", "job_of")]
 PREMISES_BESIDE = [("aide_words", "BesideJob", "beside_job_of")]
-# The words of the toolchain's library that say more than their names do, and of other crates all: what each means.
+# The words of the toolchain's library that say more than their names do, and of other crates all:
+# what each means.
 MEANINGS = {
     "Appends": "known bytes have grown by exactly these. If the bytes of a device are not known, it says nothing",
     "FinMap": "a finite map that is kept in the order of its keys. Two maps with the same entries are equal",
@@ -118,9 +121,12 @@ class Page:
         self.add("```" + kind, *(text.split("\n") + ["```"]))
 
     def part(self, title, text, contract, imports, stops=()):
-        """A heading with a text, and the definitions that a contract needs and that are not on the page yet."""
+        """A heading with a text, and the definitions that a contract needs and that are not on the
+        page yet."""
         first, named = self.definitions.named_by(WORD.findall(contract), imports)
-        order, outside = self.definitions.reached(first + [DESK] if "desk." in contract else first, stops)
+        order, outside = self.definitions.reached(
+            first + [DESK] if "desk." in contract else first, stops
+        )
         self.outside += [each for each in named + outside if each not in self.outside]
         new = [place for place in order if place not in self.printed]
         self.printed += new
@@ -130,13 +136,20 @@ class Page:
     def shown(self, places):
         """Lines with these definitions by file, users first."""
         files = list(dict.fromkeys(place[:2] for place in places))
-        users = {file: {place[:2] for place in places if self.uses_file(place, file)} for file in files}
+        users = {
+            file: {place[:2] for place in places if self.uses_file(place, file)} for file in files
+        }
         lines = []
         for file in users_first(files, users):
             name = "crates/%s/specs/%s.antt" % (file[0], file[1].replace(".", "/"))
-            lines += [""] + wrapped("==== %s: %s" % (name, self.definitions.files[file].head), "-- ")
+            lines += [""] + wrapped(
+                "==== %s: %s" % (name, self.definitions.files[file].head), "-- "
+            )
             inside = [place for place in places if place[:2] == file]
-            among = {one: {other for other in inside if one in self.definitions.used_by(other)[0]} for one in inside}
+            among = {
+                one: {other for other in inside if one in self.definitions.used_by(other)[0]}
+                for one in inside
+            }
             for place in users_first(inside, among):
                 lines += shown(self.definitions.definition(place))
         return lines
@@ -146,7 +159,8 @@ class Page:
 
 
 def users_first(items, users):
-    """Items in an order in which each comes after those that use it; of several the one that was met first."""
+    """Items in an order in which each comes after those that use it; of several the one that was
+    met first."""
     left, order = list(items), []
     while left:
         free = [item for item in left if not (users[item] & set(left)) - {item}]
@@ -156,7 +170,8 @@ def users_first(items, users):
 
 
 def equations(definition):
-    """The lines of a definition in groups: each begins a line of its own, a field or a constructor, and the others go on."""
+    """The lines of a definition in groups: each begins a line of its own, a field or a constructor,
+    and the others go on."""
     groups = []
     for line in definition.lines:
         begins = definition.is_group() and re.match(r"  (?:pub )?[A-Za-z_][\w']* :|  --", line)
@@ -179,7 +194,8 @@ def filled(pieces, indent):
 
 
 def laid_out(group):
-    """A part of a definition: in one line if it fits; the parts of a record as many in a line as fit; otherwise as it is."""
+    """A part of a definition: in one line if it fits; the parts of a record as many in a line as
+    fit; otherwise as it is."""
     joined = " ".join([group[0]] + [line.strip() for line in group[1:]])
     if len(joined) <= WIDTH:
         return [joined]
@@ -196,7 +212,12 @@ def shown(definition):
     lines = [re.sub(r"^( *)(?:(?:abbrev|unfoldable|pub) )+", r"\1", line) for line in lines]
     rest, indent = [line.strip() for line in lines[1:]], "  " if definition.is_group() else ""
     goes_on = not indent and any(line.startswith(" ") for line in lines[1:])
-    are_short = indent and len("; ".join(rest)) <= WIDTH or not goes_on and all(len(line) <= SHORT for line in rest)
+    are_short = (
+        indent
+        and len("; ".join(rest)) <= WIDTH
+        or not goes_on
+        and all(len(line) <= SHORT for line in rest)
+    )
     if are_short and not any("--" in line for line in rest):
         lines[1:] = filled(rest, indent)
     if len(lines[0]) + 4 + len(definition.sentence) <= WIDTH:
@@ -205,11 +226,14 @@ def shown(definition):
 
 
 def wrapped(text, front):
-    return [front + line for line in textwrap.wrap(text, WIDTH - len(front), break_on_hyphens=False)]
+    return [
+        front + line for line in textwrap.wrap(text, WIDTH - len(front), break_on_hyphens=False)
+    ]
 
 
 def members_of(contracts):
-    """A table of what contracts see of devices: the ghost members that these name, as `S.failures`, by their traits."""
+    """A table of what contracts see of devices: the ghost members that these name, as `S.failures`,
+    by their traits."""
     found = []
     for contract in contracts:
         bounds = dict(re.findall(r"\b([A-Z]): (\w+)", contract.split("(")[0]))
@@ -219,7 +243,10 @@ def members_of(contracts):
     lines = ["| Member | Is | File |", "|---|---|---|"]
     for file, name in found:
         above = re.search(r"((?: +/// .*\n)+) +ghost %s:" % name, read(file)).group(1)
-        lines.append("| `%s` | %s | `%s` |" % (name, " ".join(above.replace("/// ", "").split()).rstrip("."), file))
+        lines.append(
+            "| `%s` | %s | `%s` |"
+            % (name, " ".join(above.replace("/// ", "").split()).rstrip("."), file)
+        )
     return lines
 
 
@@ -233,7 +260,8 @@ def parts_of(text: str, name: str) -> list[str]:
 
 
 def aliases_of(page: Page) -> dict[tuple[str, str, str], str]:
-    """The names under which the files of a page import variants, by crate, type and variant. Two names end the program."""
+    """The names under which the files of a page import variants, by crate, type and variant. Two
+    names end the program."""
     found: dict[tuple[str, str, str], str] = {}
     for file in {place[:2] for place in page.printed if place not in page.known}:
         for alias, target in page.definitions.files[file].imports.items():
@@ -259,21 +287,32 @@ def constants_of(outside: list[tuple[str, str, str]]) -> list[str]:
 
 def type_of(target):
     """The type of the code that a name is of: its crate, the path of its module, its name."""
-    parts = [part for part in target[1].split(".")[1:] if part not in ("TheConstants", "TheVariants")]
+    parts = [
+        part for part in target[1].split(".")[1:] if part not in ("TheConstants", "TheVariants")
+    ]
     modules = [part for part in parts if part[0].islower()]
     return target[0], "/".join(modules), [part for part in parts if not part[0].islower()][0]
 
 
 def types_of(page: Page, known: list[tuple[str, str, str]]) -> list[str]:
-    """The types of the code that a page names, with the variants or fields of each, and the constants; those that are `known`
-    from another page are left out."""
+    """The types of the code that a page names, with the variants or fields of each, and the
+    constants; those that are `known` from another page are left out."""
     own, aliases = crates(), aliases_of(page)
-    declared = [each for each in page.outside if each[1].startswith("declared.") and each[0] in own and each not in known]
-    found = sorted({type_of(each) for each in declared} - {type_of(each) for each in known if each[1].startswith("declared.")})
+    declared = [
+        each
+        for each in page.outside
+        if each[1].startswith("declared.") and each[0] in own and each not in known
+    ]
+    found = sorted(
+        {type_of(each) for each in declared}
+        - {type_of(each) for each in known if each[1].startswith("declared.")}
+    )
     lines = ["| Type | Is | Has | File |", "|---|---|---|---|"]
     for crate, module, name in found:
         file = f"crates/{crate}/src/{module}.rt"
-        above = re.search(rf"((?:/// .*\n)+)(?:#\[.*\]\n)*pub (?:struct|enum|trait) {name}\b", read(file))
+        above = re.search(
+            rf"((?:/// .*\n)+)(?:#\[.*\]\n)*pub (?:struct|enum|trait) {name}\b", read(file)
+        )
         words = " ".join(above.group(1).replace("/// ", "").split()) if above else ""
         parts = []
         for part in parts_of(read(file), name):
@@ -286,8 +325,9 @@ def types_of(page: Page, known: list[tuple[str, str, str]]) -> list[str]:
 
 
 def library_words(outside, known=()):
-    """The words of the library that are not `known` from another page: a table of those that need trust, and a list of the others.
-    Another crate's word without a meaning in the table ends the program."""
+    """The words of the library that are not `known` from another page: a table of those that need
+    trust, and a list of the others. Another crate's word without a meaning in the table ends the
+    program."""
     own = crates()
     of_library = [each for each in outside if each[0] not in own and each not in known]
     untold = [each for each in of_library if each[0] != "std" and each[2] not in MEANINGS]
@@ -298,7 +338,16 @@ def library_words(outside, known=()):
         for crate, file in [each[:2] for each in of_library if each[2] == name][:1]:
             lines.append("| `%s` | `%s`, `%s` | %s |" % (name, crate, file, means))
     plain = sorted({name for _, _, name in of_library if name not in MEANINGS})
-    return ["", "## Words of the toolchain's library", "", WORDS, "", *lines, "", *wrapped(PLAIN + listed(plain) + ".", "")]
+    return [
+        "",
+        "## Words of the toolchain's library",
+        "",
+        WORDS,
+        "",
+        *lines,
+        "",
+        *wrapped(PLAIN + listed(plain) + ".", ""),
+    ]
 
 
 def listed(names):
@@ -318,8 +367,8 @@ def premises(definitions, places):
 
 
 def begun(intro, definitions, calls, printed=()):
-    """A page with its introduction and the clauses of these calls, each with what it is about, its file and its name; and their
-    contracts."""
+    """A page with its introduction and the clauses of these calls, each with what it is about, its
+    file and its name; and their contracts."""
     made, contracts = Page(definitions, intro, printed), []
     made.add("", "## The clauses")
     for words, file, name in calls:
@@ -336,19 +385,44 @@ def pages():
     made, (compare, program) = begun(INTRO, definitions, calls)
     told = "\n".join(fields_of(read(RUN_BY), ["consistent", "opens_told"]))
     made.part("What the first call rests on", [], compare, imports_of(read(COMPARE)))
-    made.part("What the second call has besides", premises(definitions, PREMISES), program, imports_of(read(PROGRAM)), PREMISES)
+    made.part(
+        "What the second call has besides",
+        premises(definitions, PREMISES),
+        program,
+        imports_of(read(PROGRAM)),
+        PREMISES,
+    )
     printed = list(made.printed)
-    made.part("Only for files that tell no bytes", [FILES, "", "```text", told, "```", ""], told + " as_report", imports_of(run))
-    made.add("", "## What contracts see of the sources, the site and the sinks", "", *members_of([compare, program]))
+    made.part(
+        "Only for files that tell no bytes",
+        [FILES, "", "```text", told, "```", ""],
+        told + " as_report",
+        imports_of(run),
+    )
+    made.add(
+        "",
+        "## What contracts see of the sources, the site and the sinks",
+        "",
+        *members_of([compare, program]),
+    )
     made.add(*types_of(made, []))
     made.add(*library_words(made.outside))
-    calls = [(OF_TWO, COMPARE_LINES, "compare_as_lines"), (OF_PROGRAM, PROGRAM_LINES, "run_lines_program")]
+    calls = [
+        (OF_TWO, COMPARE_LINES, "compare_as_lines"),
+        (OF_PROGRAM, PROGRAM_LINES, "run_lines_program"),
+    ]
     calls.append((OF_PAIR, PROGRAM_BESIDE, "run_beside_program"))
     lines, (compare, program, beside) = begun(INTRO_OF_LINES, definitions, calls, printed)
     imports = {**imports_of(read(COMPARE_LINES)), **imports_of(read(PROGRAM_LINES))}
     lines.part("What the first two calls have besides", [], compare + program, imports, PREMISES)
     of_beside = premises(definitions, PREMISES_BESIDE)
-    lines.part("What the third call has besides", of_beside, beside, imports_of(read(PROGRAM_BESIDE)), PREMISES + PREMISES_BESIDE)
+    lines.part(
+        "What the third call has besides",
+        of_beside,
+        beside,
+        imports_of(read(PROGRAM_BESIDE)),
+        PREMISES + PREMISES_BESIDE,
+    )
     lines.add(*types_of(lines, made.outside))
     lines.add(*library_words(lines.outside, made.outside))
     return {PAGE: "\n".join(made.lines) + "\n", LINES_PAGE: "\n".join(lines.lines) + "\n"}

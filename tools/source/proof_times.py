@@ -1,8 +1,9 @@
 """Proves a crate from nothing, with one job, and prints how long the proof of each function took.
 
-The libraries below the crate have to be built: run `rt check` in its folder first. A proof consists of parts, and the check
-writes a file when a part is done. The seconds between two of these files count for the later one. A line names a function,
-or a file of specs/ or proofs/, with its seconds by the clock, and then the parts that took most of them:
+The libraries below the crate have to be built: run `rt check` in its folder first. A proof consists
+of parts, and the check writes a file when a part is done. The seconds between two of these files
+count for the later one. A line names a function, or a file of specs/ or proofs/, with its seconds
+by the clock, and then the parts that took most of them:
 
   Lts      the code of the function as the prover sees it: grows with its length, its literals and its branches
   Proof    the goals that the search answers
@@ -26,13 +27,20 @@ LEAST_SHOWN = 0.2
 
 
 def times_in(folder):
-    """The seconds of each function or file, by its parts, from the times of the files in a folder."""
-    files = sorted((os.stat(os.path.join(at, name)).st_mtime, name) for at, _, names in os.walk(folder) for name in names)
+    """The seconds of each function or file, by its parts, from the times of the files in a
+    folder."""
+    files = sorted(
+        (os.stat(os.path.join(at, name)).st_mtime, name)
+        for at, _, names in os.walk(folder)
+        for name in names
+    )
     times = collections.defaultdict(collections.Counter)
     for (before, _), (now, name) in zip(files, files[1:]):
         found = PART.fullmatch(name)
         whole, _, part = found[2].rpartition(".") if found else ("", "", "other")
-        label = whole if found and found[1] == "proofs" and whole else found[2] if found else "the rest"
+        label = (
+            whole if found and found[1] == "proofs" and whole else found[2] if found else "the rest"
+        )
         times[label][part] += now - before
     return times
 
@@ -41,7 +49,10 @@ def print_times(times, most):
     for label, parts in sorted(times.items(), key=lambda one: -sum(one[1].values()))[:most]:
         shown = ["%s %.1f" % one for one in parts.most_common() if one[1] >= LEAST_SHOWN]
         print("%6.1f  %s (%s)" % (sum(parts.values()), label, ", ".join(shown)))
-    print("%6.1f  in all, %d functions and files" % (sum(sum(parts.values()) for parts in times.values()), len(times)))
+    print(
+        "%6.1f  in all, %d functions and files"
+        % (sum(sum(parts.values()) for parts in times.values()), len(times))
+    )
 
 
 def main():

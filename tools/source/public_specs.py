@@ -1,7 +1,8 @@
 """Finds the files of specs/ that say what the public calls promise.
 
-From the contracts of all public functions and traits this follows each name to its definition, and from there to the
-definitions that it uses. Prints a line for each crate: its name and the files of its specs/ that were met.
+From the contracts of all public functions and traits this follows each name to its definition, and
+from there to the definitions that it uses. Prints a line for each crate: its name and the files of
+its specs/ that were met.
 """
 import glob
 import os
@@ -13,7 +14,8 @@ from tools.source.definitions import TOP, WORD, Definitions, crates, imports_of
 
 # What is built of the crates, and whose calls are promised to others.
 PROGRAMS = ("aide", "aide_lines", "aide_headline")
-# A crate that goes on with the inside of another one. What it takes of it is promised to nobody else.
+# A crate that goes on with the inside of another one. What it takes of it is promised to nobody
+# else.
 INSIDE = {"aide_trusted": "aide_report"}
 
 
@@ -24,7 +26,9 @@ def public_names(crate):
         return set()
     with open(root, encoding="utf-8") as file:
         text = file.read()
-    return {name for use in re.findall(r"^pub use ([^;]+);", text, re.M) for name in WORD.findall(use)}
+    return {
+        name for use in re.findall(r"^pub use ([^;]+);", text, re.M) for name in WORD.findall(use)
+    }
 
 
 def crates_of_programs():
@@ -71,7 +75,11 @@ def owner_of(head):
     if plain.startswith("impl"):
         plain = plain[len("impl") :].split(" for ")[-1]
         return WORD.search(plain).group(0)
-    return WORD.findall(plain.split("(")[0])[-1] if ":" not in plain.split("(")[0] else WORD.findall(plain.split(":")[0])[-1]
+    return (
+        WORD.findall(plain.split("(")[0])[-1]
+        if ":" not in plain.split("(")[0]
+        else WORD.findall(plain.split(":")[0])[-1]
+    )
 
 
 def public_contracts(text, public):
@@ -99,7 +107,11 @@ def met(names, handed_on=public_names):
         public = handed_on(crate)
         for path, _, inside in os.walk(os.path.join(TOP, "crates", crate, "src")):
             for file in inside:
-                if file.endswith(".rt") and "tests" not in os.path.relpath(path, TOP) and file != "tests.rt":
+                if (
+                    file.endswith(".rt")
+                    and "tests" not in os.path.relpath(path, TOP)
+                    and file != "tests.rt"
+                ):
                     with open(os.path.join(path, file), encoding="utf-8") as opened:
                         text = opened.read()
                     words = WORD.findall(public_contracts(text, public))

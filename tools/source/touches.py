@@ -1,7 +1,8 @@
 """Prints the files that have a text, by kind, in the order in which a change goes through them.
 
-Give it the texts of something that is like the new thing: `report_quiet options.quiet` for another option of the
-configuration. CONTRIBUTING.md names such texts for each kind of change. Several texts are looked for together.
+Give it the texts of something that is like the new thing: `report_quiet options.quiet` for another
+option of the configuration. CONTRIBUTING.md names such texts for each kind of change. Several texts
+are looked for together.
 """
 import re
 import sys
@@ -54,7 +55,9 @@ def main():
     parser.add_argument("texts", metavar="TEXT", nargs="+", help="a text as it stands in the files")
     found, uses = files_with(parser.parse_args().texts), libraries()
     for at, (title, _) in enumerate(KINDS):
-        names = sorted((name for name in found if kind_of(name) == at), key=lambda name: order_of(name, uses))
+        names = sorted(
+            (name for name in found if kind_of(name) == at), key=lambda name: order_of(name, uses)
+        )
         if names:
             print("%s:" % title)
             print("".join("  %s\n" % name for name in names))

@@ -1,9 +1,10 @@
 """Lists the definitions of specs/ and the lemmas of proofs/ that nothing needs.
 
-Needed are: what the code names, what an answer of a function names, laws and examples (files whose names end so), what a page
-names between backquotes, and what these need in turn. The search of the prover may take a lemma that is named nowhere, so a
-line here is a candidate: take it away, and `rt check` in its crate and in those above decides. Prints a line for each, with
-its file; the last line is the number. The status is 1 if nothing was looked at.
+Needed are: what the code names, what an answer of a function names, laws and examples (files whose
+names end so), what a page names between backquotes, and what these need in turn. The search of the
+prover may take a lemma that is named nowhere, so a line here is a candidate: take it away, and `rt
+check` in its crate and in those above decides. Prints a line for each, with its file; the last line
+is the number. The status is 1 if nothing was looked at.
 """
 import glob
 import os
@@ -14,7 +15,9 @@ from tools.lib.arguments import parser_of
 from tools.source.checker import TOP, libraries, stop
 
 IMPORT = re.compile(r"use\s+(?:Rattle|crate)\W+([\w.:]+?)(?:\.|::)\{([^}]*)\}", re.S)
-PATH = re.compile(r"\b(?:crate|Rattle)(?:::|\.)((?:\w+(?:::|\.))*(?:specs|proofs)(?:::|\.)[\w.:]*\w)")
+PATH = re.compile(
+    r"\b(?:crate|Rattle)(?:::|\.)((?:\w+(?:::|\.))*(?:specs|proofs)(?:::|\.)[\w.:]*\w)"
+)
 AGAIN = re.compile(r"^pub use Rattle\.(\w+\.specs\.[\w.]+)\s*$", re.M)
 WORD = re.compile(r"[^\W\d][\w'-]*(?:\.[\w'-]+)*|[^\s\w(){}\[\],;.]+")
 NAME = re.compile(r"[^\W\d][\w'-]*|◌.*◌")
@@ -40,7 +43,8 @@ def module_of(path):
 
 
 class File:
-    """One file of definitions or lemmas: what it imports, and the text of each name that it declares."""
+    """One file of definitions or lemmas: what it imports, and the text of each name that it
+    declares."""
 
     def __init__(self, path):
         self.path = path
@@ -86,7 +90,8 @@ def imports_of(text, crate):
 
 
 def tree(crates):
-    """The files with definitions and lemmas, by module; the texts of the code and of the answers, with their crates."""
+    """The files with definitions and lemmas, by module; the texts of the code and of the answers,
+    with their crates."""
     files, texts = {}, []
     for crate in crates:
         top = os.path.join(TOP, "crates", crate)
@@ -117,7 +122,11 @@ class Needs:
     def note(self, module, name):
         while module not in self.files and module in self.again:
             module = self.again[module]
-        if module in self.files and name in self.files[module].texts and (module, name) not in self.met:
+        if (
+            module in self.files
+            and name in self.files[module].texts
+            and (module, name) not in self.met
+        ):
             self.met.add((module, name))
             self.waiting.append((module, name))
 
@@ -158,7 +167,9 @@ def unneeded(crates):
                 needs.note(module, name)
     needs.follow()
     declared = [(module, name) for module, file in files.items() for name in file.texts]
-    return len(declared), [(files[module].path, name) for module, name in declared if (module, name) not in needs.met]
+    return len(declared), [
+        (files[module].path, name) for module, name in declared if (module, name) not in needs.met
+    ]
 
 
 def main():

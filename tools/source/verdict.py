@@ -1,9 +1,11 @@
-"""Judges a change of one crate in minutes: proves it and what stands on it, and tries the must-fail edits that it touches.
+"""Judges a change of one crate in minutes: proves it and what stands on it, and tries the must-fail
+edits that it touches.
 
-First `rt check` runs in the folder of the crate and in `crates/aide`, which stands on all crates of the program. Then those
-edits of the crate are tried that are new or whose file changed since REVISION (HEAD: what is not committed), a few at a time,
-each over a copy of what the check has just proved. `rt must-fail` proves the crate once more before it tries the first one.
-This is no gate: only `tools/test` proves everything from nothing. The last line is `N passed, M failed`.
+First `rt check` runs in the folder of the crate and in `crates/aide`, which stands on all crates of
+the program. Then those edits of the crate are tried that are new or whose file changed since
+REVISION (HEAD: what is not committed), a few at a time, each over a copy of what the check has just
+proved. `rt must-fail` proves the crate once more before it tries the first one. This is no gate:
+only `tools/test` proves everything from nothing. The last line is `N passed, M failed`.
 """
 import os
 import re
@@ -24,13 +26,20 @@ def crate_folder(crate):
 
 
 def is_proved(crate):
-    """Runs the check in a crate's folder, which keeps its work there. Its lines go to the screen."""
+    """Runs the check in a crate's folder, which keeps its work there. Its lines go to the
+    screen."""
     print("rt check in crates/%s" % crate, flush=True)
-    return subprocess.run(["rt", "check"], cwd=crate_folder(crate), stdin=subprocess.DEVNULL).returncode == 0
+    return (
+        subprocess.run(
+            ["rt", "check"], cwd=crate_folder(crate), stdin=subprocess.DEVNULL
+        ).returncode
+        == 0
+    )
 
 
 def changed_since(revision):
-    """The files of the repository that differ from a revision, with those that git does not track yet."""
+    """The files of the repository that differ from a revision, with those that git does not track
+    yet."""
     words = [["diff", "--name-only", revision], ["ls-files", "--others", "--exclude-standard"]]
     found = [subprocess.run(["git", "-C", TOP, *each], stdout=subprocess.PIPE) for each in words]
     if any(done.returncode for done in found):
@@ -65,7 +74,8 @@ class Edit:
         self.texts[path] = text.replace(old, new)
 
     def is_touched(self, changed):
-        """Whether the edit itself, a file that it changes, or a proof of that module is among the changed files."""
+        """Whether the edit itself, a file that it changes, or a proof of that module is among the
+        changed files."""
         modules = [re.sub(r"^(src|specs|proofs)/|\.\w+$", "", path) for path in self.texts]
         mine = ["crates/%s/%s" % (self.crate, path) for path in self.texts]
         mine += ["crates/%s/proofs/%s/" % (self.crate, module) for module in modules]
@@ -73,13 +83,16 @@ class Edit:
         return any(path.startswith(own) for path in changed for own in mine)
 
     def verdict(self):
-        """What is wrong if the checker does not refuse the crate with this edit, and nothing if it does."""
+        """What is wrong if the checker does not refuse the crate with this edit, and nothing if it
+        does."""
         if self.fault:
             return self.fault
         with tempfile.TemporaryDirectory(prefix="verdict-") as room:
             for part in PARTS:
                 if os.path.isdir(os.path.join(crate_folder(self.crate), part)):
-                    shutil.copytree(os.path.join(crate_folder(self.crate), part), os.path.join(room, part))
+                    shutil.copytree(
+                        os.path.join(crate_folder(self.crate), part), os.path.join(room, part)
+                    )
             for path, text in self.texts.items():
                 with open(os.path.join(room, path), "w", encoding="utf-8") as file:
                     file.write(text)
@@ -103,7 +116,9 @@ class Edit:
 def main():
     parser = parser_of("tools.source.verdict", __doc__)
     parser.add_argument("crate", help="a crate of crates.txt")
-    parser.add_argument("--since", default="HEAD", metavar="REVISION", help="what counts as changed (HEAD)")
+    parser.add_argument(
+        "--since", default="HEAD", metavar="REVISION", help="what counts as changed (HEAD)"
+    )
     parser.add_argument("--jobs", type=int, default=3, help="how many edits at a time (3)")
     parser.add_argument("--all", action="store_true", help="try all edits of the crate")
     given = parser.parse_args()
@@ -113,7 +128,11 @@ def main():
     failed = [crate for crate in dict.fromkeys([given.crate, "aide"]) if not is_proved(crate)]
     passed = len({given.crate, "aide"}) - len(failed)
     folder = os.path.join(crate_folder(given.crate), "must-fail")
-    names = sorted(name for name in os.listdir(folder) if name.endswith(".edit")) if os.path.isdir(folder) else []
+    names = (
+        sorted(name for name in os.listdir(folder) if name.endswith(".edit"))
+        if os.path.isdir(folder)
+        else []
+    )
     edits = [Edit(given.crate, name) for name in names]
     edits = [edit for edit in edits if given.all or edit.is_touched(changed)] if not failed else []
     print("%d of %d edits are tried" % (len(edits), len(names)), flush=True)
