@@ -12,7 +12,7 @@ tables of files.
 - Each block of a page whose blocks no trial runs has a mark: run by hand, no command, or copied from a file. In README.md,
   examples/README.md and the manual tests.pages.try_commands asks for a row of each, and in the recipes tests.pages.try_recipes
   for a mark.
-- Each text that CONTRIBUTING.md gives for a kind of change stands in a file.
+- Each text that docs/CONTRACTS.md gives for a kind of change stands in a file.
 
 Prints what fails and, at the end, `N passed, M failed`.
 """
@@ -176,17 +176,14 @@ def check_promised(tally):
 
 
 def check_changes(tally):
-    """Each kind of change in CONTRIBUTING has texts that files of the repository have."""
-    page = read("CONTRIBUTING.md")
-    part = page[page.index("| Kind of change |") :].split("\n\n")[0]
-    found = [read_text(name) for name in tracked() if name != "CONTRIBUTING.md"]
-    for kind, texts in re.findall(r"^\| ([^|]+) \| (`[^|]+`) \|", part, re.M):
+    """Each kind of change in CONTRACTS has texts that files of the repository have."""
+    page = read("docs/CONTRACTS.md")
+    part = page.partition("\n## What a change touches\n")[2].partition("\n## ")[0]
+    found = [read_text(name) for name in tracked() if name != "docs/CONTRACTS.md"]
+    for kind, texts in re.findall(r"^- \*\*([^*]+)\*\*\s+\((`[^)]+`)\)", part, re.M):
         for text in re.findall(r"`([^`]+)`", texts):
-            tally.is_so(
-                "kind of change",
-                "%s: a file has %s" % (kind, text),
-                any(text in one for one in found),
-            )
+            is_found = any(text in one for one in found)
+            tally.is_so("kind of change", f"{kind}: a file has {text}", is_found)
 
 
 def read_text(name):

@@ -1,8 +1,8 @@
 """Prints the files that have a text, by kind, in the order in which a change goes through them.
 
 Give it the texts of something that is like the new thing: `report_quiet options.quiet` for another
-option of the configuration. CONTRIBUTING.md names such texts for each kind of change. Several texts
-are looked for together.
+option of the configuration. docs/CONTRACTS.md names such texts for each kind of change. Several
+texts are looked for together.
 """
 import re
 import sys
