@@ -470,7 +470,7 @@ ROWS = [
     ),
     Elsewhere(
         RUN,
-        "/etc/aide-compare/defaults has options ...",
+        "/etc/aide-compare/defaults contains the options ...",
         "it is no command",
         "tests/commands/test_hands.py",
     ),
