@@ -172,7 +172,7 @@ ROWS = [
     ),
     Elsewhere(
         "man/aide-compare-archive.1",
-        "On a collector that has a mirror, with the host's list of packages:",
+        "On a collector with a mirror, with the host's list of packages:",
         "it needs a mirror",
         "tests/commands/test_archive.py",
     ),
@@ -302,7 +302,7 @@ ROWS = [
     ),
     Commands(
         MAIN,
-        "Compare the two databases that AIDE has left on Debian, compressed or not:",
+        "Compare the two databases that AIDE leaves on Debian, compressed or not:",
         [7],
         expectations.names_all,
     ),
@@ -321,7 +321,7 @@ ROWS = [
     Commands(MAIN, "Check a configuration:", [0], expectations.prints("good\n")),
     Commands(
         MAIN,
-        "Do not do this. A pipe cannot be read twice, ...",
+        "Do not do this. A pipe cannot be read twice: ...",
         [18],
         expectations.is_refused("changed while it was read"),
     ),
@@ -365,7 +365,7 @@ ROWS = [
         expectations.prints("www 7 added 1, removed 1, changed 2"),
         prepare=expectations.put_baseline,
     ),
-    Commands(HOSTS, "A new host, where nobody ...", [0], expectations.is_first_of_host),
+    Commands(HOSTS, "A new host, in a script ...", [0], expectations.is_first_of_host),
     Commands(
         HOSTS,
         "One host, with its changes:",
