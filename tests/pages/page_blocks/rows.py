@@ -341,7 +341,7 @@ ROWS = [
     ),
     Shown(
         "man/check_aide_compare.1",
-        "The line has numbers for graphs: ...",
+        "The line contains numbers for graphs: ...",
         expectations.is_line_of_check,
     ),
     Commands(
