@@ -6,16 +6,16 @@ has so many of them.
 """
 from __future__ import annotations
 
-import os
-
-from tests.lib.program_test import ProgramTest, new_seed
+from tests.lib.program_test import SESSIONS, ProgramTest, new_seed
 from tests.program.random_sessions import beside_definitions, try_sessions
-
-COUNT = int(os.environ.get("AIDE_SESSIONS") or 200)
 
 
 class SessionsTest(ProgramTest):
     def test_random_sessions(self) -> None:
         try_sessions(
-            lambda words: beside_definitions(self.program, words), new_seed(), range(COUNT), 2, self
+            lambda words: beside_definitions(self.program, words),
+            new_seed(),
+            range(SESSIONS),
+            2,
+            self,
         )

@@ -28,7 +28,7 @@ from tests.program.real_files.test_devices import NOT_WRITTEN, closed_pipe
 from tests.program.real_files.test_fifos import WAIT, Feeder
 from tests.program.real_files.folder import Folder, names
 from tests.program.real_files.test_replaced import database, replace, resize, Turning
-from tests.program.try_lines import faults_of_lines
+from tests.program.test_lines import faults_of_lines
 from tools.lib.arguments import executable, parser_of
 
 CASES = os.path.join(os.path.dirname(cases.FOLDER), cases.LINES)

@@ -2,16 +2,15 @@
 tables of files.
 
 - Each link of a page leads to a file of the repository.
-- Each file that a page names in backquotes exists: below the top, a crate, or a crate's src/. Built files (`out/`) and
-  names with `NAME` in them are left out.
+- Each file that a page names in backquotes exists: below the top, a crate, or a crate's src/. Built
+  files (`out/`) and names with `NAME` in them are left out.
 - A block of code below `<!-- from: FILE -->` is FILE, letter for letter.
-- Each file of a crate's specs/ is reached from the contract of a public call, as tools/source/public_specs.py finds, or
-  cited by the laws of the crate. No file of specs/code/ is reached from a call that a crate of a program makes.
+- Each file of a crate's specs/ is reached from the contract of a public call, as
+  tools/source/public_specs.py finds, or cited by the laws of the crate. No file of specs/code/ is
+  reached from a call that a crate of a program makes.
 - Each clause that docs/LIBRARY.md names for a call is a clause of this call.
 - docs/HEADLINE.md and docs/HEADLINE_LINES.md are what tools/source/headline_page.py prints of the definitions.
-- Each block of a page whose blocks no trial runs has a mark: run by hand, no command, or copied from a file. In README.md,
-  examples/README.md and the manual tests.pages.try_commands asks for a row of each, and in the recipes tests.pages.try_recipes
-  for a mark.
+- Each block of a page has a mark that says how it is tried (tests/pages/blocks.py).
 - Each text that docs/CONTRACTS.md gives for a kind of change stands in a file.
 
 Prints what fails and, at the end, `N passed, M failed`.
@@ -24,13 +23,12 @@ import sys
 
 from tools.lib.arguments import parser_of
 from tests.lib.tally import Tally
-from tests.pages.page_blocks.pages import INDENT, MARKDOWN, paragraphs
-from tests.pages.recipes.page import PAGES
+from tests.pages.blocks import blocks_of
 from tools.source import headline_page, public_specs
 from tools.source.compare_promises import Revision, records_of
 
 TOP = public_specs.TOP
-MARK = re.compile(r"<!-- (by hand|no command|from): ")
+DIAGRAMS = ("flowchart ", "sequenceDiagram\n")
 ENDINGS = r"(?:rt|antt|py|md|sh|c|txt|conf|edit|[15])"
 NAMED = re.compile(r"`((?:[\w.-]+/)*[\w.-]+\.%s)`" % ENDINGS)
 BELOW = re.compile(
@@ -133,18 +131,11 @@ def check_copies(page, text, tally):
         tally.is_so("copied code", page + ": " + name, block == read(name))
 
 
-def check_blocks(page, text, tally):
-    if page in MARKDOWN + [headline_page.PAGE, headline_page.LINES_PAGE] + [
-        "docs/" + name for name in PAGES
-    ]:
-        return
-    before = ""
-    for part in paragraphs(text):
-        if ("```" in part or part.startswith(INDENT)) and "```mermaid" not in part:
-            tally.is_so(
-                "block", "%s: %s" % (page, part[:60]), MARK.search(part) or MARK.search(before)
-            )
-        before = part
+def check_blocks(page, tally):
+    """Each block has a mark that says how it is tried, but for the pages that a tool writes."""
+    for block in [] if page in headline_page.pages() else blocks_of(page):
+        if not block.text.startswith(DIAGRAMS):
+            tally.is_so("block", f"{page}:{block.line}", block.marks)
 
 
 def check_promised(tally):
@@ -227,7 +218,7 @@ def main():
             text = read(page)
             check_names(page, text, tally)
             check_copies(page, text, tally)
-            check_blocks(page, text, tally)
+            check_blocks(page, tally)
     for name, text in headline_page.pages().items():
         tally.is_so("written page", name, read_text(name) == text)
     check_promised(tally)

@@ -26,13 +26,10 @@ SECOND_BUILDS: Part = ("tools.gate.second_builds", "--ran-now")
 def trials(program: str, lines: str) -> List[Part]:
     """The trials of the built programs and of the commands."""
     return [
-        ("tests.program.try_lines", lines, "--report", program),
         ("tests.program.try_trusted", lines, "--report", program),
         ("tests.pages.try_manual", program),
         ("tests.packaging.try_install", program),
         ("tools.gate.unit_tests", program),
-        ("tests.pages.try_recipes", program),
-        ("tests.pages.try_commands", program),
     ]
 
 
@@ -41,7 +38,6 @@ def newer_trials(program: str, lines: str) -> List[Part]:
     builds, byte for byte."""
     return [
         ("tools.gate.unit_tests", program, "--quick", "tests.program"),
-        ("tests.program.try_lines", lines, "--report", program, "--quick"),
         ("tests.program.try_trusted", lines, "--quick", "--sessions", "300"),
     ]
 
@@ -51,8 +47,6 @@ def quick_trials(program: str, lines: str) -> List[Part]:
     fail, install, or wait for processes."""
     return [
         ("tools.gate.unit_tests", program, "--quick"),
-        ("tests.pages.try_commands", program),
         ("tests.pages.try_manual", program),
-        ("tests.program.try_lines", lines, "--report", program, "--quick", "--sessions", "150"),
         ("tests.program.try_trusted", lines, "--report", program, "--quick", "--sessions", "100"),
     ]

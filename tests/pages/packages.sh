@@ -1,7 +1,7 @@
 #!/bin/sh
 # The recipes with Debian's own packages, on this machine as it is, in namespaces of its own: files that are written lie in
-# an overlay, the network is a loopback of its own, and all processes end with this script. Run by packages.py, as root:
-#     packages.sh REPOSITORY PROGRAM FOLDER
+# an overlay, the network is a loopback of its own, and all processes end with this script. As root:
+#     unshare --mount --net --pid --ipc --fork --kill-child --mount-proc sh tests/pages/packages.sh REPOSITORY PROGRAM FOLDER
 # Prints a line `passed: ..` or `FAILED: ..` for each trial, and `skipped: ..` where a package is missing.
 set -u
 umask 022

@@ -1,0 +1,256 @@
+"""A directory into which the commands are installed, and in which the pages' blocks run: what they
+name below / lies below it. `sendmail`, `ssh`, `logger` and others are small programs of the tests,
+so nothing leaves the machine."""
+from __future__ import annotations
+
+import atexit
+import functools
+import glob
+import gzip
+import os
+import re
+import shutil
+import subprocess
+import tempfile
+import unittest
+
+from tests.lib import apart
+from tests.lib.programs import find_program, lines_program_of, reason_without
+from tests.lib.scratch import TOP, Scratch
+
+# What blocks and commands name; in a test it lies below the root.
+DIRECTORIES = [
+    "/etc/aide",
+    "/etc/aide-compare",
+    "/etc/apt/apt.conf.d",
+    "/etc/cron.d",
+    "/etc/cron.daily",
+    "/etc/default",
+    "/etc/systemd/system",
+    "/root",
+    "/srv/aide",
+    "/srv/www",
+    "/usr/local",
+    "/var/lib/aide",
+    "/var/lib/aide-compare",
+    "/var/lib/dpkg",
+    "/var/lib/prometheus",
+    "/var/log/aide-compare",
+    "/var/tmp",
+]
+NAMED = re.compile(r"(?<![\w/])(%s)(?![\w.-])" % "|".join(DIRECTORIES))
+NOBODY = 65534
+SECONDS = 600
+HEAD = "@@begin_db\n@@db_spec name attr perm size\n"
+STORE = "/var/lib/aide-compare"
+STATE = STORE + "/daily/state"
+BASELINE, NEWEST = "/var/lib/aide/aide.db", "/var/lib/aide/aide.db.new"
+HOSTS = "/etc/aide-compare/hosts"
+# A key that belongs to no host, which ssh writes for a host that it does not know.
+KEY = "ssh-ed25519 AAAAC3NzaC1lZDI1NTE5AAAAIIaS9mDLWYfaRaq7GYEbe2sm9tMRUE2XNYaLWqBLEIaG"
+SSH = """\
+if [ "$1" = -G ]; then
+    echo "userknownhostsfile ROOT/root/.ssh/known_hosts"
+    exit
+fi
+for word; do
+    case $word in UserKnownHostsFile=*) key=${word#*=\\"} file_of_key=${key%%\\"*} ;; esac
+done
+while [ "${1#-}" != "$1" ]; do [ "$1" = -o ] && shift; shift; done
+host=$1 file=${2##*/}
+[ -z "${file_of_key-}" ] || echo "$host KEY" > "$file_of_key"
+case $host in
+    down*) echo "ssh: connect to host $host port 22: No route to host" >&2; exit 255 ;;
+    loud) exec cat /dev/zero >&2 ;;
+    silent) exit 0 ;;
+    broken) head -c 30 "ROOT/remote/$host/$file"; exit 255 ;;
+esac
+exec cat "ROOT/remote/$host/$file"
+"""
+
+
+@functools.lru_cache(maxsize=None)
+def installed(program: str) -> str:
+    """A directory into which packaging/install has put everything, made once for the tests of this
+    process."""
+    directory = tempfile.mkdtemp(prefix="aide-compare-installed-")
+    atexit.register(shutil.rmtree, directory, True)
+    words = [os.path.join(TOP, "packaging", "install"), "--destdir", directory]
+    subprocess.run([*words, "--program", program], check=True, stdout=subprocess.DEVNULL)
+    return os.path.join(directory, "usr", "local")
+
+
+def example(name: str) -> bytes:
+    """A database of examples/small_tree."""
+    with open(os.path.join(TOP, "examples", "small_tree", name), "rb") as file:
+        return file.read()
+
+
+class MachineTest(Scratch, unittest.TestCase):
+    """A test with such a directory of its own."""
+
+    def __init__(self, name: str = "runTest") -> None:
+        unittest.TestCase.__init__(self, name)
+
+    def setUp(self) -> None:
+        program = find_program()
+        if program is None:
+            self.skipTest(reason_without())
+        self.program = program
+        self.make("aide-compare-pages-")
+        self.addCleanup(self.remove)
+        for name in [*DIRECTORIES, "/stubs", "/tmp", "/var/lib/prometheus/node-exporter"]:
+            os.makedirs(self.path(name), exist_ok=True)
+        os.chmod(self.path("/var/lib/aide"), 0o700)
+        for name in ("/tmp", "/var/tmp"):
+            os.chmod(self.path(name), 0o1777)
+        apart.forget_user("_aide", self.root)
+        shutil.copytree(installed(program), self.path("/usr/local"), True, dirs_exist_ok=True)
+        for directory, _, names in os.walk(self.path("/usr/local")):
+            for name in names:
+                self.put_below(os.path.join(directory, name))
+        self.put_stubs()
+
+    def put_below(self, path: str) -> None:
+        """The directories that an installed text names are those below the root."""
+        with open(path, "rb") as file:
+            text = file.read()
+        if b"\0" not in text and not os.path.islink(path):
+            with open(path, "wb") as file:
+                file.write(self.below(text.decode()).encode())
+
+    def put_stubs(self) -> None:
+        """The commands of the machine that the tools call: what they are given is kept."""
+        sendmail = '#!/bin/sh\ncat >> "%s/tmp/mailed"\n' % self.root
+        self.write("/usr/local/sbin/sendmail", sendmail, 0o755)
+        self.write("/usr/local/sbin/systemctl", "#!/bin/sh\nexit 0\n", 0o755)
+        kept = self.path("/tmp/logged")
+        log = f'printf "%s\\n" "$*" >> "{kept}"; [ -t 0 ] || cat >> "{kept}"'
+        self.stub("logger", log)
+        for name in ("systemctl", "chown", "apt"):
+            self.stub(name, "exit 0")
+        self.stub("ssh", SSH.replace("ROOT", self.root).replace("KEY", KEY))
+        self.put_packages("3.0.16-1", {})
+
+    def put_packages(self, version: str, digests: dict[str, str]) -> None:
+        """dpkg's records of a machine with one package, openssl, and the MD5 sums of its files."""
+        status = "Package: openssl\nStatus: install ok installed\nArchitecture: amd64\nVersion: "
+        self.write("/var/lib/dpkg/status", f"{status}{version}\n\n")
+        self.write("/var/lib/dpkg/diversions", "")
+        names = "".join(path + "\n" for path in digests)
+        self.write("/var/lib/dpkg/info/openssl.list", "/.\n" + names)
+        sums = "".join(f"{digest}  {path[1:]}\n" for path, digest in digests.items())
+        self.write("/var/lib/dpkg/info/openssl.md5sums", sums)
+
+    def put_databases(self, old: str | bytes, new: str | bytes) -> None:
+        """The baseline and the newest database."""
+        for name, text in ((BASELINE, old), (NEWEST, new)):
+            data = text if isinstance(text, bytes) else text.encode()
+            self.write(name, gzip.compress(data), 0o600)
+
+    def put_pair(self, old: str | bytes, new: str | bytes) -> None:
+        """The two databases, and a configuration that names them."""
+        self.put_databases(old, new)
+        names = f"database_in=file:{BASELINE}\ndatabase_new=file:{NEWEST}\n"
+        self.write("/etc/aide/aide.conf", self.below(names))
+
+    def below(self, text: str) -> str:
+        """A text with the directories that it names put below the root."""
+        return NAMED.sub(lambda found: self.root + found.group(1), text)
+
+    def above(self, text: str) -> str:
+        """A text as it is on a machine where nothing lies below a root."""
+        return text.replace(self.root, "")
+
+    def path(self, *names: str) -> str:
+        """Where a name of the machine lies below the root."""
+        return os.path.join(self.root, *(name.lstrip("/") for name in names))
+
+    def read(self, name: str) -> str:
+        """The text of a file; nothing if there is none."""
+        try:
+            with open(self.path(name), encoding="utf-8", errors="surrogateescape") as file:
+                return file.read()
+        except FileNotFoundError:
+            return ""
+
+    def taken(self, name: str) -> str | None:
+        """What a stub was given since the last call; None if it was not called."""
+        path = self.path("/tmp", name)
+        if not os.path.exists(path):
+            return None
+        text = self.read("/tmp/" + name)
+        os.remove(path)
+        return text
+
+    def environment(self) -> dict[str, str]:
+        places = ["/stubs", "/usr/local/sbin", "/usr/local/bin"]
+        path = ":".join([*map(self.path, places), os.environ["PATH"]])
+        own = {"PATH": path, "TMPDIR": self.path("/var/tmp"), "HOME": self.path("/tmp")}
+        return {**os.environ, **own}
+
+    def run_words(self, words: list[str], rights: int | None = None) -> tuple[int, str, str]:
+        """Runs a command: its status, output and errors, with the root taken out. `rights`: a
+        user's number to run as, if this is root."""
+        if rights is not None and os.geteuid() == 0:
+            number = str(rights)
+            words = ["setpriv", "--reuid", number, "--regid", number, "--clear-groups", *words]
+        done = subprocess.run(
+            words,
+            cwd=self.path("/tmp"),
+            env=self.environment(),
+            stdin=subprocess.DEVNULL,
+            capture_output=True,
+            timeout=SECONDS,
+            check=False,
+        )
+        texts = [
+            self.above(one.decode(errors="surrogateescape")) for one in (done.stdout, done.stderr)
+        ]
+        return done.returncode, texts[0], texts[1]
+
+    def shell(self, text: str, rights: int | None = None) -> tuple[int, str, str]:
+        """Runs the text of a block as it stands, with its directories below the root."""
+        return self.run_words(["bash", "-c", self.below(text)], rights)
+
+    def unit_commands(self) -> list[str]:
+        """What the services of systemd start: the comparison, and then the sending. The files in a
+        directory beside a unit come last, and an ExecStart= without a command takes back those
+        before it."""
+        commands = []
+        for name in ("aide-compare.service", "aide-compare-mail.service"):
+            drop_ins = sorted(glob.glob(self.path(f"/etc/systemd/system/{name}.d/*.conf")))
+            units = [self.path("/usr/local/lib/systemd/system", name), *drop_ins]
+            text = "".join(self.read(os.path.relpath(unit, self.root)) for unit in units)
+            found = re.findall(r"^ExecStart=(.*)$", text.replace("\\\n", " "), re.M)
+            if "" in found:
+                found = found[len(found) - found[::-1].index("") :]
+            self.assertEqual(len(found), 1, name)
+            commands += found
+        return commands
+
+    def mail_of(self, commands: list[str]) -> str | None:
+        """The mail of a job, which has to end well and to print nothing; None if it sent none."""
+        self.taken("mailed")
+        for command in commands:
+            self.assertEqual(self.shell(command), (0, "", ""), command)
+        return self.taken("mailed")
+
+    def digest_of_state(self, name: str = STATE) -> str:
+        found = re.search("^new_sha256=([0-9a-f]{64})$", self.read(name), re.M)
+        self.assertIsNotNone(found, self.read(name))
+        return found.group(1) if found else ""
+
+    def clone(self) -> str:
+        """A directory with what the commands of a clone use: the examples, and both programs where
+        the build leaves them."""
+        place = self.path("/tmp/clone")
+        for name in ("aide", "aide_lines"):
+            built = os.path.join(place, "crates", name, "out")
+            os.makedirs(built)
+            program = self.program if name == "aide" else lines_program_of(self.program)
+            os.symlink(program, os.path.join(built, name))
+        for name in ("examples", "commands"):
+            os.symlink(os.path.join(TOP, name), os.path.join(place, name))
+        self.write("/tmp/clone/compare", '#!/bin/sh\nexec aide-compare "$@"\n', 0o755)
+        return place

@@ -1,1 +1,0 @@
-"""What the pages show in displays, and how tests/pages/try_commands.py tries each."""

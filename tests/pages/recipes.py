@@ -1,0 +1,217 @@
+"""The recipes of the pages, run as they stand on a machine below a directory."""
+from __future__ import annotations
+
+import gzip
+import os
+import shutil
+
+from tests.pages.blocks import RECIPES, Block, blocks_of
+from tests.pages.machine import BASELINE, HOSTS, NEWEST, NOBODY, STATE, MachineTest, example
+
+# What is added, removed and changed between the databases of examples/small_tree.
+STORED = (3, 4, 15)
+# The part of Debian's /etc/aide/aide.conf that matters here.
+CONFIGURATION = f"""\
+@@x_include_setenv UPAC_settingsd /etc/aide/aide.settings.d
+@@x_include_setenv PATH /bin:/usr/bin
+database_in=file:{BASELINE}
+database_out=file:{NEWEST}
+database_new=file:{NEWEST}
+gzip_dbout=yes
+Checksums = H
+database_attrs = Checksums
+@@x_include /etc/aide/aide.conf.d ^[a-zA-Z0-9_-]+$
+"""
+CHECK = "/usr/local/lib/nagios/plugins/check_aide_compare"
+METRICS = "/var/lib/prometheus/node-exporter/aide-compare.prom"
+
+
+def recipes() -> dict[str, Block]:
+    """The blocks of the pages with recipes, by their marks."""
+    return {block.marks[-1]: block for page in RECIPES for block in blocks_of(page)}
+
+
+class RecipesTest(MachineTest):
+    """A machine with Debian's configuration, and the blocks of the pages."""
+
+    def setUp(self) -> None:
+        super().setUp()
+        self.recipes = recipes()
+        self.write("/etc/aide/aide.conf", self.below(CONFIGURATION))
+        self.write("/etc/cron.daily/aide-compare", self.example("cron/aide-compare.cron.daily"))
+        os.chmod(self.path("/etc/cron.daily/aide-compare"), 0o755)
+
+    def example(self, name: str) -> str:
+        return self.read("/usr/local/share/doc/aide-compare/examples/" + name)
+
+    def text(self, name: str) -> str:
+        return self.recipes["try: " + name].text
+
+    def recipe(self, name: str, rights: int | None = None) -> tuple[int, str, str]:
+        """What a recipe answers."""
+        return self.shell(self.text(name), rights)
+
+    def prints(self, name: str, output: str) -> None:
+        """What was printed begins as the page shows."""
+        shown = self.recipes["prints: " + name].text.rstrip("\n")
+        self.assertEqual(output[: len(shown)], shown)
+
+    def put_files(self, old: str | bytes, new: str | bytes) -> None:
+        """The two databases that a recipe names by hand."""
+        for name, text in (("old", old), ("new", new)):
+            data = text if isinstance(text, bytes) else text.encode()
+            self.write(f"/tmp/{name}.db.gz", gzip.compress(data))
+
+    def jobs(self) -> list[tuple[str, list[str]]]:
+        """What starts a comparison each day: the units, and the job of cron."""
+        return [
+            ("timer", self.unit_commands()),
+            ("cron", [self.path("/etc/cron.daily/aide-compare")]),
+        ]
+
+    def state(self) -> dict[str, str]:
+        lines = self.read(STATE).splitlines()
+        return dict(line.split("=", 1) for line in lines if "=" in line)
+
+    def put_host(self, name: str, text: str | bytes, baseline: str | None) -> None:
+        """What a host sends, and its baseline."""
+        data = text if isinstance(text, bytes) else text.encode()
+        self.write(f"/remote/{name}/aide.db.new", data)
+        if baseline is not None:
+            self.write(f"/var/lib/aide-compare/hosts/{name}/aide.db", baseline, 0o600)
+
+    def set_up(self) -> tuple[int, str, str]:
+        """The first recipe, on a machine whose baseline is put back by aideinit."""
+        made = self.path(BASELINE)
+        os.rename(made, made + ".made")
+        move = f'#!/bin/sh\nmv "{made}.made" "{made}"\n'
+        self.write("/usr/local/sbin/aideinit", move, 0o755)
+        self.write("/etc/aide-compare/without", "")  # The package brings this file.
+        status, output, errors = self.recipe("first")
+        self.assertEqual((status, errors), (0, ""), output)
+        return status, output.replace("a directory of root's", "a directory of _aide's"), errors
+
+
+class Day:
+    """One day of a watched host: every way of asking says what the counts ask for; None if the day
+    is to be quiet."""
+
+    def __init__(self, test: RecipesTest, counts: tuple[int, int, int] | None) -> None:
+        self.test, self.counts = test, counts
+        self.status = 0
+        for bit, count in zip((1, 2, 4), counts or ()):
+            self.status |= bit if count else 0
+        self.mail = ""
+
+    def ask_all(self) -> None:
+        for ask in (self.command, self.jobs, self.check, self.metrics, self.log, self.hosts):
+            with self.test.subTest(ask.__name__, counts=self.counts):
+                ask()
+
+    def command(self) -> None:
+        status, output, errors = self.test.recipe("compare")
+        self.test.assertEqual(status, self.status, errors)
+        if self.counts is None:
+            self.test.assertTrue(output.startswith("no differences in "), output)
+        else:
+            self.test.assertTrue(output.startswith("18 open (4 high) of 22 changes\n"), output)
+            self.test.assertEqual(errors.count(", SHA-256 "), 2, errors)
+        self.test.prints("compare", errors)
+
+    def jobs(self) -> None:
+        for name, commands in self.test.jobs():
+            if os.path.exists(self.test.path(STATE)):
+                os.remove(self.test.path(STATE))
+            mail = self.test.mail_of(commands)
+            if self.counts is None:
+                self.test.assertIsNone(mail, name)
+            else:
+                self.test.assertRegex(
+                    mail or "", f"(?m)^Subject: .* of {sum(self.counts)} changes$"
+                )
+            self.mail = mail or ""
+            self.test.assertEqual(self.test.state()["status"], str(self.status), name)
+
+    def check(self) -> None:
+        status, output, _ = self.test.recipe("check", NOBODY)
+        word = "OK" if self.counts is None else "CRITICAL"
+        self.test.assertEqual(status, 0 if self.counts is None else 2, output)
+        self.test.assertTrue(output.startswith(f"AIDE {word}: "), output)
+        self.test.assertEqual(output.count("\n"), 1)
+        added, removed, changed = self.counts or (0, 0, 0)
+        numbers = f"|added={added} removed={removed} changed={changed} "
+        self.test.assertIn(numbers, output.replace("'", ""))
+        limits = self.test.recipe("check limits", NOBODY)
+        self.test.assertEqual(limits[0], status, limits)
+        if self.counts:
+            self.test.prints("check", output)
+
+    def metrics(self) -> None:
+        self.test.assertEqual(self.test.recipe("metrics"), (0, "", ""))
+        text = self.test.run_words(["cat", self.test.path(METRICS)], NOBODY)[1]
+        for word, count in zip(("added", "removed", "changed"), self.counts or (0, 0, 0)):
+            self.test.assertIn(f"\naide_compare_{word}_entries {count}\n", text)
+
+    def log(self) -> None:
+        self.test.taken("logged")
+        status = self.test.recipe("log")[0]
+        text = (self.test.taken("logged") or "").partition("\n")[2]
+        self.test.assertEqual(status, 0)
+        for word, count in zip(("added", "removed", "changed"), self.counts or (0, 0, 0)):
+            self.test.assertRegex(text, rf"\b{word}={count}\b")
+        if self.counts:
+            self.test.prints("log", text)
+
+    def hosts(self) -> None:
+        status, output, _ = self.test.recipe("hosts")
+        self.test.assertEqual(status, self.status, output)
+        if self.counts is None:
+            self.test.assertIn("www 0 no differences", output)
+        else:
+            self.test.prints("hosts", output)
+
+
+def no_comparison(test: RecipesTest, status: int, reason: str) -> None:
+    """Every way says that nothing was compared, and why."""
+    done = test.recipe("compare")
+    if "--max-age" not in reason:
+        test.assertEqual(done[:2], (status, ""), done)
+        test.assertRegex(done[2], reason)
+    for name, commands in test.jobs():
+        mail = " ".join((test.mail_of(commands) or "").split(" "))
+        test.assertRegex(mail, rf"(?m)^Subject: .*: no comparison \(status {status}\)$", name)
+        test.assertRegex(" ".join(mail.split()), reason)
+        test.assertEqual(test.state()["status"], str(status))
+        test.assertRegex(test.state()["error"], reason)
+    status_of_check, output, _ = test.recipe("check", NOBODY)
+    test.assertEqual(status_of_check, 3, output)
+    test.assertRegex(output, r"\AAIDE UNKNOWN: .*\n\Z")
+    test.assertEqual(test.recipe("metrics")[0], 0)
+    test.assertIn(f"\naide_compare_status {status}\n", test.read(METRICS))
+    test.assertNotIn("_entries", test.read(METRICS))
+    test.taken("logged")
+    test.assertEqual(test.recipe("log")[0], 0)
+    test.assertIn(f"no comparison: status={status}", test.taken("logged") or "")
+
+
+def begin(test: RecipesTest) -> None:
+    """Day 0: what was AIDE's first database is the baseline here and on the collector."""
+    test.put_databases(example("old.db"), example("old.db"))
+    output = test.set_up()[1]
+    test.assertTrue(test.taken("mailed"), "the test mail")
+    test.prints("first", output)
+    # The days that follow are those of the unit as it is installed.
+    for name in ("defaults", "without"):
+        os.remove(test.path("/etc/aide-compare", name))
+    test.prints("at once", test.recipe("at once")[1])
+    test.assertEqual(test.recipe("cron daily"), (0, "", ""))
+    test.write(HOSTS, "www\n")
+    os.makedirs(test.path("/remote"))
+    os.symlink(test.path("/var/lib/aide"), test.path("/remote/www"))
+    status, output, _ = test.recipe("first host")
+    test.assertEqual(status, 0)
+    test.assertIn("SHA-256 ", output)
+
+
+def has_jq() -> bool:
+    return shutil.which("jq") is not None

@@ -1,0 +1,249 @@
+"""The commands that README, examples/README and the manual pages show, run as they stand; and what
+the pages say of statuses, messages and options."""
+from __future__ import annotations
+
+import gzip
+import os
+import re
+import shutil
+import subprocess
+import sys
+import unittest
+
+from tests.lib.scratch import TOP
+from tests.pages.blocks import MANUALS, Block, blocks_of, plain, read
+from tests.pages.machine import HOSTS, STORE, MachineTest
+
+HEAD = "@@begin_db\n@@db_spec name perm size atime inode\n"
+# One entry is removed, one added, and two are changed: /c can be written by everybody, of /d only
+# atime and inode differ.
+OLD = HEAD + "/b 40755 4096 MA== 1\n/c 100644 10 MA== 2\n/d 100600 1 MA== 3\n@@end_db\n"
+NEW = HEAD + "/a 100644 5 MA== 4\n/c 100646 10 MA== 2\n/d 100600 1 MQ== 5\n@@end_db\n"
+FRESH = ("/tmp", "/root", "/srv/aide", "/etc/aide-compare", "/var/lib/aide", STORE)
+# Their messages and options are those of the program, which tests/pages/test_manual.py tries.
+OF_THE_PROGRAM = ("man/aide-compare-program.8", "man/aide-compare.conf.5", "man/aide-compare.1")
+FRONT = os.path.join(TOP, "commands", "bin", "aide-compare")
+# check_aide_compare is the command under its other name.
+CHECK = (
+    "import sys; sys.path.insert(0, sys.argv[1]); from aide_compare.commands.check import main; "
+    "main(sys.argv[2:])"
+)
+# What stands for any text in a message.
+ANY = re.compile(r"\b[A-Z]+\b|\b\d+\b|\.\.\.")
+# What a module says of itself is no message; and where one literal goes on in the next line.
+PROSE = re.compile(r'^\s*""".*?"""$|^\s*#.*?$', re.M | re.S)
+JOINT = re.compile(r"""(['"])\s*\n\s*[bf]*\1""")
+# What a page has besides the options of its own command: those of a comparison that are passed on,
+# and those of a form.
+ALSO = {
+    "man/aide-compare-mail.1": ["compare"],
+    "man/aide-compare-status.1": ["status", "--format", "prometheus"],
+}
+COMPARE = "aide-compare -E -c compare.conf"
+ADDED = HEAD + "/a 100644 5 MA== 4\n@@end_db\n"
+EMPTY = HEAD + "@@end_db\n"
+# The words of a row of the table of statuses: old and new database, and the command.
+STATUSES = [
+    ("no difference", OLD, OLD, COMPARE),
+    ("(`-D`) a configuration without a fault", OLD, NEW, "aide-compare -D -c compare.conf"),
+    ("added (%d)", EMPTY, ADDED, COMPARE),
+    ("removed (%d)", ADDED, EMPTY, COMPARE),
+    ("changed (%d)", ADDED, ADDED.replace(" 5 ", " 6 "), COMPARE),
+    ("the command line is not understood", OLD, NEW, "aide-compare --no-such-option"),
+    ("the configuration has a fault", OLD, NEW, COMPARE + " -A report_level=no_such_level"),
+    ("a file could not be opened", OLD, NEW, COMPARE + " -A database_new=file:/no/such/file"),
+    (
+        "a database changed while it was read",
+        OLD,
+        NEW,
+        f"zcat -f new.gz | {COMPARE} -A database_new=file:/dev/stdin",
+    ),
+    ("an argument is not UTF-8", OLD, NEW, COMPARE + " -A \"$(printf 'report_url=\\377')\""),
+    ("a database has a fault", OLD, "no database\n", COMPARE),
+]
+
+
+def like(text: str) -> list[str]:
+    """The words of a text, with the same letter for each number."""
+    return re.sub("[0-9]+", "N", text.replace(",", "")).split()
+
+
+class PagesTest(MachineTest):
+    """A machine on which every database and configuration is there that a page names."""
+
+    def fill(self, old: str = OLD, new: str = NEW) -> None:
+        for name in FRESH:
+            shutil.rmtree(self.path(name), ignore_errors=True)
+            os.makedirs(self.path(name), 0o700)
+        for name, text in (("old", old), ("new", new)):
+            for path in (f"/tmp/{name}.gz", f"/tmp/{name}.db.gz"):
+                self.write(path, gzip.compress(text.encode()))
+            for path in (f"/tmp/{name}.db", f"/var/lib/aide/{name}.db", f"/srv/aide/www.{name}"):
+                self.write(path, text)
+        self.put_pair(old, new)
+        self.write("/tmp/www.db", old)
+        self.write(STORE + "/hosts/www/aide.db", old, 0o600)
+        os.makedirs(self.path("/remote"), exist_ok=True)
+        if not os.path.lexists(self.path("/remote/www")):
+            os.symlink(self.path("/var/lib/aide"), self.path("/remote/www"))
+        # What another program has left out of order.
+        lines = new.splitlines(True)
+        self.write("/tmp/mixed.db", "".join(lines[:2] + lines[2:-1][::-1] + lines[-1:]))
+        names = "database_in=file:{0}/old.db\ndatabase_new=file:{0}/new.db\n"
+        self.write("/tmp/compare.conf", names.format(self.path("/tmp")))
+        self.write(HOSTS, "www\n")
+        self.clone()
+
+    def run_block(self, block: Block) -> None:
+        status = block.values("run")[0]
+        if "jq" in block.text and shutil.which("jq") is None:
+            self.skipTest("not installed: jq")
+        self.fill()
+        lines = [*block.values("before"), block.text]
+        begin = f"EXAMPLES='{TOP}/examples'\nset -u\n"
+        done = self.shell(begin + "\n".join(lines))
+        self.assertEqual(done[0], int(status), done)
+        for text in block.values("prints"):
+            self.assertIn(text, done[1] + done[2])
+
+    def compare_shown(self, block: Block) -> None:
+        """A block that is the output of a command."""
+        self.fill()
+        done = self.shell("\n".join([*block.values("before"), *block.values("is output of")]))
+        self.assertEqual(like(done[1]), like(block.text), done)
+
+    def try_page(self, page: str) -> None:
+        for block in blocks_of(page):
+            with self.subTest(f"{page}:{block.line}"):
+                kinds = [
+                    kind
+                    for kind in ("run ", "is output of ", "not run: ", "try: ")
+                    if any(mark.startswith(kind) for mark in block.marks)
+                ]
+                self.assertEqual(len(kinds), 1, f"how is this tried? {block.text}")
+                if kinds[0] == "run ":
+                    self.run_block(block)
+                elif kinds[0] == "is output of ":
+                    self.compare_shown(block)
+
+
+class BlocksTest(PagesTest):
+    def test_readme(self) -> None:
+        self.try_page("README.md")
+
+    def test_examples(self) -> None:
+        self.try_page("examples/README.md")
+
+    def test_manual_pages(self) -> None:
+        self.assertGreater(len(MANUALS), 10)
+        for page in MANUALS:
+            self.try_page(page)
+
+    def test_first_answer(self) -> None:
+        """The lines of README's first block are printed, in this order; it leaves others out."""
+        command, *lines = blocks_of("README.md")[0].text.splitlines()
+        self.assertEqual(command, "$ aide-compare old.db new.db")
+        done = self.shell(f"cd '{TOP}/examples/small_tree' && {command[2:]}")
+        printed = iter([line.rstrip() for line in done[1].splitlines()])
+        self.assertEqual([line for line in lines if line.rstrip() not in printed], [], done)
+
+    def test_rules_for_alarms(self) -> None:
+        """Each metric of the rules is one that is written."""
+        blocks = [
+            block for block in blocks_of("man/aide-compare-status.1") if "expr:" in block.text
+        ]
+        self.fill()
+        name = "/var/lib/prometheus/node-exporter/aide.prom"
+        self.shell("aide-compare --state state")
+        self.shell(f"aide-compare status --state state --format prometheus {name}")
+        self.assertGreater(len(blocks), 1)
+        for metric in set(re.findall(r"\baide_compare_\w+", "".join(b.text for b in blocks))):
+            self.assertIn(f"\n{metric} ", self.read(name))
+
+    def test_statuses(self) -> None:
+        """Each status of README's table is made to happen, in the row whose words say so."""
+        rows = re.findall(
+            r"^\| (\d[\d, ]*?)(?: and their sums)? \| (.*) \|$", read("README.md"), re.M
+        )
+        seen = set()
+        for words, old, new, command in STATUSES:
+            self.fill(old, new)
+            status = str(self.shell(command)[0])
+            with self.subTest(words):
+                numbers, row = next(row for row in rows if words.split("%d")[0] in row[1])
+                parts = row.split("; ")
+                if "%d" in words:
+                    self.assertIn(words % int(status), row)
+                elif len(parts) > 1:
+                    place = next(at for at, part in enumerate(parts) if words in part)
+                    self.assertEqual(numbers.split(", ")[place], status)
+                else:
+                    self.assertEqual(numbers, status)
+            seen.add(status)
+        self.assertEqual(seen, {one for numbers, _ in rows for one in numbers.split(", ")})
+
+
+def commands_of(page: str) -> list[list[str]]:
+    """The words of each command that a page is about."""
+    name = os.path.basename(page).rpartition(".")[0]
+    if name == "check_aide_compare":
+        return [[sys.executable, "-c", CHECK, os.path.join(TOP, "commands", "lib")]]
+    if name == "aide-compare-hosts":
+        return [[FRONT, "hosts", word] for word in ("add", "fetch", "compare", "accept", "report")]
+    return [[FRONT, *name.split("-", 3)[2:]]]
+
+
+def listed_by(command: list[str]) -> set[str]:
+    """The options that `--help` of a command lists."""
+    done = subprocess.run([*command, "--help"], stdout=subprocess.PIPE, check=True, text=True)
+    lines = re.findall(r"^ {1,8}(-\S.*?)(?:  .*)?$", done.stdout, re.M)
+    return {name for line in lines for name in re.findall(r"(?:^|, )(--?[A-Za-z][\w-]*)", line)}
+
+
+def named_in(text: str) -> set[str]:
+    return {"-" + name for name in re.findall(r"(?:\bFl|,) (?!Fl\b)(-?[A-Za-z][\w-]*)", text)}
+
+
+class WordsTest(unittest.TestCase):
+    """What the manual pages name is what the commands have."""
+
+    def test_messages(self) -> None:
+        """The messages that the pages list are in the text of the modules."""
+        files = subprocess.run(
+            ["find", os.path.join(TOP, "commands", "lib"), "-name", "*.py"],
+            stdout=subprocess.PIPE,
+            check=True,
+            text=True,
+        ).stdout.split()
+        text = "".join(JOINT.sub("", PROSE.sub("", read(path))) for path in files)
+        for page in set(MANUALS) - set(OF_THE_PROGRAM):
+            named = re.findall(r'^\.It Li "(.*)"$|^\.Ql (aide-compare.*:.*) \.$', read(page), re.M)
+            for message in [plain(entry or word) for entry, word in named]:
+                with self.subTest(f"{page}: {message}"):
+                    for piece in ANY.split(message):
+                        self.assertIn(piece.strip(" :"), text)
+
+    def test_options(self) -> None:
+        """The options of the commands and those of their pages are the same."""
+        in_each = {"-h", "--help", "--version"}
+        for page in set(MANUALS) - set(OF_THE_PROGRAM):
+            entries = re.findall(r"^\.It (Fl .*)$", read(page).replace("\\\n", ""), re.M)
+            named = {name for entry in entries for name in named_in(entry)} - in_each
+            listed = set().union(*map(listed_by, commands_of(page))) - in_each
+            more = listed_by([FRONT, *ALSO[page]]) if page in ALSO else set()
+            with self.subTest(page):
+                self.assertGreater(len(listed), 1)
+                self.assertLessEqual(listed, named)
+                self.assertLessEqual(named, listed | more)
+
+    def test_defaults(self) -> None:
+        """The page of a comparison names the options that the administrator's file may have."""
+        page = read("man/aide-compare-compare.1").partition(".Sh DEFAULTS\n")[2]
+        code = (
+            "import sys; sys.path.insert(0, sys.argv[1]); from aide_compare.base import options; "
+            "print(*(option.name for option in options.COMPARISON_DEFAULTS))"
+        )
+        words = [sys.executable, "-c", code, os.path.join(TOP, "commands", "lib")]
+        done = subprocess.run(words, stdout=subprocess.PIPE, check=True, text=True)
+        text = page.partition("from there")[0].partition("\ntakes\n")[2]
+        self.assertEqual(named_in(text), set(done.stdout.split()))

@@ -1,0 +1,318 @@
+"""The program that writes the changes as lines of JSON, crates/aide_lines, beside the definitions,
+byte by byte.
+
+Each answer has to be that of tests/oracle/lines.py, and Python's `json` has to read it. The program
+of the report, run with the same words, has to print the same on standard error and to end with the
+same status. With AIDE_PAIRS=DIRECTORY the databases below a directory are compared too, each with
+the next one there.
+"""
+from __future__ import annotations
+
+import base64
+import gzip
+import json
+import os
+import resource
+import tempfile
+import unittest
+
+from tests.lib.program_test import SESSIONS, ProgramTest, new_seed, slow
+from tests.lib.tally import difference, run, shown, wanted_lines
+from tests.oracle.attributes import ATTRIBUTES
+from tests.oracle.database import LINE_LIMIT
+from tests.oracle.session import Answer
+from tests.program import cases
+from tests.program.configurations import accepted, limits, names, refused
+from tests.program.random_sessions import try_sessions
+from tests.program.real_files.test_devices import NOT_WRITTEN, closed_pipe
+from tests.program.real_files.folder import NEW, OLD, SKIPPING, Folder
+from tests.program.real_files.test_outside import limited
+from tests.program.test_configurations import with_all
+
+EMPTY = b"@@begin_db\n@@db_spec name\n@@end_db\n"
+OTHER_VALUES = {
+    "type": b"100600",
+    "perm": b"100600",
+    "number": b"18446744073709551615",
+    "time": b"LTk=",
+    "link": b"%ffz",
+}
+# Of names with each byte: alone, behind a letter, and behind the first byte of a character of two,
+# three or four.
+FRONTS = [b"", b"x", b"\xc3", b"\xe2\x80", b"\xf0\x9f\x98"]
+
+
+def pairs(members):
+    if len({name for name, _ in members}) < len(members):
+        raise ValueError("a name stands twice")
+    return dict(members)
+
+
+def faults_of_lines(output):
+    """What Python's `json` has against an output: each line is one object, in which no name stands
+    twice."""
+    faults = []
+    for number, line in enumerate(output.split(b"\n")[:-1], 1):
+        try:
+            if not isinstance(json.loads(line.decode("utf-8"), object_pairs_hook=pairs), dict):
+                faults.append("line %d is no object" % number)
+        except ValueError as error:
+            faults.append("line %d: %s" % (number, error))
+    return faults + (["the last line has no end"] if output and not output.endswith(b"\n") else [])
+
+
+def coded(text):
+    return b"".join(b"%%%02x" % byte for byte in text)
+
+
+def other_value(each):
+    """A field of an attribute with another value than in `with_all`."""
+    if each.form in OTHER_VALUES:
+        return OTHER_VALUES[each.form]
+    return b"a%00%ff" if each.form == "opaque" else base64.b64encode(b"\xff" * each.form[0])
+
+
+def both_jobs(folder):
+    return [("-E", folder.words()), ("-D", [b"-D", b"-c", folder.at("conf")])]
+
+
+def text_of(path):
+    with (gzip.open if path.endswith(".gz") else open)(path, "rb") as file:
+        return file.read()
+
+
+class LinesProgramTest(ProgramTest):
+    """The program of lines, beside the definitions and the program of the report."""
+
+    def beside(self, words):
+        """The status that is wanted, and what is not as wanted."""
+        want, answer = wanted_lines(words), run(self.lines_program, words)
+        faults = difference(answer, want) + faults_of_lines(answer.output)
+        report = run(self.program, words)
+        if (answer.errors, answer.status) != (report.errors, report.status):
+            faults.append(f"the report: {shown(report.errors)}, {report.status}")
+        return want.status, faults
+
+    def ends(self, label, words, *statuses):
+        """A session, which has to end with one of these statuses if there are any."""
+        status, faults = self.beside(words)
+        if statuses and status not in statuses:
+            faults = [*faults, f"status {status} is wanted"]
+        self.add(label, faults)
+
+    def compared(self, label, old, new, *statuses, options=b""):
+        with Folder() as folder:
+            folder.pair(old, new, options)
+            self.ends(label, folder.words(), *statuses)
+
+    def checked(self, text, *statuses, before=b"", after=b""):
+        with Folder() as folder:
+            folder.write("conf", text)
+            words = [b"-D", b"-c", folder.at("conf"), b"-B", before, b"-A", after]
+            self.ends("checked: " + shown(text), words, *statuses)
+
+
+class LinesTest(LinesProgramTest):
+    def test_cases(self) -> None:
+        """The stored cases: the program of lines ends as the report does, with the same lines on
+        standard error."""
+        for path in cases.all_cases():
+            case, label = cases.read(path), os.path.relpath(path, cases.FOLDER)
+            with tempfile.TemporaryDirectory() as folder:
+                stored = cases.stored(case, folder.encode())
+                words = cases.answers_in(case, folder.encode(), list)
+                answer, want = run(self.lines_program, words), wanted_lines(words)
+                self.check(label, answer, want)
+                ends = Answer(answer.output, stored.errors, stored.status)
+                self.add(
+                    label + ", its end", difference(answer, ends) + faults_of_lines(answer.output)
+                )
+
+    def test_refused(self) -> None:
+        for _, _, text in refused.ALL + limits.REFUSED:
+            self.checked(text, 17)
+        for _, before, text, after in refused.CHECKED_TEXTS:
+            self.checked(text, 17, before=before, after=after)
+
+    def test_accepted(self) -> None:
+        """Configurations that are accepted: the line of -D says what each sets."""
+        around = [
+            front + line + back for front, back in accepted.AROUND for line in accepted.PASSED_OVER
+        ]
+        levels = [b"report_level=" + level for level, _, _ in accepted.LEVELS]
+        forced = [b"report_force_attrs=" + text for text, _ in accepted.NAMES]
+        own = [
+            accepted.OWN_GROUPS + b"report_force_attrs=" + text for text, _ in accepted.EXPRESSIONS
+        ]
+        for text in (
+            accepted.QUIET + accepted.MINIMAL + around + levels + forced + own + limits.ACCEPTED
+        ):
+            self.checked(text, 0)
+        for _, text in accepted.FORCED:
+            self.checked(text, 0)
+        for before, text, after in accepted.QUIET_TEXTS + [
+            (before, text, b"") for before, text, _, _ in accepted.PATHS
+        ]:
+            self.checked(text, 0, before=before, after=after)
+        for each in ATTRIBUTES:
+            for option in (
+                b"report_ignore_added_attrs",
+                b"report_ignore_removed_attrs",
+                b"report_ignore_changed_attrs",
+            ):
+                self.checked(b"%s=%s" % (option, each.name.encode()), 0, 17)
+
+    def test_forms(self) -> None:
+        """Which names a variable and a group may have: what is refused and what is not, the report
+        knows."""
+        for name, _, _, _ in names.NAMES:
+            for text in (b"@@undef " + name, name + b" = p", b"my = " + name):
+                self.checked(text, 0, 17)
+
+    def test_paths(self) -> None:
+        """Paths of the databases with each byte, which the line of -D names, and which are missing if
+        they are compared."""
+        for byte in range(1, 256):
+            if byte != ord("\n"):
+                text = b"database_in=file:/none/%c|\ndatabase_new=file:/none/new\n" % byte
+                self.checked(text, 0, 17)
+        with Folder() as folder:
+            for name in (
+                b"plain",
+                b"a b",
+                "h\xf6h".encode(),
+                b"\xff\x80",
+                b'"\\',
+                b"\t\x7f",
+                "\u202e\u2066".encode(),
+            ):
+                folder.write(
+                    "conf",
+                    b"database_in=file:%s/%s\ndatabase_new=file:%s/%s\n"
+                    % ((folder.path, name) * 2),
+                )
+                with open(os.path.join(folder.path, name), "wb") as file:
+                    file.write(SKIPPING)
+                self.ends("a database named %r" % name, folder.words(), 0, 17)
+
+    def test_names(self) -> None:
+        """Names of entries with each byte, and links to each."""
+        texts = sorted(
+            {
+                front + bytes([byte]) + back
+                for front in FRONTS
+                for byte in range(1, 256)
+                for back in (b"", b"a")
+            }
+        )
+        named = b"".join(b"/" + coded(text) + b" 1\n" for text in texts if b"/" not in text)
+        named = b"@@begin_db\n@@db_spec name size\n" + named + b"@@end_db\n"
+        self.compared("names of each byte, removed", named, EMPTY, 2)
+        self.compared("names of each byte, added", EMPTY, named, 1)
+        linked = b"".join(
+            b"/%05d %%s%s\n" % (number, coded(text)) for number, text in enumerate(texts)
+        )
+        old, new = (
+            b"@@begin_db\n@@db_spec name lname\n" + linked.replace(b"%s", end) + b"@@end_db\n"
+            for end in (b"x", b"y")
+        )
+        self.compared("links to each byte", old, new, 4)
+
+    def test_attributes(self) -> None:
+        """Every attribute: added, removed and changed, alone and with all others, forced and
+        ignored."""
+        self.compared("all attributes, added", EMPTY, with_all(), 1)
+        self.compared("all attributes, removed", with_all(), EMPTY, 2)
+        every = with_all(**{each.column: other_value(each) for each in ATTRIBUTES})
+        self.compared("all attributes, changed", with_all(), every, 4)
+        self.compared(
+            "all attributes, forced",
+            with_all(),
+            with_all(uid=b"9"),
+            4,
+            options=b"report_force_attrs=R+H+X\n",
+        )
+        for each in ATTRIBUTES:
+            one = with_all(**{each.column: other_value(each)})
+            self.compared("another " + each.name, with_all(), one, 4)
+            ignored = b"report_ignore_changed_attrs=%s\n" % each.name.encode()
+            self.compared("another %s, ignored" % each.name, with_all(), one, 0, 4, options=ignored)
+
+    def test_outputs(self) -> None:
+        """An output that fails ends with 18."""
+        with Folder() as folder:
+            folder.pair(OLD, NEW)
+            for label, words in both_jobs(folder):
+                with open("/dev/full", "wb") as full:
+                    self.check(
+                        label + " to a full device",
+                        run(self.lines_program, words, stdout=full),
+                        (None, NOT_WRITTEN, 18),
+                    )
+                writing = closed_pipe()
+                self.check(
+                    label + " to a closed pipe",
+                    run(self.lines_program, words, stdout=writing),
+                    (None, NOT_WRITTEN, 18),
+                )
+                os.close(writing)
+                answer = run(self.lines_program, words, preexec_fn=lambda: os.close(1))
+                self.check(label + " without standard output", answer, (b"", NOT_WRITTEN, 18))
+
+    @slow
+    def test_long_lines(self) -> None:
+        """Lines of the greatest length, and one byte longer: paths and values of a megabyte in one line
+        of JSON."""
+        for more, status in ((0, 2), (1, 24)):
+            path = b"/%ff" + b"a" * (LINE_LIMIT - 6 + more) + b" 1"
+            old = b"@@begin_db\n@@db_spec name size\n" + path + b"\n@@end_db\n"
+            self.compared("a path of %d bytes" % (len(path) - 2), old, EMPTY, status)
+            link = (
+                b"/l "
+                + b"\xc3\xb6" * ((LINE_LIMIT - 3) // 2)
+                + b"z" * ((LINE_LIMIT - 3) % 2 + more)
+            )
+            old = b"@@begin_db\n@@db_spec name lname\n" + link + b"\n@@end_db\n"
+            self.compared("a link of %d bytes" % (len(link) - 3), old, EMPTY, status)
+
+    @slow
+    def test_sizes(self) -> None:
+        """An output that may not grow over so many bytes has the front of the right answer."""
+        with Folder() as folder:
+            folder.pair(OLD, NEW)
+            for label, words in both_jobs(folder):
+                want = wanted_lines(words)
+                for most in [
+                    *range(0, len(want.output), 7),
+                    len(want.output) - 1,
+                    len(want.output),
+                ]:
+                    before = limited(resource.RLIMIT_FSIZE, most)
+                    with open(folder.at("out"), "wb") as out:
+                        answer = run(
+                            self.lines_program,
+                            words,
+                            stdout=out,
+                            restore_signals=False,
+                            preexec_fn=before,
+                        )
+                    with open(folder.at("out"), "rb") as out:
+                        given = Answer(out.read(), answer.errors, answer.status)
+                    wanted = (
+                        want
+                        if most == len(want.output)
+                        else Answer(want.output[:most], NOT_WRITTEN, 18)
+                    )
+                    self.check("%s to a file of %d bytes" % (label, most), given, wanted)
+
+    def test_random_sessions(self) -> None:
+        try_sessions(self.beside, new_seed(), range(SESSIONS), 2, self)
+
+    @unittest.skipUnless(os.environ.get("AIDE_PAIRS"), "only with AIDE_PAIRS=DIRECTORY")
+    def test_pairs(self) -> None:
+        """Each database below a directory, compared with the next one there."""
+        for folder, _, files in sorted(os.walk(os.environ["AIDE_PAIRS"])):
+            texts = [(name, text_of(os.path.join(folder, name))) for name in sorted(files)]
+            texts = [(name, text) for name, text in texts if b"@@begin_db" in text[:4096]]
+            for (name, old), (other, new) in zip(texts, texts[1:] + texts[:1]):
+                self.compared("%s, %s and %s" % (folder, name, other), old, new)
