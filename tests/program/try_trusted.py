@@ -27,8 +27,8 @@ from tests.program.real_files.test_damage import WAYS
 from tests.program.real_files.test_devices import NOT_WRITTEN, closed_pipe
 from tests.program.real_files.test_fifos import WAIT, Feeder
 from tests.program.real_files.folder import Folder, names
-from tests.program.real_files.test_replaced import database, replace, resize, Turning
-from tests.program.test_lines import faults_of_lines
+from tests.program.real_files.test_replaced import ENTRIES, replace, resize, Turning
+from tests.program.try_lines import faults_of_lines
 from tools.lib.arguments import executable, parser_of
 
 CASES = os.path.join(os.path.dirname(cases.FOLDER), cases.LINES)
@@ -258,33 +258,51 @@ def try_changes(trusted):
                     )
 
 
+def many(name, digest):
+    """Regular files with one digest."""
+    return b"".join(b"/%s%05d 100644 1 %s\n" % (name, number, digest) for number in range(ENTRIES))
+
+
+def sound(*entries):
+    """A database of these entries."""
+    return HEAD + b"".join(entries) + b"@@end_db\n"
+
+
+def replacing():
+    """Two databases, and for each of a trusted pair two texts, of which the first accounts for changes and the other for none.
+
+    So lines for which one text was read first, and then the other, are those of neither.
+    """
+    gone, kept, changed = many(b"gone", DIGESTS[0]), many(b"kept", DIGESTS[0]), many(b"kept", DIGESTS[1])
+    trusted = {"trusted_old": (sound(gone, kept), sound(kept)), "trusted_new": (sound(changed), sound(kept))}
+    return [sound(gone, kept), sound(changed)], trusted
+
+
+def check_replaced(trusted, folder, way, name, texts):
+    """Runs while a trusted database turns from one text into another: a fault, or the lines of a whole one."""
+    label, answers, told = "%s, %s" % (way.__name__, name), [], 0
+    for text in texts:
+        folder.write(name, text)
+        answers.append(wanted_lines(folder.words_beside()))
+    line = b"aide: the %s database changed while it was read\n" % NAMES[FILES.index(name)]
+    with Turning([lambda text=text: way(folder, name, text) for text in texts]):
+        given = [run(trusted.program, folder.words_beside()) for _ in range(RUNS)]
+    for answer in given:
+        is_told = (answer.errors, answer.status) == (line, 18)
+        is_front = any(whole.output.startswith(answer.output) for whole in answers)
+        trusted.tally.holds(label, answer in answers or is_told and is_front, answer)
+        told += is_told
+    trusted.tally.holds(label + ", told at all", told)
+
+
 def try_replaced(trusted):
-    """A trusted database that is replaced, or grows and shrinks, while it is read: a fault, or the
-    lines of a whole one."""
+    """A trusted database that is replaced, or grows and shrinks, while it is read."""
+    compared, accounting = replacing()
     for way in (replace, resize):
-        for at, name in ((2, "trusted_old"), (3, "trusted_new")):
-            texts = (
-                [database(1), database(1) + b"more\n"]
-                if way is resize
-                else [database(1), database(2)]
-            )
+        for name, (first, other) in accounting.items():
             with Folder() as folder:
-                folder_of(folder, [database(1), database(2), database(1), database(1)])
-                answers = []
-                for text in texts:
-                    folder.write(name, text)
-                    answers.append(wanted_lines(folder.words_beside()))
-                line = b"aide: the %s database changed while it was read\n" % NAMES[at]
-                with Turning([lambda text=text: way(folder, name, text) for text in texts]):
-                    given = [run(trusted.program, folder.words_beside()) for _ in range(RUNS)]
-                for answer in given:
-                    is_told = (answer.errors, answer.status) == (line, 18)
-                    is_front = any(whole.output.startswith(answer.output) for whole in answers)
-                    trusted.tally.holds(
-                        "%s, %s" % (way.__name__, name),
-                        answer in answers or is_told and is_front,
-                        answer,
-                    )
+                folder_of(folder, compared + [text for text, _ in accounting.values()])
+                check_replaced(trusted, folder, way, name, (first, first + b"more\n" if way is resize else other))
 
 
 def try_long_lines(trusted):
