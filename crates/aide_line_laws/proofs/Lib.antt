@@ -14,3 +14,4 @@ pub mod Laws
 pub mod ReadingLaws
 pub mod NameLaws
 pub mod TextLaws
+pub mod BesideLaws

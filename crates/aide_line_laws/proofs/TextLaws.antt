@@ -62,7 +62,7 @@ hash_bytes h (suc n) =
     both_bytes (digest_bytes h n) (to_be_bytes w32 (slice_index h n)) (hash_bytes h n)
     (high_first_bytes 4 (slice_index h n))
 
-sha256_bytes : (text : List ℕ) → AreBytes (sha256 text)
+pub sha256_bytes : (text : List ℕ) → AreBytes (sha256 text)
 unfolding sha256
 sha256_bytes text = hash_bytes (final_hash initial_hash_256 text) 8
 
@@ -115,7 +115,7 @@ database_bytes limits text sound h =
 
 -- ---- changes
 
-abbrev IsChangeOfBytes : PathChange → Type 0
+abbrev pub IsChangeOfBytes : PathChange → Type 0
 IsChangeOfBytes change = AreBytes change.0 × (AreOfFormsIfAny change.1.0 × AreOfFormsIfAny change.1.1)
 
 new_bytes : (news : List Entry) → AllByRecursion IsOfBytes news
@@ -144,7 +144,7 @@ merged_bytes : (olds news : List Entry) → AllByRecursion IsOfBytes olds → Al
 merged_bytes [] news h k = new_bytes news k
 merged_bytes (x ∷ olds) news h k = weave_bytes x (merged path_cmp olds) h.0 (λ ys m. merged_bytes olds ys h.1 m) news k
 
-changes_bytes : (limits : Limits) (old new : List ℕ) → IsSound limits old → IsSound limits new → AreBytes old
+pub changes_bytes : (limits : Limits) (old new : List ℕ) → IsSound limits old → IsSound limits new → AreBytes old
     → AreBytes new → AllByRecursion IsChangeOfBytes (changes (database_of old) (database_of new))
 changes_bytes limits old new old_sound new_sound h k =
     subst (AllByRecursion IsChangeOfBytes)

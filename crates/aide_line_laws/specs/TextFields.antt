@@ -1,5 +1,5 @@
 -- The members of the lines of changes, line by line.
-use Rattle.std.specs.Prelude.{ℕ, List, [], ◌∷◌, ◌++◌, map, false}
+use Rattle.std.specs.Prelude.{ℕ, List, [], ◌∷◌, ◌++◌, map, true, false}
 use Rattle.aide_conf.specs.declared.options.Options.{Options}
 use Rattle.aide_db.specs.Map.{database_of}
 use Rattle.aide_report.specs.Asked.{Asked}
@@ -8,8 +8,9 @@ use Rattle.aide_report.specs.Compare.{changes}
 use Rattle.aide_report.specs.Entries.{PathChange, letters_of, shows_at}
 use Rattle.aide_report.specs.LineCounts.{line_counts, status_by}
 use Rattle.aide_report.specs.LineRuns.{facts_of}
+use Rattle.aide_trusted.specs.BesideLines.{by_trusted}
 use Rattle.aide_line_laws.specs.Field.{Field}
-use Rattle.aide_line_laws.specs.Fields.{first_fields, last_fields, path_fields}
+use Rattle.aide_line_laws.specs.Fields.{first_fields, first_fields_beside, last_fields, path_fields}
 
 -- the members of the line of a change
 abbrev pub change_fields : Options → Accounts → PathChange → List Field
@@ -30,3 +31,14 @@ fields_over asked old new =
     fields_of_lines asked.options by_old
     (first_fields (facts_of asked.old_path old) (facts_of asked.new_path new))
     (last_fields false counts (status_by counts)) (changes (database_of old) (database_of new))
+
+-- those of the lines over two texts beside a trusted pair
+abbrev pub fields_beside : (asked trusted : Asked) → (old new trusted_old trusted_new : List ℕ)
+    → List (List Field)
+fields_beside asked trusted old new trusted_old trusted_new =
+    let account = by_trusted (database_of trusted_old) (database_of trusted_new) in
+    let counts = line_counts asked.options account (database_of old) (database_of new) in
+    fields_of_lines asked.options account
+    (first_fields_beside (facts_of asked.old_path old) (facts_of asked.new_path new)
+    (facts_of trusted.old_path trusted_old) (facts_of trusted.new_path trusted_new))
+    (last_fields true counts (status_by counts)) (changes (database_of old) (database_of new))
