@@ -28,7 +28,7 @@ from tests.program.real_files.test_devices import NOT_WRITTEN, closed_pipe
 from tests.program.real_files.test_fifos import WAIT, Feeder
 from tests.program.real_files.folder import Folder, names
 from tests.program.real_files.test_replaced import ENTRIES, replace, resize, Turning
-from tests.program.try_lines import faults_of_lines
+from tests.program.test_lines import faults_of_lines
 from tools.lib.arguments import executable, parser_of
 
 CASES = os.path.join(os.path.dirname(cases.FOLDER), cases.LINES)
@@ -269,18 +269,27 @@ def sound(*entries):
 
 
 def replacing():
-    """Two databases, and for each of a trusted pair two texts, of which the first accounts for changes and the other for none.
+    """Two databases, and two texts for each of a trusted pair: the first accounts for changes, the
+    other for none.
 
     So lines for which one text was read first, and then the other, are those of neither.
     """
-    gone, kept, changed = many(b"gone", DIGESTS[0]), many(b"kept", DIGESTS[0]), many(b"kept", DIGESTS[1])
-    trusted = {"trusted_old": (sound(gone, kept), sound(kept)), "trusted_new": (sound(changed), sound(kept))}
+    gone = many(b"gone", DIGESTS[0])
+    kept = many(b"kept", DIGESTS[0])
+    changed = many(b"kept", DIGESTS[1])
+    trusted = {
+        "trusted_old": (sound(gone, kept), sound(kept)),
+        "trusted_new": (sound(changed), sound(kept)),
+    }
     return [sound(gone, kept), sound(changed)], trusted
 
 
 def check_replaced(trusted, folder, way, name, texts):
-    """Runs while a trusted database turns from one text into another: a fault, or the lines of a whole one."""
-    label, answers, told = "%s, %s" % (way.__name__, name), [], 0
+    """Runs while a trusted database turns from one text into another: a fault, or the lines of a
+    whole one."""
+    label = f"{way.__name__}, {name}"
+    answers = []
+    told = 0
     for text in texts:
         folder.write(name, text)
         answers.append(wanted_lines(folder.words_beside()))
@@ -292,7 +301,7 @@ def check_replaced(trusted, folder, way, name, texts):
         is_front = any(whole.output.startswith(answer.output) for whole in answers)
         trusted.tally.holds(label, answer in answers or is_told and is_front, answer)
         told += is_told
-    trusted.tally.holds(label + ", told at all", told)
+    trusted.tally.holds(f"{label}, told at all", told)
 
 
 def try_replaced(trusted):
@@ -302,7 +311,8 @@ def try_replaced(trusted):
         for name, (first, other) in accounting.items():
             with Folder() as folder:
                 folder_of(folder, compared + [text for text, _ in accounting.values()])
-                check_replaced(trusted, folder, way, name, (first, first + b"more\n" if way is resize else other))
+                second = first + b"more\n" if way is resize else other
+                check_replaced(trusted, folder, way, name, (first, second))
 
 
 def try_long_lines(trusted):
