@@ -7,13 +7,15 @@ import gzip
 import hashlib
 import lzma
 import os
+import re
 import shutil
 import subprocess
 import time
 from typing import Any, Callable, Dict, List, Tuple
 
+from tests.commands import test_mail as mail
 from tests.commands.made_up import Night
-from tests.commands.sandbox import Answer, CommandTest
+from tests.commands.sandbox import HERE, NOBODY, Answer, CommandTest
 from tests.oracle.agreement import same_as
 from tests.oracle.database import database_of, first_fault
 
@@ -23,8 +25,19 @@ TOOL, LIBRARY = b"/usr/bin/tool", b"/usr/lib/multi/lib.so"
 ONE, TWO = b"one\n", b"two, of the upgraded package\n"
 ODD = "/usr/share/tool/a b%ü".encode()
 CONFIGURATION = b"/etc/tool.conf"
+HOME = {
+    "/var/lib/apt/lists": "lists",
+    "/var/cache/apt/archives": "archives",
+    "/var/lib/aide-compare/daily": "base",
+    "/var/lib/aide": "base",
+}
 PROGRAMS = ("gpg", "gpgv", "dpkg-deb")
 RELEASE = "Origin: Trial\nDate: {date}\n{more}SHA256:\n"
+
+
+def sums_of(version: str) -> bytes:
+    """What a package of a version has as its digests."""
+    return b"sums of " + version.encode()
 
 
 class Built:
@@ -54,7 +67,7 @@ class Built:
         control = f"Package: {self.name}\nVersion: {self.version}\n"
         control += f"Architecture: {self.architecture}\nMaintainer: T <t@example.org>\n"
         sandbox.write("tree/DEBIAN/control", (control + "Description: trial\n").encode())
-        sandbox.write("tree/DEBIAN/md5sums", b"sums of " + self.version.encode())
+        sandbox.write("tree/DEBIAN/md5sums", sums_of(self.version))
         if CONFIGURATION in self.files:
             sandbox.write("tree/DEBIAN/conffiles", CONFIGURATION + b"\n")
         for path, (content, mode) in self.files.items():
@@ -85,7 +98,6 @@ class Place:
         self.sandbox = sandbox
         self.old = Night()
         self.new = Night()
-        self.versions: Dict[Tuple[str, str], str] = {}
         self.built: List[Built] = []
         for night in (self.old, self.new):
             for path in (b"/", b"/usr", b"/usr/bin", b"/usr/share", b"/etc"):
@@ -97,11 +109,10 @@ class Place:
 
     def listed(self, name: str, version: str = "1", sums: bool = True) -> None:
         """A package that dpkg has unpacked again between the nights, with the version of now."""
-        self.versions[name.partition(":")[0], name.partition(":")[2] or "amd64"] = version
-        for night, text in ((self.old, ONE), (self.new, TWO)):
-            night.file(INFO + name.encode() + b".list", text)
+        for night, text in ((self.old, "0"), (self.new, version)):
+            night.file(INFO + name.encode() + b".list", sums_of(text))
             if sums:
-                night.file(INFO + name.encode() + b".md5sums", text)
+                night.file(INFO + name.encode() + b".md5sums", sums_of(text))
 
     def package(self, built: Built) -> None:
         built.build(self.sandbox)
@@ -137,18 +148,13 @@ class Place:
     def ask(
         self, *words: str, sources: Tuple[str, ...] = (SUITE,), keyring: str = "keys.gpg"
     ) -> Answer:
-        """What the command answers. The nights and the packages of now are written first."""
+        """What the command answers. The nights are written first."""
         self.sandbox.write("host-old.db", self.old.database())
         self.sandbox.write("host-new.db", self.new.database())
-        status = ""
-        for (name, architecture), version in self.versions.items():
-            status += f"Package: {name}\nStatus: install ok installed\n"
-            status += f"Architecture: {architecture}\nVersion: {version}\n\n"
-        self.sandbox.write("status", status.encode())
         more = [f"--from={self.sandbox.path(source)}" for source in sources]
         more.append(f"--keyring={self.sandbox.path(keyring)}")
         names = ("host-old.db", "host-new.db")
-        return self.sandbox.call("aide-compare archive", "--packages=status", *more, *words, *names)
+        return self.sandbox.call("aide-compare archive", *more, *words, *names)
 
     def standing(self, answer: Answer, path: bytes) -> str:
         """What accounts for a change beside the old database and the one that was made."""
@@ -196,6 +202,25 @@ def make_keys(sandbox: CommandTest) -> None:
     sandbox.write("keys.gpg", subprocess.run(keys, check=True, capture_output=True).stdout)
 
 
+def keep_as_apt(sandbox: CommandTest, place: Place) -> None:
+    """Puts the indexes and the packages where apt keeps them."""
+    os.makedirs(sandbox.path("lists"))
+    os.makedirs(sandbox.path("archives"))
+    before = "lists/archive.example.org_dists_stable_"
+    shutil.copy(sandbox.path(SUITE + "/InRelease"), sandbox.path(before + "InRelease"))
+    index = sandbox.path(SUITE + "/main/binary-amd64/Packages")
+    shutil.copy(index, sandbox.path(before + "main_binary-amd64_Packages"))
+    for built in place.built:
+        name = f"{built.name}_{built.version}_amd64.deb"
+        shutil.copy(sandbox.path("mirror/pool/" + name), sandbox.path("archives/" + name))
+
+
+def read(name: str) -> str:
+    """An example that comes with the commands."""
+    with open(os.path.join(HERE, "contrib", name), encoding="utf-8") as file:
+        return file.read()
+
+
 class ArchiveTest(CommandTest):
     def setUp(self) -> None:
         super().setUp()
@@ -216,7 +241,7 @@ class ArchiveTest(CommandTest):
         place = upgraded(self)
         place.sign()
         answer = place.ask()
-        self.expect("a signed upgrade", answer, 0, errors=[b"applied: 2 packages, "])
+        self.expect("a signed upgrade", answer, 0, errors=[b"applied: 21 files\n"])
         self.assertIsNone(
             first_fault(answer.output), ("it is a sound database", answer.output[:300])
         )
@@ -285,17 +310,17 @@ class ArchiveTest(CommandTest):
         """New, removed and older packages are named, and nothing of them is applied."""
         place = upgraded(self)
         rows = {
-            "came": "not applied, it is new: came",
-            "went": "not applied, it was removed: went",
-            "purged": "not applied, it was not installed before: purged",
-            "late": "not applied, late 1: it is older than 2 of the archive",
-            "fell": "not applied, fell 3: the archive has only 2",
-            "local": "not applied, local 1+own: no signed index has it",
-            "lost": "not applied, lost 2: its signed file is not there",
+            "came": "it is new: came",
+            "went": "it was removed: went",
+            "purged": "it is new: purged",
+            "late": "late: it is not 2, the newest one of the archive",
+            "fell": "fell: it is not 2, the newest one of the archive",
+            "local": "local: no signed index has it",
+            "lost": "lost: the file of 2, the newest one of the archive, is not there",
         }
         versions = {"late": "1", "fell": "3", "local": "1+own"}
         for name in rows:
-            place.listed(name, versions.get(name, "2"), sums=name != "purged")
+            place.listed(name, versions.get(name, "2"))
             path = b"/usr/bin/" + name.encode()
             if name != "local":
                 place.package(Built(name, "2").file(path, TWO, 0o755))
@@ -303,6 +328,7 @@ class ArchiveTest(CommandTest):
             for night, missing in ((place.old, "came"), (place.new, "went")):
                 for ending in (b".list", b".md5sums") if name == missing else ():
                     del night.entries[INFO + name.encode() + ending]
+        del place.old.entries[INFO + b"purged.md5sums"]  # dpkg keeps the list of a removed package.
         os.unlink(self.path("mirror/pool/lost_2_amd64.deb"))
         place.package(Built("same", "2").file(b"/usr/bin/same", TWO, 0o755))
         place.listed("same", "2")
@@ -311,7 +337,7 @@ class ArchiveTest(CommandTest):
         place.new.file(b"/usr/bin/same", TWO, 0o100755)
         place.sign()
         answer = place.ask("-q")
-        notes = [f"aide-compare archive: {line}\n".encode() for line in rows.values()]
+        notes = [f"aide-compare archive: not applied, {line}\n".encode() for line in rows.values()]
         self.expect("packages that are not applied", answer, 0, errors=notes)
         self.assertEqual(answer.errors.count(b"\n"), len(rows), ("nothing else is said", answer))
         for name in (*rows, "same"):
@@ -328,21 +354,13 @@ class ArchiveTest(CommandTest):
             got = place.standing(place.ask(), TOOL)
             self.assertEqual(got, "trusted", f"an index {ending}")
         place.sign()
-        os.makedirs(self.path("lists"))
-        os.makedirs(self.path("archives"))
-        before = "lists/archive.example.org_dists_stable_"
-        shutil.copy(self.path(SUITE + "/InRelease"), self.path(before + "InRelease"))
-        index = self.path(SUITE + "/main/binary-amd64/Packages")
-        shutil.copy(index, self.path(before + "main_binary-amd64_Packages"))
-        for built in place.built:
-            name = f"{built.name}_{built.version}_amd64.deb"
-            shutil.copy(self.path("mirror/pool/" + name), self.path("archives/" + name))
+        keep_as_apt(self, place)
         answer = place.ask(sources=("lists", "archives"))
-        self.expect("what apt keeps", answer, 0, errors=[b"applied: 2 packages, "])
+        self.expect("what apt keeps", answer, 0, errors=[b"applied: 21 files\n"])
         got = place.standing(answer, TOOL)
         self.assertEqual(got, "trusted", "what apt keeps agrees")
         answer = place.ask(sources=("lists",))
-        self.expect("without packages", answer, 0, errors=[b"tool 2: its signed file is not there"])
+        self.expect("without packages", answer, 0, errors=[b"tool: the file of 2, the newest"])
 
     def test_refused(self) -> None:
         """What is not signed, or not as it was signed, is refused; nothing is written then."""
@@ -354,23 +372,27 @@ class ArchiveTest(CommandTest):
             self.expect(label, answer, status, output=b"", errors=[words])
 
         place.sign(key="other")
-        refused("another key", b"no key of the keyrings has signed")
+        refused("another key", b"no key of the keyrings that signed")
         place.sign()
         signed = self.read(release)
         for label, text in (
             ("a changed text", signed.replace(b"Origin: Trial", b"Origin: Other")),
             ("no signature", self.read("release")),
-            ("a text before it", b"SHA256:\n" + signed),
             ("two texts", signed + signed),
             ("half of it", signed[: len(signed) // 2]),
             ("nothing", b""),
         ):
             self.write(release, text)
-            refused(label, b"no key of the keyrings has signed")
+            refused(label, b"no key of the keyrings that signed")
+        place.sign(index=b"Package: evil\n")
+        evil = hashlib.sha256(b"Package: evil\n").hexdigest()
+        name = "main/binary-amd64/Packages"
+        self.write(release, f" {evil} 14 {name}\n".encode() + self.read(release))
+        refused("a text before it that names the index", b"Packages is not as it was signed")
         place.sign(more="Valid-Until: Sat, 01 Jan 2022 00:00:00 UTC\n")
         refused("one that has expired", b"was valid until Sat, 01 Jan 2022")
         place.sign(more="Valid-Until: Sat, 01 Jan 2095 00:00:00 UTC\n")
-        self.expect("one that has not", place.ask(), 0, errors=[b"applied: 2 packages, "])
+        self.expect("one that has not", place.ask(), 0, errors=[b"applied: 21 files\n"])
         place.sign(index=b"Package: evil\n")
         refused("another index", b"Packages is not as it was signed")
         place.sign()
@@ -384,7 +406,102 @@ class ArchiveTest(CommandTest):
         place.built[0].fields = place.built[0].fields.replace("pool/", "../pool/")
         place.sign()
         answer = place.ask()
-        self.expect("a path above the mirror", answer, 0, errors=[b"its signed file is not there"])
+        self.expect("a path above the mirror", answer, 0, errors=[b"tool: the file of 2, the newest"])
+
+    def test_nightly(self) -> None:
+        """The words of the daily unit and of cron's job: the night of a signed upgrade mails what
+        the archive does not have, and without the archive all of it."""
+        mail.take_mail(self)
+        unit = read("aide/signed.conf")
+        (line,) = re.findall("^ExecStartPre=-/usr/local/bin/aide-compare (.*)$", unit, re.M)
+        (trusted,) = re.findall('^Environment="TRUSTED=(.*)"$', unit, re.M)
+        job = read("cron/aide-compare.cron.daily").replace("\\\n", "")
+        job = job.replace("$directory", "/var/lib/aide-compare/daily").replace('"', "")
+        for words in (line.split()[1:], trusted.split()):
+            self.assertIn(" ".join(words).split("--")[-1], " ".join(job.split()), "cron's words")
+        place = upgraded(self)
+        place.sign()
+        keep_as_apt(self, place)
+        self.write("base/aide.db", place.old.database())
+        self.write("base/aide.db.new", place.new.database())
+        words = [f"--keyring={self.path('keys.gpg')}", *map(self.at_home, line.split()[1:])]
+        pair = list(map(self.at_home, trusted.split()))
+        both = [self.path("base/aide.db"), self.path("base/aide.db.new")]
+        self.expect("made", self.call("aide-compare archive", *words), 0, output=b"")
+        self.expect("mailed", mail.call(self, *pair, *both), 7, output=b"")
+        body = mail.body(mail.sent(self))
+        self.assertIn(b" 11 are silent: as ", body, ("the sentence", body))
+        named = [path for path in (TOOL, LIBRARY, ODD) if path in body]
+        self.assertEqual(named, [], ("what is signed is not named", body))
+        self.assertIn(CONFIGURATION, body, "what is not")
+        os.remove(self.path("archives/tool_2_amd64.deb"))
+        shutil.rmtree(self.path("lists"))
+        self.expect("no lists", self.call("aide-compare archive", *words), 18, output=b"")
+        self.expect("mailed without", mail.call(self, *pair, *both), 7, output=b"")
+        body = mail.body(mail.sent(self))
+        self.assertNotIn(b"trusted", body, "nothing is trusted")
+        self.assertIn(TOOL, body, ("what is signed is told then", body))
+
+    def at_home(self, word: str) -> str:
+        """A word of the unit with the paths of this test."""
+        for name, place in HOME.items():
+            if word.startswith(name):
+                return self.path(place) + word[len(name) :]
+        return word
+
+    def test_architectures(self) -> None:
+        """A package of another architecture, or of an older version there, is not taken for it."""
+        place = upgraded(self)
+        files = place.built
+        place.built = []
+        place.package(Built("tool", "2", "arm64").file(TOOL, b"of arm64\n", 0o755))
+        place.package(Built("lib", "3", "i386").file(b"/lib/multi/lib.so", b"of i386\n"))
+        place.built += files
+        place.sign()
+        answer = place.ask()
+        # Of two packages that have the digests of the host, neither decides on a path of both.
+        self.assertEqual(place.standing(answer, TOOL), "open", "another architecture first")
+        self.assertEqual(place.standing(answer, ODD), "trusted", "what only one of them has")
+        self.assertEqual(place.standing(answer, LIBRARY), "trusted", "dpkg's own name has one")
+
+    def test_output(self) -> None:
+        """A file is replaced by what was made; by the old database if that fails, so that nothing
+        is silent that was not signed."""
+        place = upgraded(self)
+        place.sign()
+        made = place.ask().output
+        self.write("made.db", b"of another night\n")
+        answer = place.ask("--output", "made.db")
+        self.expect("a file", answer, 0, output=b"", errors=[b"applied: 21 files\n"])
+        self.assertEqual(self.read("made.db"), made, "the file has what was made")
+        mode = os.stat(self.path("made.db")).st_mode & 0o7777
+        self.assertEqual(mode, 0o600, "nobody else reads what a database has")
+        place.sign(key="other")
+        answer = place.ask("--output", "made.db")
+        self.expect("a file of what is not signed", answer, 18, output=b"")
+        self.assertEqual(self.read("made.db"), place.old.database(), "the file has the old one")
+        self.write("host-old.db", b"no database\n")
+        words = (f"--from={self.path(SUITE)}", "--output=made.db", "host-old.db", "host-new.db")
+        answer = self.call("aide-compare archive", *words)
+        self.expect("a file of what is no database", answer, 24, output=b"")
+        self.assertEqual(self.read("made.db"), place.old.database(), "the file stays then")
+        self.assertFalse(self.leftovers(), "nothing is left")
+
+    def test_user(self) -> None:
+        """Root may give up its privileges first, and the file is the user's then."""
+        if os.geteuid() != 0:
+            self.skipTest("another user (it needs root)")
+        place = upgraded(self)
+        place.sign()
+        os.makedirs(self.path("his"))
+        os.chown(self.path("his"), NOBODY, NOBODY)
+        answer = place.ask("--user=nobody", "--output=his/made.db")
+        self.expect("another user", answer, 0, errors=[b"applied: 21 files\n"])
+        self.assertEqual(os.stat(self.path("his/made.db")).st_uid, NOBODY, "whose file it is")
+        os.chmod(self.path("host-old.db"), 0o600)
+        words = ("--user=nobody", f"--from={self.path(SUITE)}", "host-old.db", "host-new.db")
+        answer = self.call("aide-compare archive", *words)
+        self.expect("what the user may not read", answer, 18, errors=[b"Permission denied"])
 
     def test_keyrings(self) -> None:
         """A keyring is as both databases have it, or in neither."""
@@ -415,6 +532,6 @@ class ArchiveTest(CommandTest):
         answer = place.ask("more")
         self.expect("three databases", answer, 15, output=b"")
         self.write("host-old.db", b"no database\n")
-        words = ("--packages=status", "--from=mirror", "host-old.db", "host-new.db")
+        words = ("--from=mirror", "host-old.db", "host-new.db")
         answer = self.call("aide-compare archive", *words)
         self.expect("no sound database", answer, 24, output=b"")

@@ -21,6 +21,8 @@ from aide_compare.base.ending import Fault, Status
 from aide_compare.base.escapes import shown
 
 _ESCAPE = re.compile(rb"%([0-9A-Fa-f]{2})")
+# What is not itself as a field, where a nought at the beginning has a meaning of its own.
+_UNUSUAL = re.compile(rb"\A0|[^!-~]|%")
 _LOW_BYTE = re.compile(rb"[\x00-\x0a]")
 _RAISED_BYTE = re.compile(rb"\x02(.)", re.S)
 MAX_PATH = 4096  # PATH_MAX of Linux: no path of a file is longer, so no row means a longer one.
@@ -34,6 +36,11 @@ RANGE = re.compile(rb"(.)-(.)", re.S)
 def unescaped(field: bytes) -> bytes:
     """A path with its escapes decoded; `%` without two hexadecimal digits stands for itself."""
     return _ESCAPE.sub(lambda match: bytes([int(match.group(1), 16)]), field)
+
+
+def escaped(path: bytes) -> bytes:
+    """A path, or the target of a link, as a field of a database."""
+    return _UNUSUAL.sub(lambda match: b"%%%02X" % match.group()[0], path)
 
 
 def key_of(field: bytes) -> bytes:

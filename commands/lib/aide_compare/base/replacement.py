@@ -12,7 +12,14 @@ from aide_compare.base.directories import ANYBODY, LISTING, Directory, closed_af
 from aide_compare.base.directories import open_directory
 from aide_compare.base.ending import Fault, Status, why_of, write_all
 from aide_compare.base.escapes import shown
-from aide_compare.base.files import TEMPORARY, new_file, random_name, refuse_other_kinds, unlink
+from aide_compare.base.files import (
+    TEMPORARY,
+    copy_file,
+    new_file,
+    random_name,
+    refuse_other_kinds,
+    unlink,
+)
 
 STALE_SECONDS = 60  # A new file keeps such a name between two calls of the system only.
 RENAME_EXCHANGE = 2
@@ -102,7 +109,11 @@ class Replacement:
 
     def commit(self, data: bytes) -> None:
         """Puts bytes in the place of the file, on the disk before this returns."""
-        self._do(lambda directory: self._put(directory, data))
+        self._do(lambda directory: self._put(directory, lambda part: write_all(part, data)))
+
+    def commit_copy(self, source: int) -> None:
+        """The same of the bytes of an open file."""
+        self._do(lambda directory: self._put(directory, lambda part: copy_file(source, part)))
 
     def close(self) -> None:
         for part in self.waiting:
@@ -156,9 +167,9 @@ class Replacement:
             return self.waiting.pop()
         return NewFile(directory.fd)
 
-    def _put(self, directory: Directory, data: bytes) -> None:
+    def _put(self, directory: Directory, write: Callable[[int], None]) -> None:
         with closing(self._new_file(directory)) as part:
-            write_all(part.fd, data)
+            write(part.fd)
             os.fchmod(part.fd, self.mode)
             part.put(self.name)
 
@@ -173,6 +184,13 @@ def replace(
     """Puts these bytes in the place of a file, as Replacement does it."""
     with closing(Replacement(path, mode, what, makes_directory)) as file:
         file.commit(data)
+
+
+def replace_by_copy(path: str, source: int, mode: int, what: str) -> None:
+    """The same by the bytes of an open file. A directory in which another user can write is
+    refused."""
+    with closing(Replacement(path, mode, what)) as file:
+        file.commit_copy(source)
 
 
 def exchange(directory: int, one: str, other: str) -> bool:

@@ -188,7 +188,7 @@ def words_of(name: bytes, version: bytes) -> str:
     return f"{shown(name, 100)} {shown(version, 100)}"
 
 
-def is_less(version: bytes, other: bytes) -> bool:
+def is_less(version: bytes | str, other: bytes | str) -> bool:
     """Whether a version of a package is older than another one, as dpkg says."""
     words = ["/usr/bin/dpkg", "--compare-versions", os.fsdecode(version), "lt", os.fsdecode(other)]
     return run(words, {}) == 0

@@ -10,63 +10,52 @@ import time
 from collections.abc import Callable, Collection, Iterator, Mapping, Sequence
 from email.utils import parsedate_to_datetime
 from hashlib import sha256
-from typing import IO, NamedTuple
+from itertools import chain
+from typing import IO
 
-from aide_compare.base.ending import Fault, Status, failing
+from aide_compare.base.directories import closed_after
+from aide_compare.base.ending import Fault, Status
 from aide_compare.base.escapes import shown
 from aide_compare.base.files import in_memory, nameless, read_file
-from aide_compare.base.directories import closed_after
-from aide_compare.base.processes import run
+from aide_compare.base.processes import Taker, run
 from aide_compare.base.program import Drain
 from aide_compare.changes.packages import is_less
 
-MAX_RELEASE = 16 << 20
 MAX_INDEX = 128 << 20
 MAX_UNPACKED = 4 << 30
 MAX_SECONDS = 600
 RELEASE = "InRelease"
-BEGIN = b"-----BEGIN PGP SIGNED MESSAGE-----"
-GPGV = ("gpgv", "--status-fd", "3", "--weak-digest", "SHA1", "--output", "-")
+FILE = "/proc/self/fd/4"
+KEYS = "--keyring=/proc/self/fd/5"
+GPGV = ("gpgv", "--status-fd=3", "--weak-digest=SHA1", "--output=-", KEYS, FILE)
 GOOD = re.compile(rb"^\[GNUPG:\] GOODSIG ", re.M)
-BAD = re.compile(rb"^\[GNUPG:\] (?:BADSIG|NODATA|UNEXPECTED)\b", re.M)
+BAD = re.compile(rb"^\[GNUPG:\] (?:BADSIG|NODATA|UNEXPECTED|ERROR)\b", re.M)
 EXPIRES = re.compile(r"^Valid-Until: *(.+)$", re.M)
 INDEX = re.compile(r"^ ([0-9a-f]{64}) +\d+ ([\w.+/-]*/binary-[\w-]+/Packages)(|\.xz|\.gz)$", re.M)
-UNPACK: Mapping[str, Callable[[bytes], bytes]] = {
-    "": bytes,
-    ".xz": lzma.decompress,
-    ".gz": gzip.decompress,
-}
-FIELD = re.compile(rb"^(Package|Version|Architecture|Filename|SHA256|Size): *(.*)$", re.M)
+Unpack = Callable[[bytes], bytes]
+UNPACK: dict[str, Unpack] = {"": bytes, ".xz": lzma.decompress, ".gz": gzip.decompress}
+FIELD = re.compile(r"^(Package|Version|Architecture|Filename|SHA256|Size): *(.*)$", re.M)
 ENVIRONMENT = {"PATH": "/usr/bin:/bin", "LC_ALL": "C", "HOME": "/"}
 
-# A package by its name and its architecture.
-Name = tuple[bytes, bytes]
+# What an index has of a package, by the names of its fields, and the path of the InRelease file.
+Signed = dict[str, str]
 
 
-class Signed(NamedTuple):
-    """A package of a signed index, and where its file may be."""
-
-    version: bytes
-    digest: str
-    size: int
-    paths: Sequence[str]
+def run_tool(words: Sequence[str], takers: Mapping[int, Taker], files: Sequence[int]) -> int:
+    """The status of a program of the system, whose descriptors from 4 on are these files."""
+    deadline = time.monotonic() + MAX_SECONDS
+    return run(words, takers, dict(enumerate(files, 4)), ENVIRONMENT, deadline)
 
 
-def signed_text(path: str, keyrings: Sequence[int]) -> str:
-    """The text of an InRelease file that a key of the keyrings has signed."""
-    release = read_file(path, MAX_RELEASE, "the signed file ")
-    places = range(5, 5 + len(keyrings))
-    words = [*GPGV, *(f"--keyring=/proc/self/fd/{place}" for place in places), "/proc/self/fd/4"]
+def signed_text(path: str, keys: int) -> str:
+    """The text of an InRelease file that one of the keys has signed."""
     text = bytearray()
     lines = bytearray()
-    with closed_after(in_memory(release)) as file, failing("cannot run gpgv"):
-        # Its status says nothing: it also fails if the keyrings lack one key of many.
-        given = {4: file, **dict(zip(places, keyrings))}
-        deadline = time.monotonic() + MAX_SECONDS
-        run(words, {1: text.extend, 3: lines.extend}, given, ENVIRONMENT, deadline)
-    is_whole = release.startswith(BEGIN) and release.count(BEGIN) == 1
-    if not is_whole or not GOOD.search(lines) or BAD.search(lines):
-        raise Fault(Status.DEVICE, f"no key of the keyrings has signed {shown(path)}")
+    with closed_after(in_memory(read_file(path, MAX_INDEX, "the signed file "))) as file:
+        # Its status says nothing: it also fails if one key of many is missing.
+        run_tool(GPGV, {1: text.extend, 3: lines.extend}, [file, keys])
+    if not GOOD.search(lines) or BAD.search(lines):
+        raise Fault(Status.DEVICE, f"gpgv finds no key of the keyrings that signed {shown(path)}")
     signed = text.decode("utf-8", "surrogateescape")
     expires = EXPIRES.search(signed)
     if expires and parsedate_to_datetime(expires.group(1)).timestamp() < time.time():
@@ -82,53 +71,48 @@ def read_signed(path: str, limit: int, digest: str) -> bytes:
     return data
 
 
-def indexes_of(release: str, keyrings: Sequence[int]) -> Iterator[bytes]:
-    """The indexes that an InRelease file names, as far as they are there: below its directory, or
-    beside it with its name before theirs, as apt keeps them."""
-    read = set()
+def packages_of(release: str, keys: int) -> Iterator[Signed]:
+    """The packages of the indexes that an InRelease file names, as far as they are there: below its
+    directory, or beside it with its name before theirs, as apt keeps them."""
     before = release[: -len(RELEASE)]
-    for digest, name, ending in INDEX.findall(signed_text(release, keyrings)):
+    for digest, name, ending in INDEX.findall(signed_text(release, keys)):
         path = before + (name if before.endswith("/") else name.replace("/", "_")) + ending
-        if name not in read and os.path.isfile(path):
-            read.add(name)
-            data = read_signed(path, MAX_INDEX, digest)
-            yield UNPACK[ending](data)
+        if os.path.isfile(path):
+            index = UNPACK[ending](read_signed(path, MAX_INDEX, digest))
+            for paragraph in index.decode("utf-8", "surrogateescape").split("\n\n"):
+                yield {**dict(FIELD.findall(paragraph)), RELEASE: release}
 
 
 def newest_of(
-    directories: Sequence[str], keyrings: Sequence[int], wanted: Collection[Name]
-) -> dict[Name, Signed]:
-    """The newest version of each wanted package in the signed indexes of these directories."""
-    newest: dict[Name, Signed] = {}
-    names = [os.path.join(each, file) for each in directories for file in sorted(os.listdir(each))]
-    for release in names:
-        for index in indexes_of(release, keyrings) if release.endswith(RELEASE) else ():
-            for paragraph in index.split(b"\n\n"):
-                fields = dict(FIELD.findall(paragraph))
-                name = fields.get(b"Package", b""), fields.get(b"Architecture", b"")
-                if name in wanted:
-                    signed = signed_of(fields, release, directories)
-                    if name not in newest or is_less(newest[name].version, signed.version):
-                        newest[name] = signed
+    directories: Sequence[str], keys: int, wanted: Collection[str]
+) -> dict[str, list[Signed]]:
+    """The newest version of each wanted package in the signed indexes of these directories, in each
+    architecture. dpkg's own name of a package has its architecture only if there may be several."""
+    newest: dict[str, list[Signed]] = {}
+    files = [os.path.join(each, name) for each in directories for name in sorted(os.listdir(each))]
+    releases = filter(lambda file: file.endswith(RELEASE), files)
+    for signed in chain.from_iterable(packages_of(release, keys) for release in releases):
+        name = signed.get("Package", "")
+        for own in {name, f"{name}:{signed.get('Architecture')}"}.intersection(wanted):
+            known = newest.setdefault(own, [])
+            if known and is_less(known[0]["Version"], signed["Version"]):
+                known.clear()
+            if not known or known[0]["Version"] == signed["Version"]:
+                known.append(signed)
     return newest
 
 
-def signed_of(fields: dict[bytes, bytes], release: str, directories: Sequence[str]) -> Signed:
-    """A package of an index: in a directory by apt's name for it, or where its mirror has it."""
-    values = {os.fsdecode(name): os.fsdecode(value) for name, value in fields.items()}
-    version = values["Version"].replace(":", "%3a")
-    file = f"{values['Package']}_{version}_{values['Architecture']}.deb"
+def open_package(signed: Signed, directories: Sequence[str]) -> int | None:
+    """A private copy of the file of a package: in a directory by apt's name for it, or where its
+    mirror has it. None if it is nowhere, a Fault if it is another."""
+    version = signed["Version"].replace(":", "%3a")
+    file = f"{signed['Package']}_{version}_{signed['Architecture']}.deb"
     paths = [os.path.join(directory, file) for directory in directories]
-    mirror, is_mirror, _ = release.rpartition("/dists/")
-    if is_mirror and ".." not in values["Filename"].split("/"):
-        paths.append(os.path.join(mirror, values["Filename"]))
-    return Signed(fields[b"Version"], values["SHA256"], int(values["Size"]), paths)
-
-
-def open_package(signed: Signed) -> int | None:
-    """A private copy of the file of a package; None if it is nowhere, a Fault if it is another."""
-    path = next(filter(os.path.isfile, signed.paths), None)
-    return in_memory(read_signed(path, signed.size, signed.digest)) if path else None
+    mirror, is_mirror, _ = signed[RELEASE].rpartition("/dists/")
+    if is_mirror and ".." not in signed["Filename"].split("/"):
+        paths.append(os.path.join(mirror, signed["Filename"]))
+    path = next(filter(os.path.isfile, paths), None)
+    return in_memory(read_signed(path, int(signed["Size"]), signed["SHA256"])) if path else None
 
 
 def tar_of(package: int, part: str) -> IO[bytes]:
@@ -136,11 +120,9 @@ def tar_of(package: int, part: str) -> IO[bytes]:
     ("ctrl")."""
     file = open(nameless(), "w+b")
     drain = Drain(MAX_UNPACKED, file.write)
-    words = ["dpkg-deb", f"--{part}-tarfile", "/proc/self/fd/4"]
-    with failing("cannot run dpkg-deb"):
-        deadline = time.monotonic() + MAX_SECONDS
-        status = run(words, {1: drain.take}, {4: package}, ENVIRONMENT, deadline)
-    if status != 0 or drain.size > MAX_UNPACKED:
+    words = ["dpkg-deb", f"--{part}-tarfile", FILE]
+    status = run_tool(words, {1: drain.take}, [package])
+    if status != 0 or drain.is_cut:
         raise Fault(Status.DEVICE, f"dpkg-deb cannot unpack a signed package: {status}")
     file.seek(0)
     return file

@@ -11,7 +11,7 @@ from heapq import merge
 from itertools import groupby
 from typing import NamedTuple
 
-from aide_compare.base.database import Kind, Layout
+from aide_compare.base.database import Kind, Layout, fields_in
 from aide_compare.base.ending import Fault, Status, failing
 from aide_compare.base.escapes import shown
 from aide_compare.base.files import BLOCK, nameless, reopened
@@ -79,6 +79,10 @@ class EntryReader:
     @property
     def columns(self) -> tuple[bytes, ...]:
         return self.layout.columns
+
+    def fields(self, line: bytes) -> dict[str, bytes]:
+        """The fields of an entry by the names of their columns."""
+        return {str(name, "latin-1"): field for name, field in zip(self.columns, fields_in(line))}
 
     def entries(self, side: int) -> Iterator[SidedEntry]:
         for line in self.file:
