@@ -24,7 +24,7 @@ STANDINGS = ["open", "recorded", "trusted", "same"]
 TITLES = {
     "open": "Open",
     "recorded": "Recorded",
-    "trusted": "Trusted: as on the trusted machine",
+    "trusted": "Trusted: as in the trusted pair",
     "same": "Same as before, but for times and inode",
 }
 ESCAPE = re.compile(r"\\([0-7]{3})")

@@ -230,7 +230,7 @@ def sentence(counts: Counts) -> list[str]:
     if counts.same:
         text += f" {counts.same:,} are silent: as before, but for times."
     if counts.trusted:
-        text += f" {counts.trusted:,} are silent: as on the trusted machine."
+        text += f" {counts.trusted:,} are silent: as in the trusted pair."
     return wrap(text, WIDTH)
 
 

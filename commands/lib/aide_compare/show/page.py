@@ -41,7 +41,7 @@ BESIDE_GROUP = 100
 TITLES = {
     Standing.OPEN: "Open",
     Standing.RECORDED: "Recorded",
-    Standing.TRUSTED: "Trusted: as on the trusted machine",
+    Standing.TRUSTED: "Trusted: as in the trusted pair",
     Standing.SAME: "Same as before, but for times and inode",
 }
 # Packages after so many different ones are counted together.

@@ -27,7 +27,7 @@ MAX_LETTERS = 5000
 HINT = (
     "Open: all that is not one of the following. Recorded: a package's records on the host have"
     " this content. Whoever was root there can write such records, so they only shorten what you"
-    " read. Same: the old entry, but for times and inode. Trusted: as on the trusted machine."
+    " read. Same: the old entry, but for times and inode. Trusted: as in the trusted pair."
 )
 
 
