@@ -41,6 +41,7 @@ def prepare(sandbox):
         sandbox.write("root/" + name, "")
     os.makedirs(sandbox.path("root/run/systemd/system"), exist_ok=True)
     sandbox.write("contrib/aide/debian.without", "/var/log\n")
+    sandbox.write("contrib/aide/signed.conf", "[Service]\n")
     sandbox.write("contrib/cron/aide-compare.cron.daily", "#!/bin/sh\n")
     calls = sandbox.path("calls/log")
     places = {
@@ -97,7 +98,7 @@ class SetupTest(CommandTest):
             "setup --check, before",
             self.call(TOOL, "--check"),
             18,
-            [b"missing: the baseline", b"6 things are missing\n"],
+            [b"missing: the baseline", b"7 things are missing\n"],
             b"",
         )
         calls = made(self)[1]
@@ -115,12 +116,17 @@ class SetupTest(CommandTest):
             "setup",
             done,
             0,
-            [b"2. apt keeps the packages that it installs: ", b"5. the timer", b"6. the baseline"],
+            [
+                b"2. apt keeps the packages that it installs: ",
+                b"5. upgrades to signed packages are silent: ",
+                b"6. the timer",
+                b"7. the baseline",
+            ],
             b"",
         )
         last = done.output.decode().splitlines()[-1]
         good = re.fullmatch(
-            "Done, [789] steps now\\. The first comparison runs on Sat 2026-11-28 08:12:33 UTC; .*",
+            "Done, (8|9|10) steps now\\. The first comparison runs on Sat 2026-11-28 08:12:33 UTC; .*",
             last,
         )
         self.holds(
@@ -131,6 +137,7 @@ class SetupTest(CommandTest):
             ("root/etc/aide-compare/without", 0o644),
             ("root/etc/aide-compare/defaults", 0o644),
             ("root/etc/apt/apt.conf.d/60aide-compare", 0o644),
+            ("root/etc/systemd/system/aide-compare.service.d/signed.conf", 0o644),
         ):
             found = stat.S_IMODE(os.stat(self.path(name)).st_mode)
             self.assertEqual(
@@ -158,9 +165,8 @@ class SetupTest(CommandTest):
             ["mail --test --user %s --to=a@example.org" % pwd.getpwuid(NOBODY).pw_name, "aideinit"],
             ("a mail, and then the baseline", calls),
         )
-        self.assertIn(
-            "enable --now aide-compare.timer", calls[:-2], ("the timer is on before", calls)
-        )
+        wanted = ["daemon-reload", "enable --now aide-compare.timer"]
+        self.assertEqual(calls[-4:-2], wanted, ("the timer is on before, as it will run", calls))
         self.expect(
             "setup --check, after", self.call(TOOL, "--check"), 0, b"nothing is missing", b""
         )
@@ -183,7 +189,7 @@ class SetupTest(CommandTest):
         again = self.call(TOOL, "--no-mail")
         self.assertEqual(
             again.output.count(b": is there"),
-            8,
+            9,
             ("each step is passed over the second time", again),
         )
         self.assertEqual(
@@ -201,6 +207,8 @@ class SetupTest(CommandTest):
             b"cron.daily",
             b"",
         )
+        there = os.path.lexists(self.path("root/etc/systemd"))
+        self.assertFalse(there, "a job of cron needs no file of systemd's")
         mode = os.stat(self.path("root/etc/cron.daily/aide-compare")).st_mode
         self.assertEqual(stat.S_IMODE(mode), 0o755, ("a job that cron runs", oct(mode)))
         self.assertIn(

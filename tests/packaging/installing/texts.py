@@ -168,7 +168,7 @@ def try_units(trial):
         start
         == [
             "/usr/local/bin/aide-compare mail --alarm-sent-is-success --queue /var/lib/aide-compare/daily/mail --max-age 50h "
-            "--state /var/lib/aide-compare/daily/state"
+            "--state /var/lib/aide-compare/daily/state $TRUSTED"
         ],
         start,
     )

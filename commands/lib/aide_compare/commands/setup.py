@@ -210,6 +210,9 @@ class Machine:
         directory = os.path.join(PATHS.own_directory, DAILY)
         title = f"a directory of {user}'s: {directory}"
         yield Step(title, self.owns(directory), self.make_directory)
+        if self.is_debian and self.has_timer:
+            title = f"upgrades to signed packages are silent: {PATHS.signed}"
+            yield Step(title, os.path.lexists(PATHS.signed), make_signed)
         yield self.job()
         self.send_test()
         baseline = os.path.join(PATHS.databases, self.names.baseline)
@@ -223,6 +226,11 @@ class Machine:
 
 def make_without() -> None:
     replace(PATHS.without, example("aide/debian.without"))
+
+
+def make_signed() -> None:
+    replace(PATHS.signed, example("aide/signed.conf"))
+    run(["systemctl", "daemon-reload"])
 
 
 def make_cron_job() -> None:
