@@ -27,7 +27,6 @@ def trials(program: str, lines: str) -> List[Part]:
     """The trials of the built programs and of the commands."""
     return [
         ("tests.program.try_trusted", lines, "--report", program),
-        ("tests.pages.try_manual", program),
         ("tests.packaging.try_install", program),
         ("tools.gate.unit_tests", program),
     ]
@@ -47,6 +46,5 @@ def quick_trials(program: str, lines: str) -> List[Part]:
     fail, install, or wait for processes."""
     return [
         ("tools.gate.unit_tests", program, "--quick"),
-        ("tests.pages.try_manual", program),
         ("tests.program.try_trusted", lines, "--report", program, "--quick", "--sessions", "100"),
     ]
