@@ -44,11 +44,11 @@ class Option(NamedTuple):
         return bool(self.metavar or self.choices)
 
 
-QUIET = Option("--quiet", "say nothing but why it failed", letter="-q")
-VERBOSE = Option("--verbose", "say which step is done, and how long it took", letter="-v")
+QUIET = Option("--quiet", "print only why it failed", letter="-q")
+VERBOSE = Option("--verbose", "print which step is done, and how long it took", letter="-v")
 COLOR = Option(
     "--color",
-    "colours in what people read (on a terminal)",
+    "use colours in what people read (on a terminal)",
     choices=("auto", "always", "never"),
     default="auto",
 )
@@ -61,7 +61,7 @@ CONFIG = Option(
 )
 AFTER = Option(
     "--after",
-    "lines that follow the configuration, as report_level=summary",
+    "lines to read after the configuration, as report_level=summary",
     metavar="TEXT",
     kind=any_text,
     letter="-A",
@@ -69,16 +69,16 @@ AFTER = Option(
 )
 BEFORE = Option(
     "--before",
-    "lines that precede it",
+    "lines to read before it",
     metavar="TEXT",
     kind=any_text,
     letter="-B",
     is_single=True,
 )
-STATE = Option("--state", "the state file, which has the result of a comparison", metavar="FILE")
+STATE = Option("--state", "the state file, with the result of a comparison", metavar="FILE")
 MAX_SIZE = Option(
     "--max-size",
-    "refuse a database that has more bytes unpacked",
+    "refuse a database of more bytes unpacked (1024G)",
     metavar="SIZE",
     kind=size,
     default=1 << 40,
@@ -107,41 +107,41 @@ RESULT_AGE = Option(
 )
 EXCLUDE_FROM = Option(
     "--exclude-from",
-    "leave out the entries whose paths FILE names, as debian.without; it says how many",
+    "leave out the entries whose paths FILE names, as the example debian.without",
     metavar="FILE",
     is_repeated=True,
 )
 EXCLUDE = Option(
     "--exclude",
-    "the same for one line",
+    "leave out the entries of this path or pattern",
     metavar="PATTERN",
     is_repeated=True,
 )
 TRUSTED = Option(
     "--trusted",
-    "what is as on this machine is silent: its baseline and its new database, which somebody has"
-    " looked at, or what aide-compare archive has made",
+    "keep quiet about what is as on a trusted machine: its baseline and its new database, whose"
+    " changes you have read, or what aide-compare archive made",
     metavar="OLD NEW",
     is_single=True,
     number_of_values=2,
 )
 KEEP_OPEN = Option(
     "--keep-open",
-    "all but the changes of these paths, as '/etc/**', whose former entries stay",
+    "accept all but the changes of these paths, as '/etc/**'",
     metavar="PATTERN",
     kind=pattern,
     is_repeated=True,
 )
 ALARM = Option(
     "--alarm",
-    "which changes raise an alarm: not-silent (the default), or any",
+    "which changes raise an alarm (not-silent)",
     choices=ALARMS,
     default=NOT_SILENT,
 )
 TO = Option("--to", "where the mail goes", metavar="ADDRESS", kind=address)
 MAX_MAIL = Option(
     "--max-mail",
-    "cut a mail that would be larger (1M)",
+    "leave the page out of a mail that would be larger (1M)",
     metavar="SIZE",
     kind=size,
     default=1 << 20,
@@ -159,10 +159,10 @@ MAIL_TIME = Option(
     kind=duration,
     default=60,
 )
-HTML = Option("--html", "send the report as a text and as a page")
+HTML = Option("--html", "send the page with all values too")
 WEEKLY = Option(
     "--weekly",
-    "with --state: mail a heartbeat on one day of the week (Mon)",
+    "with --state: send a heartbeat on one day of the week (Mon)",
     metavar="DAY",
     choices=DAYS,
     bare=DAYS[0],
@@ -180,7 +180,7 @@ CRITICAL = Option(
     kind=alarm_limit,
 )
 USER = Option("--user", "drop privileges to this user first", metavar="NAME")
-NO_DEFAULTS = Option("--no-defaults", "read nothing of what /etc/aide-compare has for this command")
+NO_DEFAULTS = Option("--no-defaults", "do not read the defaults in /etc/aide-compare")
 
 # The options of a comparison that may stand in the file of defaults, those of a mail, and those of
 # a check.

@@ -12,7 +12,6 @@ import os
 import re
 from collections.abc import Iterable, Sequence
 from contextlib import suppress
-from functools import partial
 from typing import Any, NoReturn
 
 from aide_compare import VERSION
@@ -40,8 +39,36 @@ MAY_BE_DEFAULTS = {
     option.name: option for option in (*COMPARISON_DEFAULTS, *MAIL_DEFAULTS, *CHECK_DEFAULTS)
 }
 
-# A width of its own keeps argparse from asking for that of the terminal, which takes 10 ms.
-_FORMATTER = partial(argparse.RawDescriptionHelpFormatter, max_help_position=26, width=110)
+# The columns of the help: those of the terminal within these limits, and 80 without one.
+_NARROWEST = 40
+_WIDEST = 120
+_WITHOUT_TERMINAL = 80
+
+
+def _help_width() -> int:
+    """argparse itself asks by shutil, which takes 10 ms to load."""
+    try:
+        columns = os.get_terminal_size(1).columns
+    except OSError:
+        columns = _WITHOUT_TERMINAL
+    return max(_NARROWEST, min(columns, _WIDEST))
+
+
+class Formatter(argparse.HelpFormatter):
+    """Fills each paragraph of the help to the width of the terminal. No word is broken."""
+
+    def __init__(self, prog: str) -> None:
+        super().__init__(prog, max_help_position=26, width=_help_width())
+
+    def _fill_text(self, text: str, width: int, indent: str) -> str:
+        paragraphs = [self._split_lines(part, width) for part in text.split("\n\n")]
+        return "\n\n".join("\n".join(indent + line for line in lines) for lines in paragraphs)
+
+    def _split_lines(self, text: str, width: int) -> list[str]:
+        import textwrap
+
+        words = " ".join(text.split())
+        return textwrap.wrap(words, width, break_long_words=False, break_on_hyphens=False)
 
 
 class Once(argparse.Action):
@@ -106,7 +133,7 @@ class Parser(argparse.ArgumentParser):
             usage=usage,
             epilog=epilog,
             allow_abbrev=False,
-            formatter_class=_FORMATTER,
+            formatter_class=Formatter,
         )
         self.names = ["--help", "--version"]
         self.add_argument("--version", action="store_true", help="print the version and stop")

@@ -21,15 +21,15 @@ from aide_compare.compare.state import DAILY, State, read_state
 
 NAME = "aide-compare accept"
 DESCRIPTION = """\
-Makes NEW the baseline if its unpacked bytes have the SHA-256 DIGEST; the former one becomes
+Makes NEW the baseline if DIGEST is the SHA-256 of its unpacked bytes. The former baseline becomes
 BASELINE.previous. Without a digest, on a terminal, it shows what differs and asks."""
 EPILOG = """\
 If another user can write in the directory of BASELINE, or in one above it, all changes there are
-made with the privileges of that user, and the new baseline belongs to him. A BASELINE that is a
-link is refused.
+made with the privileges of that user, and the new baseline belongs to that user. A BASELINE
+that is a link is refused.
 
 Status: 0 NEW is the baseline; 15 bad arguments; 18 a file cannot be read or written; 22 out of
-memory; 24 refused: NEW is another database, or no sound one, or a part of it cannot be kept
+memory; 24 refused: NEW is another database, or no sound one, or a part of it cannot stay
 open."""
 MAX_BYTES = 1 << 40
 SHA256 = Option(
@@ -124,9 +124,10 @@ def run(request: AcceptRequest, reported: Reported, is_quiet: bool) -> int:
 
 
 def own_parser() -> Parser:
-    parser = Parser(NAME, DESCRIPTION, "do not tell what was done", epilog=EPILOG)
-    state = "tell the time and the counts of the comparison from this file"
-    size = "refuse a database that has more bytes unpacked (1024G)"
+    usage = f"{NAME} [OPTIONS] [NEW BASELINE]"
+    parser = Parser(NAME, DESCRIPTION, "do not print what was done", epilog=EPILOG, usage=usage)
+    state = "print the time and the counts of the comparison from this file"
+    size = "refuse a database of more bytes unpacked (1024G)"
     parser.add(
         SHA256,
         STATE._replace(help=f"{state} ({DAILY}); it decides nothing"),

@@ -27,12 +27,12 @@ from aide_compare.lines.change import Counts
 from aide_compare.show.result import result_numbers, result_text
 
 NAME = "check_aide_compare"
-DESCRIPTION = "Says in one line what the last comparison found."
+DESCRIPTION = "Prints in one line what the last comparison found."
 EPILOG = """\
-Status: 0 OK, all changes are silent; 1 WARNING, the others are as packages' records on the host
-have them; 2 CRITICAL, a change is open; 3 UNKNOWN, all else. A LIMIT takes the place of one of
-the two: a number of changes that are not silent, or the least severity of one, high, medium or
-low.
+Status: 0 OK, all changes are silent; 1 WARNING, the others are in packages' records on the host;
+2 CRITICAL, a change is open; 3 UNKNOWN, all else. A LIMIT replaces the rule for 1 or 2: a number
+of changes that are not silent, or the least severity of one, high, medium or low.
+
 With --alarm any: 1 WARNING, entries were added; 2 CRITICAL, entries were removed or changed."""
 MAX_LINE = 300
 ONLY_ADDED = 1
@@ -125,7 +125,7 @@ def answer_to(request: CheckRequest) -> Answer:
 def request_of(arguments: list[str]) -> CheckRequest:
     parser = Parser(NAME, DESCRIPTION, "changes nothing here", epilog=EPILOG)
     parser.add(
-        STATE._replace(default=DAILY, help=f"what aide-compare has written ({DAILY})"),
+        STATE._replace(default=DAILY, help=f"the state file that aide-compare wrote ({DAILY})"),
         RESULT_AGE._replace(help="an older result is UNKNOWN (26h)"),
         ALARM._replace(help="which changes count (not-silent)"),
         WARNING,

@@ -41,19 +41,19 @@ if TYPE_CHECKING:
 
 NAME = "aide-compare compare"
 DESCRIPTION = """Compares two AIDE databases, plain or compressed by gzip, and prints what differs,
-the most severe first; with --report the report as AIDE prints it."""
+the most severe first; with --report the report as AIDE does."""
 TRY = "try: aide-compare compare --help"
 EPILOG = """\
 Times are as in 90s, 15m, 26h or 3d; a plain number is seconds. Sizes are in bytes, or as in
-500k, 20M or 1G. Where another user can write in the directory of the state file, or above it, it
-is written with that user's privileges. Root compares with the privileges of the user in whose
+500k, 20M or 1G. If another user can write in the directory of the state file, or above it, the
+file is written with that user's privileges. Root compares with the privileges of the user in whose
 directory the baseline is, unless --user names another one.
 
 Status: that of aide-compare-program(8). 0 no difference, 1 to 7 differences, above 7 no
 comparison."""
 REPORT = Option(
     "--report",
-    "print the report as AIDE prints it, as also with an option report_* in -A or -B",
+    "print the report as AIDE does, as with an option report_* in -A or -B",
 )
 
 
@@ -81,7 +81,7 @@ class CompareRequest(NamedTuple):
 
 def own_parser() -> Parser:
     """The options of a comparison, which aide-compare mail has too."""
-    quiet = "print neither report nor notes: only why nothing was compared"
+    quiet = "print only why nothing was compared"
     usage = "aide-compare [compare] [OPTIONS] [OLD NEW]"
     parser = Parser(NAME, DESCRIPTION, quiet, epilog=EPILOG, usage=usage)
     databases = "the databases, - for standard input; without them the configuration names both"

@@ -45,8 +45,8 @@ usage: aide-compare [compare] [OPTIONS] [OLD NEW]
   hosts      fetch, compare, accept and report: the same for many hosts
   help WORD  the options of a subcommand
 
-With -E, -D, --compare or --config-check all is for the proved program, which
-reads options as AIDE does: man aide-compare-program. The manual:
+With -E, -D, --compare or --config-check the proved program gets all arguments
+and reads them as AIDE does: man aide-compare-program. The manual:
 man aide-compare
 """
 HOSTS_USAGE = """\
@@ -56,7 +56,7 @@ usage: aide-compare hosts add [OPTIONS] HOST            a new host: asks first
        aide-compare hosts accept [OPTIONS] HOST         a new baseline of a host
        aide-compare hosts report [OPTIONS] [FILE]       what differs on all
 
-aide-compare hosts fetch --help and so on say more: man aide-compare-hosts
+Options: aide-compare hosts fetch --help. The manual: man aide-compare-hosts
 """
 HELP = ("--help", "-h")
 WORDS = (*COMMANDS, "hosts", "help")

@@ -27,13 +27,13 @@ from aide_compare.hosts.store import (
 
 NAME = "aide-compare hosts accept"
 DESCRIPTION = """\
-Makes the database that was fetched from HOST its baseline. The former baseline is kept beside
-it, as aide.db.previous."""
-EPILOG = "Status: 0 accepted; 24 refused, because it is another database; 15 bad arguments; 18."
+Makes the database that was fetched from HOST its baseline. The former baseline is kept as
+aide.db.previous."""
+EPILOG = "Status: 0 accepted; 24 refused: it is another database; 15, 18 or 22 as others."
 FIRST = Option(
     "--first",
-    "HOST has no baseline yet: keep what was fetched, and print its SHA-256 before, which is\n"
-    "to be that on HOST: zcat -f /var/lib/aide/aide.db.new | sha256sum",
+    "for a HOST without a baseline: print the SHA-256 of what was fetched, and accept it. Compare it"
+    " with that on HOST: zcat -f /var/lib/aide/aide.db.new | sha256sum",
 )
 SHA256 = Option(
     "--sha256",
@@ -87,8 +87,9 @@ def accept_next(directory: HostDirectory, request: AcceptRequest) -> int:
 
 
 def request_of(arguments: Sequence[str]) -> AcceptRequest:
-    quiet = "do not tell what was done"
-    parser = Parser(NAME, DESCRIPTION, quiet, epilog=EPILOG)
+    quiet = "do not print what was done"
+    usage = f"{NAME} --first | --sha256 DIGEST [OPTIONS] HOST"
+    parser = Parser(NAME, DESCRIPTION, quiet, epilog=EPILOG, usage=usage)
     add_store_options(parser)
     parser.add_operand("host", "HOST", "its name for ssh")
     size = "the most bytes of a first database, unpacked (4G)"

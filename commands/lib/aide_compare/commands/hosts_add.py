@@ -27,7 +27,7 @@ Fetches the first database of HOST by ssh, shows the key of HOST and the SHA-256
 and asks. After yes the key is in known_hosts, the database is the baseline, and HOST is in the
 file of hosts."""
 EPILOG = """Status: 0 HOST is watched; 15 bad arguments, or no terminal; 18 nothing was fetched;
-24 the answer was no, HOST has a baseline already, or it sent no sound database."""
+24 the answer was no, there is a baseline of HOST already, or it sent no sound database."""
 MAX_ANSWER = 100
 
 
@@ -42,7 +42,7 @@ class AddRequest(NamedTuple):
 
 
 def request_of(arguments: Sequence[str]) -> AddRequest:
-    parser = Parser(NAME, DESCRIPTION, epilog=EPILOG)
+    parser = Parser(NAME, DESCRIPTION, epilog=EPILOG, usage=f"{NAME} [OPTIONS] HOST")
     add_store_options(parser)
     text = f"the file that gets the name of HOST ({HOSTS_FILE})"
     parser.add(Option("--hosts-file", text, metavar="FILE", default=HOSTS_FILE))

@@ -46,11 +46,11 @@ PAUSE = 0.2  # A process that was ended may go on, in a call that does not retur
 
 
 DESCRIPTION = """\
-Fetches and compares the databases of the hosts of HOSTS-FILE, which has a name a line. Prints a
-line for each host as it ends: its name, its status, and what that says. Then a summary."""
-EPILOG = """Ends with the greatest status of all hosts: 0, up to 7 if there are differences
-and each host was compared, more if a host was not; 15 if arguments or a host's name are
-wrong; 18 if it cannot run."""
+Fetches and compares the databases of the hosts of HOSTS-FILE, one name a line. Prints a line for
+each host as it ends: its name, its status and the counts. Then a summary."""
+EPILOG = """Status: the greatest of all hosts: 0; up to 7 if there are differences and each host
+was compared; more if a host was not. 15 if arguments or a host's name are wrong; 18 if the
+command itself fails."""
 
 
 class CompareRequest(NamedTuple):
@@ -249,7 +249,8 @@ def share(text: str) -> tuple[int, int]:
 
 def own_parser() -> Parser:
     quiet = "only hosts with changes that are not silent, or not compared, and a summary"
-    parser = Parser(NAME, DESCRIPTION, quiet, epilog=EPILOG)
+    usage = f"{NAME} [OPTIONS] [HOSTS-FILE]"
+    parser = Parser(NAME, DESCRIPTION, quiet, epilog=EPILOG, usage=usage)
     add_store_options(parser)
     jobs = matching(r"[1-9][0-9]{0,2}", "a number from 1 to 999", int)
     part = matching(

@@ -12,12 +12,12 @@ from aide_compare.hosts.store import MAX_MEMORY, HostDirectory, add_store_option
 NAME = "aide-compare hosts fetch"
 DESCRIPTION = "Fetches the newest database of HOST by ssh into DIR/hosts/HOST/aide.db.new."
 EPILOG = """The key of the caller needs one line on HOST; see the example authorized_keys.
-Status: 0 fetched; 15 bad arguments; 18 nothing was fetched, and what was fetched before
-is there."""
+
+Status: 0 fetched; 15 bad arguments; 18 nothing was fetched, and what was fetched before stays."""
 
 
 def main(arguments: Sequence[str]) -> int:
-    parser = Parser(NAME, DESCRIPTION, epilog=EPILOG)
+    parser = Parser(NAME, DESCRIPTION, epilog=EPILOG, usage=f"{NAME} [OPTIONS] HOST")
     add_store_options(parser)
     parser.add_operand("host", "HOST", "its name for ssh")
     args = parser.parse(arguments)

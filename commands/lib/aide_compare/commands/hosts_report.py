@@ -39,11 +39,10 @@ COLUMNS = 78
 
 
 DESCRIPTION = """\
-Reports what differs on the hosts of HOSTS-FILE, as aide-compare hosts compare has found it:
+Reports what differs on the hosts of HOSTS-FILE, as aide-compare hosts compare found it:
 which hosts were not compared, and each change once with the hosts that have it."""
-EPILOG = """Ends with the greatest status of all hosts, as aide-compare hosts compare does: 0,
-up to 7 if there are differences and each host was compared, more if a host was not.
-15, 18 or 22 if it cannot do its work."""
+EPILOG = """Status: the greatest of all hosts: 0; up to 7 if there are differences and each host
+was compared; more if a host was not. 15, 18 or 22 if the command itself fails."""
 
 
 class ReportRequest(NamedTuple):
@@ -236,7 +235,8 @@ def encoded(line: str) -> bytes:
 
 def own_parser() -> Parser:
     quiet = "print nothing if no host differs and each was compared"
-    parser = Parser(NAME, DESCRIPTION, quiet, epilog=EPILOG)
+    usage = f"{NAME} [OPTIONS] [HOSTS-FILE]"
+    parser = Parser(NAME, DESCRIPTION, quiet, epilog=EPILOG, usage=usage)
     stores = (
         f"where the reports are kept ({STORE}); given N times: the Kth one is that of --share K/N"
     )

@@ -31,11 +31,11 @@ from aide_compare.compare.outputs import descriptor_of
 
 NAME = "aide-compare mail"
 DESCRIPTION = """\
-Runs aide-compare with all other arguments, and mails the report if the databases differ, or the
-errors if nothing was compared. No mail is sent if there is no difference."""
+Compares as aide-compare does with the other arguments. Sends a mail of at most 80 lines if a
+change is not silent, or with the errors if nothing was compared."""
 EPILOG = """\
 Status: that of aide-compare-compare(1); 18 if no mail can be sent. With --alarm-sent-is-success
-it is 0 if the mail went out or was kept in the queue."""
+it is 0 if the mail was sent or kept in the queue."""
 
 
 class MailRequest(NamedTuple):
@@ -67,7 +67,7 @@ def own_parser() -> Parser:
     parser.add(ALARM._replace(help="which changes are mailed: not-silent (the default), or any"))
     queue = "keep the mail in this directory; --send-queue sends it"
     send = "compare nothing, and send the mails of this directory"
-    unit = "with --send-queue: mail first that this unit of systemd has failed"
+    unit = "with --send-queue: mail first that this unit of systemd failed"
     success = "end with 0 also after differences or errors that were mailed"
     parser.add(
         Option("--test", "compare nothing, and send a test mail the same way"),

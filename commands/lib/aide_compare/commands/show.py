@@ -23,8 +23,9 @@ from aide_compare.lines.decoded import decoded
 
 NAME = "aide-compare show"
 DESCRIPTION = "Prints one entry of both databases in full: each attribute, and which ones differ."
-EPILOG = """Status: 0 printed; 15 bad arguments; 18 neither database has the path, or one cannot
+EPILOG = """Status: 0 printed; 15 bad arguments; 18 the path is in neither database, or one cannot
 be read; 24 a database has a fault.
+
 Example: aide-compare show /etc/passwd old.db.gz new.db.gz"""
 MAX_TEXT = 1 << 40
 MAX_ANSWER = 1 << 26

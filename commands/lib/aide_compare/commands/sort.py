@@ -20,12 +20,12 @@ MAX_NAMED = 100
 
 NAME = "aide-compare sort"
 DESCRIPTION = """\
-Writes a database in path order, as aide-compare wants it, to standard output.
+Writes a database in path order, as aide-compare needs it, to standard output.
 
 AIDE itself always writes path order. A database straight from AIDE that is out of order is
 damaged, for example by a full disk: make it anew. Sort only what another tool wrote or merged."""
 EPILOG = (
-    "Status: 0 sorted; 24 a path stands twice, or this is no database; 15, 18, 22: see"
+    "Status: 0 sorted; 24 a path is there twice, or this is no database; 15, 18, 22: see"
     " aide-compare-sort(1)."
 )
 ADVICE = (
@@ -153,13 +153,14 @@ def sort(request: SortRequest) -> int:
 
 
 def request_of(arguments: Sequence[str]) -> SortRequest:
-    quiet = "do not say how many lines were out of order"
-    parser = Parser(NAME, DESCRIPTION, quiet, epilog=EPILOG)
+    quiet = "do not print how many lines were out of order"
+    usage = f"{NAME} [OPTIONS] [FILE]"
+    parser = Parser(NAME, DESCRIPTION, quiet, epilog=EPILOG, usage=usage)
     files = (
         "the database, plain or compressed with gzip; standard input if it is left out, and for -"
     )
-    parser.add_operand("file", "file", files, nargs="?", default="-")
-    size = "refuse a database that has more bytes unpacked (64G)"
+    parser.add_operand("file", "FILE", files, nargs="?", default="-")
+    size = "refuse a database of more bytes unpacked (64G)"
     parser.add(MAX_SIZE._replace(default=1 << 36, help=size))
     args = parser.parse(arguments)
     path = "/dev/stdin" if args.file == "-" else args.file

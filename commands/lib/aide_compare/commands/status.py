@@ -21,7 +21,7 @@ from aide_compare.show.told import BOLD, in_colour
 
 NAME = "aide-compare status"
 DESCRIPTION = """\
-Writes the result of the last comparison: for people, as one line for logger(1), for the node
+Prints the result of the last comparison: for people, as one line for logger(1), for the node
 exporter of Prometheus, or as an object of JSON. The check for Nagios is check_aide_compare."""
 EPILOG = """\
 A directory in which another user can write, as Debian's user prometheus can in its own, is
@@ -35,8 +35,8 @@ FORMATS = ("text", "line", "json", "prometheus")
 # What Prometheus is told of each standing and of the entries.
 ENTRIES = {
     "status": "Sum of 1 added, 2 removed and 4 changed; above 7 nothing was compared.",
-    "added_entries": "Entries that only the new database has.",
-    "removed_entries": "Entries that only the old database has.",
+    "added_entries": "Entries that are only in the new database.",
+    "removed_entries": "Entries that are only in the old database.",
     "changed_entries": "Entries that both databases have and that differ.",
     "end_time_seconds": "When the last run ended, in seconds since 1970.",
 }
@@ -199,14 +199,16 @@ WRITERS = {
 
 
 def request_of(arguments: Sequence[str]) -> StatusRequest:
-    parser = Parser(NAME, DESCRIPTION, "write nothing if there is no difference", epilog=EPILOG)
+    quiet = "print nothing if there is no difference"
+    usage = f"{NAME} [OPTIONS] [OUTPUT]"
+    parser = Parser(NAME, DESCRIPTION, quiet, epilog=EPILOG, usage=usage)
     parser.add(Option("--format", "the form (text)", choices=FORMATS, default="text"))
     output = (
         "of prometheus: the file that is replaced; its name should end with .prom; "
         "standard output without it, and for -"
     )
     parser.add_operand("output", "OUTPUT", output, nargs="?", default=STDOUT)
-    state = f"what aide-compare has written ({DAILY})"
+    state = f"the state file that aide-compare wrote ({DAILY})"
     parser.add(STATE._replace(default=DAILY, help=state), RESULT_AGE)
     args = parser.parse(arguments)
     if args.output != STDOUT and args.format != "prometheus":
