@@ -439,7 +439,7 @@ class ArchiveTest(CommandTest):
         self.expect("no lists", self.call("aide-compare archive", *words), 18, output=b"")
         self.expect("mailed without", mail.call(self, *pair, *both), 7, output=b"")
         body = mail.body(mail.sent(self))
-        self.assertNotIn(b"trusted", body, "nothing is trusted")
+        self.assertNotIn(b" are silent: as in", body, "nothing is trusted")
         self.assertIn(TOOL, body, ("what is signed is told then", body))
 
     def at_home(self, word: str) -> str:
