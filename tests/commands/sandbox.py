@@ -141,7 +141,7 @@ class CommandTest(Scratch, unittest.TestCase):
         os.rename(self.path("bin/aide-compare"), self.path("front"))
         self.write("bin/aide-compare", FRONT, 0o755)
         os.symlink("aide-compare", self.path("bin/check_aide_compare"))
-        self.replaced = {}
+        self.replaced: dict[str, object] = {}
         # The records of packages and the administrator's directory are those of the test, never
         # those of this machine.
         self.set_names("changes.packages", DPKG=self.path("dpkg"), DPKG_LOG=self.path("dpkg.log"))

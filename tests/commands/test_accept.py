@@ -1,4 +1,6 @@
 """aide-compare accept: digests, what is told, refusals, owners and modes, two at once."""
+from __future__ import annotations
+
 import base64
 import fcntl
 import gzip
@@ -6,6 +8,7 @@ import hashlib
 import os
 import shutil
 import stat
+from collections.abc import Callable
 
 from tests.lib.waiting import until, waits
 
@@ -99,7 +102,7 @@ class AcceptTest(CommandTest):
         self.expect("no digest", answer, 15, b"", b"--sha256")
         self.write("odd", "format=1\nstatus=0\nnew_sha256=%s\n" % sha256(NEW))
         whole = sha256(NEW)
-        for digest, words, status in (
+        rows: list[tuple[str, list[str], int]] = [
             (whole, ["--state", "odd"], 18),
             (whole, ["--state", "missing"], 18),
             (whole, ["--odd"], 15),
@@ -111,7 +114,8 @@ class AcceptTest(CommandTest):
             (whole, ["--max-size", "20"], 18),
             (whole, ["--max-size", "x"], 15),
             (whole, ["--keep", "kept"], 15),
-        ):
+        ]
+        for digest, words, status in rows:
             answer = accept(self, digest, *words)
             self.expect(
                 "the arguments %r %r" % (digest, words),
@@ -149,11 +153,11 @@ class AcceptTest(CommandTest):
     def test_places(self) -> None:
         """What is no regular file is no baseline, and a folder where everybody can write holds
         none."""
-        kinds = (
+        kinds: list[tuple[str, Callable[[str], object]]] = [
             ("a link", lambda path: os.symlink("aide.db.new", path)),
             ("a FIFO", os.mkfifo),
             ("a directory", os.mkdir),
-        )
+        ]
         for name, make in kinds:
             fresh(self)
             os.remove(self.path("base/aide.db"))

@@ -1,8 +1,11 @@
 """Attacks on aide-compare accept by the user who owns the folder of the baseline: what is root's
 stays as it is."""
+from __future__ import annotations
+
 import gzip
 import os
 import time
+from collections.abc import Callable
 
 from tests.lib.program_test import slow
 
@@ -121,8 +124,9 @@ class AcceptAttacksTest(CommandTest):
 
     def test_names_taken(self) -> None:
         """At each name that is used lies a link of either sort to a file of root."""
+        makers: tuple[Callable[[str, str], object], ...] = (os.link, os.symlink)
         for name in ("aide.db", ".aide.db.part", "aide.db.previous"):
-            for make in (os.link, os.symlink):
+            for make in makers:
                 put(self, "folder")
                 path = os.path.join(os.path.dirname(self.path(BASELINE)), name)
                 if os.path.exists(path):

@@ -1,5 +1,7 @@
 """aide-compare accept is killed before each of its calls, also on an old file system; and what is
 on the disk when."""
+from __future__ import annotations
+
 import fcntl
 import os
 
@@ -93,6 +95,7 @@ class AcceptKillsTest(CommandTest):
             )
 
     def test_kills(self) -> None:
+        forms: list[tuple[str, int | None, int, int]]
         forms = [("in the caller's folder", None, 0, 0), ("on an old file system", None, 0, 1)]
         if os.getuid() == 0:
             forms += [("in another user's folder", NOBODY, 0, 0), ("in the child", NOBODY, 1, 0)]

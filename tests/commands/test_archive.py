@@ -254,9 +254,9 @@ class ArchiveTest(CommandTest):
             LIBRARY,
             ODD,
         )
-        trusted += (b"/usr/share/tool/new", b"/usr/share/tool/new/file")
+        added = (b"/usr/share/tool/new", b"/usr/share/tool/new/file")
         for path, want in {
-            **dict.fromkeys(trusted, "trusted"),
+            **dict.fromkeys((*trusted, *added), "trusted"),
             CONFIGURATION: "open",
             b"/usr/share/tool/gone": "open",
             b"/usr/bin/passwd": "old",

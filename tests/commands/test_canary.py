@@ -6,6 +6,7 @@ import os
 import re
 import time
 from typing import Dict
+from typing import Any
 
 from tests.commands.made_up import Night, time_of
 from tests.commands.sandbox import CommandTest
@@ -26,7 +27,7 @@ def read_state(path):
 def database(is_new: bool, number: int, mark: bytes = b"") -> bytes:
     """A host before or after an upgrade, perhaps with a file that nobody else has."""
     night = Night()
-    times = {"mtime": time_of(1000 + number), "inode": number}
+    times: dict[str, Any] = {"mtime": time_of(1000 + number), "inode": number}
     for path in (b"/", b"/usr", b"/usr/bin"):
         night.directory(path, **times)
     for name in (b"a", b"b"):

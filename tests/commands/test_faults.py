@@ -75,6 +75,7 @@ class FaultsTest(CommandTest):
             b"",
             b"the new database /dev/stdin has more than 1000000 bytes unpacked",
         )
+        assert writer.stdout
         writer.stdout.close()
         self.assertNotEqual(writer.wait(), 0, "an endless stream is ended")
         self.write("bomb.gz", gzip.compress(b"\0" * 50000000))

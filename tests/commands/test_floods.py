@@ -3,9 +3,12 @@ of sight.
 
 The hostile paths are those of a user in his home, of a service, and of many users at once.
 """
+from __future__ import annotations
+
 import base64
 import hashlib
 import re
+from typing import Any
 
 from tests.lib.program_test import slow
 
@@ -210,7 +213,7 @@ class FloodsTest(CommandTest):
         """An entry with all that it had but times and inode is the same, by a digest of 256 bits of
         a file. Anything else is open."""
         path = b"/var/spool/postfix/etc/000"
-        rows = {
+        rows: dict[str, tuple[Any, ...]] = {
             "another inode": ({"inode": 2, "mtime": 2}, "same"),
             "other times": ({"mtime": 2}, "same"),
             "another content": ({"inode": 2, "content": b"b"}, "open"),

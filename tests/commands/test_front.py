@@ -306,10 +306,10 @@ class FrontTest(CommandTest):
                 for line in answer.output.decode().splitlines()
                 if line.startswith("run on this machine: ")
             ]
-            wanted = ["run on this machine: no", "run on this machine: yes"]
+            builds = ["run on this machine: no", "run on this machine: yes"]
             self.assertEqual(
                 lines,
-                wanted if is_newer else wanted[::-1],
+                builds if is_newer else builds[::-1],
                 ("the version says so: " + name, answer),
             )
         os.chmod(program, 0o644)

@@ -1,5 +1,7 @@
 """Units, cron and hands agree: the administrator's defaults, root's comparison by hand, and the
 unit that says that one failed."""
+from __future__ import annotations
+
 import os
 import shlex
 import signal
@@ -93,10 +95,11 @@ class HandsTest(CommandTest):
             "MONITOR_EXIT_STATUS": "18",
             "MONITOR_UNIT": "aide-compare.service",
         }
-        for label, more, text in (
+        rows: list[tuple[str, dict[str, str], str]] = [
             ("no variables", {}, failed % ""),
             ("the variables of systemd 251", variables, failed % ": exit-code, status 18"),
-        ):
+        ]
+        for label, more, text in rows:
             status, message = no_environment(self, started("aide-compare-failed.service"), **more)
             good = (
                 mail.subject(message) == mail.SUBJECT + "the comparison failed"
@@ -240,7 +243,7 @@ class HandsTest(CommandTest):
     def test_faulty_defaults(self) -> None:
         """Defaults that others can write are refused as the file of --exclude-from is, and no alarm
         is lost for it."""
-        cases = [
+        cases: list[tuple[str, int, int | None, int]] = [
             ("everybody writes the file", 0o666, None, 0o755),
             ("a group writes the file", 0o664, None, 0o755),
         ]

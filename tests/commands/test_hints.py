@@ -115,7 +115,7 @@ class HintsTest(CommandTest):
             ),
         ):
             answer = self.call(TOOL, "-c", "odd conf", "old.db", "new.db", *words)
-            self.expect("misspelt: %s" % told[:40], answer, 7, right.output, told)
+            self.expect("misspelt: %s" % told[:40].decode(), answer, 7, right.output, told)
             self.assertEqual(
                 answer.errors.count(b"is no option"),
                 5 if b"more" in told else 2 + len(words) // 2,

@@ -6,6 +6,7 @@ import json
 import re
 import subprocess
 import sys
+from typing import Any
 
 from .test_hosts_report import Hosts, database, line
 from .sandbox import CommandTest
@@ -59,7 +60,7 @@ class HostsBriefTest(CommandTest):
         each = [("low", [1]), ("medium", [2]), ("high", [3])]
         others = [("high", [1]), ("high", [2])]
         nine = [("high", [host], 9) for host in range(9)]
-        for label, room, changes, wanted in (
+        rows: list[tuple[str, int, list[Any], object]] = [
             ("all that fits", 12, flood, [list(range(10)), {}, {}]),
             ("one host alone has all the room", 4, flood, [[0, 1, 2, 3], {"high": 6}, {"0": 6}]),
             ("the severe ones first", 2, each, [[1, 2], {"low": 1}, {"1": 1}]),
@@ -88,7 +89,8 @@ class HostsBriefTest(CommandTest):
                 [[0], {"medium": 1}, {"2": 1}],
             ),
             ("nothing lesser after what has no room", 80, [*nine, ("low", [9], 5)], ENDED),
-        ):
+        ]
+        for label, room, changes, wanted in rows:
             got = selected(self, room, list(changes))
             self.assertEqual(got, wanted, "a selection: " + label)
         four = [("high", [place // 4]) for place in range(36)]

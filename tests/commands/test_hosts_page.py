@@ -116,10 +116,10 @@ class HostsPageTest(CommandTest):
             each.partition("</summary>")[0] for each in items_of(hosts.report("--format=page")[1])
         ]
         found = {
-            re.search("<code>(.*?)</code>", head)
-            .group(1): re.search("<i[^>]*> (.*?)</i>", head)
-            .group(1)
+            code: text
             for head in heads
+            for code in re.findall("<code>(.*?)</code>", head)[:1]
+            for text in re.findall("<i[^>]*> (.*?)</i>", head)[:1]
         }
         wanted = {"/gone": "various", "/same": "-rw-r--r--  0:0  0 bytes"}
         self.assertEqual(found, wanted, "the lines of files that went")

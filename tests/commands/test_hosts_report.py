@@ -1,5 +1,7 @@
 """The report of many hosts: the same change on some of them, hosts that say nothing, hostile names,
 and one mail for all."""
+from __future__ import annotations
+
 import base64
 import hashlib
 import json
@@ -10,6 +12,8 @@ import shutil
 import signal
 import subprocess
 import time
+from typing import Any
+from collections.abc import Callable
 
 from tests.lib.waiting import until
 
@@ -173,7 +177,7 @@ class HostsReportTest(CommandTest):
             == [("added", "/usr/.x", 1, ["www4"]), ("added", "/usr/.x", 3, most)],
             got,
         )
-        none = {"old": {}, "new": {}, "per_host": []}
+        none: dict[str, Any] = {"old": {}, "new": {}, "per_host": []}
         found = {(each["path"], each["hosts"]): {**none, **each} for each in changes}
         folder, file, same, other = (
             found.get(key, none)
@@ -334,7 +338,9 @@ class HostsReportTest(CommandTest):
         report."""
         hosts = Hosts(self)
         hosts.compared({name: (OLD, NEW) for name in ("good1", "good2", "good3", "good4", "good5")})
-        for name, make in (("good1", os.mkdir), ("good2", lambda path: os.symlink("none", path))):
+        makers: dict[str, Callable[[str], object]]
+        makers = {"good1": os.mkdir, "good2": lambda path: os.symlink("none", path)}
+        for name, make in makers.items():
             os.remove(self.path("store/hosts/%s/lock" % name))
             make(self.path("store/hosts/%s/lock" % name))
         shutil.rmtree(self.path("store/hosts/good3"))

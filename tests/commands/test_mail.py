@@ -1,5 +1,7 @@
 """aide-compare mail: which mail goes out, whole and readable, within its bound, and what its status
 says."""
+from __future__ import annotations
+
 import base64
 import email
 import hashlib
@@ -149,11 +151,12 @@ class MailTest(CommandTest):
         old, new = self.path("old.db"), self.path("new.db")
         accept = "aide-compare accept --sha256 %s %s %s" % (sha256(NEW), new, old)
         page = "aide-compare page %s %s > changes.html" % (old, new)
-        for words, to in (
+        rows: list[tuple[list[str], str]] = [
             ([], "root"),
             (["--to", "a@b.example"], "a@b.example"),
             (["--to=x, y"], "x, y"),
-        ):
+        ]
+        for words, to in rows:
             self.expect("a mail to " + to, call(self, "old.db", "new.db", *words), 7, b"", b"")
             message = sent(self)
             self.holds(

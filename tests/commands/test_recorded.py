@@ -161,9 +161,9 @@ class RecordedTest(CommandTest):
         text = host.brief(self)
         made = "  medium  made     /usr/lib/python3/__pycache__: 2 files, by packages\n"
         self.assertEqual(text.count(made), 1, ("one line for a directory", text))
-        for name in ("evil.py", "__pycache__/three.cpython-311.pyc"):
-            line = f"  medium  changed  /usr/lib/python3/{name}: content"
-            self.assertEqual(text.count(line), 1, (f"a line of its own: {name}", text))
+        for file in ("evil.py", "__pycache__/three.cpython-311.pyc"):
+            line = f"  medium  changed  /usr/lib/python3/{file}: content"
+            self.assertEqual(text.count(line), 1, (f"a line of its own: {file}", text))
         self.holds("compiled files are open", text.startswith("4 open, 2 recorded of 6"), text)
 
     def test_named(self) -> None:

@@ -56,14 +56,14 @@ class RunTest(CommandTest):
                 self.assertEqual(
                     answer.output, want, ("the whole report of %s and %s" % (old, new), answer)
                 )
-        for new, status in (
+        for other, status in (
             (OLD, 0),
             (OLD.replace(END, b"/e 36 100644 1\n" + END), 1),
             (OLD.replace(b"/b 36 40755 4096\n", b""), 2),
             (OLD.replace(b"644 10", b"644 11"), 4),
             (b"x", 24),
         ):
-            self.write("other.db", new)
+            self.write("other.db", other)
             self.expect("the status %d" % status, self.call(TOOL, "old.db", "other.db"), status)
         self.write("members.gz", gzip.compress(NEW[:70]) + gzip.compress(NEW[70:]))
         self.expect("gzip in two pieces", self.call(TOOL, "old.db", "members.gz"), 7, report[:200])
@@ -112,9 +112,8 @@ class RunTest(CommandTest):
             "back\\slash",
             "@@{X}",
             "two\nlines",
-            b"\xff\x01",
+            os.fsdecode(b"\xff\x01"),
         ):
-            name = os.fsdecode(name)
             self.write("odd/old " + name, OLD)
             self.write("odd/" + name, gzip.compress(NEW))
             answer = self.call(TOOL, "odd/old " + name, "./odd/" + name, "--state", "state")
@@ -284,12 +283,12 @@ class RunTest(CommandTest):
                 (7, minimal),
                 ("an operand after --: %s" % name, answer),
             )
-        for words, text in ((("-", "new.db"), OLD), (("old.db.gz", "-"), gzip.compress(NEW))):
-            answer = self.call(TOOL, *words, "-A", "report_level=minimal", text=text)
+        for operands, text in ((("-", "new.db"), OLD), (("old.db.gz", "-"), gzip.compress(NEW))):
+            answer = self.call(TOOL, *operands, "-A", "report_level=minimal", text=text)
             self.assertEqual(
                 (answer.status, answer.output),
                 (7, minimal),
-                ("standard input in %s" % (words,), answer),
+                ("standard input in %s" % (operands,), answer),
             )
         self.expect(
             "standard input twice",
@@ -300,10 +299,10 @@ class RunTest(CommandTest):
         )
         answer = self.call(TOOL, "old.db", "new.db", "-A", "database_in=file:/no")
         self.expect("the databases of the command line win", answer, 7, minimal, DIFFER)
-        for words in ([], ["old.db", "new.db", "x"]):
+        for words in (["old.db"], ["old.db", "new.db", "x"]):
             self.expect(
-                "the operands %r" % (words or ["old.db"]),
-                self.call(TOOL, *(words or ["old.db"])),
+                "the operands %r" % words,
+                self.call(TOOL, *words),
                 15,
                 b"",
                 b"databases",
@@ -431,10 +430,10 @@ class RunTest(CommandTest):
             )
 
         self.write("faulty", "report_url=stdout\nreport_level=nonsense\n")
-        for words in ([], ["-A", "report_level=summary"]):
-            answer = self.call(TOOL, "-c", "faulty", "old.db", "new.db", *words)
+        for after in ((), ("-A", "report_level=summary")):
+            answer = self.call(TOOL, "-c", "faulty", "old.db", "new.db", *after)
             self.expect(
-                "a fault in a line that -A replaces, with %r" % words,
+                "a fault in a line that -A replaces, with %r" % (after,),
                 answer,
                 17,
                 b"",

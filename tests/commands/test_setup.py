@@ -139,9 +139,9 @@ class SetupTest(CommandTest):
             ("root/etc/apt/apt.conf.d/60aide-compare", 0o644),
             ("root/etc/systemd/system/aide-compare.service.d/signed.conf", 0o644),
         ):
-            found = stat.S_IMODE(os.stat(self.path(name)).st_mode)
+            got = stat.S_IMODE(os.stat(self.path(name)).st_mode)
             self.assertEqual(
-                found, mode, ("others can read %s whatever the umask is" % name, oct(found))
+                got, mode, ("others can read %s whatever the umask is" % name, oct(got))
             )
         found, calls = made(self)
         for name, owner in (
@@ -152,11 +152,11 @@ class SetupTest(CommandTest):
             self.assertEqual(
                 found.get(name[len("root/") :]), owner, ("the owner of " + name, found)
             )
-        text = self.read("root/etc/aide-compare/defaults")
+        defaults = self.read("root/etc/aide-compare/defaults")
         self.holds(
             "the defaults",
             all(
-                line in text
+                line in defaults
                 for line in (b"\n--max-age 50h\n", b"\n--weekly Mon\n", b"--to a@example.org\n")
             ),
         )

@@ -1,4 +1,6 @@
 """aide-compare show: one entry of both databases, with every attribute and nothing left out."""
+from __future__ import annotations
+
 import base64
 import os
 
@@ -114,7 +116,7 @@ class ShowTest(CommandTest):
         self.holds("what JSON has as it is", all(letter in line for letter in plain), line)
 
     def test_refused(self) -> None:
-        for label, words, status, said in (
+        rows: list[tuple[str, list[str], int, bytes]] = [
             (
                 "a path that neither has",
                 ["/nowhere", "old.db", "new.db"],
@@ -131,7 +133,8 @@ class ShowTest(CommandTest):
                 18,
                 b"cannot open the new database no.db",
             ),
-        ):
+        ]
+        for label, words, status, said in rows:
             self.expect(label, self.call(TOOL, *words), status, b"", said)
         for label, text in (
             ("text", b"root:x:0\n"),

@@ -1,4 +1,6 @@
 """aide-compare sort: path order by a plain definition, and its bounds."""
+from __future__ import annotations
+
 import gzip
 import os
 import random
@@ -7,14 +9,14 @@ import subprocess
 import sys
 from unittest import mock
 
-import tests.commands.base  # noqa: F401 (it makes the modules of the commands known)
+from tests.commands.base import TOP
 from tests.lib.program_test import slow
-from tests.commands.sandbox import CommandTest, HERE
+from tests.commands.sandbox import CommandTest
 from tests.lib.waiting import until
 
 from aide_compare.base import line_sorter
 
-COMMAND = [os.path.join(HERE, "commands", "bin", "aide-compare"), "sort"]
+COMMAND = [os.path.join(TOP, "commands", "bin", "aide-compare"), "sort"]
 BEGIN, END = b"# c\n@@begin_db\n@@db_spec attr name size\n", b"@@end_db\nrest\n\nmore"
 PIECES = [
     b"a",
@@ -226,7 +228,7 @@ class SortingTest(CommandTest):
         )
         whole = text_of([b"1 /%x 1" % number for number in range(5000)])
         packed = gzip.compress(whole)
-        for label, text, words, status, errors in (
+        rows: list[tuple[str, bytes, list[str], int, bytes]] = [
             ("a cut gzip file", packed[:-20], [], 18, b"cut short or damaged"),
             ("another sum", packed[:-8] + bytes(8), [], 18, b"damaged"),
             ("no end", whole[: whole.index(b"@@end")], [], 24, b"no @@end_db"),
@@ -244,7 +246,8 @@ class SortingTest(CommandTest):
             ("no such option", whole, ["--other"], 15, b"try: aide-compare sort --help"),
             ("no such file", whole, ["/nowhere"], 18, b"cannot open"),
             ("a folder", whole, ["/"], 18, b"cannot open"),
-        ):
+        ]
+        for label, text, words, status, errors in rows:
             expect(self, label, call(COMMAND + words, text, self.room), status, b"", [errors])
         with open("/dev/full", "wb") as full:
             done = subprocess.run(

@@ -1,10 +1,13 @@
 """What reads the state file: the check for Nagios, the metrics and the line for the log."""
+from __future__ import annotations
+
 import json
 import os
 import re
 import subprocess
 import sys
 import time
+from typing import Any
 
 from .sandbox import AS_NOBODY, CommandTest, HERE, NOBODY, UMASK
 
@@ -335,7 +338,7 @@ class StateTest(CommandTest):
 
     def test_log(self) -> None:
         nothing = {"added": "", "removed": "", "changed": ""}
-        for state, want in (
+        rows: list[tuple[dict[str, Any], str]] = [
             ({}, "no difference: status=0 added=0 removed=0 changed=0\n"),
             (
                 {"status": 5, "added": 1, "changed": 4},
@@ -355,7 +358,8 @@ class StateTest(CommandTest):
                 {"time": "x"},
                 "no comparison: state cannot be read, or is no state file of aide-compare\n",
             ),
-        ):
+        ]
+        for state, want in rows:
             line = log(self, **state)
             self.assertEqual(line, want, "the line for the log of %r" % state)
         write_state(self, age=100)
@@ -418,6 +422,7 @@ class StateTest(CommandTest):
             [sys.executable, "-c", LINKS % (NOBODY, NOBODY), folder, prey], stdout=subprocess.PIPE
         )
         try:
+            assert attacker.stdout
             attacker.stdout.readline()
             statuses = [
                 self.call(

@@ -78,10 +78,10 @@ class TerminalTest(CommandTest):
             (b"4", b"n.db"),
         ):  # People know databases by their names.
             report = report.replace(b" database: /proc/self/fd/" + side, b" database: " + name)
-        for more in (["--report"], ["--report", "--color", "always"]):
-            status, text = on_terminal(self, *more, *words)
+        for options in (["--report"], ["--report", "--color", "always"]):
+            status, text = on_terminal(self, *options, *words)
             self.holds(
-                "the report on a terminal by %s" % more,
+                "the report on a terminal by %s" % options,
                 status == 7 and report in text and b"\033" not in text,
                 text,
             )
@@ -131,13 +131,15 @@ class TerminalTest(CommandTest):
                 "colours with NO_COLOR=%s and %s" % (no_color, given),
             )
         for given, is_coloured in (
-            ([], False),
-            (["--color", "auto"], False),
-            (["--color=always"], True),
+            ((), False),
+            (("--color", "auto"), False),
+            (("--color=always",), True),
         ):
             text = self.call(TOOL, *given, *words).output
             self.assertEqual(
-                text, wanted if is_coloured else standings.BRIEF.encode(), "in a pipe: %s" % given
+                text,
+                wanted if is_coloured else standings.BRIEF.encode(),
+                "in a pipe: %r" % (given,),
             )
         text = on_terminal(self, *words, TERM="dumb")[1]
         self.assertNotIn(b"\033", text, "a terminal without colours")

@@ -85,8 +85,8 @@ class TrustedTest(CommandTest):
         self.holds("without the pair all of them are open", are_open, found)
         _, objects = host.ask(self, "--trusted", "canary-new.db", "canary-new.db")
         found = standings_of(objects)
-        got = found[b"/usr/bin/went"], found[b"/usr/bin/upgraded"]
-        self.assertEqual(got, ("open high", "trusted"), "a pair without the removal")
+        pair = (found[b"/usr/bin/went"], found[b"/usr/bin/upgraded"])
+        self.assertEqual(pair, ("open high", "trusted"), "a pair without the removal")
 
     def test_forms(self) -> None:
         """The pair may be packed, or come by a descriptor, like the databases beside it."""
@@ -146,13 +146,13 @@ class TrustedTest(CommandTest):
         self.expect(
             "a size that is too large", answer, 18, output=b"", errors=[b"more than 500 bytes"]
         )
-        for label, words in (
+        for label, arguments in (
             ("half a pair", (*BOTH, "--trusted", "canary-old.db")),
             ("two pairs", (*PAIR, *PAIR, *BOTH)),
             ("standard input twice", ("--trusted", "-", "-", *BOTH)),
             ("standard input for two", ("--trusted", "canary-old.db", "-", "-", "host-new.db")),
         ):
-            answer = self.call(TOOL, *words)
+            answer = self.call(TOOL, *arguments)
             self.expect(label, answer, 15, output=b"")
         self.call(TOOL + " json", *BOTH)
         answer = self.call(TOOL + " json", *PAIR, "lines")

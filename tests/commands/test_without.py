@@ -392,7 +392,7 @@ class WithoutTest(CommandTest):
             for number, row in enumerate(RIGHTS):
                 stays = b": /a/%02d\n" % number in answer.output
                 self.assertEqual(stays, row[column], ("%s under %s" % (row[0], line[1]), answer))
-            count = sum(row[column] for row in RIGHTS)
+            count = sum(bool(row[column]) for row in RIGHTS)
             said = (
                 b"  %d more that lines name stay, each for one of these: a program, a set-ID bit, "
                 % count

@@ -1,5 +1,7 @@
 """Random databases beside random lines that leave entries out: the copy is that of a plain cut,
 line by line and field by field."""
+from __future__ import annotations
+
 import io
 import random
 import stat
@@ -174,7 +176,8 @@ class WithoutRandomTest(CommandTest):
         modules()
         from aide_compare.compare import exclusions
 
-        numbers, seen = random.Random(20261127), Counter()
+        numbers = random.Random(20261127)
+        seen: Counter[object] = Counter()
         with mock.patch.object(exclusions, "MAX_LINE", SMALL_LINE - 1):
             wrong = [
                 given

@@ -17,7 +17,7 @@ PACKAGES = (
     " systemd-timesyncd udev unattended-upgrades vim-tiny libcap2-bin acl"
 ).split()
 # Debian 12 has a system log in files too, Debian 13 only the journal.
-ALSO = {"12": ["rsyslog"], "13": []}
+ALSO: dict[str, list[str]] = {"12": ["rsyslog"], "13": []}
 MAILERS = {
     "exim4": ["exim4-daemon-light"],
     "postfix": ["postfix"],
@@ -52,7 +52,7 @@ def make_base(directory: Path, debian: str) -> None:
             "--mode=root",
             "--variant=apt",
             '--aptopt=Apt::Install-Recommends "false"',
-            "--include=" + ",".join(PACKAGES + ALSO[debian]),
+            "--include=" + ",".join([*PACKAGES, *ALSO[debian]]),
             "--skip=cleanup/apt/lists",
             SUITES[debian],
             str(directory),
@@ -124,7 +124,12 @@ class Machine:
         words += [f"--machine={self.name}", f"--hostname={self.name}", "--boot"]
         environment = {**os.environ, "SYSTEMD_NSPAWN_UNIFIED_HIERARCHY": "1"}
         self.process = subprocess.Popen(
-            words, stdin=subprocess.DEVNULL, env=environment, start_new_session=True, **QUIET
+            words,
+            stdin=subprocess.DEVNULL,
+            stdout=subprocess.DEVNULL,
+            stderr=subprocess.DEVNULL,
+            env=environment,
+            start_new_session=True,
         )
         limit = time.monotonic() + BOOT_SECONDS
         while time.monotonic() < limit:

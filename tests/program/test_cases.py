@@ -23,5 +23,5 @@ class CasesTest(ProgramTest):
                     cases.answers_in(case, folder, lambda words: run(self.program, words)),
                     want,
                 )
-                given = wanted(*[cases.answers_in(case, folder, list)], file_at)
+                given = wanted(cases.answers_in(case, folder, list), file_at)
                 self.add("the definitions at " + label, difference(given, want))

@@ -5,9 +5,12 @@ The tables in configurations/ say where and why a configuration is refused, or w
 definitions have to say the same. Of random configurations with blocks and variables the definitions
 alone know the answer. The last line is 'N passed, M failed'.
 """
+from __future__ import annotations
+
 import base64
 import collections
 import re
+from typing import Any
 
 from tests.lib.program_test import ProgramTest, new_seed
 from tests.program.configurations import accepted, limits, names, refused
@@ -196,8 +199,11 @@ class ConfigurationsTest(ConfigurationTest):
     def test_names(self) -> None:
         """What predefined names and expressions force: what is shown whether the owner or the group
         has changed."""
-        for before, rows in ((b"", accepted.NAMES), (accepted.OWN_GROUPS, accepted.EXPRESSIONS)):
-            for text, names_shown in rows:
+        table: Any
+        tables: tuple[tuple[bytes, Any], ...]
+        tables = ((b"", accepted.NAMES), (accepted.OWN_GROUPS, accepted.EXPRESSIONS))
+        for before, table in tables:
+            for text, names_shown in table:
                 words = self.compared(before + b"report_force_attrs=" + text)
                 shown_of = []
                 for changed in ("uid", "gid"):
@@ -236,7 +242,7 @@ class ConfigurationsTest(ConfigurationTest):
     def test_random(self) -> None:
         """Random texts, checked and compared."""
         seed = new_seed()
-        seen = collections.Counter()
+        seen: collections.Counter[str | None] = collections.Counter()
         self.pair(OLD, NEW)
         for number in range(ENOUGH):
             before, text, after = random_texts(seed, number)

@@ -95,12 +95,12 @@ def fields_of(form):
 
 class FieldsTest(FieldTest):
     def test_values(self) -> None:
-        for column, field, name, value in field_rows.NUMBERS:
-            self.is_value(field, self.added(column, field).get(name), value.encode())
-        for field, value, _ in field_rows.TYPES:
-            self.is_value(field, self.added(b"perm", field).get("Type"), value and value.encode())
-        for field, name in field_rows.LINKS:
-            self.is_value(field, self.added(b"lname", field).get("Lname"), name)
+        for column, field, name, number in field_rows.NUMBERS:
+            self.is_value(field, self.added(column, field).get(name), number.encode())
+        for field, type_, _ in field_rows.TYPES:
+            self.is_value(field, self.added(b"perm", field).get("Type"), type_ and type_.encode())
+        for field, target in field_rows.LINKS:
+            self.is_value(field, self.added(b"lname", field).get("Lname"), target)
         for column, field, length, first, last in field_rows.DIGESTS:
             (text,) = self.added(column, field).values()
             value = bytes.fromhex(text.decode())
@@ -135,7 +135,10 @@ class FieldsTest(FieldTest):
                     name, summaries(output), [("!" if each.slot == "Y" else "?") + letters]
                 )
                 ignored = self.answer(
-                    shown(name), *sides, ALL_DETAILS + b"report_ignore_changed_attrs=" + name
+                    shown(name),
+                    sides[0],
+                    sides[1],
+                    ALL_DETAILS + b"report_ignore_changed_attrs=" + name,
                 )
                 self.is_value(name, ignored.status, 0)
                 if each.bit:
@@ -156,10 +159,15 @@ class FieldsTest(FieldTest):
         for row in change_rows.CHANGES:
             sides = [database(row.columns, fields) for fields in (row.old, row.new)]
             at_all = self.answer(
-                shown(row.ignored), *sides, row.ignored + b"report_level=added_removed_attributes"
+                shown(row.ignored),
+                sides[0],
+                sides[1],
+                row.ignored + b"report_level=added_removed_attributes",
             )
             self.is_value(row.ignored, list(details(at_all.output)), row.reported)
-            output = self.answer(shown(row.options), *sides, row.ignored + row.options).output
+            output = self.answer(
+                shown(row.options), sides[0], sides[1], row.ignored + row.options
+            ).output
             self.is_value(row.options, list(details(output)), row.shown)
             self.is_value(row.options, summaries(output), [row.summary] if row.summary else [])
 

@@ -296,8 +296,9 @@ class LineDefinitionsTest(AnswerTest):
         for number in range(PAIRS):
             pick = random.Random("%d %d" % (seed, number))
             options = random_configuration(pick, b"", pick.choice([0, 0, 0, 0.3]))
-            files = (options, *random_pair(pick))
-            answer, report = answer_to(COMPARE, *files), answer_to(COMPARE, *files, asked=answer_of)
+            old, new = random_pair(pick)
+            answer = answer_to(COMPARE, options, old, new)
+            report = answer_to(COMPARE, options, old, new, answer_of)
             self.check(
                 "seed %d, pair %d" % (seed, number),
                 answer._replace(output=b""),
@@ -308,13 +309,14 @@ class LineDefinitionsTest(AnswerTest):
                 continue
             settings = {**configuration.read(b"", options, b"", True), **WIDEST}
             texts = [
-                {b"/old": files[1], b"/new": files[2]}[settings[name][-4:]]
+                {b"/old": old, b"/new": new}[settings[name][-4:]]
                 for name in ("database_in", "database_new")
             ]
-            old, new = map(database_of, texts)
-            report = report_of(old, new, texts, settings)[0]
+            before, after = map(database_of, texts)
+            wanted = report_of(before, after, texts, settings)[0]
             self.add(
-                "seed %d, pair %d" % (seed, number), faults_beside(answer.output, report, old, new)
+                "seed %d, pair %d" % (seed, number),
+                faults_beside(answer.output, wanted, before, after),
             )
             outputs.append(answer.output)
         program, output = shutil.which("jq"), b"".join(outputs)

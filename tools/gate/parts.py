@@ -16,6 +16,7 @@ FILES: List[Part] = [
     ("tests.source.check_docs",),
     ("tests.source.check_layout",),
     ("tests.source.check_layers",),
+    ("tests.source.check_python",),
 ]
 
 PROOFS: Part = ("rt", "ci")

@@ -280,6 +280,7 @@ def constants_of(outside: list[tuple[str, str, str]]) -> list[str]:
             _, module, owner = type_of((crate, file, name))
             path = f"crates/{crate}/src/{module}.rt"
             above = re.search(rf"((?: +/// .*\n)+) +pub const {name}: \[{owner};", read(path))
+            assert above, name
             words = " ".join(above.group(1).replace("/// ", "").split()).rstrip(".")
             lines.append(f"`{name}` is `{owner}::{name}` of `{path}`: {words}.")
     return lines

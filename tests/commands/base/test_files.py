@@ -316,8 +316,8 @@ class FilesTest(ModuleTest):
             later = time.time() + seconds
             with mock.patch.object(replacement.time, "time", lambda: later):
                 replaced(path + "/state", b"three")
-            left = set(os.listdir(path)) - {"state"}
-            self.expect(label + ", then", len(left), 1 if is_kept else 0)
+            others = set(os.listdir(path)) - {"state"}
+            self.expect(label + ", then", len(others), 1 if is_kept else 0)
             with open(path + "/state", "rb") as file:
                 self.expect(label + ", the new one", file.read(), b"three")
             for name in left:

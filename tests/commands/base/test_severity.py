@@ -3,6 +3,7 @@ from __future__ import annotations
 
 import base64
 import os
+from unittest import mock
 
 from tests.commands.base.calls import ModuleTest, outcome
 
@@ -190,9 +191,9 @@ class SeverityTest(ModuleTest):
             for path in paths.split():
                 level = table.of(os.fsencode(path), None, entry(FILE)).level
                 self.expect(f"a file {path}", level, wanted)
-        for path in (b"/usr/bin/x", b"/var/log/x", b"/run/x", b"/var/cache/x"):
-            level = table.of(path, None, entry(PROGRAM)).level
-            self.expect(f"a program {path.decode()}", level, "high")
+        for program in (b"/usr/bin/x", b"/var/log/x", b"/run/x", b"/var/cache/x"):
+            level = table.of(program, None, entry(PROGRAM)).level
+            self.expect(f"a program {program.decode()}", level, "high")
 
     def test_order(self) -> None:
         """Rights come first, then what logs in, starts or loads code, then programs, then all
@@ -232,7 +233,5 @@ class SeverityTest(ModuleTest):
             b"low\n",
         ):
             self.expect_fault(f"the table {text!r}", outcome(table_of, text), 15, "table, line 1: ")
-        shipped = severity.SHIPPED
-        severity.SHIPPED = ("nowhere",)
-        self.expect_fault("no shipped table", outcome(Severity), 18, "severity.conf is missing")
-        severity.SHIPPED = shipped
+        with mock.patch.object(severity, "SHIPPED", ("nowhere",)):
+            self.expect_fault("no shipped table", outcome(Severity), 18, "severity.conf is missing")

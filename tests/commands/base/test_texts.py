@@ -1,4 +1,6 @@
 """Escapes, times, the command line, the state file, statuses, and how a command ends."""
+from __future__ import annotations
+
 import argparse
 import json
 import os
@@ -17,7 +19,7 @@ from aide_compare.lines import attributes, reader
 from aide_compare.changes import entries
 from aide_compare.show import brief
 
-ESCAPED = (
+ESCAPED: tuple[tuple[str | bytes, str], ...] = (
     (b"a b", "a b"),
     (b"\n\x1b\x7f\\", r"\012\033\177\134"),
     (b"\x80\xff\xc3", r"\200\377\303"),
@@ -83,11 +85,11 @@ class TextsTest(ModuleTest):
             name for name in schema["$defs"]["side"]["properties"] if not name.endswith("_hex")
         ]
         self.expect("attributes of the schema", names, list(attributes.FORMS))
-        names = {
+        options = {
             name.encode()
             for name in ["report_level", "report_url", "report_format"] + BOOL_OPTIONS + SET_OPTIONS
         }
-        self.expect("options of the report", sorted(names - configuration.OPTIONS), [])
+        self.expect("options of the report", sorted(options - configuration.OPTIONS), [])
 
     def test_escapes(self) -> None:
         for text, want in ESCAPED:
@@ -107,15 +109,15 @@ class TextsTest(ModuleTest):
     def test_times(self) -> None:
         for text, want in [*TIMES, *((text, None) for text in NO_TIMES)]:
             try:
-                found = kinds.duration(text)
+                got: int | None = kinds.duration(text)
             except argparse.ArgumentTypeError:
-                found = None
-            self.expect("the time %r" % text, found, want)
+                got = None
+            self.expect("the time %r" % text, got, want)
         self.expect("a date", words.date_of(1795602777), "2026-11-25T10:32:57Z")
         self.expect("no date", words.date_of(1 << 62), "@%d" % (1 << 62))
         self.expect("a minute", words.minute_of(1795602777), "2026-11-25 10:32 UTC")
         self.expect("no minute", words.minute_of(1 << 62), "@%d" % (1 << 62))
-        for seconds, want in (
+        for seconds, age in (
             (119, "119 seconds"),
             (120, "2 minutes"),
             (7199, "119 minutes"),
@@ -123,7 +125,7 @@ class TextsTest(ModuleTest):
             (259199, "71 hours"),
             (259200, "3 days"),
         ):
-            self.expect("the age %d" % seconds, words.age_in_words(seconds), want)
+            self.expect("the age %d" % seconds, words.age_in_words(seconds), age)
 
     def test_words(self) -> None:
         """When an entry came or changed: the time of its inode, then its own, if it is another one
@@ -166,7 +168,7 @@ class TextsTest(ModuleTest):
             (given.operands, given.max_size, given.max_age),
             (["a", "b"], 2048, 7200),
         )
-        for words in (
+        for refused in (
             ["--max-siz", "1"],
             ["--odd"],
             ["--max-size", "1x"],
@@ -175,7 +177,7 @@ class TextsTest(ModuleTest):
             ["--text="],
             ["--max-size"],
         ):
-            self.expect_fault("the words %r" % words, outcome(parser.parse, words), 15)
+            self.expect_fault("the words %r" % refused, outcome(parser.parse, refused), 15)
         with open(os.path.join(TOP, "VERSION")) as file:
             self.expect("VERSION", VERSION, file.read().strip())
 
@@ -224,10 +226,10 @@ class TextsTest(ModuleTest):
             ("weekly=3", "weekly=" + "3" * 65536),
         ):
             try:
-                found = state.parse_state(text.replace(old, new, 1).encode()).text()
+                got = state.parse_state(text.replace(old, new, 1).encode()).text()
             except (ValueError, KeyError):
-                found = "refused"
-            self.expect("a state with %.40r for %.40r" % (new, old), found, "refused")
+                got = b"refused"
+            self.expect("a state with %.40r for %.40r" % (new, old), got, b"refused")
 
     def test_statuses(self) -> None:
         given = [

@@ -4,7 +4,6 @@ import json
 import os
 import subprocess
 
-from tests.commands.viewers import HTML  # noqa: F401, it puts the modules of the commands in reach.
 from tests.lib.tally import lines_program_of
 
 from aide_compare.lines.reader import Reader

@@ -6,7 +6,6 @@ from collections import Counter
 from html import unescape
 from html.parser import HTMLParser
 
-from tests.commands.viewers import HTML  # noqa: F401, it puts the modules of the commands in reach.
 from tests.oracle.attributes import ATTRIBUTES as KNOWN
 
 TAGS = set(

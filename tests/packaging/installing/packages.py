@@ -276,7 +276,7 @@ def try_debian(trial, path, time):
     log = gzip.decompress(kept["usr/share/doc/aide-compare/changelog.Debian.gz"]).decode()
     trial.holds("changelog.Debian.gz", log.startswith("aide-compare (%s-1) " % trial.version), log)
     whole = trial.path("whole.tar")
-    with open(whole, "wb") as file:
+    with open(whole, "wb"):
         data = trial.run(["sh", "-c", 'dpkg-deb --fsys-tarfile "$1" > "$2"', "sh", path, whole])
     with tarfile.open(whole) as archive:
         members = archive.getmembers()

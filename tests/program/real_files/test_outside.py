@@ -155,6 +155,7 @@ class OutsideTest(ProgramTest):
                     stdout=subprocess.PIPE,
                     stderr=subprocess.PIPE,
                 )
+                assert process.stdout and process.stderr
                 front = process.stdout.read(most)
                 process.stdout.close()
                 errors = process.stderr.read()

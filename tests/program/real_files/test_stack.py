@@ -21,8 +21,8 @@ class StackTest(ProgramTest):
         settings = {"preexec_fn": limited(resource.RLIMIT_STACK, STACK), "env": {}}
         for path in cases.all_cases():
             case = cases.read(path)
-            with tempfile.TemporaryDirectory() as folder:
-                folder = os.fsencode(folder)
+            with tempfile.TemporaryDirectory() as made:
+                folder = os.fsencode(made)
                 answer = cases.answers_in(
                     case, folder, lambda words: run(self.program, words, **settings)
                 )
@@ -31,8 +31,9 @@ class StackTest(ProgramTest):
                     answer,
                     cases.stored(case, folder),
                 )
-        for folder in folders_of_aide():
+        for examples in folders_of_aide():
             for level in LEVELS:
-                words = words_at(folder, "report_level=" + level)
-                label = "%s at %s with little stack" % (os.path.relpath(folder, EXAMPLES), level)
+                words = words_at(examples, "report_level=" + level)
+                name = os.path.relpath(examples, EXAMPLES)
+                label = "%s at %s with little stack" % (name, level)
                 self.check(label, run(self.program, words, **settings), run(self.program, words))

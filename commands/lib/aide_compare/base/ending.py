@@ -5,7 +5,7 @@ from __future__ import annotations
 import errno
 import os
 import sys
-from collections.abc import Callable, Iterable
+from collections.abc import Callable, Iterable, Sequence
 from enum import IntEnum
 
 # And not contextlib: with no memory left, CPython 3.11 was seen never to end in its import.
@@ -147,7 +147,7 @@ def why_of(error: BaseException) -> str:
     return fault_of(error).text
 
 
-Main = Callable[[list[str]], int]
+Main = Callable[[Sequence[str]], int]
 
 
 def status_of(work: Callable[[], int]) -> int:

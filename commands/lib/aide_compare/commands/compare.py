@@ -155,7 +155,7 @@ class Printer(Reporter):
             write_all(1, text.partition(b"\n")[0] + b"\n")
 
 
-def task_of(arguments: list[str]) -> tuple[Task, Printer]:
+def task_of(arguments: Sequence[str]) -> tuple[Task, Printer]:
     """The comparison that arguments ask for with the administrator's defaults before them, and who
     prints it."""
     words = [*defaults_for(COMPARISON_DEFAULTS, arguments), *arguments]
@@ -167,7 +167,7 @@ def task_of(arguments: list[str]) -> tuple[Task, Printer]:
     return Task(printer.task_request, judges), printer
 
 
-def main(arguments: list[str]) -> int:
+def main(arguments: Sequence[str]) -> int:
     own_request = compare_request(arguments)
     check_databases(own_request.databases)
     if own_request.user:

@@ -63,7 +63,7 @@ WORDS = (*COMMANDS, "hosts", "help")
 COMMAND_NAME = re.compile("[A-Za-z][A-Za-z-]{0,19}")
 
 
-def become_program(arguments: list[str]) -> NoReturn:
+def become_program(arguments: Sequence[str]) -> NoReturn:
     """The proved program takes the place of this process."""
     import signal
 
@@ -106,7 +106,7 @@ def loaded(name: str) -> Callable[[Sequence[str]], int]:
     return main
 
 
-def run_hosts(arguments: list[str]) -> int:
+def run_hosts(arguments: Sequence[str]) -> int:
     word = arguments[0] if arguments else "--help"
     if word in HELP:
         return print_usage(HOSTS_USAGE)
@@ -116,7 +116,7 @@ def run_hosts(arguments: list[str]) -> int:
     return loaded(f"hosts_{word}")(arguments[1:])
 
 
-def print_help(words: list[str]) -> int:
+def print_help(words: Sequence[str]) -> int:
     """Prints the usage of the words after `help`, or of the whole."""
     if not words or words[0] in HELP:
         return print_usage(USAGE)
@@ -127,7 +127,7 @@ def print_help(words: list[str]) -> int:
     return main([words[0], "--help"])
 
 
-def is_misspelt(arguments: list[str]) -> bool:
+def is_misspelt(arguments: Sequence[str]) -> bool:
     """Whether the first word seems to be meant as a subcommand, and not as a path."""
     word = arguments[0] if arguments else ""
     if not COMMAND_NAME.fullmatch(word) or os.path.lexists(word):
@@ -135,7 +135,7 @@ def is_misspelt(arguments: list[str]) -> bool:
     return len(arguments) == 1 or bool(nearest(word, WORDS))
 
 
-def main(arguments: list[str]) -> int:
+def main(arguments: Sequence[str]) -> int:
     word = arguments[0] if arguments else ""
     if word.startswith("-") and PROGRAM_JOBS & set(arguments):
         become_program(arguments)
@@ -154,7 +154,7 @@ def main(arguments: list[str]) -> int:
     return run_command("compare", arguments)
 
 
-def run_command(name: str, arguments: list[str]) -> int:
+def run_command(name: str, arguments: Sequence[str]) -> int:
     if name == "compare":
         called("aide-compare")
     else:

@@ -5,7 +5,7 @@ from __future__ import annotations
 import re
 from functools import lru_cache
 from html import escape
-from typing import (FrozenSet, Iterable, Iterator, List, NamedTuple, Optional)
+from typing import FrozenSet, Iterable, Iterator, List, NamedTuple, Optional
 
 from aide_compare.base.escapes import PLAIN, shown_note, shown_path, shown_value
 from aide_compare.base.words import counted
