@@ -406,7 +406,9 @@ class ArchiveTest(CommandTest):
         place.built[0].fields = place.built[0].fields.replace("pool/", "../pool/")
         place.sign()
         answer = place.ask()
-        self.expect("a path above the mirror", answer, 0, errors=[b"tool: the file of 2, the newest"])
+        self.expect(
+            "a path above the mirror", answer, 0, errors=[b"tool: the file of 2, the newest"]
+        )
 
     def test_nightly(self) -> None:
         """The words of the daily unit and of cron's job: the night of a signed upgrade mails what
