@@ -57,8 +57,10 @@ module _ {M : Type 1} {𝓤 : Ura M} (𝓛 : Logic 𝓤) (at_mem : Memory → SP
 
     pub asks : ent 𝓤 (sep 𝓤 (sem 𝓛 (hidden_shr plan.the_row κ x b o)) (A.lft κ q)) (Asks.pre at_asks)
     asks =
-        qed 𝓛 (‵ (hidden_shr plan.the_row κ x b o) ∷ ‵ (flft κ q) ∷ []) ∵ feq_i ! (List Val) (vptr b o ∷ []) (vptr b o ∷ []) refl $ fjoin ! $
-        nothing ! $ move ! (1 ∷ []) $ fjoin ! $ nothing ! $ move ! (2 ∷ []) $ join ! $ join ! $ nothing ! $ move ! (1 ∷ []) $ join ! $ done !
+        qed 𝓛 (‵ (hidden_shr plan.the_row κ x b o) ∷ ‵ (flft κ q) ∷ []) ∵ feq_i ! (List Val) (vptr b o ∷ []) (vptr b o ∷ []) refl $
+        fjoin ! $
+        nothing ! $ move ! (1 ∷ []) $ fjoin ! $ nothing ! $ move ! (2 ∷ []) $ join ! $ join ! $ nothing ! $ move ! (1 ∷ []) $ join ! $
+        done !
 
     abbrev pub Said : Val → Bool → Item 𝓤
     Said v refused = given (v ≡ vbool refused) (‵ (flft κ q))
@@ -66,6 +68,7 @@ module _ {M : Type 1} {𝓤 : Ura M} (𝓛 : Logic 𝓤) (at_mem : Memory → SP
     pub asked : (v : Val) → ent 𝓤 (Asks.post at_asks v) (mean 𝓛 (later (some (Said v))))
     asked v =
         qed 𝓛 (raw (Asks.post at_asks v) ∷ []) ∵ updating ! $
-        use1 𝓛 (later (some (λ (r : Bool). ((‵ (flft κ q) ⊛ ‵ ftrue) ⊛ ‵ (bool.own_val r (v ∷ []))) ⊛ some (λ (ws : Unit {0} × Unit {0}). ‵ (fsep ftrue ftrue) ⊛ ‵ ftrue)))) (id⊢ 𝓤 _) $
+        use1 𝓛 (later (some (λ (r : Bool). ((‵ (flft κ q) ⊛ ‵ ftrue) ⊛ ‵ (bool.own_val r (v ∷ [])))
+        ⊛ some (λ (ws : Unit {0} × Unit {0}). ‵ (fsep ftrue ftrue) ⊛ ‵ ftrue)))) (id⊢ 𝓤 _) $
         await ! tt $ pick ! (λ r. split ! $ split ! $ move ! (1 ∷ []) $ feq_l ! (λ e. split ! $
         at_once ! $ show ! (λ (s : Bool). mean 𝓛 (Said v s)) r $ check ! (ap only e) $ keep ! (0 ∷ []) $ done !))

@@ -54,8 +54,10 @@ allocate_spec 𝓤 𝓛 𝓜 𝓡 wired B laws g d drops met _ =
     let W = walk_of 𝓛 T (stayed Z) c in
     let 𝓣 = tables 𝓤 𝓛.H 𝓜 𝓡 𝓡.env in
     let here : Fn = inst_fn (args Z) code.function in
-    proved 𝓛 T (stayed Z) c 𝓜 𝓡
-    (Goes-dropped 𝓛 2 (self Z) yes (λ κs x w. refl), (Goes-dropped 𝓛 2 (plain (λ _. usize)) yes (λ κs x w. refl), (Goes-dropped 𝓛 2 (plain (λ _. usize)) yes (λ κs x w. refl), tt)))
+    proved 𝓛 T (stayed Z) c 𝓜 𝓡 (
+      Goes-dropped 𝓛 2 (self Z) yes (λ κs x w. refl),
+      (Goes-dropped 𝓛 2 (plain (λ _. usize)) yes (λ κs x w. refl), (Goes-dropped 𝓛 2 (plain (λ _. usize)) yes (λ κs x w. refl), tt)),
+    )
     (key.name (args Z)) here (code.unfolded 𝓤 𝓛.H 𝓜 𝓡 wired (B, tt) d drops)
     (λ κs. (shr_vals, (uint_vals w64, (uint_vals w64, tt)))) (λ κs. ((λ r vs s. s.0), (uint_Tells w64, (uint_Tells w64, tt))))
     (λ κs qs bounds a τ are.
@@ -72,12 +74,15 @@ allocate_spec 𝓤 𝓛 𝓜 𝓡 wired B laws g d drops met _ =
     nothing ! $ move ! (1 ∷ 2 ∷ 0 ∷ []) $ group ! 3 $ nothing ! $ nothing ! $ fjoin ! $ nothing ! $ fjoin ! $ nothing ! $ fjoin ! $
     use0 𝓛 (‵ (Answer.own_val (Err (record {})) (answer_val false 0 0 ∷ []))) (Answer-err 𝓛) $
     nothing ! $ move ! (3 ∷ 2 ∷ 1 ∷ 0 ∷ []) $ group ! 4 $ done ! in
-    let one : (b' o' : ℕ) → Sq 𝓛 (‵ (froom τ b' o') ∷ ‵ (token Z h τ (block_ptr b' o')) ∷ ‵ (flft κ q) ∷ ‵ (flft κs.1.0 qs.1.0) ∷ []) (prop (W.post y (answer_val true b' o'))) = λ b' o'.
+    let one : (b' o' : ℕ) → Sq 𝓛 (‵ (froom τ b' o') ∷ ‵ (token Z h τ (block_ptr b' o')) ∷ ‵ (flft κ q) ∷ ‵ (flft κs.1.0 qs.1.0) ∷ [])
+    (prop (W.post y (answer_val true b' o'))) = λ b' o'.
     suffices ! _ (leaves 𝓛 T (stayed Z) c y (answer_val true b' o') (Ok (block_ptr b' o')) (tt, (tt, (tt, tt))) (tt, (tt, (tt, tt)))) $
-    fjoin ! $ nothing ! $ move ! (2 ∷ 3 ∷ 0 ∷ []) $ group ! 3 $ nothing ! $ nothing ! $ fjoin ! $ nothing ! $ fjoin ! $ nothing ! $ fjoin ! $
+    fjoin ! $ nothing ! $ move ! (2 ∷ 3 ∷ 0 ∷ []) $ group ! 3 $ nothing ! $ nothing ! $ fjoin ! $ nothing ! $ fjoin ! $ nothing ! $
+    fjoin ! $
     use0 𝓛 (‵ (Answer.own_val (Ok (block_ptr b' o')) (answer_val true b' o' ∷ []))) (Answer-Ok 𝓛 b' o') $
     move ! (2 ∷ 1 ∷ 0 ∷ 3 ∷ []) $ group ! 4 $ done ! in
-    qed 𝓛 (((‵ (flft κ q) ⊛ ‵ (flft κs.1.0 qs.1.0) ⊛ ‵ ftrue) ⊛ ‵ (owns (types_at T.signature.params κs) a y.0.4)) ∷ (raw (fact 𝓤 (κs.1.0 ⊑ B.lives)) ⊛ raw (fact 𝓤 Fits)) ∷ []) ∵
+    qed 𝓛 (((‵ (flft κ q) ⊛ ‵ (flft κs.1.0 qs.1.0) ⊛ ‵ ftrue) ⊛ ‵ (owns (types_at T.signature.params κs) a y.0.4))
+    ∷ (raw (fact 𝓤 (κs.1.0 ⊑ B.lives)) ⊛ raw (fact 𝓤 Fits)) ∷ []) ∵
     split ! $ split3 ! $ move ! (3 ∷ []) $ fsplit ! $ fsplit ! $ drop ! $ use1 𝓛 (Both Z 𝓛 κ r.now b o) (parts Z 𝓛 κ r.now b o) $ split ! $
     -- [inner; plan; the numbers; the tokens; nothing; the conditions]
     keep ! (6 ∷ 1 ∷ 3 ∷ 0 ∷ 4 ∷ []) $ split ! $ heard ! (κs.1.0 ⊑ B.lives) (λ le. heard ! Fits (λ fits.
@@ -86,18 +91,24 @@ allocate_spec 𝓤 𝓛 𝓜 𝓡 wired B laws g d drops met _ =
     -- [plan; its token; inner; the other token; the locals]
     sets ! (addr ! (through ! refl (fld ! refl (stop !)))) refl (tt, tt) $
     use2 𝓛 (raw ((Asks 𝓛 𝓜.mem 𝓡.returns).pre p)) (asks 𝓛 𝓜.mem 𝓡.returns κ q r.now.plan b (plan_at Z o)) $
-    calls_at ! (framed 𝓤 𝓛.H 𝓜 𝓣) (Asks 𝓛 𝓜.mem 𝓡.returns) (refuses.met 𝓤 𝓛 𝓜 𝓡 (code.calls-aide_faults::refusing::Plan::refuses 𝓡.env wired)) p (and_then ! (get ! refl) (no_more !)) (λ u.
-    use1 𝓛 (later (some (Said 𝓛 𝓜.mem 𝓡.returns κ q r.now.plan b (plan_at Z o) u))) (asked 𝓛 𝓜.mem 𝓡.returns κ q r.now.plan b (plan_at Z o) u) $
+    calls_at ! (framed 𝓤 𝓛.H 𝓜 𝓣) (Asks 𝓛 𝓜.mem 𝓡.returns)
+    (refuses.met 𝓤 𝓛 𝓜 𝓡 (code.calls-aide_faults::refusing::Plan::refuses 𝓡.env wired)) p (and_then ! (get ! refl) (no_more !)) (λ u.
+    use1 𝓛 (later (some (Said 𝓛 𝓜.mem 𝓡.returns κ q r.now.plan b (plan_at Z o) u)))
+    (asked 𝓛 𝓜.mem 𝓡.returns κ q r.now.plan b (plan_at Z o) u) $
     await ! tt $ pick ! (λ refused. learn ! (λ is_refused. lands_as ! is_refused refl (tt, tt) $
     first ! $ branches ! (get ! refl)
-    (λ _. sets ! (agg ! (no_more !)) refl (tt, tt) $ sets ! (agg ! (and_then ! (lit ! tt) (and_then ! (get ! refl) (no_more !)))) refl (Answer-typed false 0 0) $
+    (λ _. sets ! (agg ! (no_more !)) refl (tt, tt) $
+    sets ! (agg ! (and_then ! (lit ! tt) (and_then ! (get ! refl) (no_more !)))) refl (Answer-typed false 0 0) $
     returns_within ! (W.post y) refl (look_at ! 0 refl) $ free_all ! refl $ keep ! (0 ∷ 2 ∷ []) $ none)
     (λ _. skips ! $ exec ! 𝓣.C 𝓣.Λ (env here.locals l) (after 3 here.body) (at_ret _ (W.post y)) $
     sets ! (addr ! (through ! refl (fld ! refl (stop !)))) refl (tt, tt) $ move ! (1 ∷ 0 ∷ []) $
-    use2 𝓛 (raw ((Takes Z 𝓛 𝓜.mem 𝓡.returns).pre z)) (Takes-goes Z 𝓛 𝓜.mem 𝓡.returns κ q (b, inner_at Z o) h (⊑_trans κ κs.1.0 B.lives bounds.0 le) n al τ fits.0 fits.1 are.1.0.1 are.1.1.0.1) $
+    use2 𝓛 (raw ((Takes Z 𝓛 𝓜.mem 𝓡.returns).pre z))
+    (Takes-goes Z 𝓛 𝓜.mem 𝓡.returns κ q (b, inner_at Z o) h
+    (⊑_trans κ κs.1.0 B.lives bounds.0 le) n al τ fits.0 fits.1 are.1.0.1 are.1.1.0.1) $
     calls_at ! (framed 𝓤 𝓛.H 𝓜 𝓣) (Takes Z 𝓛 𝓜.mem 𝓡.returns) (met.allocate drops) z
     (and_then ! (get ! refl) (and_then ! (get ! refl) (and_then ! (get ! refl) (no_more !)))) (λ v.
-    use1 𝓛 (later (raw (Answered Z 𝓛 𝓜.mem 𝓡.returns h τ v) ⊛ ‵ (flft κ q))) (Takes-gives Z 𝓛 𝓜.mem 𝓡.returns κ q (b, inner_at Z o) h n al τ v) $ await ! tt $ split ! $
+    use1 𝓛 (later (raw (Answered Z 𝓛 𝓜.mem 𝓡.returns h τ v) ⊛ ‵ (flft κ q)))
+    (Takes-gives Z 𝓛 𝓜.mem 𝓡.returns κ q (b, inner_at Z o) h n al τ v) $ await ! tt $ split ! $
     answers Z ! 𝓜.mem 𝓡.returns h τ v
     (λ b' o' e. lands_as ! e refl (Answer-typed true b' o') $ returns ! (look_at ! 0 refl) $ free_all ! refl $ one b' o')
     (λ e. lands_as ! e refl (Answer-typed false 0 0) $ returns ! (look_at ! 0 refl) $ free_all ! refl $ none))))))))))
