@@ -52,7 +52,3 @@ class HelpTest(unittest.TestCase):
     def test_pipe(self) -> None:
         text = subprocess.run([FRONT, "compare", "--help"], stdout=subprocess.PIPE, check=True)
         self.assertLessEqual(max(map(len, text.stdout.decode().splitlines())), 80)
-
-
-if __name__ == "__main__":
-    unittest.main()
