@@ -482,11 +482,13 @@ class ArchiveTest(CommandTest):
         answer = place.ask("--output", "made.db")
         self.expect("a file of what is not signed", answer, 18, output=b"")
         self.assertEqual(self.read("made.db"), place.old.database(), "the file has the old one")
-        self.write("host-old.db", b"no database\n")
-        words = (f"--from={self.path(SUITE)}", "--output=made.db", "host-old.db", "host-new.db")
-        answer = self.call("aide-compare archive", *words)
-        self.expect("a file of what is no database", answer, 24, output=b"")
-        self.assertEqual(self.read("made.db"), place.old.database(), "the file stays then")
+        for name, status in (("host-new.db", 24), ("gone.db", 18)):
+            self.write("host-new.db", b"no database\n")
+            self.write("made.db", b"of another night\n")
+            words = (f"--from={self.path(SUITE)}", "--output=made.db", "host-old.db", name)
+            answer = self.call("aide-compare archive", *words)
+            self.expect(f"a file without {name}", answer, status, output=b"")
+            self.assertEqual(self.read("made.db"), place.old.database(), "the file has the old one")
         self.assertFalse(self.leftovers(), "nothing is left")
 
     def test_user(self) -> None:

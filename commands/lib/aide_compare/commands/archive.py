@@ -15,7 +15,7 @@ from aide_compare.base.paths import path_of
 from aide_compare.base.processes import limit_memory
 from aide_compare.base.replacement import replace_by_copy
 from aide_compare.base.rights import give_up
-from aide_compare.base.words import SIDES, counted
+from aide_compare.base.words import counted
 from aide_compare.changes.applied import INFO, Fields, Upgrades, content_of, fits, upgraded
 from aide_compare.changes.signed import newest_of
 from aide_compare.compare.kept_open import OLD, EntryReader
@@ -24,7 +24,6 @@ from aide_compare.compare.unpack import Copy, copy_database
 
 NAME = "aide-compare archive"
 DEBIANS_KEYRING = "/usr/share/keyrings/debian-archive-keyring.gpg"
-LIST = ".list"
 SUMS = ".md5sums"
 MAX_MEMORY = 512 << 20
 DESCRIPTION = """\
@@ -45,7 +44,7 @@ def kept_in(copy: Copy, keyrings: Collection[str]) -> Night:
     night: Night = {}
     for key, _, line in reader.entries(OLD):
         path = os.fsdecode(path_of(key))
-        if path in keyrings or path.startswith(INFO) and path.endswith((LIST, SUMS)):
+        if path in keyrings or path.startswith(INFO) and path.endswith((".list", SUMS)):
             night[path] = reader.fields(line)
     return night
 
@@ -96,14 +95,14 @@ def main(arguments: list[str]) -> int:
     if args.user:
         give_up(args.user)
     limit_memory(MAX_MEMORY)
-    names = zip(SIDES, args.databases)
-    copies = [copy_database(side, path, args.max_size) for side, path in names]
-    refuse_unsound(copies[1], copies[0])
+    old = copy_database("old", args.databases[0], args.max_size)
     keyrings = [os.path.realpath(path) for path in args.keyring or [DEBIANS_KEYRING]]
-    made = copies[0].fd
+    made = old.fd
     try:
-        upgrades = upgrades_of(copies, directories, keyrings)
-        made = upgraded(copies[0], upgrades)
+        new = copy_database("new", args.databases[1], args.max_size)
+        refuse_unsound(new, old)
+        upgrades = upgrades_of([old, new], directories, keyrings)
+        made = upgraded(old, upgrades)
     finally:
         if args.output:
             replace_by_copy(args.output, made, PRIVATE, "the database")
