@@ -13,6 +13,7 @@ import re
 import subprocess
 import time
 
+from tests.lib.program_test import slow
 from tests.pages.machine import (
     BASELINE,
     HEAD,
@@ -73,6 +74,7 @@ def of_texts(texts: dict[str, str]) -> str:
     return head + "".join(sorted(lines)) + "@@end_db\n"
 
 
+@slow
 class DaysTest(RecipesTest):
     def test_days(self) -> None:
         begin(self)
@@ -165,6 +167,7 @@ class DaysTest(RecipesTest):
                 no_comparison(self, status, reason)
 
 
+@slow
 class QuietTest(RecipesTest):
     def put_night(self, sizes: dict[str, int]) -> None:
         """The databases of a night. The lines of debian.without name what lies below the root."""

@@ -28,7 +28,6 @@ def trials(program: str, lines: str) -> List[Part]:
     """The trials of the built programs and of the commands."""
     return [
         ("tests.program.try_trusted", lines, "--report", program),
-        ("tests.packaging.try_install", program),
         ("tools.gate.unit_tests", program),
     ]
 

@@ -3,8 +3,8 @@ import os
 import re
 import shutil
 
-from tests.packaging.installing import byte_code
-from tests.packaging.installing.trial import texts, tree
+from tests.packaging import byte_code
+from tests.packaging.installation import texts, tree
 
 TIMER = "aide-compare.timer"
 UNITS = ["aide-compare-failed.service", "aide-compare-mail.service", "aide-compare.service", TIMER]
@@ -28,31 +28,31 @@ def try_texts(trial, folder):
     licence is."""
     found = texts(tree(folder))
     documents = "usr/share/doc/aide-compare/"
-    trial.holds(
+    trial.assertIn(
+        "choice of their owner",
+        found.get(documents + "copyright", "").replace("\n", " "),
         "the copyright file",
-        "choice of their owner" in found.get(documents + "copyright", "").replace("\n", " "),
     )
     # AIDE on Debian runs a file of this folder that is executable.
     mode = os.stat(os.path.join(folder, RULES)).st_mode & 0o777
-    trial.holds("the mode of the rules for AIDE", mode == 0o644, oct(mode))
+    trial.assertEqual(mode, 0o644, ("the mode of the rules for AIDE", oct(mode)))
     readme = found.get(documents + "README.Debian", "")
     commands = re.findall(r"^    (aide-compare /.*(?:\n {8}.*)*)", readme, re.M)
-    trial.holds("a first answer in README.Debian", len(commands) == 1, commands)
+    trial.assertEqual(len(commands), 1, ("a first answer in README.Debian", commands))
     for command in commands:
         here = command.replace("/usr/", folder + "/usr/").replace(
             "aide-compare", folder + "/usr/bin/aide-compare", 1
         )
-        done = trial.run(["sh", "-c", here])
+        done = trial.run_words(["sh", "-c", here])
         said = re.findall(r"ends with status (\d+)", readme)
-        trial.holds(
-            "the first answer",
+        trial.assertTrue(
             [str(done[0])] == said and re.match("[0-9]+ open .*of [0-9]+ changes\n", done[1]),
-            done,
+            ("the first answer", done),
         )
     for name in re.findall(r"/(?:usr|etc)/[\w./-]*\w", readme):
         # What the administrator or aide-compare setup makes for this machine is in no package.
         if not name.startswith(("/etc/systemd/system/", "/etc/aide-compare/defaults")):
-            trial.holds("what README.Debian names: " + name, os.path.exists(folder + name))
+            trial.assertTrue(os.path.exists(folder + name), "what README.Debian names: " + name)
 
 
 def try_stop(trial, folder):
@@ -72,22 +72,22 @@ def try_stop(trial, folder):
             .replace("/usr/lib/aide-compare", machine)
         )
     shipped = sorted(os.listdir(os.path.join(folder, "usr/lib/systemd/system")))
-    trial.holds("the units of the package", shipped == UNITS, shipped)
+    trial.assertEqual(shipped, UNITS, "the units of the package")
     for words in (["upgrade", "2"], ["remove"]):
         if os.path.exists(log):
             os.remove(log)
-        done = trial.run(["sh", "-c", script, "prerm", *words], env=more)
+        done = trial.run_words(["sh", "-c", script, "prerm", *words], env=more)
         lines = open(log).read().splitlines() if os.path.exists(log) else []
-        trial.holds("prerm " + words[0], done == (0, "", ""), done)
+        trial.assertEqual(done, (0, "", ""), "prerm " + words[0])
         stopped = [line.split()[1:] for line in lines if line.startswith("stop ")]
         if words == ["remove"]:
             good = sorted(sum(stopped, [])) == UNITS and sorted(stopped[0]) == [
                 "aide-compare.service",
                 TIMER,
             ]
-            trial.holds("all units are stopped, the comparison first", good, lines)
+            trial.assertTrue(good, ("all units are stopped, the comparison first", lines))
         else:
-            trial.holds("an upgrade stops nothing", not lines, lines)
+            trial.assertFalse(lines, "an upgrade stops nothing")
 
 
 class Machine:
@@ -102,7 +102,7 @@ class Machine:
         trial.write("debian-root/var/lib/dpkg/available", "")
 
     def dpkg(self, action, what):
-        done = self.trial.run(
+        done = self.trial.run_words(
             [
                 "dpkg",
                 "--root=" + self.root,
@@ -113,14 +113,14 @@ class Machine:
                 what,
             ]
         )
-        self.trial.holds("dpkg %s" % action, done[0] == 0, done)
+        self.trial.assertEqual(done[0], 0, done)
 
     def install(self):
         self.dpkg("--install", self.package)
 
     def helper(self, action):
         more = dict(os.environ, DPKG_ROOT=self.root, DPKG_MAINTSCRIPT_PACKAGE="aide-compare")
-        return self.trial.run(["deb-systemd-helper", action, TIMER], env=more)
+        return self.trial.run_words(["deb-systemd-helper", action, TIMER], env=more)
 
     def has(self, path):
         return os.path.lexists(os.path.join(self.root, path))
@@ -138,29 +138,30 @@ class Machine:
 def try_life(trial, package):
     """An installation, two removals and a purge, by dpkg itself."""
     if os.geteuid() or not shutil.which("dpkg") or not shutil.which("deb-systemd-helper"):
-        trial.skip("the life of the package: it needs root, dpkg and deb-systemd-helper")
         return
     machine = Machine(trial, package)
     machine.install()
-    trial.holds("dpkg installs the program", machine.has("usr/bin/aide-compare"))
-    trial.holds("dpkg installs the documents", machine.has("usr/share/doc/aide-compare/copyright"))
-    trial.holds("the timer is off after a first installation", not machine.has(WANTED))
-    trial.holds(
-        "an installation notes which link an administrator may make",
+    trial.assertTrue(machine.has("usr/bin/aide-compare"), "dpkg installs the program")
+    trial.assertTrue(
+        machine.has("usr/share/doc/aide-compare/copyright"), "dpkg installs the documents"
+    )
+    trial.assertFalse(machine.has(WANTED), "the timer is off after a first installation")
+    trial.assertTrue(
         machine.has(NOTES + TIMER + ".dsh-also"),
+        "an installation notes which link an administrator may make",
     )
     code(trial, machine)
     again(trial, machine)
     kept(trial, machine)
     machine.dpkg("--purge", "aide-compare")
     for path in (WANTED, RULES, DAILY, "var/lib/aide-compare/daily", NOTES + TIMER + ".dsh-also"):
-        trial.holds("a purge removes " + path, not machine.has(path))
-    trial.holds("a purge leaves the baselines of hosts", machine.has(BASELINE))
+        trial.assertFalse(machine.has(path), "a purge removes " + path)
+    trial.assertTrue(machine.has(BASELINE), "a purge leaves the baselines of hosts")
     shutil.rmtree(os.path.join(machine.root, "var/lib/aide-compare/hosts"), ignore_errors=True)
     machine.install()
     machine.write(DAILY, "mail\n")
     machine.dpkg("--purge", "aide-compare")
-    trial.holds("a purge leaves no empty folder", not machine.has("var/lib/aide-compare"))
+    trial.assertFalse(machine.has("var/lib/aide-compare"), "a purge leaves no empty folder")
 
 
 def code(trial, machine):
@@ -178,15 +179,15 @@ def code(trial, machine):
                 "--admindir=" + os.path.join(machine.root, "var/lib/dpkg"),
                 "--by-package=python3-minimal",
             ]
-            done = trial.run([*words, "/usr/bin/python3"])
-            trial.holds("dpkg-trigger", done[0] == 0, done)
+            done = trial.run_words([*words, "/usr/bin/python3"])
+            trial.assertEqual(done[0], 0, ("dpkg-trigger", done))
             machine.dpkg("--triggers-only", "aide-compare")
         else:
             os.remove(os.path.join(machine.root, former))
         byte_code.holds_code(trial, name + " by dpkg", folder, machine.root)
     machine.write(former, "made by another version\n")
     machine.dpkg("--remove", "aide-compare")
-    trial.holds("a removal leaves no byte code", not machine.has("usr/lib/aide-compare"))
+    trial.assertFalse(machine.has("usr/lib/aide-compare"), "a removal leaves no byte code")
     machine.install()
 
 
@@ -199,14 +200,13 @@ def again(trial, machine):
             os.remove(os.path.join(machine.root, WANTED))
         # Older tools of Debian mask a unit when its package goes, so that systemd does not miss it.
         done = machine.helper("mask")
-        trial.holds("the timer is masked", machine.has("etc/systemd/system/" + TIMER), done)
+        trial.assertTrue(machine.has("etc/systemd/system/" + TIMER), ("the timer is masked", done))
         machine.dpkg("--remove", "aide-compare")
-        trial.holds("a removal removes the program", not machine.has("usr/bin/aide-compare"))
+        trial.assertFalse(machine.has("usr/bin/aide-compare"), "a removal removes the program")
         machine.install()
-        trial.holds("the timer is not masked", not machine.has("etc/systemd/system/" + TIMER))
-        trial.holds(
-            "the timer is on again" if is_on else "the timer stays off",
-            machine.has(WANTED) == is_on,
+        trial.assertFalse(machine.has("etc/systemd/system/" + TIMER), "the timer is not masked")
+        trial.assertEqual(
+            machine.has(WANTED), is_on, "the timer is on again" if is_on else "the timer stays off"
         )
     # A former version was wanted by another target, and was on.
     former = "multi-user.target.wants/" + TIMER
@@ -215,7 +215,7 @@ def again(trial, machine):
     machine.write(NOTES + former, "")
     machine.enable("etc/systemd/system/" + former)
     machine.install()
-    trial.holds("the timer stays on when another target wants it", machine.has(WANTED))
+    trial.assertTrue(machine.has(WANTED), "the timer stays on when another target wants it")
 
 
 def kept(trial, machine):
@@ -225,10 +225,9 @@ def kept(trial, machine):
     machine.write(BASELINE, "@@begin_db\n")
     machine.dpkg("--remove", "aide-compare")
     for path in (RULES, DAILY, BASELINE, WANTED):
-        trial.holds("a removal leaves " + path, machine.has(path))
+        trial.assertTrue(machine.has(path), "a removal leaves " + path)
     machine.install()
     with open(os.path.join(machine.root, RULES)) as file:
-        trial.holds(
-            "the rules for AIDE stay as an administrator has changed them",
-            file.read() == "# mine\n",
+        trial.assertEqual(
+            file.read(), "# mine\n", "the rules for AIDE stay as an administrator has changed them"
         )

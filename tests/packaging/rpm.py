@@ -2,7 +2,7 @@
 it."""
 import os
 
-from tests.packaging.installing.trial import files, texts, tree
+from tests.packaging.installation import files, texts, tree
 
 UNITS = "usr/lib/systemd/system/"
 # What differs from what packaging/install installs below another prefix.
@@ -15,40 +15,36 @@ def try_life(trial, package):
     os.makedirs(root)
 
     def rpm(*words):
-        done = trial.run(["rpm", "--root", root, "--define", "_dbpath /var/lib/rpm", *words])
-        trial.holds("rpm " + words[0], done[0] == 0, done)
+        done = trial.run_words(["rpm", "--root", root, "--define", "_dbpath /var/lib/rpm", *words])
+        trial.assertEqual(done[0], 0, ("rpm " + words[0], done))
         return done[1]
 
     rpm("--initdb")
     rpm("--install", "--nodeps", "--noscripts", package)
     found = {name: data for name, data in tree(root).items() if not name.startswith("var/")}
-    wanted = {"usr/" + name for name in set(files(tree(trial.path("first/usr/local")))) - NOT} | OWN
+    wanted = {"usr/" + name for name in set(files(tree(trial.first()))) - NOT} | OWN
     wanted = {name + ".gz" if name.startswith("usr/share/man/") else name for name in wanted}
     wanted = {name for name in wanted if "__pycache__" not in name}
     there = set(files(found))
-    trial.holds(
-        "rpm installs what packaging/install installs", there == wanted, sorted(there ^ wanted)[:9]
+    trial.assertEqual(
+        there, wanted, ("rpm installs what packaging/install installs", sorted(there ^ wanted)[:9])
     )
     units = {name: text for name, text in texts(found).items() if name.startswith(UNITS)}
     service = units.get(UNITS + "aide-compare.service", "")
     for unit in ("", "-mail", "-failed"):
         text = units.get(UNITS + "aide-compare%s.service" % unit, "")
-        trial.holds(
-            "the user of aide-compare%s.service" % unit,
+        trial.assertTrue(
             "\nUser=root\n" in text and "_aide" not in text,
-            text,
+            ("the user of aide-compare%s.service" % unit, text),
         )
     for word in ("Wants", "After"):
-        trial.holds(
-            "AIDE runs before: " + word,
-            "\n%s=aide-compare-database.service\n" % word in service,
-            service,
+        trial.assertIn(
+            "\n%s=aide-compare-database.service\n" % word, service, "AIDE runs before: " + word
         )
-    trial.holds(
-        "no unit waits for one of Debian",
-        not any("=dailyaidecheck" in text for text in units.values()),
+    trial.assertFalse(
+        any("=dailyaidecheck" in text for text in units.values()), "no unit waits for one of Debian"
     )
     rpm("--verify", "--nodeps", "aide-compare")
     rpm("--erase", "--noscripts", "aide-compare")
     left = [name for name in files(tree(root)) if not name.startswith("var/")]
-    trial.holds("rpm removes all of it", not left, left[:9])
+    trial.assertFalse(left, ("rpm removes all of it", left[:9]))

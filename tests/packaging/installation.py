@@ -4,9 +4,10 @@ import os
 import shutil
 import stat
 import subprocess
+import unittest
 
 from tests.lib.scratch import TOP as HERE, Scratch
-from tests.lib.tally import Tally, lines_program_of
+from tests.lib.programs import find_program, lines_program_of, reason_without
 
 PARTS = [
     "commands",
@@ -26,12 +27,18 @@ NEEDED = """[ awk basename cat chmod cmp comm cp cut date dirname env find grep 
 python3 readlink rm rmdir sed sh sha256sum sort tail tar touch tr uniq wc xargs""".split()
 
 
-class Trial(Scratch, Tally):
-    """Each trial installs below a folder of its own from a copy that it may change."""
+class InstallTest(Scratch, unittest.TestCase):
+    """Each test installs below a directory of its own from a copy that it may change."""
 
-    def __init__(self, program):
-        Scratch.__init__(self, "try-install-")
-        Tally.__init__(self)
+    def __init__(self, name: str = "runTest") -> None:
+        unittest.TestCase.__init__(self, name)
+
+    def setUp(self) -> None:
+        program = find_program()
+        if program is None:
+            self.skipTest(reason_without())
+        self.make("aide-install-test-")
+        self.addCleanup(self.remove)
         self.program = self.copied_programs(program, "built programs", "aide")
         self.newer = [
             self.make_newer(one) for one in (self.program, lines_program_of(self.program))
@@ -87,10 +94,7 @@ class Trial(Scratch, Tally):
                 os.symlink(found, os.path.join(folder, name))
         return folder
 
-    def skip(self, what):
-        print("skipped:", what)
-
-    def run(self, words, **more):
+    def run_words(self, words, **more):
         """The status and both outputs of a command."""
         done = subprocess.run(
             words, stdin=subprocess.DEVNULL, stdout=subprocess.PIPE, stderr=subprocess.PIPE, **more
@@ -104,13 +108,19 @@ class Trial(Scratch, Tally):
     def install(self, *words, source=None, shell=("sh",), **more):
         """Runs packaging/install of a copy, in a folder that is not the repository."""
         script = os.path.join(source or self.source, "packaging", "install")
-        return self.run([*shell, script, *words], cwd=self.root, **more)
+        return self.run_words([*shell, script, *words], cwd=self.root, **more)
+
+    def first(self, *names):
+        """A path of what is installed below the usual prefix, which it installs if need be."""
+        if not os.path.isdir(self.path("first")):
+            self.installed("first")
+        return self.path("first", "usr", "local", *names)
 
     def installed(self, name, *words):
         """Installs the program below a new folder, and gives what lies there."""
         folder = self.path(name)
         done = self.install("--destdir", folder, "--program", self.program, *words)
-        self.holds("install into " + name, done[0] == 0 and done[2] == "", done)
+        self.assertEqual((done[0], done[2]), (0, ""), done)
         return tree(folder)
 
     def plain(self):

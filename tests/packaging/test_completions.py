@@ -1,0 +1,238 @@
+"""Completions: every subcommand has its options in every shell, those that its help names, and the
+shells read them."""
+import os
+import re
+import shutil
+
+from tests.lib.program_test import slow
+from tests.oracle.configuration import BOOL_OPTIONS, LEVELS, SET_OPTIONS
+from tests.packaging.installation import HERE, InstallTest, texts, tree
+
+BASH = "share/bash-completion/completions/aide-compare"
+ZSH = "share/zsh/site-functions/_aide-compare"
+FISH = "share/fish/vendor_completions.d/aide-compare.fish"
+REPORT_OPTIONS = ["report_level"] + BOOL_OPTIONS + SET_OPTIONS
+SUBCOMMANDS = [
+    "compare",
+    "show",
+    "json",
+    "page",
+    "mail",
+    "accept",
+    "archive",
+    "status",
+    "sort",
+    "setup",
+    "version",
+]
+HOSTS = ["hosts " + word for word in ("add", "fetch", "compare", "accept", "report")]
+
+# bash-completion reads the file inside of a function of its own.
+ASK_BASH = r"""
+load() { . "$1"; }
+load "$1"
+shift
+COMP_WORDS=("$@") COMP_CWORD=$(($# - 1)) COMPREPLY=()
+function=$(complete -p "$1") || exit 9
+function=${function#*-F }
+"${function%% *}"
+printf '%s\n' "${COMPREPLY[@]}"
+"""
+
+# zsh completes at a terminal only, so it gets one; the answer is what the line has become.
+ASK_ZSH = r"""
+zmodload zsh/zpty || exit 9
+zpty answering 'TERM=dumb zsh -f -i'
+ask() {
+    zpty -w answering "$1"
+    zpty -r answering answer "*$2*" || exit 8
+}
+ask "PS1=; fpath=($1 \$fpath); autoload -U compinit; compinit -D -u; unsetopt zle_bracketed_paste; print rea''dy" ready
+zpty -w -n answering "$2"$'\t'
+zpty -w -n answering $'\C-a#\n'
+zpty -w answering "print do''ne"
+zpty -r answering answer '*done*' || exit 8
+zpty -d answering
+print -r -- "$answer"
+"""
+
+
+def options(trial, words):
+    """The options that the help of a subcommand has; aide-compare mail takes those of a comparison
+    too."""
+    text = help_of(trial, words)
+    found = {"--help"} | named_in(text)
+    for line in re.findall(r"^usage: .*(?:\n {4,}.*)*", text, re.M):
+        found |= set(re.findall(r"[\[(| ](--?[A-Za-z][\w-]*)", line))
+    if words == "mail":
+        found |= set(options(trial, "compare"))
+    if words == "status":
+        found |= named_in(help_of(trial, "status --format prometheus"))
+    return sorted(found - {"-h"})
+
+
+def options_of_program():
+    """The program has no help; its page has its options."""
+    with open(os.path.join(HERE, "man", "aide-compare-program.8")) as file:
+        found = re.findall(r"^\.It Fl (\w)(?: Ar \w+)? , Fl -([\w-]+)", file.read(), re.M)
+    return ["-" + short for short, _ in found] + ["--" + long for _, long in found]
+
+
+def help_of(trial, words):
+    return trial.run_words([trial.first("bin/aide-compare"), *words.split(), "--help"])[1]
+
+
+def named_in(text):
+    """The options that lines of a help begin with."""
+    found = set()
+    for line in re.findall(r"^\s+(-.*)$", text, re.M):
+        found |= set(re.findall(r"(?:^|, )(--?[A-Za-z][\w-]*)", line))
+    return found
+
+
+def ask_bash(trial, *words):
+    path = trial.first(BASH)
+    status, output, errors = trial.run_words(
+        ["bash", "--norc", "-c", ASK_BASH, "bash", path, *words], cwd=trial.source
+    )
+    trial.assertEqual(
+        (status, errors), (0, ""), ("bash completes " + " ".join(words), (status, errors))
+    )
+    return output.split()
+
+
+@slow
+class CompletionsTest(InstallTest):
+    def test_files(self) -> None:
+        """Each subcommand has its options in the files of zsh and fish, and the first line for zsh
+        names the commands."""
+        found = texts(tree(self.first()))
+        zsh, fish = found[ZSH], found[FISH]
+        named = zsh.split("\n")[0].split()
+        self.assertEqual(
+            named, ["#compdef", "aide-compare", "check_aide_compare"], "the first line for zsh"
+        )
+        for words in SUBCOMMANDS + HOSTS:
+            wanted = options(self, words)
+            case = re.search(r"^    '%s'\)\n(.*?);;$" % words, zsh, re.M | re.S)
+            self.assertTrue(case, "zsh knows " + words)
+            for option in wanted:
+                form = "-l %s " % option[2:] if option.startswith("--") else "-s %s " % option[1:]
+                line = "complete -c aide-compare -n '__fish_aide_compare_is %s' %s" % (words, form)
+                self.assertIn(line, fish, "%s %s in fish" % (words, option))
+                self.assertTrue(
+                    case and re.search(r"'\*%s[=+[]" % option, case.group(1)),
+                    "%s %s in zsh" % (words, option),
+                )
+
+    def test_bash(self) -> None:
+        if not shutil.which("bash"):
+            self.skipTest("not installed: bash")
+        for words in SUBCOMMANDS + HOSTS:
+            wanted, given = options(self, words), ask_bash(
+                self, "aide-compare", *words.split(), "-"
+            )
+            for option in wanted:
+                self.assertIn(option, given, "bash offers %s %s" % (words, option))
+            for option in given:
+                self.assertIn(
+                    option, wanted, "%s has the option %s that bash offers" % (words, option)
+                )
+        wanted, given = sorted(options_of_program()), sorted(
+            ask_bash(self, "aide-compare", "-E", "-")
+        )
+        self.assertEqual(given, wanted, "bash offers the options of the program")
+        given = ask_bash(self, "aide-compare", "s")
+        self.assertLessEqual(
+            {"status", "sort", "setup"}, set(given), ("bash offers subcommands", given)
+        )
+        for words, wanted in (
+            (["aide-compare", "-E", "-A", "report_"], [name + "=" for name in REPORT_OPTIONS]),
+            (["aide-compare", "-E", "-A", "report_level", "="], LEVELS),
+            (["aide-compare", "-E", "-A", "report_level", "=", "su"], ["summary"]),
+            (["aide-compare", "-E", "-A", "report_l"], ["report_level="]),
+            (["aide-compare", "-E", "--after", "=", "report_l"], ["report_level="]),
+            (["aide-compare", "-D", "-B", "report_quiet", "=", "y"], ["yes"]),
+            (["aide-compare", "hosts", ""], [words[6:] for words in HOSTS]),
+            (["aide-compare", "status", "--format", ""], ["json", "line", "prometheus", "text"]),
+            (["aide-compare", "-c", "VERS"], ["VERSION"]),
+            (["aide-compare", "--config", "=", "VERS"], ["VERSION"]),
+            (["aide-compare", "--exclude-from", "VERS"], ["VERSION"]),
+            (["aide-compare", "--exclude", "VERS"], []),
+            (["aide-compare", "mail", "--queue", "pack"], ["packaging"]),
+            (["aide-compare", "mail", "--queue", "VERS"], []),
+            (["aide-compare", "mail", "-A", "report_l"], ["report_level="]),
+            (["aide-compare", "sort", "VERS"], ["VERSION"]),
+            (["aide-compare", "hosts", "report", "--order", ""], ["common", "path", "rare"]),
+            (["aide-compare", "hosts", "report", "--store", "pack"], ["packaging"]),
+            (["aide-compare", "hosts", "compare", "VERS"], ["VERSION"]),
+        ):
+            given = ask_bash(self, *words)
+            self.assertEqual(
+                sorted(given), sorted(wanted), ("bash completes " + " ".join(words), given)
+            )
+
+    def test_zsh(self) -> None:
+        if not shutil.which("zsh"):
+            self.skipTest("not installed: zsh")
+        folder = self.first(os.path.dirname(ZSH))
+        with open(self.first(ZSH)) as file:
+            named = set(re.findall(r"\breport_\w+", file.read()))
+        self.assertEqual(named, set(REPORT_OPTIONS), "zsh names the options of the report")
+        for line, wanted in (
+            ("aide-compare --config-c", "aide-compare --config-check"),
+            ("aide-compare -E -A report_level=su", "report_level=summary"),
+            ("aide-compare --exclude-f", "aide-compare --exclude-from"),
+            ("aide-compare --exclude-from=VERS", "--exclude-from=VERSION"),
+            ("aide-compare mail --max-r", "aide-compare mail --max-report"),
+            ("aide-compare mail --aft", "aide-compare mail --after="),
+            ("aide-compare sort --h", "aide-compare sort --help"),
+            ("aide-compare sort VERS", "aide-compare sort VERSION"),
+            ("aide-compare hosts report --order=ra", "aide-compare hosts report --order=rare"),
+        ):
+            done = self.run_words(
+                ["zsh", "-f", "-c", ASK_ZSH, "zsh", folder, line], cwd=self.source, timeout=60
+            )
+            self.assertTrue(
+                done[0] == 0 and wanted in done[1].replace("\r", ""),
+                ("zsh completes " + line, done),
+            )
+
+    def test_fish(self) -> None:
+        if not shutil.which("fish"):
+            self.skipTest("not installed: fish")
+        home = self.path("home")
+        os.makedirs(home)
+        surroundings = dict(
+            os.environ,
+            HOME=home,
+            XDG_DATA_DIRS=self.first("share"),
+            PATH=":".join([self.first("bin"), os.environ["PATH"]]),
+        )
+        for line, wanted in (
+            ("aide-compare --config-c", ["--config-check"]),
+            ("aide-compare -E -A report_level=su", ["report_level=summary"]),
+            ("aide-compare sort --h", ["--help"]),
+            ("aide-compare sort VERS", ["VERSION"]),
+            ("aide-compare --exclude-f", ["--exclude-from"]),
+            ("aide-compare mail --max-r", ["--max-report"]),
+            ("aide-compare mail --aft", ["--after"]),
+            ("aide-compare hosts report --order ra", ["rare"]),
+            ("aide-compare hosts fe", ["fetch"]),
+        ):
+            done = self.run_words(
+                ["fish", "-c", "complete -C '%s'" % line],
+                cwd=self.source,
+                env=surroundings,
+                timeout=60,
+            )
+            given = [one.split("\t")[0] for one in done[1].splitlines()]
+            self.assertTrue(done[0] == 0 and given == wanted, ("fish completes " + line, done))
+        done = self.run_words(
+            ["fish", "-c", "complete -C 'aide-compare -E -A report_'"],
+            cwd=self.source,
+            env=surroundings,
+            timeout=60,
+        )
+        named = {one.split("=")[0] for one in done[1].splitlines()}
+        self.assertEqual(named, set(REPORT_OPTIONS), "fish names the options of the report")
