@@ -103,7 +103,7 @@ def ask_bash(trial, *words):
 
 @slow
 class CompletionsTest(InstallTest):
-    def test_files(self) -> None:
+    def test_files(self):
         """Each subcommand has its options in the files of zsh and fish, and the first line for zsh
         names the commands."""
         found = texts(tree(self.first()))
@@ -125,7 +125,7 @@ class CompletionsTest(InstallTest):
                     "%s %s in zsh" % (words, option),
                 )
 
-    def test_bash(self) -> None:
+    def test_bash(self):
         if not shutil.which("bash"):
             self.skipTest("not installed: bash")
         for words in SUBCOMMANDS + HOSTS:
@@ -172,7 +172,7 @@ class CompletionsTest(InstallTest):
                 sorted(given), sorted(wanted), ("bash completes " + " ".join(words), given)
             )
 
-    def test_zsh(self) -> None:
+    def test_zsh(self):
         if not shutil.which("zsh"):
             self.skipTest("not installed: zsh")
         folder = self.first(os.path.dirname(ZSH))
@@ -198,7 +198,7 @@ class CompletionsTest(InstallTest):
                 ("zsh completes " + line, done),
             )
 
-    def test_fish(self) -> None:
+    def test_fish(self):
         if not shutil.which("fish"):
             self.skipTest("not installed: fish")
         home = self.path("home")

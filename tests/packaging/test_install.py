@@ -100,7 +100,7 @@ def show(mode):
 
 @slow
 class InstallingTest(InstallTest):
-    def test_targets(self) -> None:
+    def test_targets(self):
         wanted = wanted_modes(self.source)
         for target in KNOWN:
             self.assertIn(target, wanted, "a file to install: " + target)
@@ -132,7 +132,7 @@ class InstallingTest(InstallTest):
                     target[4:].startswith("aide-compare"), "the name of the command " + target
                 )
 
-    def test_shells(self) -> None:
+    def test_shells(self):
         """Every shell installs the same files, whatever permissions the user gives to new ones."""
         self.first()
         first = tree(self.path("first"))
@@ -148,7 +148,7 @@ class InstallingTest(InstallTest):
                 done = self.install("--destdir", folder, "--uninstall", shell=words)
                 self.assertEqual((done[0], done[2], tree(folder)), (0, "", {}))
 
-    def test_again(self) -> None:
+    def test_again(self):
         """A second run replaces files by renaming; what the repository has no more is removed."""
         folder = self.path("again")
         source = self.copy("changing")
@@ -181,7 +181,7 @@ class InstallingTest(InstallTest):
             ("nothing is left after three runs", sorted(tree(folder))),
         )
 
-    def test_uninstall(self) -> None:
+    def test_uninstall(self):
         """Exactly what was installed goes."""
         folder = self.path("shared")
         self.write("shared/usr/local/bin/another", "another's program\n", 0o755)
@@ -215,7 +215,7 @@ class InstallingTest(InstallTest):
             done[0] == 1 and "nothing is installed" in done[2], ("uninstall a second time", done)
         )
 
-    def test_interrupted(self) -> None:
+    def test_interrupted(self):
         """An installation that stopped half-way can be removed."""
         source = self.copy("damaged")
         last = os.path.join(source, "man", "zzz.1")
@@ -241,7 +241,7 @@ class InstallingTest(InstallTest):
             ("it is removed all the same", sorted(tree(folder))),
         )
 
-    def test_refusals(self) -> None:
+    def test_refusals(self):
         """What cannot work is refused before anything is written."""
         shut = self.path("shut")
         os.makedirs(os.path.join(shut, "usr"))
@@ -303,7 +303,7 @@ class InstallingTest(InstallTest):
             ("--help", done),
         )
 
-    def test_build(self) -> None:
+    def test_build(self):
         """A program that is not built, or that is old, is built first."""
         source = self.copy("unbuilt")
         for name in ("aide", "aide_lines"):
@@ -375,7 +375,7 @@ class InstallingTest(InstallTest):
             ("a program that is not proved", done),
         )
 
-    def test_byte_code(self) -> None:
+    def test_byte_code(self):
         """packaging/install makes byte code below a prefix, keeps it in step with the modules, and
         removes it with them."""
         source, prefix = self.copy("coded"), self.path("code")

@@ -43,7 +43,7 @@ def try_version_of(trial, command):
 
 @slow
 class InstalledTest(InstallTest):
-    def test_programs(self) -> None:
+    def test_programs(self):
         """The installed program compares, and each installed command prints a help."""
         self.installed("run")
         folder = self.path("run/usr/local/bin")
@@ -83,7 +83,7 @@ class InstalledTest(InstallTest):
             ("a path that stands twice", done),
         )
 
-    def test_pages(self) -> None:
+    def test_pages(self):
         """Each command has a page, which has the version and names no file of the repository."""
         found = texts(tree(self.first()))
         pages = {path: text for path, text in found.items() if path.startswith("share/man/")}
@@ -121,7 +121,7 @@ class InstalledTest(InstallTest):
                 )
                 self.assertTrue(done[0] == 0 and done[2] == "", ("man --warnings " + path, done[2]))
 
-    def test_documents(self) -> None:
+    def test_documents(self):
         """Documents link to one another where they lie now, and to nothing that is not installed."""
         found = texts(tree(self.first()))
         count = 0
@@ -134,7 +134,7 @@ class InstalledTest(InstallTest):
                     )
         self.assertGreater(count, 5, "links between the documents")
 
-    def test_prefix(self) -> None:
+    def test_prefix(self):
         """With another prefix no text names the usual one, and what the texts name is there."""
         found = self.installed("elsewhere", "--prefix", "/opt/aide")
         prefix = "/opt/aide"
@@ -155,7 +155,7 @@ class InstalledTest(InstallTest):
                 self.assertTrue(there, ("what %s names is installed" % path, name))
         self.assertGreater(count, 4, "texts that name what is installed")
 
-    def test_units(self) -> None:
+    def test_units(self):
         """The units are sound where systemd says so, and call what is installed."""
         folder = self.first("lib/systemd/system")
         with open(os.path.join(folder, "aide-compare.service")) as file:
@@ -202,7 +202,7 @@ class InstalledTest(InstallTest):
             done[0] == 0 and "aide-compare" not in done[2], ("systemd-analyze verify", done)
         )
 
-    def test_cron(self) -> None:
+    def test_cron(self):
         """The jobs are silent, also where the tool ends with differences or is gone."""
         folder = self.path("jobs")
         self.installed("unused")
@@ -250,7 +250,7 @@ class InstalledTest(InstallTest):
                     ("run-parts and the name " + name, done),
                 )
 
-    def test_version(self) -> None:
+    def test_version(self):
         """Whatever else names a version agrees with VERSION."""
         self.assertTrue(
             re.match(r"\d+\.\d+\.\d+$", self.version), ("the form of VERSION", self.version)
@@ -269,7 +269,7 @@ class InstalledTest(InstallTest):
                 all(one in wanted for one in found), ("the packages that %s names" % name, found)
             )
 
-    def test_unproved(self) -> None:
+    def test_unproved(self):
         """A program that is not proved, by its name, marks the version of each command, and is never
         packed."""
         program = self.copied_programs(self.program, "unproved programs", "aide-unproved")

@@ -213,7 +213,7 @@ def try_debian(trial, path, time):
 
 @slow
 class PackagesTest(InstallTest):
-    def test_packages(self) -> None:
+    def test_packages(self):
         more = {key: value for key, value in os.environ.items() if key != "SOURCE_DATE_EPOCH"}
         done, first = make(self, "packages", env=more)
         self.assertTrue(done[0] == 0 and done[2] == "", ("make_package", done))

@@ -87,7 +87,9 @@ def end_of(lines: list[str], at: int) -> tuple[int, list[str]]:
 def blocks_of(page: str) -> list[Block]:
     """The blocks of a page, in their order."""
     lines = read(page).split("\n")
-    found, marks, at = [], [], 0
+    found: list[Block] = []
+    marks: list[str] = []
+    at = 0
     while at < len(lines):
         mark = MARK.match(lines[at])
         if is_beginning(lines, at, page.startswith("man/")):

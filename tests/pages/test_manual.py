@@ -177,7 +177,7 @@ class ManualTest(Scratch, ProgramTest):
 
 
 class PagesTest(ManualTest):
-    def test_man(self) -> None:
+    def test_man(self):
         if not shutil.which("man"):
             self.skipTest("not installed: man")
         for page in MANUALS:
@@ -185,7 +185,7 @@ class PagesTest(ManualTest):
             done = subprocess.run(words, capture_output=True, cwd=TOP, text=True, check=False)
             self.assertEqual((done.returncode, done.stderr), (0, ""), page)
 
-    def test_mandoc(self) -> None:
+    def test_mandoc(self):
         """No style is doubtful. The pages of other programs that ours name are there."""
         if not shutil.which("mandoc"):
             self.skipTest("not installed: mandoc")
@@ -199,7 +199,7 @@ class PagesTest(ManualTest):
         done = subprocess.run(words, stdout=subprocess.PIPE, cwd=TOP, env=place, check=False)
         self.assertEqual(done.stdout, b"")
 
-    def test_options(self) -> None:
+    def test_options(self):
         """Each option takes a value of its kind and refuses an empty one."""
         values = {
             "URL": ["file:/a", "file:///a"],
@@ -228,7 +228,7 @@ class PagesTest(ManualTest):
                 self.bad("%s=%s\n" % (name, value), words)
             self.bad(name + "=\n", "bad value")
 
-    def test_other_names(self) -> None:
+    def test_other_names(self):
         """Options without effect are accepted, and what is refused by name is refused so."""
         without = re.findall(
             r"\b[a-z]\w+\b", between(CONF_PAGE, "without effect", "without effect")
@@ -258,7 +258,7 @@ class PagesTest(ManualTest):
                 "left out of this profile",
             )
 
-    def test_directives(self) -> None:
+    def test_directives(self):
         """Each directive does in a small text what the page says."""
         texts = {
             "@@define Ar name Op Ar value": "@@define A minimal\nreport_level=@@{A}\n@@define B\n",
@@ -315,7 +315,7 @@ class PagesTest(ManualTest):
             databases = [database("name " + column, "/f " + field) for field in fields]
             self.assertEqual(self.compare(*databases)[0], 4, "without the column attr, " + name)
 
-    def test_attributes(self) -> None:
+    def test_attributes(self):
         rows = attributes_of(CONF_PAGE)
         self.assertTrue(
             len(rows) == len(ATTRIBUTES) and {row[3] for row in rows} == set(SLOTS),
@@ -341,7 +341,7 @@ class PagesTest(ManualTest):
         )
         self.assertEqual(order, [row[4] for row in rows], "order of the details")
 
-    def test_groups(self) -> None:
+    def test_groups(self):
         """Each group ignores the attributes that the page gives it, and no others."""
         rows = attributes_of(CONF_PAGE)
         digests = {row[0] for row in rows if row[3] == "H"}
@@ -383,7 +383,7 @@ class PagesTest(ManualTest):
             self.bad("%s=s\n" % name, "bad name")
         self.good("reprot_quiet=s\n")
 
-    def test_reports(self) -> None:
+    def test_reports(self):
         """The reports in the page are those that the program writes, level for level."""
         parts = dict(re.findall(r'^\.\\" try: (\w+)\n\.Bd -literal\n(.*?)\.Ed$', PAGE, re.M | re.S))
         self.assertEqual(list(parts), [*LEVELS, "lines"], "levels of the page")
@@ -427,7 +427,7 @@ class PagesTest(ManualTest):
         output = self.compare(database("name size"), database("name size", "/x%0Ay%5C 1"))[1]
         self.assertIn(": /x\\012y\\134\n", output, "escapes")
 
-    def test_faults(self) -> None:
+    def test_faults(self):
         """Each line of DIAGNOSTICS is one that the program writes."""
         named = [
             unescaped(words).strip('"')
@@ -492,7 +492,7 @@ class PagesTest(ManualTest):
             ("read failed", (status, errors)),
         )
 
-    def test_lines(self) -> None:
+    def test_lines(self):
         """The lines of the program, with their statuses and what they leave on standard output."""
         conf = self.write("conf", "")
         usage = (15, "", "aide: usage: aide (-E | -D) -c FILE [-B TEXT] [-A TEXT]\n")
@@ -597,7 +597,7 @@ class PagesTest(ManualTest):
         ]
         self.assertEqual(len(named), 8, ("lines of the program", named))
 
-    def test_texts(self) -> None:
+    def test_texts(self):
         """Which text wins, and where the report's options end."""
         conf = self.write(
             "conf",
@@ -633,7 +633,7 @@ class PagesTest(ManualTest):
             ("a block over two texts", errors),
         )
 
-    def test_limits(self) -> None:
+    def test_limits(self):
         """What is at a limit is accepted, and one more is refused."""
         named = re.findall(r"^\.It (.*) Ta ([\d,]+)$", section(PAGE, "LIMITS"), re.M)
         limits = {name: int(number.replace(",", "")) for name, number in named}
@@ -694,7 +694,7 @@ class PagesTest(ManualTest):
                 "a configuration and %d" % more,
             )
 
-    def test_examples(self) -> None:
+    def test_examples(self):
         """The configurations of the page have no fault."""
         examples = re.findall(
             r"^\.Bd -literal -offset indent\n(database_in=.*?)^\.Ed$", CONF_PAGE, re.M | re.S
@@ -703,7 +703,7 @@ class PagesTest(ManualTest):
         for text in examples:
             self.good(text)
 
-    def test_databases(self) -> None:
+    def test_databases(self):
         """The example of the CONF_PAGE, the forms of fields and the order of paths."""
         example = re.search(r"^@@begin_db\n.*?^@@end_db\n", CONF_PAGE, re.M | re.S).group(0)
         self.assertEqual(example, PAIR[0], "the database of the page")

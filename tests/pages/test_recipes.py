@@ -31,7 +31,7 @@ from tests.pages.recipes import STORED, Day, RecipesTest, begin, has_jq, no_comp
 OLD = HEAD + "/b 36 40755 4096\n/c 36 100644 10\n@@end_db\n"
 NEW = HEAD + "/a%20%C3%A9 36 100644 5\n/c 36 100600 7\n@@end_db\n"
 # What each host sends, ends with, and what its line says.
-SENT = {
+SENT: dict[str, tuple[str | bytes, int, str]] = {
     "same": (OLD, 0, "no differences"),
     "other": (NEW, 7, "added 1, removed 1, changed 1"),
     "zipped": (gzip.compress(OLD.encode()), 0, "no differences"),
