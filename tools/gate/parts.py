@@ -24,27 +24,18 @@ PROOFS: Part = ("rt", "ci")
 SECOND_BUILDS: Part = ("tools.gate.second_builds", "--ran-now")
 
 
-def trials(program: str, lines: str) -> List[Part]:
-    """The trials of the built programs and of the commands."""
-    return [
-        ("tests.program.try_trusted", lines, "--report", program),
-        ("tools.gate.unit_tests", program),
-    ]
+def trials(program: str) -> List[Part]:
+    """The tests of the built programs and of the commands."""
+    return [("tools.gate.unit_tests", program)]
 
 
-def newer_trials(program: str, lines: str) -> List[Part]:
-    """The trials of the builds for newer processors, whose answers have to be those of the other
-    builds, byte for byte."""
-    return [
-        ("tools.gate.unit_tests", program, "--quick", "tests.program"),
-        ("tests.program.try_trusted", lines, "--quick", "--sessions", "300"),
-    ]
+def newer_trials(program: str) -> List[Part]:
+    """Those of the builds for newer processors, whose answers have to be those of the other builds,
+    byte for byte."""
+    return [("tools.gate.unit_tests", program, "--quick", "tests.program")]
 
 
-def quick_trials(program: str, lines: str) -> List[Part]:
-    """Those that take seconds, the longest first. The others prove something, let each allocation
-    fail, install, or wait for processes."""
-    return [
-        ("tools.gate.unit_tests", program, "--quick"),
-        ("tests.program.try_trusted", lines, "--report", program, "--quick", "--sessions", "100"),
-    ]
+def quick_trials(program: str) -> List[Part]:
+    """Those that take seconds. The others prove something, let each allocation fail, install, or
+    wait for processes."""
+    return [("tools.gate.unit_tests", program, "--quick")]

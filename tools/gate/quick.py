@@ -13,7 +13,6 @@ import os
 import subprocess
 import sys
 
-from tests.lib.programs import lines_program_of
 from tools.gate import formats, parts, unit_tests, unproved
 from tools.gate.counting import TOP, Count
 from tools.lib.arguments import executable, parser_of
@@ -154,8 +153,7 @@ def main() -> int:
         if program is None:
             count.fail("an unproved program was not made, so no test ran")
         elif args.all:
-            lines = lines_program_of(program)
-            count.run_side_by_side(parts.quick_trials(program, lines), JOBS)
+            count.run_side_by_side(parts.quick_trials(program), JOBS)
         else:
             count.run_side_by_side([("tools.gate.unit_tests", program, "--quick", *modules)], 1)
     return int(count.status())

@@ -60,10 +60,10 @@ def main():
     crates = prove(count)
     if all(os.access(os.path.join(TOP, name), os.X_OK) for name in (parts.PROGRAM, parts.LINES)):
         count.run(parts.SECOND_BUILDS)
-        for part in parts.trials(parts.PROGRAM, parts.LINES):
+        for part in parts.trials(parts.PROGRAM):
             count.run(part)
         if runs_here(parts.PROGRAM + NEWER):
-            for part in parts.newer_trials(parts.PROGRAM + NEWER, parts.LINES + NEWER):
+            for part in parts.newer_trials(parts.PROGRAM + NEWER):
                 count.run(part)
         else:
             print("skipped: this processor does not run the builds for newer ones", flush=True)

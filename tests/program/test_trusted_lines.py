@@ -1,0 +1,421 @@
+"""The program of lines, crates/aide_lines, over four databases: a pair that is compared and a trusted
+pair beside it.
+
+Each answer has to be that of tests/oracle/lines.py, byte by byte: stored cases, each way of naming
+the pair, damages of each of the four, databases that change while they are read, long lines,
+outputs that fail, and random sessions. With AIDE_NIGHTS=DIRECTORY the nights of a directory are
+compared too, each with its clean twin as the trusted pair, and what nothing accounts for has to be
+what tests/program/nights_beside_twin.txt lists.
+"""
+from __future__ import annotations
+
+import collections
+import glob
+import gzip
+import json
+import os
+import tempfile
+import unittest
+
+from tests.commands.viewers.schema import Validator, schema_of_lines
+from tests.lib.program_test import SESSIONS, ProgramTest, new_seed, slow
+from tests.lib.tally import difference, run, side_by_side, wanted_lines
+from tests.oracle.database import LINE_LIMIT
+from tests.oracle.session import USAGE_LINE, Answer
+from tests.program import cases
+from tests.program.test_failed_calls import FILES, NAMES
+from tests.program.random_sessions import make_session_beside, try_sessions
+from tests.program.real_files.test_damage import WAYS
+from tests.program.real_files.test_devices import NOT_WRITTEN, closed_pipe
+from tests.program.real_files.test_fifos import WAIT, Feeder
+from tests.program.real_files.folder import Folder, names
+from tests.program.real_files.test_replaced import ENTRIES, replace, resize, Turning
+from tests.program.test_lines import faults_of_lines
+
+CASES = os.path.join(os.path.dirname(cases.FOLDER), cases.LINES)
+NIGHTS = os.path.join(os.path.dirname(os.path.abspath(__file__)), "nights_beside_twin.txt")
+# The database before each of the nights.
+BEFORE = {
+    "n1-idle": "n0",
+    "n2-idle": "n1-idle",
+    "n3-rotate": "n2-idle",
+    "n4-rotate": "n3-rotate",
+    "n5-idle": "n4-rotate",
+    "n6-install": "n5-idle",
+    "n7-upgrade": "n6-install",
+    "n8-repack": "n7-upgrade",
+    "n9-remove": "n8-repack",
+    "n10-kernel": "n9-remove",
+    "n11-rotate": "n10-kernel",
+}
+DIGESTS = (
+    b"47DEQpj8HBSa+/TImW+5JCeuQeRkm5NMpJWZG3hSuFU=",
+    b"1N8IG5grI+ZsrHEC+dkQMvKWyvEwMZkdkK9E7my/bjs=",
+)
+HEAD = b"@@begin_db\n@@db_spec name perm mtime sha256\n"
+FOUR = [
+    HEAD + b"/a 100644 1 %s\n/b 100644 1 %s\n@@end_db\n" % DIGESTS,
+    HEAD + b"/a 100644 2 %s\n/c 100644 2 %s\n@@end_db\n" % DIGESTS,
+    HEAD + b"/a 100644 3 %s\n/b 100644 3 %s\n@@end_db\n" % DIGESTS,
+    HEAD + b"/c 100644 4 %s\n@@end_db\n" % DIGESTS[1],
+]
+RUNS = 60
+VALIDATOR = Validator(schema_of_lines())
+
+
+def folder_of(folder, four):
+    folder.pair(*four[:2])
+    folder.trusted(*four[2:])
+
+
+def fed(test, folder, texts):
+    """The answer, and how often each database was opened; `texts` has a list of texts for each."""
+    feeders = [Feeder(folder.at(name), each) for name, each in zip(FILES, texts)]
+    for feeder in feeders:
+        feeder.__enter__()
+    try:
+        answer = run("timeout", [WAIT, test.lines_program] + folder.words_beside())
+        return answer, [feeder.openings for feeder in feeders]
+    finally:
+        for feeder in feeders:
+            feeder.__exit__()
+
+
+def many(name, digest):
+    """Regular files with one digest."""
+    return b"".join(b"/%s%05d 100644 1 %s\n" % (name, number, digest) for number in range(ENTRIES))
+
+
+def sound(*entries):
+    """A database of these entries."""
+    return HEAD + b"".join(entries) + b"@@end_db\n"
+
+
+def replacing():
+    """Two databases, and two texts for each of a trusted pair: the first accounts for changes, the
+    other for none.
+
+    So lines for which one text was read first, and then the other, are those of neither.
+    """
+    gone = many(b"gone", DIGESTS[0])
+    kept = many(b"kept", DIGESTS[0])
+    changed = many(b"kept", DIGESTS[1])
+    trusted = {
+        "trusted_old": (sound(gone, kept), sound(kept)),
+        "trusted_new": (sound(changed), sound(kept)),
+    }
+    return [sound(gone, kept), sound(changed)], trusted
+
+
+def is_cut(output, answers):
+    """Whether the first line of one answer went out, then lines of the same or of another, and no
+    last line."""
+    for first in answers:
+        for rest in answers:
+            whole = first.output.partition(b"\n")[0] + b"\n" + rest.output.partition(b"\n")[2]
+            if whole.startswith(output) and b'{"end":' not in output:
+                return True
+    return False
+
+
+def check_replaced(test, folder, way, name, texts):
+    """Runs while a trusted database turns from one text into another: the lines of a whole one, or
+    a fault. What went out before the fault may be about the other text, but it is cut."""
+    label = f"{way.__name__}, {name}"
+    answers = []
+    told = 0
+    for text in texts:
+        folder.write(name, text)
+        answers.append(wanted_lines(folder.words_beside()))
+    line = b"aide: the %s database changed while it was read\n" % NAMES[FILES.index(name)]
+    with Turning([lambda text=text: way(folder, name, text) for text in texts]):
+        given = [run(test.lines_program, folder.words_beside()) for _ in range(RUNS)]
+    for answer in given:
+        is_told = (answer.errors, answer.status) == (line, 18)
+        is_right = answer in answers or is_told and is_cut(answer.output, answers)
+        test.holds(label, is_right, answer)
+        told += is_told
+    test.holds(f"{label}, told at all", told)
+
+
+def left_in(output):
+    """The lines that nothing accounts for, each as its kind and its path."""
+    lines = [json.loads(line) for line in output.splitlines()]
+    return [
+        "%s %s" % (line["kind"], line["path"])
+        for line in lines
+        if "kind" in line and "same_as" not in line
+    ]
+
+
+def listed_nights():
+    """What is to be left of each night, by its name."""
+    nights, lines = {}, []
+    with open(NIGHTS, encoding="utf-8") as file:
+        for line in file.read().splitlines():
+            if line.startswith("@@ "):
+                lines = nights[line[3:]] = []
+            elif line and not line.startswith("#"):
+                lines.append(line)
+    return nights
+
+
+class TrustedTest(ProgramTest):
+    """The program of lines beside the definitions."""
+
+    def setUp(self) -> None:
+        super().setUp()
+        self.accounts: collections.Counter[bytes] = collections.Counter()
+
+    def beside(self, words):
+        """The status that is wanted, and what is not as wanted."""
+        want, answer = wanted_lines(words), run(self.lines_program, words)
+        for account in (b'"same_as":"old"', b'"same_as":"trusted"', b'"kind":'):
+            self.accounts[account] += want.output.count(account)
+        return want.status, difference(answer, want) + faults_of_lines(answer.output)
+
+    def ends(self, label, words, *statuses):
+        """A session, which has to end with one of these statuses if there are any."""
+        status, faults = self.beside(words)
+        if statuses and status not in statuses:
+            faults = [*faults, f"status {status} is wanted"]
+        self.add(label, faults)
+
+    def test_stored(self) -> None:
+        """The stored cases, of which the program and the definitions give the answers."""
+        paths = sorted(glob.glob(os.path.join(CASES, "*.case")))
+        self.add("the stored cases", [] if paths else ["there is none in " + CASES])
+        for path in paths:
+            case, label = cases.read(path), os.path.basename(path)
+            with tempfile.TemporaryDirectory() as folder:
+                folder = folder.encode()
+                want = cases.stored(case, folder)
+                words = cases.answers_in(case, folder, list)
+                self.check(label, run(self.lines_program, words), want)
+                self.add("the definitions at " + label, difference(wanted_lines(words), want))
+                found = [
+                    fault
+                    for line in want.output.splitlines()
+                    for fault in VALIDATOR.faults(json.loads(line))
+                ]
+                self.add("the schema at " + label, found)
+
+    def test_words(self) -> None:
+        """Each way to name a pair, and to name less or more than one."""
+        with Folder() as folder:
+            folder_of(folder, FOUR)
+            old, new = [b"--trusted-old", folder.at("trusted_old")], [
+                b"--trusted-new",
+                folder.at("trusted_new"),
+            ]
+            compared = folder.words()
+            for label, words, status in (
+                ("a pair", compared + old + new, 7),
+                ("a pair, the new one first", new + old + compared, 7),
+                ("a pair in one word each", compared + [b"=".join(old), b"=".join(new)], 7),
+                ("a pair that is exchanged", compared + [old[0], new[1], new[0], old[1]], 7),
+                ("a pair and texts", compared + [b"-B", b"", *old, b"-A", b"", *new], 7),
+                ("a pair and a last `--`", compared + old + new + [b"--"], 7),
+                ("one database as both", compared + old + [new[0], old[1]], 7),
+                ("only the old one", compared + old, 15),
+                ("only the new one", compared + new, 15),
+                ("the old one twice", compared + old + old + new, 15),
+                ("the new one twice", compared + old + new + new, 15),
+                ("a pair without its last path", compared + old + new[:1], 15),
+                ("a path that begins with a hyphen", compared + old + [new[0], b"-x"], 15),
+                ("a pair and another word", compared + old + new + [b"x"], 15),
+                ("a pair beside a check", [b"-D"] + compared[1:] + old + new, 15),
+                ("a pair, a comparison and a check", [b"-D"] + compared + old + new, 15),
+                ("a pair and no job", compared[1:] + old + new, 15),
+                ("a pair and no configuration", [b"-E"] + old + new, 15),
+                ("a shorter name", compared + [b"--trusted", old[1]], 15),
+                ("a letter", compared + old + new + [b"-T", b"x"], 15),
+                ("a pair and --help", compared + old + new + [b"--help"], 15),
+                ("an empty path", compared + old + [new[0], b""], 18),
+                ("a path that is not there", compared + [old[0], folder.at("none")] + new, 18),
+                ("a folder in place of a database", compared + old + [new[0], folder.path], 18),
+            ):
+                self.ends(label, words, status)
+                if status == 15:
+                    self.check(
+                        label, run(self.lines_program, words), Answer(b"", USAGE_LINE + b"\n", 15)
+                    )
+
+    def test_refused(self) -> None:
+        """The program of the report refuses both options."""
+        with Folder() as folder:
+            folder_of(folder, FOUR)
+            for words in (
+                folder.words_beside(),
+                folder.words_beside()[:5],
+                [b"-D"] + folder.words_beside()[1:],
+            ):
+                self.check(
+                    "a report beside a pair",
+                    run(self.program, words),
+                    Answer(b"", USAGE_LINE + b"\n", 15),
+                )
+
+    def four(self, four):
+        with Folder() as folder:
+            folder_of(folder, four)
+            _, faults = self.beside(folder.words_beside())
+        return faults + ["the databases were %r" % four] if faults else []
+
+    @slow
+    def test_damages(self) -> None:
+        """Each way to damage each of the four in one step; the others are whole."""
+        for label, way in WAYS:
+            damaged = [
+                FOUR[:at] + [text] + FOUR[at + 1 :] for at in range(4) for text in way(FOUR[at])
+            ]
+            for faults in side_by_side(2, lambda four: self.four(four), damaged):
+                self.add(label, faults)
+
+    def test_first_faults(self) -> None:
+        """Of several databases with a fault the first one is named."""
+        for faulty in range(1, 16):
+            four = [
+                text.replace(b"@@end_db\n", b"") if faulty >> at & 1 else text
+                for at, text in enumerate(FOUR)
+            ]
+            first = [at for at in range(4) if faulty >> at & 1][0]
+            with Folder() as folder:
+                folder_of(folder, four)
+                want = Answer(
+                    b"",
+                    b"aide: %s database:%d: no @@end_db\n"
+                    % (NAMES[first], four[first].count(b"\n") + 1),
+                    24,
+                )
+                self.check(
+                    "faults %s" % bin(faulty), run(self.lines_program, folder.words_beside()), want
+                )
+                self.ends("faults %s, by the definitions" % bin(faulty), folder.words_beside(), 24)
+                for at in range(4):
+                    if faulty >> at & 1:
+                        os.unlink(folder.at(FILES[at]))
+                self.ends("missing %s" % bin(faulty), folder.words_beside(), 18)
+
+    def test_changes(self) -> None:
+        """Each database is opened twice. One that is another one at its second opening is named, and
+        the lines are cut."""
+        with Folder() as folder:
+            for label, four in (
+                ("small databases", FOUR),
+                ("long databases", [FOUR[0], names(6000), FOUR[2], names(6000)]),
+            ):
+                folder_of(folder, four)
+                whole = wanted_lines(folder.words_beside())
+                answer, openings = fed(self, folder, [[text] for text in four])
+                self.check(label + " through FIFOs", answer, whole)
+                self.holds(label + ", openings", openings == [2, 2, 2, 2], openings)
+                for at, name in enumerate(NAMES):
+                    text = four[at]
+                    for other in (
+                        text[:-9],
+                        text[:40],
+                        b"",
+                        text + b"#",
+                        text.replace(b"/", b"/x", 1),
+                        text.replace(b"1", b"2", 1),
+                    ):
+                        texts = [[each] for each in four]
+                        texts[at] = [text, other]
+                        answer, _ = fed(self, folder, texts)
+                        line = b"aide: the %s database changed while it was read\n" % name
+                        is_told = (answer.errors, answer.status) == (line, 18)
+                        is_cut = whole.output.startswith(answer.output) and len(
+                            answer.output
+                        ) < len(whole.output)
+                        is_right = is_told and is_cut if other != text else answer == whole
+                        self.holds(
+                            "%s, the %s one changes" % (label, name.decode()), is_right, answer
+                        )
+
+    @slow
+    def test_replaced(self) -> None:
+        """A trusted database that is replaced, or grows and shrinks, while it is read."""
+        compared, accounting = replacing()
+        for way in (replace, resize):
+            for name, (first, other) in accounting.items():
+                with Folder() as folder:
+                    folder_of(folder, compared + [text for text, _ in accounting.values()])
+                    second = first + b"more\n" if way is resize else other
+                    check_replaced(self, folder, way, name, (first, second))
+
+    @slow
+    def test_long_lines(self) -> None:
+        """Trusted databases with lines of the greatest length, and one byte longer."""
+        for at in (2, 3):
+            for more, status in ((0, 7), (1, 24)):
+                path = (
+                    b"/" + b"z" * (LINE_LIMIT - 1 - len(b" 100644 1 0") + more) + b" 100644 1 0\n"
+                )
+                four = (
+                    FOUR[:at] + [FOUR[at].replace(b"@@end_db", path + b"@@end_db")] + FOUR[at + 1 :]
+                )
+                with Folder() as folder:
+                    folder_of(folder, four)
+                    self.ends(
+                        "a line of %d bytes, %s" % (len(path) - 1, FILES[at]),
+                        folder.words_beside(),
+                        status,
+                    )
+
+    def test_outputs(self) -> None:
+        """An output that fails ends with 18."""
+        with Folder() as folder:
+            folder_of(folder, FOUR)
+            words = folder.words_beside()
+            with open("/dev/full", "wb") as full:
+                self.check(
+                    "a full device",
+                    run(self.lines_program, words, stdout=full),
+                    (None, NOT_WRITTEN, 18),
+                )
+            writing = closed_pipe()
+            self.check(
+                "a closed pipe",
+                run(self.lines_program, words, stdout=writing),
+                (None, NOT_WRITTEN, 18),
+            )
+            os.close(writing)
+            answer = run(self.lines_program, words, preexec_fn=lambda: os.close(1))
+            self.check("no standard output", answer, (b"", NOT_WRITTEN, 18))
+
+    def test_random_sessions(self) -> None:
+        """Random sessions, in which both accounts have to come often."""
+        try_sessions(self.beside, new_seed(), range(SESSIONS), 2, self, make_session_beside)
+        if SESSIONS >= 1000:
+            for account, count in self.accounts.items():
+                self.assertGreater(count, SESSIONS // 8, account)
+
+    @unittest.skipUnless(os.environ.get("AIDE_NIGHTS"), "only with AIDE_NIGHTS=DIRECTORY")
+    def test_nights(self) -> None:
+        """Each night of an intruder, with the night without him as the trusted pair, and each night
+        without him beside itself."""
+        nights = listed_nights()
+        for name, before in BEFORE.items():
+            for twin in (name + "-intruder", name):
+                if twin not in nights:
+                    continue
+                with Folder() as folder:
+                    four = []
+                    for each in (before, twin, before, name):
+                        with gzip.open(
+                            os.path.join(os.environ["AIDE_NIGHTS"], each + ".db.gz"), "rb"
+                        ) as file:
+                            four.append(file.read())
+                    folder_of(folder, four)
+                    answer = run(self.lines_program, folder.words_beside())
+                    self.check(twin, answer, wanted_lines(folder.words_beside()))
+                    left = left_in(answer.output)
+                    want = nights[twin] + (nights["every intruder"] if twin != name else [])
+                    self.add(
+                        twin + ", what is left", ["- " + line for line in want if line not in left]
+                    )
+                    self.add(
+                        twin + ", no more is left",
+                        ["+ " + line for line in left if line not in want],
+                    )
