@@ -1,6 +1,7 @@
 """What packages' records on the host have: which changes they group, and which they never do."""
 from __future__ import annotations
 
+import hashlib
 import os
 import random
 import re
@@ -217,6 +218,21 @@ class RecordedTest(CommandTest):
             with open(path, "wb") as file:
                 file.write(content)
             expect(self, label, host, {path: want})
+
+    def test_weak_digest(self) -> None:
+        """A database that has only SHA-1 of a content does not say which one it is: the file on
+        this machine is not asked."""
+        path = self.path("there").encode()
+        self.write("there", TWO)
+        host = Host()
+        columns = [column for column in host.new.columns if column not in ("md5", "sha256")]
+        host.new.columns = host.old.columns = (*columns, "sha1")
+        host.new.file(path, TWO, sha1=base64_of(hashlib.sha1(TWO).digest()))
+        for night in (host.old, host.new):
+            for fields in night.entries.values():
+                fields.setdefault("sha1", "0")
+        host.packages.append(Package("tool", "2", {path: TWO}))
+        expect(self, "a weak digest", host, {path: OPEN})
 
     def test_damage(self) -> None:
         """Damaged records group less, and end nothing."""

@@ -286,6 +286,16 @@ class StandingsTest(CommandTest):
         good = -1 not in places and places == sorted(places)
         self.holds("many entries", good and text.count("/srv/m/") == 20, (places, text[:500]))
 
+    def test_too_many(self) -> None:
+        """Of more changes than memory is given for, the report is printed, and says why."""
+        self.set_names("changes.judged", MAX_FINDINGS=2)
+        answer = self.call("aide-compare", "old.db", "new.db")
+        self.assertEqual(answer.status, 7, answer)
+        self.assertIn(b"AIDE found differences", answer.output)
+        self.assertIn(b"more than 2 changes", answer.errors)
+        self.set_names("changes.judged", MAX_FINDINGS=4)
+        self.assertIn(b"4 open", self.call("aide-compare", "old.db", "new.db").output)
+
     def test_hostile(self) -> None:
         """Names of others are escaped in the text, and cannot make a line of it."""
         for name in (b"/a\nOpen:", b"/a\033[31m", b"/a\xe2\x80\xae", b"/a\xff", b"/a\\"):

@@ -407,6 +407,15 @@ class WithoutTest(CommandTest):
         answer = self.call(TOOL, "--exclude", "/a/**", "empty.db", "no-modes.db")
         self.assertIn(b": /a/x\n", answer.output, ("a database without modes", answer))
 
+    def test_run_bits(self) -> None:
+        """A file that only its owner, its group or others may run is a program too, and stays."""
+        self.write("paths", b"/a/**\n")
+        for mode, status in ((0o100644, 0), (0o100744, 4), (0o100654, 4), (0o100645, 4)):
+            for name, size in (("o.db", 1), ("n.db", 2)):
+                self.write(name, HEAD + b"/a/x 36 %o %d\n" % (mode, size) + END)
+            answer = self.call("aide-compare", "--exclude-from", "paths", "o.db", "n.db")
+            self.assertEqual(answer.status, status, (oct(mode), answer))
+
     def test_marks(self) -> None:
         """The mark needs a reason. A line that means programs too does so beside a line that does
         not, in either order."""
