@@ -132,7 +132,8 @@ def usage_of(command: list[str], directory: str) -> Usage:
 
 def compare(executable: str, directory: str, level: str) -> list[str]:
     """The command that compares the pair of a directory at a level."""
-    form = "json" if level == LINES else "plain"
+    # The program of lines writes JSON in any case, and AIDE if it is asked to.
+    form = "json" if level == LINES and executable == AIDE else "plain"
     defined = f"@@define DIR {directory}\n@@define FORM {form}\n@@define LEVEL "
     defined += ENTRIES if level == LINES else level
     configuration = os.path.join(directory, "conf")
