@@ -320,7 +320,7 @@ class FilesTest(ModuleTest):
             self.expect(label + ", then", len(others), 1 if is_kept else 0)
             with open(path + "/state", "rb") as file:
                 self.expect(label + ", the new one", file.read(), b"three")
-            for name in left:
+            for name in others:
                 os.remove(os.path.join(path, name))
 
     def test_nameless(self) -> None:
