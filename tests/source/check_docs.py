@@ -25,7 +25,6 @@ from tools.lib.arguments import parser_of
 from tests.lib.tally import Tally
 from tests.pages.blocks import blocks_of
 from tools.source import headline_page, public_specs
-from tools.source.compare_promises import Revision, records_of
 
 TOP = public_specs.TOP
 DIAGRAMS = ("flowchart ", "sequenceDiagram\n")
@@ -185,15 +184,28 @@ def read_text(name):
         return ""
 
 
+def records() -> dict[str, list[str]]:
+    """The names of the fields of each record of the crates' specs/."""
+    form = re.compile(r"^pub record (\w+)\b[^=]*?\bwhere\n((?:  [^\n]*\n|\n(?=  ))*)", re.M)
+    found = {}
+    for path in glob.glob(
+        os.path.join(TOP, "crates", "*", "specs", "**", "*.antt"), recursive=True
+    ):
+        text = re.sub(r"^ *--.*\n", "", read(path), flags=re.M)
+        for name, fields in form.findall(text):
+            found[name] = re.findall(r"^  pub (\w+)", fields, re.M)
+    return found
+
+
 def promised_by(call: str, source: str) -> set[str]:
     """The names of what a call promises: its clauses, and the fields of the records that these
     cite."""
     text = read(source)
     contract = text[text.index(f"pub fn {call}<") :].split("\n{\n")[0]
     names = set(re.findall(r"ensures (\w+) \{", contract))
-    records = records_of(Revision(None))
+    fields = records()
     for word in set(re.findall(r"\w+", contract)):
-        names |= {field.split(" ")[0] for field in records.get(word, [])}
+        names.update(fields.get(word, []))
     return names
 
 

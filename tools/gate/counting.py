@@ -62,6 +62,13 @@ class Count:
         if status and not failed:
             self.fail(f"{name} ended with {status}")
 
+    def print_cost(self):
+        """Prints what each part took."""
+        for name, seconds, clock in self.spent:
+            print(f"{seconds:7.0f} s of the processor, {clock:7.0f} s by the clock: {name}")
+        minutes = sum(seconds for _, seconds, _ in self.spent) / 60
+        print(f"{minutes:.0f} minutes of the processor", flush=True)
+
     def status(self):
         """Prints the last line, and returns the status of the process."""
         print("%d passed, %d failed" % (self.passed, self.failed), flush=True)

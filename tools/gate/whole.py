@@ -1,14 +1,14 @@
 """The tests of the whole repository: the layout of the crates, `rt ci`, then the built program over
 real files.
 
-The very last line is 'N passed, M failed' of all together; the status is 1 if something failed.
-What the run cost is kept in `out/cost.json`.
+The very last line is 'N passed, M failed' of all together, after what each part took; the status is
+1 if something failed.
 """
 import os
 import subprocess
 import sys
 
-from tools.gate import cost, parts
+from tools.gate import parts
 from tools.gate.counting import TOP, Count
 from tools.gate.second_builds import NEWER
 from tools.lib.arguments import parser_of
@@ -34,9 +34,7 @@ def prove(count):
         if os.path.lexists(os.path.join(TOP, name)):
             os.remove(os.path.join(TOP, name))
     os.environ.setdefault("RT_JOBS", str(jobs()))
-    with cost.Watch() as watch:
-        count.run(parts.PROOFS)
-    return watch.crates()
+    count.run(parts.PROOFS)
 
 
 def runs_here(program):
@@ -47,17 +45,11 @@ def runs_here(program):
 
 
 def main():
-    parser = parser_of("tools.gate.whole", __doc__)
-    parser.add_argument(
-        "--cost", action="store_true", help="run nothing, and print what the last run here cost"
-    )
-    if parser.parse_args().cost:
-        print(cost.printed())
-        return 0
+    parser_of("tools.gate.whole", __doc__).parse_args()
     count = Count()
     for part in parts.FILES:
         count.run(part)
-    crates = prove(count)
+    prove(count)
     if all(os.access(os.path.join(TOP, name), os.X_OK) for name in (parts.PROGRAM, parts.LINES)):
         count.run(parts.SECOND_BUILDS)
         for part in parts.trials(parts.PROGRAM):
@@ -69,7 +61,7 @@ def main():
             print("skipped: this processor does not run the builds for newer ones", flush=True)
     else:
         count.fail("the programs were not built")
-    cost.keep(crates, count.spent)
+    count.print_cost()
     return count.status()
 
 
