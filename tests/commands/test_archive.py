@@ -181,6 +181,8 @@ def upgraded(sandbox: CommandTest) -> Place:
         night.file(b"/usr/bin/plain", content, 0o100755)
         night.directory(b"/usr/lib/multi").file(LIBRARY, content).directory(b"/usr/share/tool")
         night.file(b"/usr/share/tool/gone", ONE).file(CONFIGURATION, content)
+        # A new file is measured as the one before it, and gets none of its rights.
+        night.file(b"/usr/share/tool/a", ONE, capabilities=base64.b64encode(b"x").decode())
     del place.new.entries[b"/usr/share/tool/gone"]
     place.new.link(b"/usr/bin/alias", b"tool", size=4)
     place.new.link(b"/usr/bin/zero", b"0", lname="00", size=1)
@@ -303,8 +305,11 @@ class ArchiveTest(CommandTest):
         place.package(Built("tool-more", "1").file(TOOL, b"of two packages\n", 0o755))
         place.listed("tool-more", "1")
         place.sign()
-        got = place.standing(place.ask(), TOOL)
-        self.assertEqual(got, "open", "a path of two packages")
+        answer = place.ask()
+        for content in (TWO, b"of two packages\n"):
+            place.new.file(TOOL, content, 0o100755)
+            got = place.standing(answer, TOOL)
+            self.assertEqual(got, "open", ("a path of two packages", content))
 
     def test_not_applied(self) -> None:
         """New, removed and older packages are named, and nothing of them is applied."""
@@ -404,6 +409,7 @@ class ArchiveTest(CommandTest):
         refused("a longer package", b"has more than")
         self.write(package, whole)
         place.built[0].fields = place.built[0].fields.replace("pool/", "../pool/")
+        shutil.copytree(self.path("mirror/pool"), self.path("pool"))
         place.sign()
         answer = place.ask()
         self.expect(

@@ -290,7 +290,7 @@ class HandsTest(CommandTest):
             "-c x",
             "o.db",
             "--",
-            "--html yes",
+            "--attach-page yes",
             "--max-age",
             "--odd",
             "--to",

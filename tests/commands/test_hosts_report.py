@@ -244,7 +244,7 @@ class HostsReportTest(CommandTest):
             ["--only-path", "x"],
             ["--max-age", "31d"],
             ["--format=json", "--to", "root"],
-            ["--html"],
+            ["--attach-page"],
             ["--smtp", "mail.example:0"],
             ["--to", "-x"],
             ["x"],
@@ -441,7 +441,7 @@ class HostsReportTest(CommandTest):
         done = subprocess.run(["sh", "-c", command], stdout=subprocess.PIPE, env=self.environment())
         listed = done.stdout.count(b"\nadded on 2 of 4 hosts: File /n")
         self.assertEqual(listed, 500, ("the command that prints all", (command, listed)))
-        hosts.report("--to", "root", "--html")
+        hosts.report("--to", "root", "--attach-page")
         mail = self.read("mail")
         good = (
             b"multipart/" in mail

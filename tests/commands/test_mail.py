@@ -622,25 +622,31 @@ class MailTest(CommandTest):
     def test_pages(self) -> None:
         prepare(self)
         note = b"\naide-compare mail: there is no page: "
-        self.expect("a page", call(self, "--html", "old.db", "new.db"), 7, b"", b"")
+        self.expect("a page", call(self, "--attach-page", "old.db", "new.db"), 7, b"", b"")
         message = sent(self)
         parts = message.get_payload() if message is not None and message.is_multipart() else []
         kinds = [each.get_content_type() for each in parts]
         self.assertEqual(kinds, ["text/plain", "text/html"], ("the parts", message))
+        # A reader shows the text, and offers the page: of alternatives it would show the page.
+        self.assertEqual(message.get_content_type(), "multipart/mixed")
+        names = [(each.get_content_disposition(), each.get_filename()) for each in parts]
+        self.assertEqual(names, [(None, None), ("attachment", "changes.html")])
         page = body(parts[1]) if len(parts) == 2 else b""
         self.holds(
             "a plain page with the host",
             b"File changes on " in page and b"<script" not in page,
             parts,
         )
-        call(self, "--html", "--max-mail", "9k", "old.db", "new.db")
+        call(self, "--attach-page", "--max-mail", "9k", "old.db", "new.db")
         self.holds(
             "a page that is too large",
             body(sent(self)).endswith(note + b"it would be larger than --max-mail\n"),
         )
         failing = "def head(*words):\n    raise KeyError('an odd report')\n"
         self.after_import("show.page", "head\n" + failing)
-        self.expect("a page that fails", call(self, "--html", "old.db", "new.db"), 7, b"", b"")
+        self.expect(
+            "a page that fails", call(self, "--attach-page", "old.db", "new.db"), 7, b"", b""
+        )
         want = "there is no page: a fault of this command: KeyError: 'an odd report'"
         self.holds("a mail without a page", words_of(body(sent(self))).endswith(want))
 
@@ -669,7 +675,11 @@ class MailTest(CommandTest):
         unit = ["--queue", "queue", "--max-age", "50h", "--state", "state"]
         short = ["-A", "report_level=summary"]
         for label, words, wanted in (
-            ("a mail with a page", ["--html", "--queue", "queue", "old.db", "new.db"], (7, 2, 5)),
+            (
+                "a mail with a page",
+                ["--attach-page", "--queue", "queue", "old.db", "new.db"],
+                (7, 2, 5),
+            ),
             ("the unit's mail", [*unit, "-c", "conf"], (7, 3, 5)),
             ("a mail of a short report", [*unit[:2], *short, "old.db", "new.db"], (7, 2, 4)),
             ("a mail by sendmail", ["old.db", "new.db"], (7, 3, 3)),

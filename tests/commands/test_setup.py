@@ -176,7 +176,7 @@ class SetupTest(CommandTest):
             "setup --check, with the timer stopped", self.call(TOOL, "--check"), 18, told, b""
         )
         os.remove(self.path("stopped"))
-        self.write("root/etc/aide-compare/defaults", "--html\n")
+        self.write("root/etc/aide-compare/defaults", "--attach-page\n")
         self.expect("setup again, for root's mail", self.call(TOOL), 0, b"a test mail\n", b"")
         calls = made(self)[1]
         self.assertEqual(
@@ -194,7 +194,7 @@ class SetupTest(CommandTest):
         )
         self.assertEqual(
             self.read("root/etc/aide-compare/defaults"),
-            b"--html\n",
+            b"--attach-page\n",
             "what an administrator wrote stays",
         )
 

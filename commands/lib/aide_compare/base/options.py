@@ -159,7 +159,7 @@ MAIL_TIME = Option(
     kind=duration,
     default=60,
 )
-HTML = Option("--html", "send the page with all values too")
+ATTACH_PAGE = Option("--attach-page", "attach the page with all values to the text")
 WEEKLY = Option(
     "--weekly",
     "with --state: send a heartbeat on one day of the week (Mon)",
@@ -185,5 +185,5 @@ NO_DEFAULTS = Option("--no-defaults", "do not read the defaults in /etc/aide-com
 # The options of a comparison that may stand in the file of defaults, those of a mail, and those of
 # a check.
 COMPARISON_DEFAULTS = (CONFIG, MAX_SIZE, MAX_REPORT, MAX_AGE, EXCLUDE_FROM, EXCLUDE, TRUSTED)
-MAIL_DEFAULTS = (TO, MAX_MAIL, SMTP, MAIL_TIME, HTML, WEEKLY, ALARM)
+MAIL_DEFAULTS = (TO, MAX_MAIL, SMTP, MAIL_TIME, ATTACH_PAGE, WEEKLY, ALARM)
 CHECK_DEFAULTS = (WARNING, CRITICAL, ALARM)

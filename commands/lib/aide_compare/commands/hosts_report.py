@@ -12,7 +12,7 @@ from aide_compare.base.ending import Fault, Status, write_blocks
 from aide_compare.base.spool import Spool
 from aide_compare.base.line_sorter import LineSorter
 from aide_compare.base.kinds import Server, duration, matching, pattern
-from aide_compare.base.options import HTML, MAIL_TIME, RESULT_AGE, SMTP, TO, Option
+from aide_compare.base.options import ATTACH_PAGE, MAIL_TIME, RESULT_AGE, SMTP, TO, Option
 from aide_compare.base.parser import Parser, add_option
 from aide_compare.base.paths import Pattern
 from aide_compare.base.program import FRONT, find_installed
@@ -259,7 +259,7 @@ def own_parser() -> Parser:
     add_option(form, Option("--format", formats, choices=("text", "brief", "json", "page")))
     to = "mail the brief text, if a host differs or was not compared"
     add_option(form, TO._replace(help=to))
-    parser.add(HTML._replace(help="with --to: send the page with the text"), SMTP, MAIL_TIME)
+    parser.add(ATTACH_PAGE._replace(help="with --to: attach the page to the text"), SMTP, MAIL_TIME)
     text = f"a name a line; - is standard input ({HOSTS_FILE})"
     parser.add_operand("file", "HOSTS-FILE", text, nargs="?", default=HOSTS_FILE)
     return parser
@@ -267,8 +267,8 @@ def own_parser() -> Parser:
 
 def request_of(arguments: Sequence[str]) -> ReportRequest:
     args = own_parser().parse(arguments)
-    if args.html and not args.to:
-        raise Fault(Status.USAGE, "--html goes with --to", f"try: {NAME} --help")
+    if args.attach_page and not args.to:
+        raise Fault(Status.USAGE, "--attach-page goes with --to", f"try: {NAME} --help")
     usual_order = "path" if args.format == "json" else "rare"
     return ReportRequest(
         hosts_file=args.file,
@@ -280,7 +280,7 @@ def request_of(arguments: Sequence[str]) -> ReportRequest:
         order=args.order or usual_order,
         format=args.format or "text",
         address=args.to or "",
-        has_page=args.html,
+        has_page=args.attach_page,
         smtp=args.smtp,
         mail_seconds=args.mail_time,
         is_quiet=args.quiet,

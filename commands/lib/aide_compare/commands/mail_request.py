@@ -14,7 +14,7 @@ from aide_compare.base.options import (
     ALARM,
     COMPARISON_DEFAULTS,
     DAYS,
-    HTML,
+    ATTACH_PAGE,
     MAIL_DEFAULTS,
     MAIL_TIME,
     MAX_MAIL,
@@ -63,7 +63,7 @@ def own_parser() -> Parser:
     usage = "%(prog)s [OPTIONS] [ARGUMENTS of aide-compare]"
     parser = Parser(NAME, DESCRIPTION, epilog=EPILOG, usage=usage)
     parser.add(TO._replace(default="root", help="where the mail goes (root)"))
-    parser.add(MAX_MAIL, SMTP, MAIL_TIME, HTML)
+    parser.add(MAX_MAIL, SMTP, MAIL_TIME, ATTACH_PAGE)
     parser.add(ALARM._replace(help="which changes are mailed: not-silent (the default), or any"))
     queue = "keep the mail in this directory; --send-queue sends it"
     send = "compare nothing, and send the mails of this directory"
@@ -114,7 +114,7 @@ def parsed(words: Sequence[str]) -> MailRequest:
         max_mail=args.max_mail,
         smtp=args.smtp,
         seconds=args.mail_time,
-        has_page=args.html,
+        has_page=args.attach_page,
         alarm=args.alarm,
         is_test=args.test,
         weekly=args.weekly,

@@ -23,6 +23,7 @@ ONE_LINE_HEADERS = POLICY.clone(max_line_length=None)
 MAX_LINE = 990
 MAX_FIRST_LINES = 25
 MAX_FIRST_WIDTH = 300
+PAGE_NAME = "changes.html"
 
 
 def host_name() -> str:
@@ -71,7 +72,7 @@ def encoding_of(data: bytes) -> str:
 
 
 def build(address: str, subject: str, text: bytes, page: Optional[bytes] = None) -> bytes:
-    """The bytes of a mail: a text, or a text and its page."""
+    """The bytes of a mail: a text, to which its page may be attached."""
     message = EmailMessage(policy=POLICY)
     message["To"] = address
     message["Subject"] = subject
@@ -82,9 +83,10 @@ def build(address: str, subject: str, text: bytes, page: Optional[bytes] = None)
         text.decode("utf-8", "replace"), cte=encoding_of(text), content_manager=raw_data_manager
     )
     if page is not None:
-        message.add_alternative(
+        message.add_attachment(
             page.decode("utf-8", "replace"),
             subtype="html",
+            filename=PAGE_NAME,
             cte=encoding_of(page),
             content_manager=raw_data_manager,
         )
