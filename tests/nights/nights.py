@@ -70,6 +70,7 @@ class Nights:
         source = f"deb http://deb.debian.org/debian-security {suite}-security main\n"
         machine.write("etc/apt/sources.list.d/security.list", source)
         machine.chroot("apt-get", "update")
+        machine.chroot("apt-get", "install", "-y", "--no-install-recommends", "gpgv")
         machine.chroot("apt-get", "install", "-y", "-d", "nginx-light", "jq", "tree")
         machine.chroot("apt-get", "upgrade", "-y", "-d")
         shutil.copy(package, machine.root / "var/tmp/aide-compare.deb")
