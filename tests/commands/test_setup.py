@@ -25,7 +25,11 @@ is-enabled) grep -q "^enable --now" "%s";;
 is-active) [ ! -e "%s" ];;
 show) echo "Sat 2026-11-28 08:12:33 UTC";;
 esac""",
-    "aide-compare": 'echo "$*" >> "%s"',
+    # What it says of a comparison of now is chosen by a file.
+    "aide-compare": """echo "$*" >> "%s"
+[ "$1" = --quiet ] || exit 0
+[ ! -e "%s" ] || { echo 'aide-compare: the new database is 3 days old' >&2; exit 18; }
+exit 4""",
 }
 
 
@@ -47,6 +51,7 @@ def prepare(sandbox):
     places = {
         "aideinit": (sandbox.path("old.db"), sandbox.path(DATABASES + "aide.db"), calls),
         "systemctl": (calls, calls, sandbox.path("stopped")),
+        "aide-compare": (calls, sandbox.path("stale")),
     }
     for name, body in STUBS.items():
         sandbox.stub(name, body % places.get(name, (calls,)))
@@ -124,14 +129,13 @@ class SetupTest(CommandTest):
             ],
             b"",
         )
-        last = done.output.decode().splitlines()[-1]
-        good = re.fullmatch(
-            "Done, (8|9|10) steps now\\. The first comparison runs on Sat 2026-11-28 08:12:33 UTC; .*",
-            last,
+        last = done.output.decode().partition("\n\n")[2]
+        begin = (
+            "Done: (8|9|10) steps now\\.\nThe first comparison runs on Sat 2026-11-28 08:12:33 UTC\\.\n"
+            "Then a@example\\.org gets a mail if a change is not silent, or if nothing was compared:\n"
         )
-        self.holds(
-            "the last line says what comes next", good and "a@example.org gets a mail" in last, last
-        )
+        good = re.match(begin, last) and "    Subject: aide on " in last
+        self.holds("the last lines tell what comes next", good, last)
         for name, mode in (
             (DAILY, 0o755),
             ("root/etc/aide-compare/without", 0o644),
@@ -167,9 +171,15 @@ class SetupTest(CommandTest):
         )
         wanted = ["daemon-reload", "enable --now aide-compare.timer"]
         self.assertEqual(calls[-4:-2], wanted, ("the timer is on before, as it will run", calls))
-        self.expect(
-            "setup --check, after", self.call(TOOL, "--check"), 0, b"nothing is missing", b""
-        )
+        os.chown(self.write(DATABASES + "aide.db.new", "@@begin_db\n"), NOBODY, NOBODY)
+        told = [b"a comparison of now finds differences: aide-compare\n", b"nothing is missing\n"]
+        self.expect("setup --check, after", self.call(TOOL, "--check"), 0, told, b"")
+        self.write("stale", "")
+        told = [b"missing: a comparison: it ends with status 18\n", b"1 thing is missing\n"]
+        stale = b"the new database is 3 days old"
+        answer = self.call(TOOL, "--check")
+        self.expect("setup --check, of an old database", answer, 18, told, stale)
+        os.remove(self.path("stale"))
         self.write("stopped", "")
         told = [b"missing: the timer aide-compare.timer\n", b"1 thing is missing\n"]
         self.expect(

@@ -12,7 +12,7 @@ from typing import NamedTuple
 
 from aide_compare.base.ending import Fault, Status, tell
 from aide_compare.base.escapes import shown
-from aide_compare.base.files import reopened
+from aide_compare.base.files import read_file, reopened
 from aide_compare.base.replacement import replace
 from aide_compare.base.directories import closed_after, open_directory
 from aide_compare.base.options import ALARM, NOT_SILENT, TO, Option
@@ -27,6 +27,7 @@ from aide_compare.commands.setup_machine import (
     next_time,
     run,
     says_yes,
+    status_of,
 )
 
 NAME = "aide-compare setup"
@@ -41,6 +42,18 @@ DAILY = "daily"
 TIMER = "aide-compare.timer"
 DATABASE_STARTS = (b"\x1f\x8b", b"@@begin_db", b"#")
 SECONDS_OF_INIT = 6 * 3600
+SECONDS_OF_COMPARISON = 600
+LAST_DIFFERENCE = 7  # Of the statuses of a comparison, the last one that is an answer.
+MAX_DEFAULTS = 1 << 16
+# What a mail looks like.
+SUBJECT = "    Subject: aide on {host}: 3 open (1 high), 41 recorded of 512 changes"
+MAIL = (
+    "    Open, severity high:",
+    "      changed  /usr/bin/ls: content",
+    "    ...",
+    "    Recorded, as dpkg on this host says:",
+    "      openssl 3.0.17-1: 41 files",
+)
 DEFAULTS_TEXT = """\
 # Options of aide-compare, aide-compare mail and check_aide_compare, one a line. See
 # aide-compare-setup(8).
@@ -157,12 +170,29 @@ class Machine:
         time = next_time(TIMER)
         return f"on {time}" if time else f"by {TIMER}"
 
-    def summary(self, count: int) -> str:
-        """The last line: what was done, and what comes next."""
-        done = f"Done, {counted(count, 'step')} now" if count else "All was there already"
+    def summary(self, count: int) -> list[str]:
+        """The last lines: what was done, and what comes next."""
+        done = f"Done: {counted(count, 'step')} now." if count else "All was there already."
         reader = shown(self.request.address or "root")
-        first = f"The first comparison runs {self.next_run()}"
-        return f"{done}. {first}; {reader} gets a mail if something differs."
+        cause = "if anything differs" if self.mails_any_change() else "if a change is not silent"
+        mail = f"Then {reader} gets a mail {cause}, or if nothing was compared:"
+        first = f"The first comparison runs {self.next_run()}."
+        example = [SUBJECT.format(host=shown(os.uname().nodename)), *MAIL]
+        return ["", done, first, mail, "", *example, "", "To compare now: aide-compare"]
+
+    def mails_any_change(self) -> bool:
+        """Whether the file of options asks for a mail of silent changes too."""
+        with suppress(Fault, OSError):
+            return b"\n--alarm any\n" in read_file(PATHS.defaults, MAX_DEFAULTS)
+        return False
+
+    def comparison(self) -> int | None:
+        """The status of a comparison of now, which prints why it fails; None without databases, or
+        for a user who cannot read them."""
+        paths = [os.path.join(PATHS.databases, name) for name in self.names]
+        if os.geteuid() != 0 or not all(map(os.path.lexists, paths)):
+            return None
+        return status_of(["aide-compare", "--quiet"], SECONDS_OF_COMPARISON, None)
 
     def send_test(self) -> None:
         if not self.request.wants_mail or self.request.changes_nothing:
@@ -249,12 +279,18 @@ def take_steps(machine: Machine) -> None:
         if not machine.request.is_dry_run:
             step.make()
     if not machine.request.is_dry_run:
-        tell(machine.summary(count))
+        tell(*machine.summary(count))
 
 
 def check(machine: Machine) -> int:
     """Says what is missing, and changes nothing."""
     missing = [step.title for step in machine.steps() if not step.is_done]
+    status = machine.comparison()
+    if status is not None and status > LAST_DIFFERENCE:
+        missing.append(f"a comparison: it ends with status {status}")
+    elif status is not None:
+        found = "differences: aide-compare" if status else "no difference"
+        tell(f"a comparison of now finds {found}")
     if not missing:
         tell("nothing is missing")
         return Status.OK
@@ -268,7 +304,7 @@ def request_of(arguments: Sequence[str]) -> SetupRequest:
     parser = Parser(NAME, DESCRIPTION, "print nothing but why a step failed", epilog=EPILOG)
     parser.add(
         Option("--dry-run", "print the steps, and change nothing"),
-        Option("--check", "say what is missing, and change nothing"),
+        Option("--check", "print what is missing, compare once, and change nothing"),
         TO._replace(help="who gets the mails (root)"),
         ALARM._replace(help="mail the changes that are not silent, or any (not-silent)"),
         Option("--cron", "a job of cron instead of the timer"),
