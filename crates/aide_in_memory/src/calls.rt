@@ -1,7 +1,10 @@
 //! The calls of a session that take memory. Each is made once more if memory is refused.
-use aide_db::{Side, Sources};
+use aide_db::{Desk, Side, Sources};
 use aide_report::WriteSink;
-use aide_session::{Job, Memory, MemorySite, Site, Words, WordsFault, read_words, session};
+use aide_session::{
+    BesideJob, Job, Memory, MemorySite, Site, Words, WordsFault, lines_session_beside_on,
+    read_beside_words, read_words, session,
+};
 use arrayvec::ArrayVec;
 use std::alloc::Global;
 
@@ -73,6 +76,32 @@ pub(crate) fn job_of(rt: &HostRuntime, words: &Words) -> Result<(), Memory> {
     Ok(())
 }
 
+/// Prints what a command line asks for that names a trusted pair.
+fn print_beside_job(rt: &HostRuntime, job: &BesideJob) {
+    let (config, before, after) = (job.config.as_str(), job.before.as_str(), job.after.as_str());
+    let (old, new) = (job.trusted_old.as_str(), job.trusted_new.as_str());
+    let _ = println!(rt; "job: compare {config} [{before}] [{after}] beside {old} {new}");
+}
+
+/// Reads a command line that may name a trusted pair, and prints the answer.
+pub(crate) fn beside_job_of(rt: &HostRuntime, words: &Words) -> Result<(), Memory> {
+    let answer = match read_beside_words(rt.alloc(), words) {
+        Err(WordsFault::Memory) => {
+            tell(rt, "read_beside_words");
+            read_beside_words(rt.alloc(), words)
+        }
+        answer => answer,
+    };
+    match answer {
+        Ok(job) => print_beside_job(rt, &job),
+        Err(WordsFault::Usage) => {
+            let _ = println!(rt; "job: no trusted pair");
+        }
+        Err(WordsFault::Memory) => return Err(Memory),
+    }
+    Ok(())
+}
+
 /// Prints how many bytes a side gives.
 fn print_side(rt: &HostRuntime, site: &mut MemorySite<'_>, side: Side) {
     match site.open(side) {
@@ -118,6 +147,13 @@ impl Ended {
     fn is_starved(&self) -> bool {
         self.status == 22 && self.output.is_empty() && self.errors.as_slice() == STARVED
     }
+
+    /// Prints the output, the error lines and the status.
+    fn print(&self, rt: &HostRuntime) {
+        let _ = rt.stdout().write_all(self.output.as_slice());
+        let _ = rt.stdout().write_all(self.errors.as_slice());
+        let _ = println!(rt; "status {}", self.status);
+    }
 }
 
 /// Runs a session whose output and error lines take no memory.
@@ -146,8 +182,53 @@ pub(crate) fn run(
             return Err(Memory);
         }
     }
-    let _ = rt.stdout().write_all(ended.output.as_slice());
-    let _ = rt.stdout().write_all(ended.errors.as_slice());
-    let _ = println!(rt; "status {}", ended.status);
+    ended.print(rt);
+    Ok(())
+}
+
+/// Runs a session that writes lines, whose output and error lines take no memory.
+fn lines_end_of<'a>(
+    alloc: Global,
+    words: &Words,
+    site: &mut MemorySite<'a>,
+    trusted: &mut MemorySite<'a>,
+) -> Ended {
+    let mut out = WriteSink::new(ArrayVec::<u8, 4096>::new());
+    let mut err = WriteSink::new(ArrayVec::<u8, 4096>::new());
+    let mut desk = Desk::new(alloc);
+    let mut trusted_desk = Desk::new(alloc);
+    let status = lines_session_beside_on(
+        alloc,
+        words,
+        &mut desk,
+        site,
+        &mut trusted_desk,
+        trusted,
+        &mut out,
+        &mut err,
+    );
+    Ended {
+        status,
+        output: out.into_inner(),
+        errors: err.into_inner(),
+    }
+}
+
+/// Runs a session that writes lines, and prints its answer.
+pub(crate) fn run_lines<'a>(
+    rt: &HostRuntime,
+    words: &Words,
+    site: &mut MemorySite<'a>,
+    trusted: &mut MemorySite<'a>,
+) -> Result<(), Memory> {
+    let mut ended = lines_end_of(rt.alloc(), words, site, trusted);
+    if ended.is_starved() {
+        tell(rt, "lines_session_beside_on");
+        ended = lines_end_of(rt.alloc(), words, site, trusted);
+        if ended.is_starved() {
+            return Err(Memory);
+        }
+    }
+    ended.print(rt);
     Ok(())
 }

@@ -7,18 +7,24 @@ mod rows;
 
 use aide_db::Side;
 use aide_session::{Memory, MemorySite, Words};
-use calls::{add, job_of, point, push, run};
-use rows::{ROWS, Row};
+use calls::{add, beside_job_of, job_of, point, push, run, run_lines};
+use rows::{CONF, LINES_ROWS, LinesRow, MODES_NEW, MODES_OLD, ROWS, Row, TRUSTED_OLD};
 use std::process::ExitCode;
+
+/// The arguments of a row: those before the last one, which are separated by blanks, and the last one.
+fn words_of(rt: &HostRuntime, before: &str, last: &str) -> Result<Words, Memory> {
+    let mut words = Words::new(rt.alloc());
+    for word in before.split(' ') {
+        push(rt, &mut words, word)?;
+    }
+    push(rt, &mut words, last)?;
+    Ok(words)
+}
 
 /// Makes all calls of a session.
 fn play(rt: &HostRuntime, row: &Row) -> Result<(), Memory> {
     let _ = println!(rt; "{}:", row.name);
-    let mut words = Words::new(rt.alloc());
-    for word in row.words.split(' ') {
-        push(rt, &mut words, word)?;
-    }
-    push(rt, &mut words, row.last)?;
+    let words = words_of(rt, row.words, row.last)?;
     let mut site = MemorySite::new(rt.alloc());
     add(rt, &mut site, "/conf", row.conf)?;
     add(rt, &mut site, "/old", row.old)?;
@@ -30,9 +36,29 @@ fn play(rt: &HostRuntime, row: &Row) -> Result<(), Memory> {
     run(rt, &words, &mut site)
 }
 
+/// Makes all calls of a session that writes lines.
+fn play_lines(rt: &HostRuntime, row: &LinesRow) -> Result<(), Memory> {
+    let _ = println!(rt; "{}:", row.name);
+    let words = words_of(rt, row.words, row.last)?;
+    let mut site = MemorySite::new(rt.alloc());
+    add(rt, &mut site, "/conf", CONF)?;
+    add(rt, &mut site, "/old", MODES_OLD)?;
+    add(rt, &mut site, "/new", MODES_NEW)?;
+    let mut trusted = MemorySite::new(rt.alloc());
+    add(rt, &mut trusted, "/trusted_old", TRUSTED_OLD)?;
+    add(rt, &mut trusted, "/trusted_new", row.trusted_new)?;
+    beside_job_of(rt, &words)?;
+    run_lines(rt, &words, &mut site, &mut trusted)
+}
+
 fn main(rt: HostRuntime) -> ExitCode {
     for row in &ROWS {
         if let Err(Memory) = play(&rt, row) {
+            return ExitCode::from(22);
+        }
+    }
+    for row in &LINES_ROWS {
+        if let Err(Memory) = play_lines(&rt, row) {
             return ExitCode::from(22);
         }
     }

@@ -10,7 +10,7 @@ pub(crate) struct Row {
     pub(crate) new: &'static [u8],
 }
 
-const CONF: &[u8] = b"database_in=file:/old\ndatabase_new=file:/new\n";
+pub(crate) const CONF: &[u8] = b"database_in=file:/old\ndatabase_new=file:/new\n";
 
 const OLD: &[u8] =
     b"@@begin_db\n@@db_spec name attr perm size\n/b 36 40755 4096\n/c 36 100644 10\n@@end_db\n";
@@ -44,6 +44,19 @@ report_ignore_added_attrs=Ours
 const SKIPPING: &[u8] = b"@@begin_db\n@@db_spec name foo perm bar\n/a 1 100644 2\n@@end_db\n";
 
 const UNORDERED: &[u8] = b"@@begin_db\n@@db_spec name size\n/b 1\n/a 1\n@@end_db\n";
+
+/// The modes of `/a` and `/b` have changed.
+pub(crate) const MODES_OLD: &[u8] =
+    b"@@begin_db\n@@db_spec name perm\n/a 40755\n/b 40755\n@@end_db\n";
+
+pub(crate) const MODES_NEW: &[u8] =
+    b"@@begin_db\n@@db_spec name perm\n/a 40700\n/b 40777\n@@end_db\n";
+
+/// The trusted machine has the new mode of `/a`, and not that of `/b`.
+pub(crate) const TRUSTED_OLD: &[u8] = b"@@begin_db\n@@db_spec name perm\n/b 40755\n@@end_db\n";
+
+const TRUSTED_NEW: &[u8] =
+    b"@@begin_db\n@@db_spec name perm\n/a 40700\n/b 40755\n/c 40755\n@@end_db\n";
 
 pub(crate) const ROWS: [Row; 10] = [
     Row {
@@ -125,5 +138,47 @@ pub(crate) const ROWS: [Row; 10] = [
         conf: CONF,
         old: OLD,
         new: NEW,
+    },
+];
+
+/// A session that writes lines, whose arguments may name a trusted pair: its arguments before the last one, and the
+/// last one.
+pub(crate) struct LinesRow {
+    pub(crate) name: &'static str,
+    pub(crate) words: &'static str,
+    pub(crate) last: &'static str,
+    pub(crate) trusted_new: &'static [u8],
+}
+
+pub(crate) const LINES_ROWS: [LinesRow; 5] = [
+    LinesRow {
+        name: "lines beside a trusted pair",
+        words: "aide_lines -E -c /conf --trusted-old /trusted_old --trusted-new",
+        last: "/trusted_new",
+        trusted_new: TRUSTED_NEW,
+    },
+    LinesRow {
+        name: "a trusted database out of path order",
+        words: "aide_lines -E -c /conf --trusted-old /trusted_old --trusted-new",
+        last: "/trusted_new",
+        trusted_new: UNORDERED,
+    },
+    LinesRow {
+        name: "a trusted database that is not there",
+        words: "aide_lines -E -c /conf --trusted-new /trusted_new --trusted-old",
+        last: "/none",
+        trusted_new: TRUSTED_NEW,
+    },
+    LinesRow {
+        name: "a trusted pair in part",
+        words: "aide_lines -E -c /conf --trusted-old",
+        last: "/trusted_old",
+        trusted_new: TRUSTED_NEW,
+    },
+    LinesRow {
+        name: "lines without a trusted pair",
+        words: "aide_lines -E -c",
+        last: "/conf",
+        trusted_new: TRUSTED_NEW,
     },
 ];

@@ -1,4 +1,5 @@
 //! Sessions over files in memory, and over files of the machine.
+mod beside;
 mod callers;
 mod desk;
 mod devices;

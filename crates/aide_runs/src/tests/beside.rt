@@ -1,0 +1,148 @@
+//! Sessions beside a trusted pair. Their output is that of the plain program in `tests/oracle`.
+use super::session::{CONF, Ended, site_of, words_of};
+use aide_db::Desk;
+use aide_headline::run_beside_program;
+use aide_report::MemorySink;
+use aide_session::{Memory, MemorySite, Site, Words, lines_session_beside_on};
+use std::alloc::Global;
+use std::test::Fail;
+
+const OLD: &[u8] = b"@@begin_db\n@@db_spec name perm\n/kept 40755\n/opened 40700\n@@end_db\n";
+
+/// In this one the modes of both directories have changed.
+const NEW: &[u8] = b"@@begin_db\n@@db_spec name perm\n/kept 40700\n/opened 40777\n@@end_db\n";
+
+const TRUSTED_OLD: &[u8] = b"@@begin_db\n@@db_spec name perm\n/kept 40755\n@@end_db\n";
+
+/// The trusted machine has the new mode of `/kept`, and no `/opened`.
+const TRUSTED_NEW: &[u8] = b"@@begin_db\n@@db_spec name perm\n/kept 40700\n@@end_db\n";
+
+/// It has no end.
+const CUT: &[u8] = b"@@begin_db\n@@db_spec name perm\n/kept 40755\n";
+
+const LINE: &str = "aide_lines -E -c /conf --trusted-old /trusted_old --trusted-new /trusted_new";
+
+const LINES: &[u8] = b"{\"format\":3,\"old\":{\"path\":\"/old\",\
+\"sha256\":\"ae2e6e05d98a36a54ebb46f1fdc5d2a1dd520a09d86a99651c89c801424dac9d\",\
+\"skipped\":[]},\"new\":{\"path\":\"/new\",\
+\"sha256\":\"b207871e45b1a9ad648bf184c9a72efeef391d08c36515cca0161e0cbd753faf\",\
+\"skipped\":[]},\"trusted_old\":{\"path\":\"/trusted_old\",\
+\"sha256\":\"44cd3b378a6c59cd9d3e5a2b67a45b208d8dcd697263fcb5054e299271cc01de\",\
+\"skipped\":[]},\"trusted_new\":{\"path\":\"/trusted_new\",\
+\"sha256\":\"75bca656b3d8d9689f1b11eedd04448c4abed4d6136623722bc8e9f42e4dd5a4\",\
+\"skipped\":[]}}\n\
+{\"kind\":\"changed\",\"path\":\"/kept\",\"summary\":\"d   p             \",\
+\"same_as\":\"trusted\",\"type\":\"Directory\",\"old\":{\"Perm\":\"0755\"},\
+\"new\":{\"Perm\":\"0700\"}}\n\
+{\"kind\":\"changed\",\"path\":\"/opened\",\"summary\":\"d   p             \",\
+\"type\":\"Directory\",\"old\":{\"Perm\":\"0700\"},\"new\":{\"Perm\":\"0777\"}}\n\
+{\"end\":true,\"total\":2,\"added\":0,\"removed\":0,\"changed\":2,\
+\"same_as_old\":0,\"same_as_trusted\":1,\"others\":1,\"status\":4}\n";
+
+/// A site with a trusted pair.
+fn trusted_site<'a>(alloc: Global, old: &'a [u8], new: &'a [u8]) -> Result<MemorySite<'a>, Memory> {
+    let mut site = MemorySite::new(alloc);
+    site.add("/trusted_old", old)?;
+    site.add("/trusted_new", new)?;
+    Ok(site)
+}
+
+/// Runs a session on these desks. It has no contract, so that the many facts about `lines_session_beside_on` are no
+/// part of the proofs of its callers.
+fn ended_on<S: Site>(
+    alloc: Global,
+    words: &Words,
+    desk: &mut Desk<Global>,
+    site: &mut S,
+    trusted_desk: &mut Desk<Global>,
+    trusted: &mut S,
+) -> Ended {
+    let mut output = MemorySink::new(alloc);
+    let mut errors = MemorySink::new(alloc);
+    let status = lines_session_beside_on(
+        alloc,
+        words,
+        desk,
+        site,
+        trusted_desk,
+        trusted,
+        &mut output,
+        &mut errors,
+    );
+    Ended {
+        status,
+        output,
+        errors,
+    }
+}
+
+/// What the whole program writes and returns. It has no contract, for the same reason.
+fn program_ended<S: Site>(alloc: Global, words: &Words, site: &mut S, trusted: &mut S) -> Ended {
+    let mut output = MemorySink::new(alloc);
+    let mut errors = MemorySink::new(alloc);
+    let mut desk = Desk::new(alloc);
+    let mut trusted_desk = Desk::new(alloc);
+    let status = run_beside_program(
+        alloc,
+        words,
+        &mut desk,
+        site,
+        &mut trusted_desk,
+        trusted,
+        &mut output,
+        &mut errors,
+    );
+    Ended {
+        status,
+        output,
+        errors,
+    }
+}
+
+#[test]
+fn writes_the_lines_beside_a_trusted_pair(rt: HostRuntime) -> Result<(), Fail> {
+    let mut site = site_of(rt.alloc(), CONF, OLD, NEW)?;
+    let mut trusted = trusted_site(rt.alloc(), TRUSTED_OLD, TRUSTED_NEW)?;
+    let words = words_of(rt.alloc(), LINE)?;
+    let mut desk = Desk::new(rt.alloc());
+    let mut trusted_desk = Desk::new(rt.alloc());
+    let ended = ended_on(
+        rt.alloc(),
+        &words,
+        &mut desk,
+        &mut site,
+        &mut trusted_desk,
+        &mut trusted,
+    );
+    assert!(rt; ended.status == 4, "status {}", ended.status);
+    assert!(rt; ended.output.bytes() == LINES, "output");
+    assert!(rt; ended.errors.bytes().is_empty(), "error lines");
+    // The two entries of a path are on the desk of their pair at once.
+    assert!(rt; desk.peak() >= 13 + 13 && trusted_desk.peak() >= 11 + 11);
+    Ok(())
+}
+
+#[test]
+fn runs_the_whole_program_beside_a_trusted_pair(rt: HostRuntime) -> Result<(), Fail> {
+    let mut site = site_of(rt.alloc(), CONF, OLD, NEW)?;
+    let mut trusted = trusted_site(rt.alloc(), TRUSTED_OLD, TRUSTED_NEW)?;
+    let words = words_of(rt.alloc(), LINE)?;
+    let ended = program_ended(rt.alloc(), &words, &mut site, &mut trusted);
+    assert!(rt; ended.status == 4, "status {}", ended.status);
+    assert!(rt; ended.output.bytes() == LINES, "output");
+    assert!(rt; ended.errors.bytes().is_empty(), "error lines");
+    Ok(())
+}
+
+#[test]
+fn names_the_fault_of_a_trusted_database(rt: HostRuntime) -> Result<(), Fail> {
+    let mut site = site_of(rt.alloc(), CONF, OLD, NEW)?;
+    let mut trusted = trusted_site(rt.alloc(), TRUSTED_OLD, CUT)?;
+    let words = words_of(rt.alloc(), LINE)?;
+    let ended = program_ended(rt.alloc(), &words, &mut site, &mut trusted);
+    assert!(rt; ended.status == 24, "status {}", ended.status);
+    assert!(rt; ended.output.bytes().is_empty(), "output");
+    let line = b"aide: trusted new database:4: no @@end_db\n";
+    assert!(rt; ended.errors.bytes() == line, "error lines");
+    Ok(())
+}
