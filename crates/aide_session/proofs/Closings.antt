@@ -69,7 +69,7 @@ closes_misused w files words d e f m n course site out none put unopened unflush
       status_is = refl;
       output = (appends_none d, unopened, unflushed);
       opens = tt;
-      opens_some = opens_none course.opened_before course.opened_after w.most_openings unopened;
+      opens_some = opens_none course.opened_before course.opened_after w.of_databases.most_openings unopened;
       put = put;
     }
 
@@ -86,7 +86,7 @@ closes_starved w files words d e f m n course site out put unopened unflushed =
       status_is = refl;
       output = (appends_none d, unopened, unflushed);
       opens = tt;
-      opens_some = opens_none course.opened_before course.opened_after w.most_openings unopened;
+      opens_some = opens_none course.opened_before course.opened_after w.of_databases.most_openings unopened;
       put = put;
     }
 
@@ -106,7 +106,7 @@ closes_unread w files words job d e f m n course site out is failed put unopened
       status_is = refl;
       output = (appends_none d, unopened, unflushed);
       opens = tt;
-      opens_some = opens_none course.opened_before course.opened_after w.most_openings unopened;
+      opens_some = opens_none course.opened_before course.opened_after w.of_databases.most_openings unopened;
       put = put;
     }
 
@@ -124,7 +124,7 @@ closes_large w files words job d e f m n course site out is large put unopened u
       status_is = refl;
       output = (appends_none d, unopened, unflushed);
       opens = tt;
-      opens_some = opens_none course.opened_before course.opened_after w.most_openings unopened;
+      opens_some = opens_none course.opened_before course.opened_after w.of_databases.most_openings unopened;
       put = put;
     }
 
@@ -157,7 +157,7 @@ closes_bad_config w files words config compare fault d e f m n course site out r
       status_is = refl;
       output = (appends_none d, unopened, unflushed);
       opens = tt;
-      opens_some = opens_none course.opened_before course.opened_after w.most_openings unopened;
+      opens_some = opens_none course.opened_before course.opened_after w.of_databases.most_openings unopened;
       put = put;
     }
 
@@ -174,7 +174,7 @@ closes_told w files words config s c d e m course site out read told unopened =
       status_is = refl;
       output = (told, unopened);
       opens = tt;
-      opens_some = opens_none course.opened_before course.opened_after w.most_openings unopened;
+      opens_some = opens_none course.opened_before course.opened_after w.of_databases.most_openings unopened;
       put = put_none e m;
     }
 
@@ -191,7 +191,7 @@ closes_untold w files words config s c d e f m n course site out read untold ros
       status_is = refl;
       output = (untold, unopened);
       opens = tt;
-      opens_some = opens_none course.opened_before course.opened_after w.most_openings unopened;
+      opens_some = opens_none course.opened_before course.opened_after w.of_databases.most_openings unopened;
       put = put;
     }
 

@@ -172,7 +172,7 @@ given_answer named (Err fault) = refl
 -- an answer over what stands at both paths is that of a run
 pub compared_by : (w : Writing) (options : Options) (named : Named) (old new : Option (List ℕ)) (a : Answer)
     → IsComparedBy w options named old new a
-    → (r : Result Report RunFault) × RunsOverBy limits (w.over (asked_by options named)) old new r × (a ≡ answer_by named r)
+    → (r : Result Report RunFault) × RunsOverBy limits (w.of_databases.over (asked_by options named)) old new r × (a ≡ answer_by named r)
 compared_by w options named None new a is = (Err (Open Old), refl, is)
 compared_by w options named (Some old) None a is = elim is [
   | inl refusal ↦ (Err (Open New), inl (refusal.0, refl), refusal.1)
@@ -303,12 +303,13 @@ same_asked options wish old_path old_task new_path new_task o p q i =
 -- the answer of a comparison of both sides is that of a run
 pub run_of : (w : Writing) (bytes_of : Side → Option (List ℕ)) (is_missing : Side → Bool) (asked : Asked) (named : Named) (a : Answer)
     (is : ComparesSides w bytes_of is_missing asked named a)
-    → (r : Result Report RunFault) × RunsOverBy limits (w.over asked) is.old_file is.new_file r × (a ≡ answer_by named r)
+    → (r : Result Report RunFault) × RunsOverBy limits (w.of_databases.over asked) is.old_file is.new_file r × (a ≡ answer_by named r)
 run_of w bytes_of is_missing asked named a is =
     let by_run = compared_by w asked.options named is.old_file is.new_file a is.then_is in
     let same = same_asked asked.options asked.options named.old_path asked.old_path named.new_path asked.new_path refl is.old_is
     is.new_is in
-    (by_run.0, subst (λ (wish : Asked). RunsOverBy limits (w.over wish) is.old_file is.new_file by_run.0) same by_run.1, by_run.2)
+    let over = w.of_databases.over in
+    (by_run.0, subst (λ (wish : Asked). RunsOverBy limits (over wish) is.old_file is.new_file by_run.0) same by_run.1, by_run.2)
 
 -- the line of a run's fault over the paths that are named
 pub put_paths : (fault : RunFault) (named : Named) (old_path new_path : List ℕ) (e f : Option (List ℕ)) (m n : ℕ)

@@ -45,7 +45,7 @@ compared w options named (Some old) None = elim (sound_or_fault limits old (omeg
   | inl sound ↦ (refused (open_line New named.new_path) 18, inl (sound, refl))
 ]
 compared w options named (Some old) (Some new) =
-    let run = run_of (w.over (asked_by options named)) old new in (answer_of_run run.0, (run.0, run.1, refl))
+    let run = run_of (w.of_databases.over (asked_by options named)) old new in (answer_of_run run.0, (run.0, run.1, refl))
 
 value_of : (path : Option (List ℕ)) → IsSome path → (value : List ℕ) × (path ≡ Some value)
 value_of None some = cc

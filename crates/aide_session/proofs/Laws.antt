@@ -22,7 +22,7 @@ use Rattle.aide_session.proofs.Uniqueness.{one_answer}
 -- to be written.
 pub answer_by_what_is_asked : (w : Writing) (files : Files) (words : List (List ℕ)) (named : Named) (settings : Configured)
     (old new : List ℕ) (run : Result Report DbFault) → Asks files words named settings old new
-    → RunsBy limits (w.over (asked_by settings.options named)) old new run
+    → RunsBy limits (w.of_databases.over (asked_by settings.options named)) old new run
     → IsAnswerBy w files words named (answer_of_run run)
 answer_by_what_is_asked w files words named settings old new run asks runs =
     let a = answer_of_run run in

@@ -39,7 +39,7 @@ module _ (w : Writing) (files : Files) where
       let one = compared_by w options named old new a p in
       let other = compared_by w options named old new b q in
       one.2 ∙ ap (λ (r : Result Report RunFault). answer_by named r)
-      (one_run (w.over (asked_by options named)) (asked_by options named) old new one.0 other.0 one.1 other.1) ∙ sym other.2
+      (one_run (w.of_databases.over (asked_by options named)) (asked_by options named) old new one.0 other.0 one.1 other.1) ∙ sym other.2
 
   one_of_paths : (s : Configured) (named : Named) (a b : Answer) → ComparesBy w files s named a
       → ComparesBy w files s named b → a ≡ b

@@ -79,7 +79,8 @@ IsComparedBy w options named (Some old) None a =
     ⊎ ((fault : DbFault) × IsFirstFaultOf limits Old old fault
     × (a ≡ refused (database_line fault) 24))
 IsComparedBy w options named (Some old) (Some new) a =
-    (run : Result Report DbFault) × RunsBy limits (w.over (asked_by options named)) old new run
+    (run : Result Report DbFault)
+    × RunsBy limits (w.of_databases.over (asked_by options named)) old new run
     × (a ≡ answer_of_run run)
 
 -- The comparison of what is at the two paths that the settings name. At each path there is a

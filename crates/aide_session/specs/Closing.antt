@@ -119,11 +119,11 @@ IsUntold (Some says) s before after flushes_before flushes_after =
 abbrev pub ClosingOutput : Writing → Named → Closing → Course → Option (List ℕ) → Option (List ℕ)
     → Type 0
 ClosingOutput w named (good_run options outcome) course before after =
-    w.IsOf (asked_by options named) outcome before after
+    w.of_databases.IsOf (asked_by options named) outcome before after
     × (course.is_flushed ≡ true) × (course.flushes_after ≡ one_more course.flushes_before)
 ClosingOutput w named (bad_run options fault) course before after =
-    HasSentNothing w.openings_before (course.opened_before Old) (course.opened_after Old)
-    before after fault
+    HasSentNothing w.of_databases.openings_before (course.opened_before Old)
+    (course.opened_after Old) before after fault
     × IsRefusedThere course.opened_before course.opened_after fault
     × (course.flushes_after ≡ course.flushes_before)
 ClosingOutput w named (good_config s) course before after =
@@ -213,17 +213,17 @@ ClosingCause files words named (good_run options outcome) site out =
 -- open a side, the last opening of that side was refused.
 abbrev pub ClosingOpens : Writing → Files → Named → Closing → Course → Type 0
 ClosingOpens w files named (good_run options outcome) course =
-    w.OpensBy options outcome course.opened_before course.opened_after
+    w.of_databases.OpensBy options outcome course.opened_before course.opened_after
     × ((old new : List ℕ) → HasText files named Old old → HasText files named New new
     → OpensExactly course.opened_before course.opened_after
-    (w.openings (asked_by options named) old new))
+    (w.of_databases.openings (asked_by options named) old new))
 ClosingOpens w files named (bad_run options fault) course =
     OpensFirst course.opened_before course.opened_after fault
     × IsNotGiven course.given_after fault
     × ((old new : List ℕ) → HasText files named Old old → HasText files named New new
     → IsSound limits old → IsSound limits new
     → OpensAtMost course.opened_before course.opened_after
-    (w.openings (asked_by options named) old new))
+    (w.of_databases.openings (asked_by options named) old new))
 ClosingOpens w files named _ course = ⊤
 
 -- The status, the lines on standard error and the output are those of one closing, whose cause
@@ -236,5 +236,5 @@ pub record ClosesBy (w : Writing) (files : Files) (words : List (List ℕ)) (sta
   pub status_is : status ≡ closing_status closing
   pub output : ClosingOutput w named closing course sinks.out_old sinks.out_new
   pub opens : ClosingOpens w files named closing course
-  pub opens_some : OpensAtMost course.opened_before course.opened_after w.most_openings
+  pub opens_some : OpensAtMost course.opened_before course.opened_after w.of_databases.most_openings
   pub put : Puts (closing_line named closing) sinks

@@ -5,7 +5,6 @@ ghost use Rattle.aide_report.specs.RunBy.{IsRunBy};
 ghost use Rattle.aide_report.specs.Seen.{seen, sink_seen};
 ghost use Rattle.aide_session.specs.Answer.{limits};
 ghost use Rattle.aide_session.specs.Closing.{IsTold, IsUntold};
-ghost use Rattle.aide_session.specs.Writing.{of_databases};
 ghost use Rattle.aide_text.specs.Failures.{Rose};
 
 use crate::telling::{Unwritten, tell_settings};
@@ -37,7 +36,7 @@ pub(crate) trait Comparison: Copy {
         sources: &mut S,
         out: &mut W,
     ) -> Result<Outcome, RunFault>
-        ensures { IsRunBy (of_databases writing) limits (asked task.now)
+        ensures { IsRunBy writing.of_databases limits (asked task.now)
             (seen S.Sources sources.old) (seen S.Sources sources.new) desk.old desk.new
             (sink_seen W.Sink out.old) (sink_seen W.Sink out.new) result };
 
