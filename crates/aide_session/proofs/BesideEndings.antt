@@ -394,6 +394,7 @@ module _ (v : BesideView) (bytes : Option (List ℕ)) (count : ℕ) (kept : Keep
       trusted_sound = c.trusted_sound;
       nothing = c.nothing;
       trusted_nothing = c.trusted_nothing;
+      consistent = c.consistent;
       flushed = c.flushed;
       flushes = c.flushes;
       unsent = c.unsent;

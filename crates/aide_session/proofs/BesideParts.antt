@@ -18,7 +18,7 @@ use Rattle.aide_db.specs.declared.sources.Sources.{Ghosts as AnySources}
 use Rattle.aide_report.specs.Asked.{Asked}
 use Rattle.aide_report.specs.Failures.{Rose}
 use Rattle.aide_report.specs.Missing.{IsOfReliable}
-use Rattle.aide_report.specs.Seen.{Seen, seen}
+use Rattle.aide_report.specs.Seen.{Seen, seen, sink_seen}
 use Rattle.aide_report.specs.declared.outcome.Outcome.{Outcome}
 use Rattle.aide_report.specs.declared.run_fault.RunFault.{RunFault}
 use Rattle.aide_report.specs.declared.run_fault.RunFault.TheVariants.{Open, Database, Changed, Write}
@@ -31,14 +31,16 @@ use Rattle.aide_session.specs.Closing.{HasText}
 use Rattle.aide_session.specs.Files.{Files, is_too_large}
 use Rattle.aide_session.specs.Pointing.{KeepsFiles}
 use Rattle.aide_session.specs.Session.{view_between}
-use Rattle.aide_session.specs.code.BesideParts.{HasTextBeside, IsPointed, RunsPairs, named_by}
+use Rattle.aide_session.specs.code.BesideParts.{HasTextBeside, IsPointed, named_by}
 use Rattle.aide_session.specs.code.Config.{OpensOneFile}
 use Rattle.aide_session.proofs.AnswerSteps.{IsRead as IsReadFile}
 use Rattle.aide_session.proofs.Closings.{run_cause}
 use Rattle.aide_session.proofs.Endings.{rose_later}
 use Rattle.aide_text.specs.declared.sink.Sink.{Ghosts as AnySink}
+use Rattle.aide_trusted.specs.BesideLines.{AreLinesBeside}
 use Rattle.aide_trusted.specs.BesideRuns.{IsFaultOfPair, RunsBeside}
 use Rattle.aide_trusted.specs.Pairs.{OfEach}
+use Rattle.aide_trusted.specs.RunBeside.{IsRunBeside}
 use Rattle.aide_trusted.specs.declared.pair_fault.PairFault.{PairFault}
 use Rattle.aide_trusted.specs.declared.pair_fault.PairFault.TheVariants.{Compared, Trusted}
 use Rattle.aide_words.specs.BesideJob.{BesideText}
@@ -126,8 +128,8 @@ pub compares_pairs : {S R W E : Type 0} (src : AnySources S R) (w : AnySink W) (
     → IsPointed (src.file_at x) wish (src.bytes_of x) (src.is_missing x)
     → IsPointed (src.file_at p) beside (src.bytes_of p) (src.is_missing p)
     → beside.options ≡ wish.options → limits.line ≤ d.room → limits.line ≤ u.room
-    → RunsPairs wish beside (seen src x) (seen src y) d f (seen src p) (seen src q) u v (w.failures out_old) (w.failures out_new)
-    (w.delivered out_old) (w.delivered out_new) (w.flushes out_old) (w.flushes out_new) (w.is_flushed out_new) result
+    → IsRunBeside limits wish beside (seen src x) (seen src y) d f (seen src p) (seen src q) u v
+    (sink_seen w out_old) (sink_seen w out_new) result
     → ComparesPairs (named_by config wish) (named_by config beside) wish.options result (Rose (src.failures x) (src.failures y))
     (beside_view (view_between src w e x y out_old out_new err_old err_new) (view_between src w e p q out_old out_new err_old err_new)
     (record { before = d.peak; after = f.peak; trusted_before = u.peak; trusted_after = v.peak }))
@@ -145,6 +147,8 @@ compares_pairs src w e x y p q out_old out_new err_old err_new d f u v wish besi
       trusted_sound = on_ok_weaker result (λ sound side text has. sound side text (beside_tells side text has)) ran.trusted_sound;
       nothing = λ side text has. ran.nothing side text (tells side text has);
       trusted_nothing = λ side text has. ran.trusted_nothing side text (beside_tells side text has);
+      consistent = subst (λ (o : Asked). IfOk result (λ outcome. AreLinesBeside wish o outcome (w.delivered out_old) (w.delivered out_new)))
+          (sym (same_wish config beside wish.options same)) ran.consistent;
       flushed = ran.flushed;
       flushes = ran.flushes;
       unsent = ran.unsent;

@@ -1,6 +1,6 @@
 -- How a session beside a trusted pair ends.
 use Rattle.std.specs.Prelude.{◌≡◌, ◌≤◌, ℕ, Bool, true, false, Ok, Err, Result, Option, Some, None}
-use Rattle.std.specs.Prelude.{List, [], IfErr, OnOk, ◌⊎◌, max, ⊤}
+use Rattle.std.specs.Prelude.{List, [], IfErr, IfOk, OnOk, ◌⊎◌, max, ⊤}
 use Rattle.std.specs.Io.KnownBytes.{Appends}
 use Rattle.aide_conf.specs.ReadResult.{ReadsAs}
 use Rattle.aide_conf.specs.Settings.{Configured}
@@ -35,6 +35,7 @@ use Rattle.aide_session.specs.Lines.{unread_line}
 use Rattle.aide_session.specs.TrustedLines.{pair_fault_line, pair_fault_status}
 use Rattle.aide_session.specs.TrustedLines.{trusted_database_line, trusted_open_line}
 use Rattle.aide_text.specs.Failures.{CountsFlush}
+use Rattle.aide_trusted.specs.BesideLines.{AreLinesBeside}
 use Rattle.aide_trusted.specs.BesideRuns.{EndsBeside, RunsBeside}
 use Rattle.aide_trusted.specs.Pairs.{OfEach, SendsNothingFirst}
 use Rattle.aide_trusted.specs.declared.pair_fault.PairFault.{PairFault}
@@ -222,6 +223,10 @@ pub record ComparesPairs (named trusted : Named) (options : Options)
       → (IsSound limits text → ⊥) → Appends v.sinks.out_old v.sinks.out_new []
   pub trusted_nothing : (side : Side) (text : List ℕ) → HasText v.trusted_files trusted side text
       → (IsSound limits text → ⊥) → Appends v.sinks.out_old v.sinks.out_new []
+  -- For any sites, also those that tell no files: what has gone out is of the very outcome that is
+  -- returned.
+  pub consistent : IfOk result (λ outcome. AreLinesBeside (asked_by options named)
+      (asked_by options trusted) outcome v.sinks.out_old v.sinks.out_new)
   -- The lines are flushed once, after their last byte, and after a fault not at all. Before all
   -- four databases have been read nothing goes out.
   pub flushed : OnOk result (v.course.is_flushed ≡ true)

@@ -1,6 +1,6 @@
 -- How a run beside a trusted pair ends, by what was found of all four databases.
-use Rattle.std.specs.Prelude.{◌≡◌, ◌<◌, ◌≤◌, ℕ, ◌⊎◌, Bool, Option, Some, None, Result, Ok, Err, List, [], ⊤, true, false}
-use Rattle.std.proofs.Common.{refl, sym, ap, subst, inl, inr, ◌∙◌}
+use Rattle.std.specs.Prelude.{◌≡◌, ℕ, Option, Some, None, Result, Ok, Err, List, true, false}
+use Rattle.std.proofs.Common.{sym, subst, ◌∙◌}
 use Rattle.std.specs.FinMap.Entries.{is_sorted}
 use Rattle.std.specs.Io.KnownBytes.{Appends}
 use Rattle.aide_conf.specs.declared.options.Options.{Options}
@@ -8,17 +8,14 @@ use Rattle.aide_conf.specs.declared.task.Task.{Task}
 use Rattle.aide_line_text.specs.declared.counts.LineCounts.{LineCounts}
 use Rattle.aide_db.specs.Database.{IsSound}
 use Rattle.aide_db.specs.Map.{database_of}
-use Rattle.aide_db.specs.declared.fault.DbFault.{DbFault}
 use Rattle.aide_db.specs.declared.limits.Limits.{Limits}
 use Rattle.aide_db.specs.declared.side.Side.{Side}
 use Rattle.aide_db.specs.declared.side.Side.TheVariants.{Old, New}
 use Rattle.aide_entry.specs.Path.{path_cmp}
-use Rattle.aide_entry.specs.declared.fault_kind.DbFaultKind.{DbFaultKind}
 use Rattle.aide_text.specs.Sent.{Sends, SendsPart}
 use Rattle.aide_report.specs.Asked.{Asked, asked}
 use Rattle.aide_report.specs.LineRuns.{facts_told, line_outcome}
 use Rattle.aide_report.specs.Missing.{TellsSide}
-use Rattle.aide_report.specs.Report.{outcome_by}
 use Rattle.aide_report.specs.Runs.{Report, report_over}
 use Rattle.aide_report.specs.code.Finding.{pass_of}
 use Rattle.aide_report.specs.code.Readings.{AreRead}
@@ -31,6 +28,7 @@ use Rattle.aide_report.proofs.RunLemmas.{pass_is_changes}
 use Rattle.aide_trusted.specs.BesideLines.{all_lines_beside, by_trusted, lines_beside}
 use Rattle.aide_report.specs.LineCounts.{line_counts}
 use Rattle.aide_trusted.specs.BesideRuns.{RunsBeside, SendsFrontOf, SendsWholeOf, answer_by}
+use Rattle.aide_trusted.specs.code.Over.{OverTexts}
 use Rattle.aide_trusted.specs.code.Sought.{sought_by}
 use Rattle.aide_report.specs.code.LineTally.{tally}
 use Rattle.aide_trusted.specs.code.Written.{facts_found, written_beside}
@@ -136,20 +134,13 @@ front_as r whole before after is ends =
 
 -- what is to be written of both pairs, whatever came of it
 abbrev pub WritesPairs : (task beside : Task) → (compared trusted : Readings) → Seen → Seen → Result LineCounts PairFault → Option (List ℕ) → Option (List ℕ) → Type 0
-WritesPairs task beside compared trusted a s result before after = (old new trusted_old trusted_new : List ℕ)
-    → a.bytes_of Old ≡ Some old → a.bytes_of New ≡ Some new
-    → s.bytes_of Old ≡ Some trusted_old → s.bytes_of New ≡ Some trusted_new
-    → is_sorted path_cmp (pass_of old new) ≡ true
-    → Sends result (written_beside task.options (facts_found task beside compared trusted)
-    (pass_of old new) (pass_of trusted_old trusted_new)) before after
+WritesPairs task beside compared trusted a s result before after = OverTexts a.bytes_of s.bytes_of (λ changes others.
+    Sends result (written_beside task.options (facts_found task beside compared trusted) changes others) before after)
 
 -- what was counted of them
 abbrev pub CountsPairs : Task → Seen → Seen → LineCounts → Type 0
-CountsPairs task a s counts = (old new trusted_old trusted_new : List ℕ)
-    → a.bytes_of Old ≡ Some old → a.bytes_of New ≡ Some new
-    → s.bytes_of Old ≡ Some trusted_old → s.bytes_of New ≡ Some trusted_new
-    → is_sorted path_cmp (pass_of old new) ≡ true
-    → counts ≡ tally task.options (sought_by (pass_of trusted_old trusted_new)) (pass_of old new)
+CountsPairs task a s counts = OverTexts a.bytes_of s.bytes_of (λ changes others.
+    counts ≡ tally task.options (sought_by others) changes)
 
 module _ (limits : Limits) (task beside : Task) (compared trusted : Readings) (a s : Seen) (before after : Option (List ℕ)) (r : Result Report PairFault)
     (found : AreRead limits a compared)

@@ -1,14 +1,12 @@
 -- The faults of a run beside a trusted pair, by cases.
-use Rattle.std.specs.Prelude.{◌≡◌, ◌≤◌, ◌+◌, ◌^◌, ℕ, ◌⊎◌, Option, Some, None, Result, Ok, Err, List, [], ⊤, true, false}
-use Rattle.std.proofs.Common.{refl, sym, ap, subst, inl, inr, arith, ◌∙◌}
-use Rattle.std.specs.Io.KnownBytes.{Appends}
+use Rattle.std.specs.Prelude.{◌≡◌, ℕ, Option, Some, Result, Ok, Err, List, ⊤, false}
+use Rattle.std.proofs.Common.{refl, subst, inl, inr}
 use Rattle.aide_db.specs.Database.{IsSound}
 use Rattle.aide_db.specs.Count.{sum_of}
 use Rattle.aide_db.specs.declared.fault.DbFault.{DbFault}
 use Rattle.aide_db.specs.declared.limits.Limits.{Limits}
 use Rattle.aide_db.specs.declared.side.Side.{Side}
 use Rattle.aide_db.specs.declared.side.Side.TheVariants.{Old, New}
-use Rattle.aide_text.proofs.Sending.{Appends-nothing}
 use Rattle.aide_report.specs.Asked.{Asked}
 use Rattle.aide_report.specs.Missing.{IsHindered, TellsSide}
 use Rattle.aide_report.specs.Openings.{OpensExactly, WasOpened}

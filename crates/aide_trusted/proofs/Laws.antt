@@ -1,5 +1,5 @@
 -- What is sought beside a trusted pair of sound texts is what its maps have.
-use Rattle.std.specs.Prelude.{◌≡◌, ℕ, Bool, true, cond, T, List, [], ◌∷◌, map, Option, Some, None}
+use Rattle.std.specs.Prelude.{◌≡◌, ℕ, true, cond, T, List, [], ◌∷◌, Option, Some, None}
 use Rattle.std.proofs.Common.{refl, sym, ap, subst, ◌∙◌}
 use Rattle.std.specs.declared.cmp.Ordering.{Ordering}
 use Rattle.std.specs.declared.cmp.Ordering.TheVariants.{Less, Equal, Greater}

@@ -6,3 +6,4 @@ pub mod PairLemmas
 pub mod PairRunLemmas
 pub mod AnswerLemmas
 pub mod EndLemmas
+pub mod FrameLemmas

@@ -1,12 +1,11 @@
 -- What a pass over two pairs keeps, by what it keeps of each.
-use Rattle.std.specs.Prelude.{ℕ, ◌≡◌, ◌<◌, ◌≤◌, true, false, Option, List, Result, Ok, Err}
-use Rattle.std.proofs.Common.{refl, sym, subst, ap, arith, ◌∙◌}
+use Rattle.std.specs.Prelude.{ℕ, ◌≡◌, ◌<◌, true, false, Option, List, Result, Ok, Err}
+use Rattle.std.proofs.Common.{refl, sym, subst, arith, ◌∙◌}
 use Rattle.aide_conf.specs.declared.options.Options.{Options}
 use Rattle.aide_entry.specs.Cause.{cause_of}
 use Rattle.aide_db.specs.DeskView.{DeskView}
 use Rattle.aide_db.specs.declared.limits.Limits.{Limits}
 use Rattle.aide_db.specs.declared.reel.Reel.{Ghosts as Reels}
-use Rattle.aide_db.specs.declared.side.Side.{Side}
 use Rattle.aide_text.specs.Failures.{Rose}
 use Rattle.aide_text.specs.Sent.{IsCounted}
 use Rattle.aide_text.specs.Sheet.{Sheet, WritesSome}

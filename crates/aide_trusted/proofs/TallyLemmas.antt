@@ -1,7 +1,7 @@
 -- The numbers of the last line beside a trusted pair, one change after another.
-use Rattle.std.proofs.Common.{◌≡◌, ℕ, ◌+◌, ◌-◌, ◌<◌, ◌≤◌, ◌^◌, ◌∙◌, Bool, true, false, refl, sym, ap, List, [], ◌∷◌, ◌++◌, arith}
-use Rattle.std.specs.Prelude.{count_by, cond, ◌&&◌, Option, Some, None, map}
-use Rattle.std.specs.List.{filter, flat_map}
+use Rattle.std.proofs.Common.{◌≡◌, ℕ, ◌+◌, ◌-◌, ◌<◌, ◌^◌, ◌∙◌, Bool, true, false, refl, sym, ap, List, [], ◌∷◌, ◌++◌, arith}
+use Rattle.std.specs.Prelude.{count_by, cond, ◌&&◌, Option, map}
+use Rattle.std.specs.List.{flat_map}
 use Rattle.std.proofs.lemmas.List.Sums.{count_by-le-length, sum_by-append}
 use Rattle.aide_agreement.specs.declared.account.SameAs.{SameAs}
 use Rattle.aide_conf.specs.declared.options.Options.{Options}

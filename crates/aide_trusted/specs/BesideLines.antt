@@ -1,5 +1,5 @@
 -- The lines of two databases beside a trusted pair.
-use Rattle.std.specs.Prelude.{ℕ, List, ◌++◌, true}
+use Rattle.std.specs.Prelude.{◌≡◌, ℕ, List, ◌++◌, Option, true}
 use Rattle.std.specs.FinMap.{get}
 use Rattle.aide_agreement.specs.Account.{same_as}
 use Rattle.aide_conf.specs.declared.options.Options.{Options}
@@ -10,9 +10,10 @@ use Rattle.aide_report.specs.Asked.{Asked}
 use Rattle.aide_report.specs.ChangeLines.{Accounts, change_lines}
 use Rattle.aide_report.specs.Compare.{changes}
 use Rattle.aide_report.specs.Entries.{PathChange}
-use Rattle.aide_report.specs.LineCounts.{line_counts, status_by}
-use Rattle.aide_report.specs.LineRuns.{facts_of}
+use Rattle.aide_report.specs.LineCounts.{account_count, entry_count, line_counts, status_by}
+use Rattle.aide_report.specs.LineRuns.{Frames, facts_of, facts_told, line_outcome}
 use Rattle.aide_report.specs.Runs.{Report, report_over}
+use Rattle.aide_report.specs.declared.outcome.Outcome.{Outcome}
 
 -- what the first line says of all four databases
 pub record PairFacts : Type 0 where
@@ -63,3 +64,24 @@ lines_beside asked trusted old new trusted_old trusted_new = record {
       (database_of old) (database_of new) (database_of trusted_old) (database_of trusted_new);
   outcome = (report_over asked old new).outcome;
 }
+
+-- The first line has gone out with some digests, the last line with the counts of this outcome, and lines between them
+-- only if an entry was added, removed or changed. What accounts for the lines are as many as they are. The skipped
+-- columns of the trusted pair are no part of the outcome.
+pub record AreLinesBeside (asked trusted : Asked) (outcome : Outcome)
+    (old new : Option (List ℕ)) : Type 0 where
+  pub old_digest : List ℕ
+  pub new_digest : List ℕ
+  pub trusted_old_digest : List ℕ
+  pub trusted_new_digest : List ℕ
+  pub trusted_skipped_old : ℕ
+  pub trusted_skipped_new : ℕ
+  pub counts : LineCounts
+  pub told : line_outcome counts outcome.skipped_old outcome.skipped_new ≡ outcome
+  pub accounted : account_count counts ≡ entry_count counts
+  pub frames : Frames
+      (first_line_beside (facts_told asked.old_path old_digest outcome.skipped_old)
+      (facts_told asked.new_path new_digest outcome.skipped_new)
+      (facts_told trusted.old_path trusted_old_digest trusted_skipped_old)
+      (facts_told trusted.new_path trusted_new_digest trusted_skipped_new))
+      (last_line true counts (status_by counts)) (entry_count counts) old new

@@ -1,4 +1,5 @@
 pub mod BesideLines
 pub mod BesideRuns
+pub mod RunBeside
 pub mod Pairs
 pub mod code

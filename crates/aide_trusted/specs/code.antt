@@ -3,3 +3,4 @@ pub mod Sought
 pub mod Calls
 pub mod PairPasses
 pub mod Written
+pub mod Over

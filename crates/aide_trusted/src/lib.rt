@@ -4,6 +4,7 @@
 mod beside;
 mod pair_fault;
 mod pass;
+mod plan;
 mod readings;
 mod run;
 mod walk;

@@ -1,34 +1,24 @@
 //! A pass over two pairs of databases.
-ghost use Rattle.std.specs.Prelude.{◌≡◌, ℕ, List, Some, IfSome, IfNone, IfErr, IfOk, OnOk, false};
-ghost use Rattle.std.specs.Prelude.{true};
-ghost use Rattle.std.specs.FinMap.Entries.{is_sorted};
-ghost use Rattle.aide_entry.specs.Path.{path_cmp};
+ghost use Rattle.std.specs.Prelude.{◌≡◌, IfSome, IfNone, IfErr, IfOk, OnOk, false, true};
 ghost use Rattle.aide_report.specs.code.Digests.{AreDigests};
-ghost use Rattle.aide_report.specs.code.Finding.{pass_of};
 ghost use Rattle.aide_report.specs.code.PassFaults.{Writes};
 ghost use Rattle.aide_report.specs.Seen.{AreLimits, seen};
 ghost use Rattle.aide_text.specs.PenSheet.{on_sheet};
 ghost use Rattle.aide_trusted.specs.code.PairPasses.{KeepsPairPen, PairPasses, pair_fault_of};
 ghost use Rattle.aide_report.specs.ChangeLines.{change_lines};
 ghost use Rattle.aide_report.specs.code.LineTally.{tally};
+ghost use Rattle.aide_trusted.specs.code.Over.{OverTexts};
 ghost use Rattle.aide_trusted.specs.code.Sought.{sought_by};
+ghost use Rattle.aide_trusted.specs.code.Written.{HasLines};
 
 use crate::pair_fault::PairFault;
+use crate::plan::BesidePlan;
 use crate::walk::{PairStop, walk};
-use aide_conf::Options;
-use aide_db::{Desk, Limits, Side, Sources};
+use aide_db::{Desk, Sources};
 use aide_line_text::LineCounts;
-use aide_report::{Digests, Merge, RunFault, changed_side, close_both, later_fault, open_both};
+use aide_report::{Merge, RunFault, changed_side, close_both, later_fault, open_both};
 use aide_text::{Pen, Sink};
 use std::alloc::Allocator;
-
-/// What the passes over both pairs share: the limits of the readings, and the digests of the first readings.
-#[derive(Clone, Copy)]
-pub(crate) struct PairPlan<'a> {
-    pub(crate) limits: Limits,
-    pub(crate) digests: &'a Digests,
-    pub(crate) trusted_digests: &'a Digests,
-}
 
 /// What the end of a walk means, with the number of bytes that have gone out.
 fn pair_fault(stop: PairStop, sent: u64) -> PairFault
@@ -44,40 +34,34 @@ fn pair_fault(stop: PairStop, sent: u64) -> PairFault
 /// A pass over both pairs that writes and counts the lines of the changes of the compared pair.
 #[inline(never)]
 pub(crate) fn pair_pass<S: Sources, W: Sink, A: Allocator + Copy>(
-    plan: &PairPlan<'_>,
-    sources: &mut S,
+    plan: &BesidePlan<'_>,
     desk: &mut Desk<A>,
-    trusted: &mut S,
+    sources: &mut S,
     trusted_desk: &mut Desk<A>,
+    trusted: &mut S,
     out: &mut W,
     pen: &mut Pen,
-    options: &Options,
 ) -> Result<LineCounts, PairFault>
     requires limits { AreLimits plan.now.limits }
-    requires digests { AreDigests (S.bytes_of sources.old) plan.now.digests.now }
-    requires trusted_digests { AreDigests (S.bytes_of trusted.old) plan.now.trusted_digests.now }
+    requires digests { AreDigests (S.bytes_of sources.old)
+        plan.now.readings.now.compared.digests }
+    requires trusted_digests { AreDigests (S.bytes_of trusted.old)
+        plan.now.readings.now.trusted.digests }
     requires writes_on { pen.old.failed ≡ false }
     ensures passes { PairPasses plan.now.limits 1
         (seen S.Sources sources.old) (seen S.Sources sources.new) desk.old desk.new
         (seen S.Sources trusted.old) (seen S.Sources trusted.new)
         trusted_desk.old trusted_desk.new (pen.new.failed ≡ true) result }
-    ensures writes { (old new trusted_old trusted_new : List ℕ)
-        → S.bytes_of sources.old Side.Old ≡ Some old
-        → S.bytes_of sources.old Side.New ≡ Some new
-        → S.bytes_of trusted.old Side.Old ≡ Some trusted_old
-        → S.bytes_of trusted.old Side.New ≡ Some trusted_new
-        → is_sorted path_cmp (pass_of old new) ≡ true
-        → Writes result (change_lines options.now (sought_by (pass_of trusted_old trusted_new))
-        (pass_of old new))
-        (on_sheet W.Sink out.old pen.old) (on_sheet W.Sink out.new pen.new) }
-    ensures counts { IfOk result (λ counts. (old new trusted_old trusted_new : List ℕ)
-        → S.bytes_of sources.old Side.Old ≡ Some old
-        → S.bytes_of sources.old Side.New ≡ Some new
-        → S.bytes_of trusted.old Side.Old ≡ Some trusted_old
-        → S.bytes_of trusted.old Side.New ≡ Some trusted_new
-        → is_sorted path_cmp (pass_of old new) ≡ true
-        → counts ≡ tally options.now (sought_by (pass_of trusted_old trusted_new))
-        (pass_of old new)) }
+    ensures writes { OverTexts (S.bytes_of sources.old) (S.bytes_of trusted.old)
+        (λ changes beside. Writes result
+        (change_lines plan.now.task.now.options (sought_by beside) changes)
+        (on_sheet W.Sink out.old pen.old) (on_sheet W.Sink out.new pen.new)) }
+    ensures counts { IfOk result (λ counts.
+        OverTexts (S.bytes_of sources.old) (S.bytes_of trusted.old)
+        (λ changes beside. counts
+        ≡ tally plan.now.task.now.options (sought_by beside) changes)) }
+    ensures lines { IfOk result (λ counts. HasLines counts
+        (on_sheet W.Sink out.old pen.old) (on_sheet W.Sink out.new pen.new)) }
     ensures pen { KeepsPairPen (on_sheet W.Sink out.old pen.old)
         (on_sheet W.Sink out.new pen.new) pen.new result }
 {
@@ -101,11 +85,11 @@ pub(crate) fn pair_pass<S: Sources, W: Sink, A: Allocator + Copy>(
         trusted_desk,
         out,
         pen,
-        options,
+        &plan.task.options,
     ) {
         Ok(counts) => {
-            let changed = changed_side(&merge, plan.digests);
-            let trusted_changed = changed_side(&beside, plan.trusted_digests);
+            let changed = changed_side(&merge, &plan.readings.compared.digests);
+            let trusted_changed = changed_side(&beside, &plan.readings.trusted.digests);
             let _compared_done = close_both(sources, merge);
             let _trusted_done = close_both(trusted, beside);
             if let Some(side) = changed {

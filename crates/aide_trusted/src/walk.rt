@@ -1,20 +1,20 @@
 //! The walk over both pairs that writes and counts the lines of all changes.
-ghost use Rattle.std.specs.Prelude.{◌≡◌, ◌<◌, ◌^◌, ℕ, List, IfErr, IfOk, OnOk, false, true};
-ghost use Rattle.std.specs.FinMap.Entries.{is_sorted};
-ghost use Rattle.aide_entry.specs.Path.{path_cmp};
+ghost use Rattle.std.specs.Prelude.{◌≡◌, ◌<◌, ◌^◌, IfErr, IfOk, OnOk, false};
 ghost use Rattle.aide_report.specs.code.MergeCalls.{IsMergeFault, KeepsMerge};
-ghost use Rattle.aide_report.specs.code.Merging.{remaining, IsReady, IsEnded, StandsAt, total_work};
+ghost use Rattle.aide_report.specs.code.Merging.{IsReady, IsEnded, total_work};
 ghost use Rattle.aide_report.specs.code.PassFaults.{Writes};
 ghost use Rattle.aide_text.specs.PenSheet.{on_sheet};
 ghost use Rattle.aide_text.specs.Sheet.{WritesSome};
 ghost use Rattle.aide_report.specs.ChangeLines.{change_lines};
 ghost use Rattle.aide_trusted.specs.code.Calls.{IsPairStop};
 ghost use Rattle.aide_report.specs.code.LineTally.{tally};
+ghost use Rattle.aide_trusted.specs.code.Over.{OverMerges};
 ghost use Rattle.aide_trusted.specs.code.Sought.{sought_by};
+ghost use Rattle.aide_trusted.specs.code.Written.{HasLines};
 
 use crate::beside::{account_of, seek};
 use aide_conf::Options;
-use aide_db::{DbFault, Desk, Reel, Side};
+use aide_db::{DbFault, Desk, Reel};
 use aide_line_text::LineCounts;
 use aide_report::{AtPath, Merge, no_counts, put_counted};
 use aide_text::{Pen, Sink};
@@ -47,25 +47,14 @@ fn put_accounted<R: Reel, W: Sink, A: Allocator + Copy>(
     ensures keeps_trusted { KeepsMerge R.Reel
         trusted.old trusted.new trusted_desk.old trusted_desk.new }
     ensures trusted_ready { OnOk result (IsReady trusted.new trusted_desk.new) }
-    ensures writes { (old new trusted_old trusted_new : List ℕ)
-        → StandsAt R.to_come merge.old desk.old Side.Old old
-        → StandsAt R.to_come merge.old desk.old Side.New new
-        → StandsAt R.to_come trusted.old trusted_desk.old Side.Old trusted_old
-        → StandsAt R.to_come trusted.old trusted_desk.old Side.New trusted_new
-        → is_sorted path_cmp (remaining merge.old desk.old old new) ≡ true
-        → Writes result (change_lines options.now
-        (sought_by (remaining trusted.old trusted_desk.old trusted_old trusted_new))
-        (remaining merge.old desk.old old new))
-        (on_sheet W.Sink out.old pen.old) (on_sheet W.Sink out.new pen.new) }
-    ensures counts { IfOk result (λ counts. (old new trusted_old trusted_new : List ℕ)
-        → StandsAt R.to_come merge.old desk.old Side.Old old
-        → StandsAt R.to_come merge.old desk.old Side.New new
-        → StandsAt R.to_come trusted.old trusted_desk.old Side.Old trusted_old
-        → StandsAt R.to_come trusted.old trusted_desk.old Side.New trusted_new
-        → is_sorted path_cmp (remaining merge.old desk.old old new) ≡ true
-        → counts ≡ tally options.now
-        (sought_by (remaining trusted.old trusted_desk.old trusted_old trusted_new))
-        (remaining merge.old desk.old old new)) }
+    ensures writes { OverMerges R.Reel merge.old desk.old trusted.old trusted_desk.old
+        (λ changes beside. Writes result (change_lines options.now (sought_by beside) changes)
+        (on_sheet W.Sink out.old pen.old) (on_sheet W.Sink out.new pen.new)) }
+    ensures counts { IfOk result (λ counts.
+        OverMerges R.Reel merge.old desk.old trusted.old trusted_desk.old
+        (λ changes beside. counts ≡ tally options.now (sought_by beside) changes)) }
+    ensures lines { IfOk result (λ counts. HasLines counts
+        (on_sheet W.Sink out.old pen.old) (on_sheet W.Sink out.new pen.new)) }
     ensures some { WritesSome (on_sheet W.Sink out.old pen.old) (on_sheet W.Sink out.new pen.new) }
     ensures writes_on { OnOk result (pen.new.failed ≡ false) }
     ensures ended { OnOk result (IsEnded merge.new) }
@@ -133,25 +122,14 @@ pub(crate) fn walk<R: Reel, W: Sink, A: Allocator + Copy>(
     ensures keeps { KeepsMerge R.Reel merge.old merge.new desk.old desk.new }
     ensures keeps_trusted { KeepsMerge R.Reel
         trusted.old trusted.new trusted_desk.old trusted_desk.new }
-    ensures writes { (old new trusted_old trusted_new : List ℕ)
-        → StandsAt R.to_come merge.old desk.old Side.Old old
-        → StandsAt R.to_come merge.old desk.old Side.New new
-        → StandsAt R.to_come trusted.old trusted_desk.old Side.Old trusted_old
-        → StandsAt R.to_come trusted.old trusted_desk.old Side.New trusted_new
-        → is_sorted path_cmp (remaining merge.old desk.old old new) ≡ true
-        → Writes result (change_lines options.now
-        (sought_by (remaining trusted.old trusted_desk.old trusted_old trusted_new))
-        (remaining merge.old desk.old old new))
-        (on_sheet W.Sink out.old pen.old) (on_sheet W.Sink out.new pen.new) }
-    ensures counts { IfOk result (λ counts. (old new trusted_old trusted_new : List ℕ)
-        → StandsAt R.to_come merge.old desk.old Side.Old old
-        → StandsAt R.to_come merge.old desk.old Side.New new
-        → StandsAt R.to_come trusted.old trusted_desk.old Side.Old trusted_old
-        → StandsAt R.to_come trusted.old trusted_desk.old Side.New trusted_new
-        → is_sorted path_cmp (remaining merge.old desk.old old new) ≡ true
-        → counts ≡ tally options.now
-        (sought_by (remaining trusted.old trusted_desk.old trusted_old trusted_new))
-        (remaining merge.old desk.old old new)) }
+    ensures writes { OverMerges R.Reel merge.old desk.old trusted.old trusted_desk.old
+        (λ changes beside. Writes result (change_lines options.now (sought_by beside) changes)
+        (on_sheet W.Sink out.old pen.old) (on_sheet W.Sink out.new pen.new)) }
+    ensures counts { IfOk result (λ counts.
+        OverMerges R.Reel merge.old desk.old trusted.old trusted_desk.old
+        (λ changes beside. counts ≡ tally options.now (sought_by beside) changes)) }
+    ensures lines { IfOk result (λ counts. HasLines counts
+        (on_sheet W.Sink out.old pen.old) (on_sheet W.Sink out.new pen.new)) }
     ensures some { WritesSome (on_sheet W.Sink out.old pen.old) (on_sheet W.Sink out.new pen.new) }
     ensures writes_on { OnOk result (pen.new.failed ≡ false) }
     ensures ended { OnOk result (IsEnded merge.new) }

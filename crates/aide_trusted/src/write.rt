@@ -1,50 +1,35 @@
 //! The writing of the lines, once all four databases are known to be sound.
-ghost use Rattle.std.specs.Prelude.{◌≡◌, ℕ, List, Some, IfOk, false, true};
-ghost use Rattle.std.specs.FinMap.Entries.{is_sorted};
-ghost use Rattle.aide_entry.specs.Path.{path_cmp};
-ghost use Rattle.aide_line_text.specs.Ends.{first_line_beside, last_line};
-ghost use Rattle.aide_report.specs.ChangeLines.{change_lines};
-ghost use Rattle.aide_report.specs.LineCounts.{status_by};
+ghost use Rattle.std.specs.Prelude.{◌≡◌, IfOk, false, true};
+ghost use Rattle.aide_line_text.specs.Ends.{last_line};
+ghost use Rattle.aide_report.specs.LineCounts.{account_count, entry_count, status_by};
+ghost use Rattle.aide_report.specs.LineRuns.{Frames};
 ghost use Rattle.aide_report.specs.code.Digests.{AreDigests};
-ghost use Rattle.aide_report.specs.code.Finding.{pass_of};
 ghost use Rattle.aide_report.specs.code.PassFaults.{Writes};
 ghost use Rattle.aide_report.specs.Seen.{AreLimits, seen};
-ghost use Rattle.aide_report.specs.code.WrittenLines.{new_facts, old_facts};
+ghost use Rattle.aide_report.specs.code.WrittenLines.{WritesFrame};
 ghost use Rattle.aide_text.specs.Failures.{Rose};
 ghost use Rattle.aide_text.specs.PenSheet.{on_sheet};
 ghost use Rattle.aide_text.specs.Sent.{Sends};
 ghost use Rattle.aide_text.specs.Sheet.{Wrote};
 ghost use Rattle.aide_report.specs.code.LineTally.{tally};
+ghost use Rattle.aide_trusted.specs.code.Over.{OverTexts};
 ghost use Rattle.aide_trusted.specs.code.PairPasses.{FlushesPair, KeepsPairPen, PairPasses};
 ghost use Rattle.aide_trusted.specs.code.Sought.{sought_by};
-ghost use Rattle.aide_trusted.specs.code.Written.{facts_found, written_beside};
+ghost use Rattle.aide_trusted.specs.code.Written.{facts_found, first_line_found, written_beside};
 
 use crate::pair_fault::PairFault;
-use crate::pass::{PairPlan, pair_pass};
-use crate::readings::PairReadings;
-use aide_conf::Task;
-use aide_db::{Desk, DeviceFault, Limits, Side, Sources};
+use crate::pass::pair_pass;
+use crate::plan::BesidePlan;
+use aide_db::{Desk, DeviceFault, Sources};
 use aide_line_text::{LineCounts, Source, put_first_line_beside, put_last_line};
 use aide_report::{Readings, RunFault, outcome_of};
 use aide_text::{Pen, Sink};
 use std::alloc::Allocator;
 
-/// What the writing shares: both tasks, the limits of the readings, and what was found before.
-#[derive(Clone, Copy)]
-pub(crate) struct BesidePlan<'a> {
-    pub(crate) task: &'a Task<'a>,
-    pub(crate) trusted_task: &'a Task<'a>,
-    pub(crate) limits: Limits,
-    pub(crate) readings: &'a PairReadings,
-}
-
 /// Writes the first line.
 fn put_first<W: Sink>(out: &mut W, pen: &mut Pen, plan: &BesidePlan<'_>)
-    ensures { Wrote (first_line_beside
-        (old_facts plan.now.task.now plan.now.readings.now.compared)
-        (new_facts plan.now.task.now plan.now.readings.now.compared)
-        (old_facts plan.now.trusted_task.now plan.now.readings.now.trusted)
-        (new_facts plan.now.trusted_task.now plan.now.readings.now.trusted))
+    ensures { Wrote (first_line_found (facts_found plan.now.task.now plan.now.trusted_task.now
+        plan.now.readings.now.compared plan.now.readings.now.trusted))
         (on_sheet W.Sink out.old pen.old) (on_sheet W.Sink out.new pen.new) }
 {
     let compared = &plan.readings.compared;
@@ -81,64 +66,6 @@ fn put_last<W: Sink>(out: &mut W, pen: &mut Pen, counts: &LineCounts, readings: 
     put_last_line(out, pen, counts, true, status);
 }
 
-/// Writes and counts the lines of changes, in a pass over both pairs.
-fn put_changes<S: Sources, W: Sink, A: Allocator + Copy>(
-    plan: &BesidePlan<'_>,
-    desk: &mut Desk<A>,
-    sources: &mut S,
-    trusted_desk: &mut Desk<A>,
-    trusted: &mut S,
-    out: &mut W,
-    pen: &mut Pen,
-) -> Result<LineCounts, PairFault>
-    requires limits { AreLimits plan.now.limits }
-    requires digests { AreDigests (S.bytes_of sources.old)
-        plan.now.readings.now.compared.digests }
-    requires trusted_digests { AreDigests (S.bytes_of trusted.old)
-        plan.now.readings.now.trusted.digests }
-    requires writes_on { pen.old.failed ≡ false }
-    ensures passes { PairPasses plan.now.limits 1
-        (seen S.Sources sources.old) (seen S.Sources sources.new) desk.old desk.new
-        (seen S.Sources trusted.old) (seen S.Sources trusted.new)
-        trusted_desk.old trusted_desk.new (pen.new.failed ≡ true) result }
-    ensures writes { (old new trusted_old trusted_new : List ℕ)
-        → S.bytes_of sources.old Side.Old ≡ Some old
-        → S.bytes_of sources.old Side.New ≡ Some new
-        → S.bytes_of trusted.old Side.Old ≡ Some trusted_old
-        → S.bytes_of trusted.old Side.New ≡ Some trusted_new
-        → is_sorted path_cmp (pass_of old new) ≡ true
-        → Writes result (change_lines plan.now.task.now.options
-        (sought_by (pass_of trusted_old trusted_new)) (pass_of old new))
-        (on_sheet W.Sink out.old pen.old) (on_sheet W.Sink out.new pen.new) }
-    ensures counts { IfOk result (λ counts. (old new trusted_old trusted_new : List ℕ)
-        → S.bytes_of sources.old Side.Old ≡ Some old
-        → S.bytes_of sources.old Side.New ≡ Some new
-        → S.bytes_of trusted.old Side.Old ≡ Some trusted_old
-        → S.bytes_of trusted.old Side.New ≡ Some trusted_new
-        → is_sorted path_cmp (pass_of old new) ≡ true
-        → counts ≡ tally plan.now.task.now.options
-        (sought_by (pass_of trusted_old trusted_new)) (pass_of old new)) }
-    ensures pen { KeepsPairPen (on_sheet W.Sink out.old pen.old)
-        (on_sheet W.Sink out.new pen.new) pen.new result }
-{
-    let pair_plan = PairPlan {
-        limits: plan.limits,
-        digests: &plan.readings.compared.digests,
-        trusted_digests: &plan.readings.trusted.digests,
-    };
-    let options = &plan.task.options;
-    pair_pass(
-        &pair_plan,
-        sources,
-        desk,
-        trusted,
-        trusted_desk,
-        out,
-        pen,
-        options,
-    )
-}
-
 /// Writes all lines.
 fn put_lines<S: Sources, W: Sink, A: Allocator + Copy>(
     plan: &BesidePlan<'_>,
@@ -159,25 +86,21 @@ fn put_lines<S: Sources, W: Sink, A: Allocator + Copy>(
         (seen S.Sources sources.old) (seen S.Sources sources.new) desk.old desk.new
         (seen S.Sources trusted.old) (seen S.Sources trusted.new)
         trusted_desk.old trusted_desk.new (pen.new.failed ≡ true) result }
-    ensures writes { (old new trusted_old trusted_new : List ℕ)
-        → S.bytes_of sources.old Side.Old ≡ Some old
-        → S.bytes_of sources.old Side.New ≡ Some new
-        → S.bytes_of trusted.old Side.Old ≡ Some trusted_old
-        → S.bytes_of trusted.old Side.New ≡ Some trusted_new
-        → is_sorted path_cmp (pass_of old new) ≡ true
-        → Writes result (written_beside plan.now.task.now.options
+    ensures writes { OverTexts (S.bytes_of sources.old) (S.bytes_of trusted.old)
+        (λ changes beside. Writes result (written_beside plan.now.task.now.options
         (facts_found plan.now.task.now plan.now.trusted_task.now
-        plan.now.readings.now.compared plan.now.readings.now.trusted)
-        (pass_of old new) (pass_of trusted_old trusted_new))
-        (on_sheet W.Sink out.old pen.old) (on_sheet W.Sink out.new pen.new) }
-    ensures counts { IfOk result (λ counts. (old new trusted_old trusted_new : List ℕ)
-        → S.bytes_of sources.old Side.Old ≡ Some old
-        → S.bytes_of sources.old Side.New ≡ Some new
-        → S.bytes_of trusted.old Side.Old ≡ Some trusted_old
-        → S.bytes_of trusted.old Side.New ≡ Some trusted_new
-        → is_sorted path_cmp (pass_of old new) ≡ true
-        → counts ≡ tally plan.now.task.now.options
-        (sought_by (pass_of trusted_old trusted_new)) (pass_of old new)) }
+        plan.now.readings.now.compared plan.now.readings.now.trusted) changes beside)
+        (on_sheet W.Sink out.old pen.old) (on_sheet W.Sink out.new pen.new)) }
+    ensures counts { IfOk result (λ counts.
+        OverTexts (S.bytes_of sources.old) (S.bytes_of trusted.old)
+        (λ changes beside. counts
+        ≡ tally plan.now.task.now.options (sought_by beside) changes)) }
+    ensures accounted { IfOk result (λ counts. account_count counts ≡ entry_count counts) }
+    ensures frame { IfOk result (λ counts. WritesFrame
+        (first_line_found (facts_found plan.now.task.now plan.now.trusted_task.now
+        plan.now.readings.now.compared plan.now.readings.now.trusted))
+        (last_line true counts (status_by counts)) (entry_count counts)
+        (on_sheet W.Sink out.old pen.old) (on_sheet W.Sink out.new pen.new)) }
     ensures pen { KeepsPairPen (on_sheet W.Sink out.old pen.old)
         (on_sheet W.Sink out.new pen.new) pen.new result }
 {
@@ -185,7 +108,7 @@ fn put_lines<S: Sources, W: Sink, A: Allocator + Copy>(
     if pen.failed {
         return Err(PairFault::Compared(RunFault::Write { written: pen.sent }));
     }
-    let counts = match put_changes(plan, desk, sources, trusted_desk, trusted, out, pen) {
+    let counts = match pair_pass(plan, desk, sources, trusted_desk, trusted, out, pen) {
         Ok(counts) => counts,
         Err(fault) => return Err(fault),
     };
@@ -215,25 +138,21 @@ pub(crate) fn write_beside<S: Sources, W: Sink, A: Allocator + Copy>(
         (seen S.Sources trusted.old) (seen S.Sources trusted.new)
         trusted_desk.old trusted_desk.new
         (Rose (W.failures out.old) (W.failures out.new)) result }
-    ensures sends { (old new trusted_old trusted_new : List ℕ)
-        → S.bytes_of sources.old Side.Old ≡ Some old
-        → S.bytes_of sources.old Side.New ≡ Some new
-        → S.bytes_of trusted.old Side.Old ≡ Some trusted_old
-        → S.bytes_of trusted.old Side.New ≡ Some trusted_new
-        → is_sorted path_cmp (pass_of old new) ≡ true
-        → Sends result (written_beside plan.now.task.now.options
+    ensures sends { OverTexts (S.bytes_of sources.old) (S.bytes_of trusted.old)
+        (λ changes beside. Sends result (written_beside plan.now.task.now.options
         (facts_found plan.now.task.now plan.now.trusted_task.now
-        plan.now.readings.now.compared plan.now.readings.now.trusted)
-        (pass_of old new) (pass_of trusted_old trusted_new))
-        (W.delivered out.old) (W.delivered out.new) }
-    ensures counts { IfOk result (λ counts. (old new trusted_old trusted_new : List ℕ)
-        → S.bytes_of sources.old Side.Old ≡ Some old
-        → S.bytes_of sources.old Side.New ≡ Some new
-        → S.bytes_of trusted.old Side.Old ≡ Some trusted_old
-        → S.bytes_of trusted.old Side.New ≡ Some trusted_new
-        → is_sorted path_cmp (pass_of old new) ≡ true
-        → counts ≡ tally plan.now.task.now.options
-        (sought_by (pass_of trusted_old trusted_new)) (pass_of old new)) }
+        plan.now.readings.now.compared plan.now.readings.now.trusted) changes beside)
+        (W.delivered out.old) (W.delivered out.new)) }
+    ensures counts { IfOk result (λ counts.
+        OverTexts (S.bytes_of sources.old) (S.bytes_of trusted.old)
+        (λ changes beside. counts
+        ≡ tally plan.now.task.now.options (sought_by beside) changes)) }
+    ensures accounted { IfOk result (λ counts. account_count counts ≡ entry_count counts) }
+    ensures frames { IfOk result (λ counts. Frames
+        (first_line_found (facts_found plan.now.task.now plan.now.trusted_task.now
+        plan.now.readings.now.compared plan.now.readings.now.trusted))
+        (last_line true counts (status_by counts)) (entry_count counts)
+        (W.delivered out.old) (W.delivered out.new)) }
     ensures sink { FlushesPair W.Sink out.old out.new result }
 {
     let mut pen = Pen::new();

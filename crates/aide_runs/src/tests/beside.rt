@@ -20,6 +20,8 @@ const TRUSTED_NEW: &[u8] = b"@@begin_db\n@@db_spec name perm\n/kept 40700\n@@end
 /// It has no end.
 const CUT: &[u8] = b"@@begin_db\n@@db_spec name perm\n/kept 40755\n";
 
+const CUT_LINE: &[u8] = b"aide: trusted new database:4: no @@end_db\n";
+
 const LINE: &str = "aide_lines -E -c /conf --trusted-old /trusted_old --trusted-new /trusted_new";
 
 const LINES: &[u8] = b"{\"format\":3,\"old\":{\"path\":\"/old\",\
@@ -142,7 +144,6 @@ fn names_the_fault_of_a_trusted_database(rt: HostRuntime) -> Result<(), Fail> {
     let ended = program_ended(rt.alloc(), &words, &mut site, &mut trusted);
     assert!(rt; ended.status == 24, "status {}", ended.status);
     assert!(rt; ended.output.bytes().is_empty(), "output");
-    let line = b"aide: trusted new database:4: no @@end_db\n";
-    assert!(rt; ended.errors.bytes() == line, "error lines");
+    assert!(rt; ended.errors.bytes() == CUT_LINE, "error lines");
     Ok(())
 }

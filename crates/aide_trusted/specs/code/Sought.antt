@@ -1,5 +1,5 @@
 -- What the trusted pair has at the path of a change, by its own changes that are still to come.
-use Rattle.std.specs.Prelude.{ℕ, if◌then◌else◌, List, [], ◌∷◌, map, Option, Some, None}
+use Rattle.std.specs.Prelude.{ℕ, if◌then◌else◌, List, [], ◌∷◌, map, Option, None}
 use Rattle.std.specs.Ordering.{is_eq, is_lt}
 use Rattle.aide_agreement.specs.Account.{Pair, same_as}
 use Rattle.aide_agreement.specs.declared.account.SameAs.{SameAs}

@@ -8,68 +8,34 @@ use Rattle.aide_session.proofs.beside.run_pairs.Goals as goal
 
 pub returns-in-Ok-clause-closes : goal.returns-in-Ok-clause-closes
 returns-in-Ok-clause-closes g c = λ config pointed trusted_pointed same.
-    let ran = c.run_lines_beside.ensures in
-    let site = c.args.devices.now.site.now in
-    let out = c.args.devices.now.out.now in
+    let devices = c.args.devices.now in
+    let ran = c.run_lines_beside.new in
     let wish = asked c.args.task.now in
     let beside = asked c.args.trusted_task.now in
-    let result = c.run_lines_beside.result in
     record {
-      result = result;
+      result = c.run_lines_beside.result;
       status_is = c.status.ensures ∙ ap compared_status (sym c.in-Ok.is);
       put = put_as _ _ (ap (compared_line (named_by config wish) (named_by config beside)) (sym c.in-Ok.is)) c.put_outcome_lines.ensures;
-      compares = compares_pairs g.S.Sources g.W.Sink g.E.Sink site c.run_lines_beside.new.sources c.args.trusted.now
-          c.run_lines_beside.new.trusted out c.run_lines_beside.new.out c.args.devices.now.err.now c.put_outcome_lines.new.err
-          c.args.devices.now.desk.now c.run_lines_beside.new.desk c.args.trusted_desk.now c.run_lines_beside.new.trusted_desk
-          wish beside config result pointed trusted_pointed same c.requires.room c.requires.trusted_room
-          (record {
-            over = ran.over;
-            sound = ran.sound;
-            trusted_sound = ran.trusted_sound;
-            nothing = ran.nothing;
-            trusted_nothing = ran.trusted_nothing;
-            flushed = ran.flushed;
-            flushes = ran.flushes;
-            unsent = ran.unsent;
-            fault = ran.fault;
-            leaves = ran.leaves;
-            trusted_leaves = ran.trusted_leaves;
-            opens = ran.opens;
-            trusted_opens = ran.trusted_opens;
-          });
+      compares = compares_pairs g.S.Sources g.W.Sink g.E.Sink devices.site.now ran.sources c.args.trusted.now ran.trusted
+          devices.out.now ran.out devices.err.now c.put_outcome_lines.new.err devices.desk.now ran.desk
+          c.args.trusted_desk.now ran.trusted_desk wish beside config c.run_lines_beside.result pointed trusted_pointed same
+          c.requires.room c.requires.trusted_room c.run_lines_beside.ensures;
     }
 
 pub returns-in-Err-clause-closes : goal.returns-in-Err-clause-closes
 returns-in-Err-clause-closes g c = λ config pointed trusted_pointed same.
-    let ran = c.run_lines_beside.ensures in
-    let site = c.args.devices.now.site.now in
-    let out = c.args.devices.now.out.now in
+    let devices = c.args.devices.now in
+    let ran = c.run_lines_beside.new in
     let wish = asked c.args.task.now in
     let beside = asked c.args.trusted_task.now in
-    let result = c.run_lines_beside.result in
     record {
-      result = result;
+      result = c.run_lines_beside.result;
       status_is = c.pair_status.ensures ∙ ap compared_status (sym c.in-Err.is);
       put = put_as _ _ (ap (compared_line (named_by config wish) (named_by config beside)) (sym c.in-Err.is)) c.put_pair_fault.ensures;
-      compares = compares_pairs g.S.Sources g.W.Sink g.E.Sink site c.run_lines_beside.new.sources c.args.trusted.now
-          c.run_lines_beside.new.trusted out c.run_lines_beside.new.out c.args.devices.now.err.now c.put_pair_fault.new.err
-          c.args.devices.now.desk.now c.run_lines_beside.new.desk c.args.trusted_desk.now c.run_lines_beside.new.trusted_desk
-          wish beside config result pointed trusted_pointed same c.requires.room c.requires.trusted_room
-          (record {
-            over = ran.over;
-            sound = ran.sound;
-            trusted_sound = ran.trusted_sound;
-            nothing = ran.nothing;
-            trusted_nothing = ran.trusted_nothing;
-            flushed = ran.flushed;
-            flushes = ran.flushes;
-            unsent = ran.unsent;
-            fault = ran.fault;
-            leaves = ran.leaves;
-            trusted_leaves = ran.trusted_leaves;
-            opens = ran.opens;
-            trusted_opens = ran.trusted_opens;
-          });
+      compares = compares_pairs g.S.Sources g.W.Sink g.E.Sink devices.site.now ran.sources c.args.trusted.now ran.trusted
+          devices.out.now ran.out devices.err.now c.put_pair_fault.new.err devices.desk.now ran.desk
+          c.args.trusted_desk.now ran.trusted_desk wish beside config c.run_lines_beside.result pointed trusted_pointed same
+          c.requires.room c.requires.trusted_room c.run_lines_beside.ensures;
     }
 
 pub returns-in-Ok-clause-lookups : goal.returns-in-Ok-clause-lookups

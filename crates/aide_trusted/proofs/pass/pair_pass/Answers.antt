@@ -1,6 +1,5 @@
-use Rattle.std.proofs.Common.{◌∙◌, ap, refl, sym}
+use Rattle.std.proofs.Common.{◌∙◌, ap}
 use Rattle.std.specs.FinMap.Entries.{is_sorted}
-use Rattle.std.specs.Prelude.{Ok, Err}
 use Rattle.aide_db.specs.Desk.{list_of, columns_of_side}
 use Rattle.aide_entry.specs.Path.{path_cmp}
 use Rattle.aide_db.specs.declared.side.Side.TheVariants.{Old, New}
@@ -25,7 +24,7 @@ returns-in-Err-clause-passes g c =
 
 pub returns-in-Err-clause-writes : goal.returns-in-Err-clause-writes
 returns-in-Err-clause-writes g c old new trusted_old trusted_new told_old told_new told_trusted_old told_trusted_new in_order =
-    part_nothing (change_lines c.args.options.now (sought_by (pass_of trusted_old trusted_new)) (pass_of old new)) (on_sheet g.W.Sink c.args.out.now c.args.pen.now)
+    part_nothing (change_lines c.args.plan.now.task.now.options (sought_by (pass_of trusted_old trusted_new)) (pass_of old new)) (on_sheet g.W.Sink c.args.out.now c.args.pen.now)
 
 pub returns-in-Err-clause-pen : goal.returns-in-Err-clause-pen
 returns-in-Err-clause-pen g c =
@@ -44,7 +43,7 @@ returns-in-Err-open_both-clause-passes g c =
 
 pub returns-in-Err-open_both-clause-writes : goal.returns-in-Err-open_both-clause-writes
 returns-in-Err-open_both-clause-writes g c old new trusted_old trusted_new told_old told_new told_trusted_old told_trusted_new in_order =
-    part_nothing (change_lines c.args.options.now (sought_by (pass_of trusted_old trusted_new)) (pass_of old new)) (on_sheet g.W.Sink c.args.out.now c.args.pen.now)
+    part_nothing (change_lines c.args.plan.now.task.now.options (sought_by (pass_of trusted_old trusted_new)) (pass_of old new)) (on_sheet g.W.Sink c.args.out.now c.args.pen.now)
 
 pub returns-in-Err-open_both-clause-pen : goal.returns-in-Err-open_both-clause-pen
 returns-in-Err-open_both-clause-pen g c =
@@ -98,7 +97,7 @@ pub returns-in-Some-clause-writes : goal.returns-in-Some-clause-writes
 returns-in-Some-clause-writes g c old new trusted_old trusted_new told_old told_new told_trusted_old told_trusted_new in_order =
     let opened = c.start-merge.ensures.opened (g.S.Sources.bytes_of c.args.sources.now) c.in-Ok.ensures.gives in
     let opened2 = c.start-beside.ensures.opened (g.S.Sources.bytes_of c.args.trusted.now) c.in-Ok-open_both.ensures.gives in
-    part_whole (lines_over c.args.options.now (λ l. Wrote l (on_sheet g.W.Sink c.args.out.now c.args.pen.now) (on_sheet g.W.Sink c.walk.new.out c.walk.new.pen)) (opened.rest old new) (opened2.rest trusted_old trusted_new)
+    part_whole (lines_over c.args.plan.now.task.now.options (λ l. Wrote l (on_sheet g.W.Sink c.args.out.now c.args.pen.now) (on_sheet g.W.Sink c.walk.new.out c.walk.new.pen)) (opened.rest old new) (opened2.rest trusted_old trusted_new)
     (c.in-Ok-walk.ensures.writes old new trusted_old trusted_new (opened.stands Old old told_old) (opened.stands New new told_new)
     (opened2.stands Old trusted_old told_trusted_old) (opened2.stands New trusted_new told_trusted_new) (ap (is_sorted path_cmp) (opened.rest old new) ∙ in_order)))
 
@@ -106,7 +105,7 @@ pub returns-in-Some-trusted_changed-clause-writes : goal.returns-in-Some-trusted
 returns-in-Some-trusted_changed-clause-writes g c old new trusted_old trusted_new told_old told_new told_trusted_old told_trusted_new in_order =
     let opened = c.start-merge.ensures.opened (g.S.Sources.bytes_of c.args.sources.now) c.in-Ok.ensures.gives in
     let opened2 = c.start-beside.ensures.opened (g.S.Sources.bytes_of c.args.trusted.now) c.in-Ok-open_both.ensures.gives in
-    part_whole (lines_over c.args.options.now (λ l. Wrote l (on_sheet g.W.Sink c.args.out.now c.args.pen.now) (on_sheet g.W.Sink c.walk.new.out c.walk.new.pen)) (opened.rest old new) (opened2.rest trusted_old trusted_new)
+    part_whole (lines_over c.args.plan.now.task.now.options (λ l. Wrote l (on_sheet g.W.Sink c.args.out.now c.args.pen.now) (on_sheet g.W.Sink c.walk.new.out c.walk.new.pen)) (opened.rest old new) (opened2.rest trusted_old trusted_new)
     (c.in-Ok-walk.ensures.writes old new trusted_old trusted_new (opened.stands Old old told_old) (opened.stands New new told_new)
     (opened2.stands Old trusted_old told_trusted_old) (opened2.stands New trusted_new told_trusted_new) (ap (is_sorted path_cmp) (opened.rest old new) ∙ in_order)))
 
@@ -114,7 +113,7 @@ pub returns-in_default-trusted_changed-clause-writes : goal.returns-in_default-t
 returns-in_default-trusted_changed-clause-writes g c old new trusted_old trusted_new told_old told_new told_trusted_old told_trusted_new in_order =
     let opened = c.start-merge.ensures.opened (g.S.Sources.bytes_of c.args.sources.now) c.in-Ok.ensures.gives in
     let opened2 = c.start-beside.ensures.opened (g.S.Sources.bytes_of c.args.trusted.now) c.in-Ok-open_both.ensures.gives in
-    lines_over c.args.options.now (λ l. Wrote l (on_sheet g.W.Sink c.args.out.now c.args.pen.now) (on_sheet g.W.Sink c.walk.new.out c.walk.new.pen)) (opened.rest old new) (opened2.rest trusted_old trusted_new)
+    lines_over c.args.plan.now.task.now.options (λ l. Wrote l (on_sheet g.W.Sink c.args.out.now c.args.pen.now) (on_sheet g.W.Sink c.walk.new.out c.walk.new.pen)) (opened.rest old new) (opened2.rest trusted_old trusted_new)
     (c.in-Ok-walk.ensures.writes old new trusted_old trusted_new (opened.stands Old old told_old) (opened.stands New new told_new)
     (opened2.stands Old trusted_old told_trusted_old) (opened2.stands New trusted_new told_trusted_new) (ap (is_sorted path_cmp) (opened.rest old new) ∙ in_order))
 
@@ -134,7 +133,7 @@ returns-in_default-trusted_changed-clause-counts g c old new trusted_old trusted
     let opened2 = c.start-beside.ensures.opened (g.S.Sources.bytes_of c.args.trusted.now) c.in-Ok-open_both.ensures.gives in
     c.in-Ok-walk.ensures.counts old new trusted_old trusted_new (opened.stands Old old told_old) (opened.stands New new told_new)
     (opened2.stands Old trusted_old told_trusted_old) (opened2.stands New trusted_new told_trusted_new) (ap (is_sorted path_cmp) (opened.rest old new) ∙ in_order)
-    ∙ (λ i. tally c.args.options.now (sought_by (opened2.rest trusted_old trusted_new i)) (opened.rest old new i))
+    ∙ (λ i. tally c.args.plan.now.task.now.options (sought_by (opened2.rest trusted_old trusted_new i)) (opened.rest old new i))
 
 pub walk-requires-clause-short : goal.walk-requires-clause-short
 walk-requires-clause-short g c =
@@ -145,7 +144,7 @@ pub returns-in-Err-walk-clause-writes : goal.returns-in-Err-walk-clause-writes
 returns-in-Err-walk-clause-writes g c old new trusted_old trusted_new told_old told_new told_trusted_old told_trusted_new in_order =
     let opened = c.start-merge.ensures.opened (g.S.Sources.bytes_of c.args.sources.now) c.in-Ok.ensures.gives in
     let opened2 = c.start-beside.ensures.opened (g.S.Sources.bytes_of c.args.trusted.now) c.in-Ok-open_both.ensures.gives in
-    lines_over c.args.options.now (λ l. WritesPart l (on_sheet g.W.Sink c.args.out.now c.args.pen.now) (on_sheet g.W.Sink c.walk.new.out c.walk.new.pen)) (opened.rest old new) (opened2.rest trusted_old trusted_new)
+    lines_over c.args.plan.now.task.now.options (λ l. WritesPart l (on_sheet g.W.Sink c.args.out.now c.args.pen.now) (on_sheet g.W.Sink c.walk.new.out c.walk.new.pen)) (opened.rest old new) (opened2.rest trusted_old trusted_new)
     (c.in-Err-walk.ensures.writes old new trusted_old trusted_new (opened.stands Old old told_old) (opened.stands New new told_new)
     (opened2.stands Old trusted_old told_trusted_old) (opened2.stands New trusted_new told_trusted_new) (ap (is_sorted path_cmp) (opened.rest old new) ∙ in_order))
 

@@ -1,5 +1,4 @@
 use Rattle.std.proofs.Common.{◌≤◌, arith}
-use Rattle.aide_db.specs.declared.side.Side.TheVariants.{Old, New}
 use Rattle.aide_report.specs.Missing.{IsHindered}
 use Rattle.aide_report.specs.Seen.{seen}
 use Rattle.aide_text.specs.Failures.{Rose}

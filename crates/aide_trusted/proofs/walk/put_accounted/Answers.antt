@@ -10,6 +10,7 @@ use Rattle.aide_trusted.proofs.SoughtLemmas.{alike_sought, none_sought, one_soug
 use Rattle.aide_report.specs.code.LineTally.{sum_of_counts}
 use Rattle.aide_trusted.proofs.TallyLemmas.{line_alike, line_of, lines_of_sought, small_more, small_start, tally_alike, tally_more}
 use Rattle.aide_trusted.proofs.TallyLemmas.{below_all, tally_none, tally_of, tally_pairs, tally_start}
+use Rattle.aide_trusted.proofs.FrameLemmas.{lines_alike, lines_more, lines_start}
 use Rattle.aide_report.proofs.CallLemmas.{merge_fault, merge_none, merge_then}
 use Rattle.aide_text.proofs.Sheets.{writing_start, writing_more, writing_done, writing_so_far, some_nothing, some_more}
 use Rattle.aide_text.proofs.Sheets.{part_as, some_of, wrote_as}
@@ -29,6 +30,7 @@ pass-init g c = record {
       (all_sought (remaining c.args.merge.now c.args.desk.now old new) (remaining c.args.trusted.now c.args.trusted_desk.now trusted_old trusted_new)))
       (on_sheet g.W.Sink c.args.out.now c.args.pen.now);
   counts = λ old new trusted_old trusted_new s t u v in_order. tally_start c.args.options.now _ _ c.no_counts-counts.ensures;
+  lines = lines_start _ (on_sheet g.W.Sink c.args.out.now c.args.pen.now) c.no_counts-counts.ensures;
   some = some_nothing (on_sheet g.W.Sink c.args.out.now c.args.pen.now);
 }
 
@@ -83,6 +85,9 @@ returns-in-End-clause-counts g c old new trusted_old trusted_new s t u v in_orde
     (sym (c.in_default.ensures.read.same old new (stands Old old s) (stands New new t) ∙ c.in-End.ensures.step.end old new refl))
     ∙ c.pass.invariant.counts old new trusted_old trusted_new s t u v in_order)
     ∙ sym (tally_pairs c.args.options.now (remaining c.args.merge.now c.args.desk.now old new) (remaining c.args.trusted.now c.args.trusted_desk.now trusted_old trusted_new))
+
+pub returns-in-End-clause-lines : goal.returns-in-End-clause-lines
+returns-in-End-clause-lines g c = c.pass.invariant.lines
 
 pub returns-in-End-clause-some : goal.returns-in-End-clause-some
 returns-in-End-clause-some g c = c.pass.invariant.some
@@ -174,6 +179,8 @@ pass-preserved-else-pen g c =
           (c.account_of-account.ensures trusted_old trusted_new) (c.pass.invariant.sorted old new s t in_order))
           c.put_counted.ensures.counted
           (c.pass.invariant.counts old new trusted_old trusted_new s t u v in_order);
+      lines = lines_more c.args.options.now c.account_of-account.result (change_of c.in-Differs.change) c.pass.counts c.put_counted.new.counts
+          c.put_counted.ensures.counted c.put_counted.ensures.wrote c.pass.invariant.lines;
       some = some_more c.pass.invariant.some (some_of c.put_counted.ensures.wrote);
     }
 
@@ -209,6 +216,7 @@ pass-preserved g c =
           (read.same old new (stands Old old s) (stands New new t) ∙ step.gives old new) step.shows.only)
           (tally_alike c.args.options.now c.pass.counts step.shows.entry (sought_by trusted (alike_of step.shows.entry)))
           (c.pass.invariant.counts old new trusted_old trusted_new s t u v in_order);
+      lines = lines_alike c.pass.counts c.pass.invariant.lines;
       some = c.pass.invariant.some;
     }
 

@@ -7,6 +7,7 @@ use Rattle.aide_entry.specs.Path.{path_cmp}
 use Rattle.aide_report.specs.code.MergeCalls.{KeepsMerge}
 use Rattle.aide_report.specs.code.Passes.{on_sheet}
 use Rattle.aide_trusted.specs.code.Sought.{all_sought}
+use Rattle.aide_trusted.specs.code.Written.{HasLines}
 use Rattle.aide_text.specs.Sheet.{Writing, WritesSome}
 use Rattle.aide_report.specs.code.Merging.{remaining, IsReady, StandsAt, total_work}
 use Rattle.aide_report.specs.code.LineTally.{AreLinesBelow, sum_of_counts}
@@ -40,6 +41,7 @@ invariant-pass g l = record {
       → is_sorted path_cmp (remaining l.fn.merge l.fn.desk old new) ≡ true
       → sum_of_counts l.counts (tally_of l.options (all_sought (remaining l.merge l.desk old new) (remaining l.trusted l.trusted_desk trusted_old trusted_new)))
       ≡ tally_of l.options (all_sought (remaining l.fn.merge l.fn.desk old new) (remaining l.fn.trusted l.fn.trusted_desk trusted_old trusted_new));
+  lines : HasLines l.counts (on_sheet g.W.Sink l.fn.out l.fn.pen) (on_sheet g.W.Sink l.out l.pen);
   some : WritesSome (on_sheet g.W.Sink l.fn.out l.fn.pen) (on_sheet g.W.Sink l.out l.pen);
 }
 

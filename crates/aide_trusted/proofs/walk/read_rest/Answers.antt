@@ -1,4 +1,4 @@
-use Rattle.std.proofs.Common.{arith, refl}
+use Rattle.std.proofs.Common.{refl}
 use Rattle.aide_report.proofs.CallLemmas.{merge_fault, merge_none, merge_then}
 use Rattle.aide_trusted.proofs.walk.read_rest.Goals as goal
 

@@ -9,6 +9,7 @@ use Rattle.aide_trusted.specs.code.Sought.{sought_by}
 use Rattle.aide_trusted.specs.code.Written.{written_beside}
 use Rattle.aide_line_text.specs.Ends.{last_line}
 use Rattle.aide_report.specs.LineCounts.{status_by}
+use Rattle.aide_trusted.proofs.FrameLemmas.{framed_lines}
 use Rattle.aide_trusted.proofs.PairPassLemmas.{pair_pen_then, pairs_broken, pairs_same, pairs_unbegun}
 use Rattle.aide_text.proofs.Sheets.{wrote_as, wrote_more, part_of_wrote, part_after, part_first, part_whole, some_more, some_of}
 use Rattle.aide_trusted.proofs.write.put_lines.Goals as goal
@@ -50,6 +51,12 @@ returns-clause-writes g c old new trusted_old trusted_new told_old told_new told
     wrote_more c.put_first.ensures (wrote_more (c.in-Ok.ensures.writes old new trusted_old trusted_new told_old told_new told_trusted_old told_trusted_new in_order)
     (wrote_as (ap (λ counts. last_line true counts (status_by counts)) (c.in-Ok.ensures.counts old new trusted_old trusted_new told_old told_new told_trusted_old told_trusted_new in_order)) c.put_last.ensures))
 
+pub returns-clause-accounted : goal.returns-clause-accounted
+returns-clause-accounted g c = c.in-Ok.ensures.lines.accounted
+
+pub returns-clause-frame : goal.returns-clause-frame
+returns-clause-frame g c = framed_lines c.in-Ok.counts c.put_first.ensures c.in-Ok.ensures.lines c.put_last.ensures
+
 pub returns-clause-pen : goal.returns-clause-pen
 returns-clause-pen g c = record {
   some = some_more (some_of c.put_first.ensures) (some_more c.in-Ok.ensures.pen.some (some_of c.put_last.ensures));
@@ -66,8 +73,8 @@ returns-then-pen-clause-pen g c = record { some = some_of c.put_first.ensures; w
 pub returns-in-Err-clause-passes : goal.returns-in-Err-clause-passes
 returns-in-Err-clause-passes g c = c.in-Err.ensures.passes
 
-pub put_changes-requires-clause-writes_on : goal.put_changes-requires-clause-writes_on
-put_changes-requires-clause-writes_on g c = c.if-pen.false
+pub pair_pass-requires-clause-writes_on : goal.pair_pass-requires-clause-writes_on
+pair_pass-requires-clause-writes_on g c = c.if-pen.false
 
 pub returns-then-pen-clause-passes : goal.returns-then-pen-clause-passes
 returns-then-pen-clause-passes g c =

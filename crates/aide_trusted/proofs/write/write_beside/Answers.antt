@@ -2,6 +2,7 @@ use Rattle.std.proofs.Common.{◌∙◌, ◌≤◌, ap, refl, subst, sym}
 use Rattle.aide_text.specs.Failures.{one_more}
 use Rattle.aide_report.proofs.AgreementLemmas.{unflushed}
 use Rattle.aide_trusted.proofs.PairPassLemmas.{pair_counts, pair_written, pairs_broken, pairs_err, pairs_same}
+use Rattle.aide_report.proofs.LineRunLemmas.{framed}
 use Rattle.aide_report.proofs.ReportLemmas.{flushed_whole, flushed_part, flushed_count, never_falls, count_of_pen}
 use Rattle.aide_report.proofs.ReportLemmas.{rises_by_one, rose_by_one, rose_of_pen, unfailed}
 use Rattle.aide_text.proofs.Sheets.{wrote_part}
@@ -15,6 +16,14 @@ returns-clause-sends g c old new trusted_old trusted_new told_old told_new told_
     let fresh = ap (λ pen. pen.failed) c.new-pen.ensures in
     flushed_whole (g.W.Sink.delivered c.flush.new.self) fresh c.in-Ok.ensures.pen.writes_on
     (c.in-Ok.ensures.writes old new trusted_old trusted_new told_old told_new told_trusted_old told_trusted_new in_order) c.flush.ensures.bytes
+
+pub returns-clause-accounted : goal.returns-clause-accounted
+returns-clause-accounted g c = c.in-Ok.ensures.accounted
+
+pub returns-clause-frames : goal.returns-clause-frames
+returns-clause-frames g c =
+    let fresh = ap (λ pen. pen.failed) c.new-pen.ensures in
+    framed (g.W.Sink.delivered c.flush.new.self) fresh c.in-Ok.ensures.pen.writes_on c.in-Ok.ensures.frame c.flush.ensures.bytes
 
 pub returns-clause-sink : goal.returns-clause-sink
 returns-clause-sink g c =
