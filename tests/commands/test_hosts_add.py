@@ -281,6 +281,10 @@ class HostsAddTest(CommandTest):
             asked = add(self, host, "yes\n")
             good = asked.status == status and said in asked.text and "yes or no" not in asked.text
             self.holds(f"the host {host}", good and not files(self), (asked, files(self)))
+        fleet.put("denied", OLD, None)
+        asked = add(self, "denied", "yes\n")
+        good = re.search(r"(?m)^restrict,command=", asked.text)
+        self.holds("a line that can be copied as it is", good, asked)
         for name in ("a b", "-x", "x\ny", "a/b", "..", "$(x)", "a#b"):
             asked = add(self, "--", "yes\n", name)
             good = asked.status == 15 and not files(self)

@@ -65,6 +65,18 @@ def show(host: str, offer: adding.Offer) -> None:
     tell(*(f"    {command}" for command in commands))
 
 
+def way_in(fault: Fault, settings: adding.SshSettings) -> list[str]:
+    """What helps if the host does not let the caller in. A line for its authorized_keys goes to
+    standard output, where nothing stands before it."""
+    if not adding.is_refusal(fault):
+        return []
+    line = adding.line_for_key(settings)
+    if not line:
+        return ["this user has no key yet: ssh-keygen -t ed25519"]
+    tell(line)
+    return ["put the line above into /root/.ssh/authorized_keys there, and run this again"]
+
+
 def answer_is_yes(host: str) -> bool:
     write_all(1, f"Is it the same? Then {host} is watched from now on. yes or no: ".encode())
     answer = os.read(0, MAX_ANSWER)
@@ -85,7 +97,7 @@ def main(arguments: Sequence[str]) -> int:
         try:
             offer = adding.offered(directory, settings, part)
         except Fault as fault:
-            raise Fault(fault.status, fault.text, *adding.refused_words(fault, settings))
+            raise Fault(fault.status, fault.text, *way_in(fault, settings))
         show(directory.host, offer)
         if not answer_is_yes(directory.host):
             raise Fault(Status.DATABASE, "the answer was not yes: nothing was added")

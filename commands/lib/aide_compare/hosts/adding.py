@@ -122,14 +122,13 @@ def key_file(key: str) -> str:
     return f"/etc/ssh/ssh_host_{HOST_KEYS.get(kind, 'ecdsa')}_key.pub"
 
 
-def hint_for_key(settings: SshSettings) -> str:
-    """What lets the caller in: the line for authorized_keys of the host, or how to make a key."""
+def line_for_key(settings: SshSettings) -> str:
+    """The line for authorized_keys of the host that lets the caller in; "" without a key."""
     for path in settings.identities:
         with suppress(Fault):
             public = read_file(path + ".pub", MAX_KEY).decode("utf-8", "replace").strip()
-            line = f'restrict,command="{COMMAND}" {shown(public)}'
-            return f"put this line into /root/.ssh/authorized_keys there:\n{line}"
-    return "this user has no key yet: ssh-keygen -t ed25519"
+            return f'restrict,command="{COMMAND}" {shown(public)}'
+    return ""
 
 
 def ends_with_newline(descriptor: int) -> bool:
@@ -186,11 +185,9 @@ def keep_first(directory: HostDirectory, part: NewFile | None = None) -> None:
         raise directory.fault(f"cannot keep its baseline: {write_cause(error)}")
 
 
-def refused_words(fault: Fault, settings: SshSettings) -> tuple[str, ...]:
-    """What helps if a host lets nobody in."""
-    if NOT_ALLOWED not in fault.text:
-        return ()
-    return tuple(hint_for_key(settings).split("\n"))
+def is_refusal(fault: Fault) -> bool:
+    """Whether the host does not let the caller in."""
+    return NOT_ALLOWED in fault.text
 
 
 def commands_on_host(key: str) -> list[str]:
