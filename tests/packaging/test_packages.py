@@ -115,7 +115,7 @@ def try_debian(trial, path, time):
         ("Architecture", "amd64"),
         ("Depends", "libc6 (>= 2.34), python3:any"),
         ("Suggests", "aide"),
-        ("Recommends", "default-mta | mail-transport-agent"),
+        ("Recommends", "default-mta | mail-transport-agent, gpgv"),
     ):
         trial.assertEqual(fields.get(name), wanted, "the field " + name)
     folder = path + ".tree"
