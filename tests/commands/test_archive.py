@@ -495,6 +495,11 @@ class ArchiveTest(CommandTest):
             answer = self.call("aide-compare archive", *words)
             self.expect(f"a file without {name}", answer, status, output=b"")
             self.assertEqual(self.read("made.db"), place.old.database(), "the file has the old one")
+        answer = self.call(
+            "aide-compare archive", *words[:1], "--output=nowhere/made.db", *words[2:]
+        )
+        self.expect("a directory that is not there", answer, 18, output=b"")
+        self.assertFalse(os.path.lexists(self.path("nowhere")), "no directory is made")
         self.assertFalse(self.leftovers(), "nothing is left")
 
     def test_user(self) -> None:

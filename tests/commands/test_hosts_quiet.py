@@ -103,6 +103,7 @@ class HostsQuietTest(CommandTest):
             self.holds(
                 "%s: the cause is kept" % label, line is not None and cause in line.group(1), done
             )
+            self.assertNotIn("h01: ", done[1], ("%s: the name once" % label, done))
             differs = "; it differs: added 1, removed 1, changed 2"
             self.holds("%s: what is known" % label, (differs in done[1]) is had_one, done)
             self.assertIn(f"{cause}", fleet.state("h01"), "%s: its state" % label)

@@ -187,9 +187,8 @@ def replace(
 
 
 def replace_by_copy(path: str, source: int, mode: int, what: str) -> None:
-    """The same by the bytes of an open file. A directory in which another user can write is
-    refused."""
-    with closing(Replacement(path, mode, what)) as file:
+    """The same by the bytes of an open file. No directory is made for it."""
+    with closing(Replacement(path, mode, what, makes_directory=False)) as file:
         file.commit_copy(source)
 
 

@@ -123,7 +123,7 @@ def keep_comparison(directory: HostDirectory, settings: Settings) -> State:
         if name == NEW:
             cause = directory.fetch_cause()
         if cause:
-            text = f"nothing was fetched yet: {cause}"
+            text = "nothing was fetched yet: " + cause.removeprefix(f"{directory.host}: ")
         raise Fault(Status.DEVICE, text)
     with closing(NewFile(directory.fd)) as part:
         comparison = run_comparison(directory, settings, part)
