@@ -36,7 +36,8 @@ different_by : (b : Bool) → (((b && true) || (false && true)) && not false) �
 different_by true e = cc
 different_by false e = refl
 
-same_by : (d digest own : Bool) → own ≡ false → (((d && true && true) || (((true && not true) || (true && not true)) && not digest)) && not own) ≡ false
+same_by : (d digest own : Bool) → own ≡ false
+    → (((d && true && true) || (((true && not true) || (true && not true)) && not digest)) && not own) ≡ false
     → d ≡ false
 same_by true true true o e = cc
 same_by true false true o e = cc
@@ -91,7 +92,8 @@ own_no_stray x y digest own o = never_own _ own o
 pub alike_no_stray : (x y : Option Value) (digest own : Bool) → x ≡ y → stray_of x y digest own ≡ false
 alike_no_stray x y digest own e = ap (λ z. stray_of x z digest own) (sym e) ∙ with_itself x digest own
   where
-    no : (d digest own : Bool) → d ≡ false → (((d && true && true) || (((true && not true) || (true && not true)) && not digest)) && not own) ≡ false
+    no : (d digest own : Bool) → d ≡ false
+        → (((d && true && true) || (((true && not true) || (true && not true)) && not digest)) && not own) ≡ false
     no false true own e = refl
     no false false own e = refl
     no true digest own e = cc

@@ -12,7 +12,16 @@ use Rattle.aide_text.specs.code.Columns.{blank_pair}
 length-put_mid : (a k : ℕ) (line text : List ℕ) → k ≡ length text → a + k ≤ length line
     → length (put_mid a k line text) ≡ length line
 length-put_mid a k line text size fits =
-    omega (arith, size, fits, length-append (take a line) (text ++ drop k (drop a line)), length-append text (drop k (drop a line)), length-drop k (drop a line), length-drop a line, length-take-le a line (omega (arith, fits)))
+    omega (
+      arith,
+      size,
+      fits,
+      length-append (take a line) (text ++ drop k (drop a line)),
+      length-append text (drop k (drop a line)),
+      length-drop k (drop a line),
+      length-drop a line,
+      length-take-le a line (omega (arith, fits)),
+    )
 
 length-padded : (n : ℕ) (text : List ℕ) → length text ≤ n → length (padded n text) ≡ n
 unfolding padded
@@ -51,9 +60,16 @@ module _ (j k : ℕ) (line a b : List ℕ) (size_a : j ≡ length a) (size_b : k
 
   front : take 49 (put_mid 14 j line a) ≡ take 14 line ++ left_part a
   unfolding left_part bar
-  front = ap (take 49) (first ∙ ap (λ r. take 14 line ++ r) (sym (append_assoc (padded 32 a) bar (replicate 33 32))) ∙ sym (append_assoc (take 14 line) (padded 32 a ++ bar) (replicate 33 32)))
+  front = ap (take 49) (first ∙ ap (λ r. take 14 line ++ r) (sym (append_assoc (padded 32 a) bar (replicate 33 32)))
+      ∙ sym (append_assoc (take 14 line) (padded 32 a ++ bar) (replicate 33 32)))
       ∙ take_at (take 14 line ++ (padded 32 a ++ bar)) (replicate 33 32) 49
-      (omega (arith, length-append (take 14 line) (padded 32 a ++ bar), length-append (padded 32 a) bar, length-padded 32 a fits_a, length-take-le 14 line (omega (arith, size))))
+      (omega (
+        arith,
+        length-append (take 14 line) (padded 32 a ++ bar),
+        length-append (padded 32 a) bar,
+        length-padded 32 a fits_a,
+        length-take-le 14 line (omega (arith, size)),
+      ))
 
   pub paired : take (50 + length b) (slice_set (put_mid 49 k (put_mid 14 j line a) b) (49 + length b) 10) ≡ pair_line (take 14 line) a b
   unfolding pair_line pair_body ended
@@ -63,7 +79,8 @@ module _ (j k : ℕ) (line a b : List ℕ) (size_a : j ≡ length a) (size_b : k
       length-put_mid 49 k (put_mid 14 j line a) b size_b (omega (arith, long, size_b, fits_b)) ∙ long in
       ap (λ n. take n (slice_set (put_mid 49 k (put_mid 14 j line a) b) (49 + length b) 10)) (omega arith)
       ∙ take_more_set (put_mid 49 k (put_mid 14 j line a) b) (49 + length b) 10 (omega (arith, whole, fits_b))
-      ∙ ap (λ l. l ++ 10 ∷ []) (take-put_mid 49 k (put_mid 14 j line a) b (49 + length b) refl (omega (arith, long)) ∙ ap (λ l. l ++ b) front)
+      ∙ ap (λ l. l ++ 10 ∷ []) (take-put_mid 49 k (put_mid 14 j line a) b (49 + length b) refl (omega (arith, long))
+      ∙ ap (λ l. l ++ b) front)
       ∙ append_assoc (take 14 line ++ left_part a) b (10 ∷ [])
       ∙ append_assoc (take 14 line) (left_part a) (b ++ 10 ∷ [])
 
@@ -72,7 +89,12 @@ module _ (j k : ℕ) (line a b : List ℕ) (size_a : j ≡ length a) (size_b : k
 pub length-heading : (name : List ℕ) → length name ≤ 10 → length (heading name) ≡ 14
 unfolding indent colon_blank heading
 length-heading name fits =
-    omega (arith, length-append indent (padded 10 name ++ colon_blank), length-append (padded 10 name) colon_blank, length-padded 10 name fits)
+    omega (
+      arith,
+      length-append indent (padded 10 name ++ colon_blank),
+      length-append (padded 10 name) colon_blank,
+      length-padded 10 name fits,
+    )
 
 pub margin_head : (line : List ℕ) → line ≡ margin ++ blank_pair → take 14 line ≡ margin
 unfolding margin

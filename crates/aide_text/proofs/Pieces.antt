@@ -12,7 +12,8 @@ pub one_byte : (bytes before after text : List ℕ) (len c : ℕ) → len < leng
     → before ≡ c ∷ after
     → take (len + 1) (slice_set bytes len c) ++ after ≡ text
 one_byte bytes before after text len c h whole is =
-    ap (λ ds. ds ++ after) (take_more_set bytes len c h) ∙ append_assoc (take len bytes) (c ∷ []) after ∙ ap (λ ds. take len bytes ++ ds) (sym is) ∙ whole
+    ap (λ ds. ds ++ after) (take_more_set bytes len c h) ∙ append_assoc (take len bytes) (c ∷ []) after
+    ∙ ap (λ ds. take len bytes ++ ds) (sym is) ∙ whole
 
 -- the buffer is full
 pub cut_full : (piece rest text : List ℕ) → piece ++ rest ≡ text → length piece ≡ 32

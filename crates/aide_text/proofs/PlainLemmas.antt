@@ -1,5 +1,6 @@
 -- Plain bytes, one after another.
-use Rattle.std.proofs.Common.{◌≡◌, ◌∙◌, ℕ, ◌+◌, ◌<◌, List, [], ◌∷◌, ◌++◌, length, take, drop, slice_index, refl, sym, ap, append_assoc, true, false, Bool, arith}
+use Rattle.std.proofs.Common.{◌≡◌, ◌∙◌, ℕ, ◌+◌, ◌<◌, List, [], ◌∷◌, ◌++◌, length, take, drop}
+use Rattle.std.proofs.Common.{slice_index, refl, sym, ap, append_assoc, true, false, Bool, arith}
 use Rattle.std.specs.Prelude.{◌≢◌, ◌&&◌}
 use Rattle.std.specs.List.{list_all}
 use Rattle.std.proofs.lemmas.Bool.{and_parts}
@@ -56,7 +57,8 @@ plain_then text rest n m from first then =
     ∙ ap (λ xs. take n text ++ xs) (ap (λ xs. printed (percent_decode xs)) (sym from) ∙ then)
     ∙ sym (append_assoc (take n text) (take m rest) (printed (percent_decode (drop m rest))))
     ∙ ap (λ xs. xs ++ printed (percent_decode (drop m rest))) (ap (λ xs. take n text ++ take m xs) from ∙ sym (take-add n m text))
-    ∙ ap (λ xs. take (n + m) text ++ printed (percent_decode xs)) (ap (drop m) from ∙ drop-drop m n text ∙ ap (λ (k : ℕ). drop k text) (omega arith))
+    ∙ ap (λ xs. take (n + m) text ++ printed (percent_decode xs))
+    (ap (drop m) from ∙ drop-drop m n text ∙ ap (λ (k : ℕ). drop k text) (omega arith))
 
 and_true : (b : Bool) → (b && true) ≡ b
 and_true true = refl

@@ -102,7 +102,8 @@ writing_part {text} {rest} {piece} more {a} {b} {c} is p q = record {
   rest = q.rest ++ more;
   writing = record {
     front = p.front ++ q.writing.front;
-    whole = p.whole ∙ ap (λ l. p.front ++ l) (is ∙ ap (λ l. l ++ more) q.writing.whole ∙ append_assoc q.writing.front q.rest more) ∙ sym (append_assoc p.front q.writing.front (q.rest ++ more));
+    whole = p.whole ∙ ap (λ l. p.front ++ l) (is ∙ ap (λ l. l ++ more) q.writing.whole ∙ append_assoc q.writing.front q.rest more)
+        ∙ sym (append_assoc p.front q.writing.front (q.rest ++ more));
     wrote = wrote_more p.wrote q.writing.wrote;
   };
 }
@@ -154,7 +155,8 @@ writing_as {text} {rest} {more} {a} {b} e p = subst (λ l. Writing text l a b) e
 -- ---- from a pen to its sink
 
 some_by : (text : List ℕ) (a b : Sheet) (f h : Bool) → a.failed ≡ f → b.failed ≡ h → f ≡ false → WroteBy f h text a b
-    → (sent : List ℕ) × Appends a.bytes b.bytes sent × (b.sent ≡ sum_of a.sent (length sent)) × (a.failures ≤ b.failures) × (h ≡ true → b.failures ≡ one_more a.failures)
+    → (sent : List ℕ) × Appends a.bytes b.bytes sent × (b.sent ≡ sum_of a.sent (length sent)) × (a.failures ≤ b.failures)
+    × (h ≡ true → b.failures ≡ one_more a.failures)
 some_by text a b true h is_f is_h fresh p = absurd (true_false fresh)
 some_by text a b false true is_f is_h fresh p =
     (p.front, p.adds.bytes, p.adds.count, omega (arith, p.failures), λ e. p.failures)
@@ -163,7 +165,8 @@ some_by text a b false false is_f is_h fresh p =
 
 -- what a fresh pen has written: some bytes, which it counts, and its sink's failures
 pub from_fresh : {a b : Sheet} → a.failed ≡ false → WritesSome a b
-    → (sent : List ℕ) × Appends a.bytes b.bytes sent × (b.sent ≡ sum_of a.sent (length sent)) × (a.failures ≤ b.failures) × (b.failed ≡ true → b.failures ≡ one_more a.failures)
+    → (sent : List ℕ) × Appends a.bytes b.bytes sent × (b.sent ≡ sum_of a.sent (length sent)) × (a.failures ≤ b.failures)
+    × (b.failed ≡ true → b.failures ≡ one_more a.failures)
 from_fresh {a} {b} fresh p = some_by p.text a b a.failed b.failed refl refl fresh p.wrote.as_flags
 
 cut_by : (text : List ℕ) (a b : Sheet) (f h : Bool) → f ≡ false → h ≡ true → a.sent ≡ 0 → WroteBy f h text a b
@@ -214,5 +217,9 @@ wrote_part {text} {a} {b} fresh p =
 pub part_first : {x : List ℕ} (y : List ℕ) {a b : Sheet} → WritesPart x a b → WritesPart (x ++ y) a b
 part_first {x} y {a} {b} p = record {
   rest = p.rest ++ y;
-  writing = record { front = p.writing.front; whole = ap (λ l. l ++ y) p.writing.whole ∙ append_assoc p.writing.front p.rest y; wrote = p.writing.wrote };
+  writing = record {
+    front = p.writing.front;
+    whole = ap (λ l. l ++ y) p.writing.whole ∙ append_assoc p.writing.front p.rest y;
+    wrote = p.writing.wrote;
+  };
 }

@@ -19,13 +19,16 @@ pub loop-attr-preserved : goal.loop-attr-preserved
 loop-attr-preserved g c =
     let i = c.loop-attr.attr-index in
     let attrs = c.args.attrs.now in
-    writing_more (items_more (has c.args.set) (attribute_member (entry_in c.args.view.now).1) c.loop-attr.first c.has-wanted.result c.is_still_first-first.result
-    (drop i attrs) (get_or attrs i Ftype) (drop (i + 1) attrs) (drop_more attrs i Ftype (omega arith)) c.has-wanted.ensures c.is_still_first-first.ensures)
+    writing_more (items_more (has c.args.set) (attribute_member (entry_in c.args.view.now).1) c.loop-attr.first
+    c.has-wanted.result c.is_still_first-first.result
+    (drop i attrs) (get_or attrs i Ftype) (drop (i + 1) attrs) (drop_more attrs i Ftype (omega arith))
+    c.has-wanted.ensures c.is_still_first-first.ensures)
     c.loop-attr.invariant c.put_next.ensures
 
 pub returns : goal.returns
 returns g c =
     let i = c.loop-attr.attr-index in
     let attrs = c.args.attrs.now in
-    writing_done (items_end (has c.args.set) (attribute_member (entry_in c.args.view.now).1) c.loop-attr.first (drop i attrs) (drop_all i attrs (omega arith)))
+    writing_done (items_end (has c.args.set) (attribute_member (entry_in c.args.view.now).1) c.loop-attr.first (drop i attrs)
+    (drop_all i attrs (omega arith)))
     c.loop-attr.invariant

@@ -13,5 +13,6 @@ pub returns : goal.returns
 unfolding entry_object object
 returns g c =
     let values = (entry_in c.args.view.now).1 in
-    wrote_more c.put.ensures (wrote_more (wrote_as (items_as (λ a. has c.args.shown a && is_some (values a)) (attribute_member values) (has c.common.result) all_attrs
+    wrote_more c.put.ensures (wrote_more
+    (wrote_as (items_as (λ a. has c.args.shown a && is_some (values a)) (attribute_member values) (has c.common.result) all_attrs
     (λ a. c.common.ensures a ∙ ap (λ b. has c.args.shown a && b) (c.attrs.ensures a))) c.put_attributes.ensures) c.put-2.ensures)

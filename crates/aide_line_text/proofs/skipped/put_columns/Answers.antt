@@ -15,8 +15,10 @@ loop-column-init g c =
 pub loop-column-preserved : goal.loop-column-preserved
 loop-column-preserved g c =
     let n = c.loop-column.column in
-    writing_more (items_more (is_skipped c.args.columns) json_count c.loop-column.first c.is_skipped-skipped.result c.is_still_first-first.result
-    (numbers n (65 - n)) n (numbers (n + 1) (65 - (n + 1))) (numbers_more n (omega arith)) c.is_skipped-skipped.ensures c.is_still_first-first.ensures)
+    writing_more (items_more (is_skipped c.args.columns) json_count c.loop-column.first
+    c.is_skipped-skipped.result c.is_still_first-first.result
+    (numbers n (65 - n)) n (numbers (n + 1) (65 - (n + 1))) (numbers_more n (omega arith))
+    c.is_skipped-skipped.ensures c.is_still_first-first.ensures)
     c.loop-column.invariant c.put_next.ensures
 
 pub returns : goal.returns

@@ -8,7 +8,8 @@ use Rattle.aide_text.proofs.lines.put_alone.Goals as goal
 pub lines-init : goal.lines-init
 lines-init g c =
     writing_as (ap later_single (sym c.behind-rest.ensures))
-    (writing_more (single_first c.args.name.now c.args.text.now) (writing_start (alone c.args.name.now c.args.text.now) (on_sheet g.W.Sink c.args.out.now c.args.pen.now)) c.put_first.ensures)
+    (writing_more (single_first c.args.name.now c.args.text.now)
+    (writing_start (alone c.args.name.now c.args.text.now) (on_sheet g.W.Sink c.args.out.now c.args.pen.now)) c.put_first.ensures)
 
 pub lines-smaller : goal.lines-smaller
 lines-smaller g c =

@@ -14,4 +14,6 @@ lay_pair-len-requires-clause-blank g c =
 
 pub returns : goal.returns
 returns g c =
-    wrote_as (c.lay_pair-len.ensures.laid ∙ ap (λ head. pair_line head c.args.old_piece.now c.args.new_piece.now) (heading_head c.lay_name.new.line c.args.name.now c.if-name-gt10.false c.lay_name.ensures)) c.put.ensures
+    wrote_as (c.lay_pair-len.ensures.laid
+    ∙ ap (λ head. pair_line head c.args.old_piece.now c.args.new_piece.now)
+    (heading_head c.lay_name.new.line c.args.name.now c.if-name-gt10.false c.lay_name.ensures)) c.put.ensures

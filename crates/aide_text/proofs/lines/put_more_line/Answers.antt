@@ -9,4 +9,6 @@ lay_pair-len-requires-clause-blank g c = margin_blank c.blank_line-line.result c
 
 pub returns : goal.returns
 returns g c =
-    wrote_as (c.lay_pair-len.ensures.laid ∙ ap (λ head. pair_line head c.args.old_piece.now c.args.new_piece.now) (margin_head c.blank_line-line.result c.blank_line-line.ensures)) c.put.ensures
+    wrote_as (c.lay_pair-len.ensures.laid
+    ∙ ap (λ head. pair_line head c.args.old_piece.now c.args.new_piece.now)
+    (margin_head c.blank_line-line.result c.blank_line-line.ensures)) c.put.ensures

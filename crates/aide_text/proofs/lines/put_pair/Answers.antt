@@ -10,4 +10,5 @@ lay_pair-len-requires-clause-blank g c = margin_blank c.blank_line-line.result c
 pub returns : goal.returns
 returns g c =
     wrote_as (behind_margin c.lay_pair-len.result c.lay_pair-len.new.line c.args.old_piece.now c.args.new_piece.now
-    (c.lay_pair-len.ensures.laid ∙ ap (λ head. pair_line head c.args.old_piece.now c.args.new_piece.now) (margin_head c.blank_line-line.result c.blank_line-line.ensures))) c.put.ensures
+    (c.lay_pair-len.ensures.laid ∙ ap (λ head. pair_line head c.args.old_piece.now c.args.new_piece.now)
+    (margin_head c.blank_line-line.result c.blank_line-line.ensures))) c.put.ensures

@@ -10,7 +10,8 @@ lines-init g c =
     let a : List ℕ = g.B.Feed.rest c.args.old_text in
     let b : List ℕ = g.C.Feed.rest c.args.new_text in
     writing_as (λ i. later_lines (sym c.put_name_line.ensures.old_rest i) (sym c.put_name_line.ensures.new_rest i))
-    (writing_more (first_line c.args.name.now a b) (writing_start (side_by_side c.args.name.now a b) (on_sheet g.W.Sink c.args.out.now c.args.pen.now)) c.put_name_line.ensures.wrote)
+    (writing_more (first_line c.args.name.now a b)
+    (writing_start (side_by_side c.args.name.now a b) (on_sheet g.W.Sink c.args.out.now c.args.pen.now)) c.put_name_line.ensures.wrote)
 
 pub returns-then-not-more : goal.returns-then-not-more
 returns-then-not-more g c =

@@ -1,7 +1,8 @@
 use Rattle.std.proofs.Common.{◌≡◌, ◌∙◌, true, false, List, ℕ, sym, ap, take, drop}
 use Rattle.aide_text.specs.PenSheet.{on_sheet}
 use Rattle.aide_text.specs.Layout.{heading, margin, pair_line, side_by_side, has_lines}
-use Rattle.aide_text.proofs.Pieces.{later_lines, first_line, lines_some, lines_none, lines_fall, no_length, short_piece, some_lines, no_lines}
+use Rattle.aide_text.proofs.Pieces.{later_lines, first_line, lines_some, lines_none, lines_fall}
+use Rattle.aide_text.proofs.Pieces.{no_length, short_piece, some_lines, no_lines}
 use Rattle.aide_text.proofs.Sheets.{writing_start, writing_more, writing_as, writing_done, wrote_as}
 use Rattle.aide_text.proofs.lines.put_texts_side_by_side.Goals as goal
 
@@ -22,7 +23,8 @@ lines-init g c =
     let a : List ℕ = c.args.old_text.now in
     let b : List ℕ = c.args.new_text.now in
     writing_as (λ i. later_lines (sym c.behind-old_rest.ensures i) (sym c.behind-new_rest.ensures i))
-    (writing_more (first_line c.args.name.now a b) (writing_start (side_by_side c.args.name.now a b) (on_sheet g.W.Sink c.args.out.now c.args.pen.now))
+    (writing_more (first_line c.args.name.now a b)
+    (writing_start (side_by_side c.args.name.now a b) (on_sheet g.W.Sink c.args.out.now c.args.pen.now))
     (wrote_as (λ i. pair_line (heading c.args.name.now) (c.piece.ensures i) (c.piece-2.ensures i)) c.put_first_line.ensures))
 
 pub lines-smaller : goal.lines-smaller

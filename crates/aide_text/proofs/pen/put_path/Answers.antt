@@ -24,5 +24,6 @@ pieces-preserved g c =
 
 pub returns-then-len-eq0 : goal.returns-then-len-eq0
 returns-then-len-eq0 g c =
-    writing_done (piece_none (printed_rest g.B.Feed.rest c.pieces.text) (piece_text c.of-piece.result) (printed_rest g.B.Feed.rest c.of-piece.new.text)
+    writing_done (piece_none (printed_rest g.B.Feed.rest c.pieces.text) (piece_text c.of-piece.result)
+    (printed_rest g.B.Feed.rest c.of-piece.new.text)
     c.of-piece.ensures.piece (sym c.len.ensures.value ∙ c.if-len-eq0.true)) c.pieces.invariant

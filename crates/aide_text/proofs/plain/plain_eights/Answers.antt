@@ -24,6 +24,9 @@ eights-preserved c =
     let position : length text - length rest + 8 ≡ length text - length more = omega (arith, parts.2, c.eights.invariant.fits) in
     record {
       fits = omega (arith, parts.2, c.eights.invariant.fits);
-      behind = parts.1 ∙ ap (drop 8) c.eights.invariant.behind ∙ drop-drop 8 (length text - length rest) text ∙ ap (λ (n : ℕ). drop n text) (omega (arith, position));
-      plain = subst (λ n. IsPlainUpTo text n) position (plain_then text rest (length text - length rest) 8 c.eights.invariant.behind c.eights.invariant.plain (plain_front 8 rest eight));
+      behind = parts.1 ∙ ap (drop 8) c.eights.invariant.behind ∙ drop-drop 8 (length text - length rest) text
+          ∙ ap (λ (n : ℕ). drop n text) (omega (arith, position));
+      plain = subst (λ n. IsPlainUpTo text n) position
+          (plain_then text rest (length text - length rest) 8 c.eights.invariant.behind c.eights.invariant.plain
+          (plain_front 8 rest eight));
     }

@@ -12,4 +12,5 @@ returns-then-not-is_empty g c =
 
 pub returns-else-not-is_empty : goal.returns-else-not-is_empty
 returns-else-not-is_empty g c =
-    wrote_as (nothing_printed c.args.text.now (grind (arith, common_steps))) (wrote_nothing (on_sheet g.W.Sink c.args.out.now c.args.pen.now))
+    wrote_as (nothing_printed c.args.text.now (grind (arith, common_steps)))
+    (wrote_nothing (on_sheet g.W.Sink c.args.out.now c.args.pen.now))

@@ -7,17 +7,20 @@ pub bytes-preserved : goal.bytes-preserved
 bytes-preserved g c = record {
   fits = omega arith;
   size = search rules;
-  whole = one_byte c.bytes.bytes (g.T.Feed.rest c.bytes.text) (g.T.Feed.rest c.next_byte.new.self) _ c.bytes.len c.in-Some.c (omega arith) c.bytes.invariant.whole c.in-Some.ensures;
+  whole = one_byte c.bytes.bytes (g.T.Feed.rest c.bytes.text) (g.T.Feed.rest c.next_byte.new.self) _ c.bytes.len c.in-Some.c
+      (omega arith) c.bytes.invariant.whole c.in-Some.ensures;
 }
 
 pub returns-in-None-clause-piece : goal.returns-in-None-clause-piece
 returns-in-None-clause-piece g c =
-    (cut_short (take c.bytes.len c.bytes.bytes) (g.T.Feed.rest c.bytes.text) (g.T.Feed.rest c.args.text.now) c.bytes.invariant.whole c.in-None.ensures.0
+    (cut_short (take c.bytes.len c.bytes.bytes) (g.T.Feed.rest c.bytes.text)
+    (g.T.Feed.rest c.args.text.now) c.bytes.invariant.whole c.in-None.ensures.0
     (omega (arith, length-take c.bytes.len c.bytes.bytes, c.bytes.invariant.fits))).0
 
 pub returns-in-None-clause-rest : goal.returns-in-None-clause-rest
 returns-in-None-clause-rest g c = c.in-None.ensures.1 ∙ sym c.in-None.ensures.0 ∙
-    (cut_short (take c.bytes.len c.bytes.bytes) (g.T.Feed.rest c.bytes.text) (g.T.Feed.rest c.args.text.now) c.bytes.invariant.whole c.in-None.ensures.0
+    (cut_short (take c.bytes.len c.bytes.bytes) (g.T.Feed.rest c.bytes.text)
+    (g.T.Feed.rest c.args.text.now) c.bytes.invariant.whole c.in-None.ensures.0
     (omega (arith, length-take c.bytes.len c.bytes.bytes, c.bytes.invariant.fits))).1
 
 pub returns-clause-piece : goal.returns-clause-piece
