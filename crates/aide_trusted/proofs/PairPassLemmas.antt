@@ -1,6 +1,6 @@
 -- What a pass over two pairs keeps, by what it keeps of each.
 use Rattle.std.specs.Prelude.{ℕ, ◌≡◌, ◌<◌, true, false, Option, List, Result, Ok, Err}
-use Rattle.std.proofs.Common.{refl, sym, subst, arith, ◌∙◌}
+use Rattle.std.proofs.Common.{refl, subst, arith, ◌∙◌}
 use Rattle.aide_conf.specs.declared.options.Options.{Options}
 use Rattle.aide_entry.specs.Cause.{cause_of}
 use Rattle.aide_db.specs.DeskView.{DeskView}
@@ -21,7 +21,7 @@ use Rattle.aide_report.specs.declared.merge.Merge.{Merge}
 use Rattle.aide_report.specs.declared.run_fault.RunFault.{RunFault}
 use Rattle.aide_report.specs.declared.run_fault.RunFault.TheVariants.{Write as RunWrite}
 use Rattle.aide_report.proofs.FaultLemmas.{written_at}
-use Rattle.aide_report.proofs.PassLemmas.{desk_none, pass_done, pass_failed, passes_broken, passes_err, passes_none, sources_none}
+use Rattle.aide_report.proofs.PassLemmas.{desk_none, pass_done, pass_failed, passes_broken, passes_err, sources_none}
 use Rattle.aide_report.proofs.ReportLemmas.{counts_of_pen, unfailed, written_of_pen}
 use Rattle.aide_report.specs.ChangeLines.{change_lines}
 use Rattle.aide_trusted.specs.Pairs.{CountsPairWrites, OfCompared}
@@ -129,31 +129,6 @@ stop_pair_written r m n d j k u pen stop.Write is = (is, refl)
 pub lines_over : (options : Options) (P : List ℕ → Type 0) {cs ds es fs : List PathChange} → cs ≡ ds → es ≡ fs
     → P (change_lines options (sought_by es) cs) → P (change_lines options (sought_by fs) ds)
 lines_over options P same beside w = subst P (λ i. change_lines options (sought_by (beside i)) (same i)) w
-
--- no pass at all
-pub pairs_none : {X : Type 0} {done : X} {sink : Type 0} (limits : Limits) (n : ℕ) (a : Seen) (d : DeskView) (s : Seen) (u : DeskView) → n ≡ 0
-    → PairPasses {X = X} limits n a a d d s s u u sink (Ok done)
-pairs_none limits n a d s u none =
-    let p : Passes {T = ℕ} limits n a a d d ⊥ (Ok 0) = passes_none limits n a d none in
-    let q : Passes {T = ℕ} limits n s s u u ⊥ (Ok 0) = passes_none limits n s u none in
-    record {
-      sources = p.sources;
-      trusted = q.sources;
-      desk = p.desk;
-      trusted_desk = q.desk;
-      opens = p.opens;
-      trusted_opens = q.opens;
-      opens_some = p.opens_some;
-      trusted_opens_some = q.opens_some;
-      begun = tt;
-      fault = tt;
-    }
-
--- their number under another name
-pub pairs_count : {X : Type 0} {limits : Limits} {a b s t : Seen} {d e u v : DeskView} {sink : Type 0} {result : Result X PairFault} (m n : ℕ) → n ≡ m
-    → PairPasses limits m a b d e s t u v sink result → PairPasses limits n a b d e s t u v sink result
-pairs_count {limits = limits} {a = a} {b = b} {s = s} {t = t} {d = d} {e = e} {u = u} {v = v} {sink = sink} {result = result} m n is p =
-    subst (λ k. PairPasses limits k a b d e s t u v sink result) (sym is) p
 
 -- a write behind them has failed
 pub pairs_broken : {X Y : Type 0} {limits : Limits} {a b s t : Seen} {d e u v : DeskView} {sink next : Type 0} {done : Y} (n sent : ℕ)
