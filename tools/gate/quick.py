@@ -21,7 +21,8 @@ JOBS = 3
 # The tests of each directory of modules of the commands, and of a module that has its own. They are
 # beginnings of names.
 TESTS = {
-    "commands/lib/aide_compare/archive/": ("tests.commands.test_archive",),
+    "commands/lib/aide_compare/changes/applied.py": ("tests.commands.test_archive",),
+    "commands/lib/aide_compare/changes/signed.py": ("tests.commands.test_archive",),
     "commands/lib/aide_compare/base/": (
         "tests.commands.base",
         "tests.commands.test_front",
@@ -61,7 +62,8 @@ TESTS = {
         "tests.commands.test_viewers",
     ),
     "commands/bin/": ("tests.commands.test_front", "tests.commands.test_lost_modules"),
-    "commands/share/": ("tests.commands.base.test_severity",),
+    "commands/share/": ("tests.commands.base.test_severity", "tests.commands.test_persistence"),
+    "contrib/aide/": ("tests.commands.test_archive", "tests.commands.test_persistence"),
     "contrib/": ("tests.commands.test_hands", "tests.commands.test_state"),
     "tests/oracle/": ("tests.program",),
     "tests/program/": ("tests.program",),
