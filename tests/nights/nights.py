@@ -21,9 +21,10 @@ from tests.nights.machine import MAILERS, SUITES, Machine, make_base
 HERE = Path(__file__).parent
 NEW = "/var/lib/aide/aide.db.new"
 BASELINE = "/var/lib/aide/aide.db"
+SIGNED = "/var/lib/aide-compare/daily/signed.db"
 WITHOUT = "/etc/aide-compare/without"
 QUEUE = "/var/tmp/mail"
-COUNTS = ("status", "added", "removed", "changed", "same", "recorded", "open", "open_high")
+COUNTS = ("added", "removed", "changed", "same", "trusted", "recorded", "open", "open_high")
 LOG_IN = (
     "ssh -q -i /root/.ssh/id_ed25519 -o StrictHostKeyChecking=no -o UserKnownHostsFile=/dev/null"
 )
@@ -87,8 +88,9 @@ class Nights:
         machine.chroot("sed", "-i", "s/^Checksums = H$/Checksums = sha256/", "/etc/aide/aide.conf")
 
     def set_up(self) -> None:
-        # What a machine has done on its first day, and never again.
-        self.machine.inside("systemctl", "start", "apt-listchanges.service")
+        # What a machine does on its first day, and never again. Without a network it waits.
+        unit = "apt-listchanges.service"
+        self.machine.shell(f"timeout 60 systemctl start {unit}; systemctl stop {unit}")
         done = self.machine.inside("aide-compare", "setup")
         (self.results / "setup.txt").write_bytes(done.stdout + done.stderr)
         if done.returncode:
@@ -133,9 +135,10 @@ class Nights:
     def report(self, name: str, state: dict[str, str], marks: list[str] | None = None) -> None:
         """Keeps the changes as lines and as the mail, and prints one line."""
         inside = self.machine.inside
-        words = ["json", "--exclude-from", WITHOUT, BASELINE, NEW]
+        pair = ["--trusted", BASELINE, SIGNED]
+        words = ["json", "--exclude-from", WITHOUT, *pair, BASELINE, NEW]
         (self.results / f"{name}.json").write_bytes(inside("aide-compare", *words).stdout)
-        status = inside("aide-compare", "mail", "--queue", QUEUE).returncode
+        status = inside("aide-compare", "mail", "--queue", QUEUE, *pair).returncode
         texts = sorted(self.path(QUEUE).glob("*.mail"))
         text = texts[-1].read_text().partition("\n\n")[2] if texts else ""
         for path in texts:
