@@ -110,6 +110,7 @@ RIGHTS: list[tuple[str, Entry | None, Entry | None, str]] = [
     ("root's file for a group", entry(FILE), entry(0o100664, gid=ANNA), "high"),
     ("root's file for root's group", entry(FILE), entry(0o100664), "medium"),
     ("root's file for another group", entry(0o100664, gid=5), entry(0o100664, gid=ANNA), "high"),
+    ("root's file for its group now", entry(FILE, gid=5), entry(0o100664, gid=5), "high"),
     ("root's file for the same group", entry(0o100664, gid=5), entry(0o100660, gid=5), "medium"),
     (
         "what anna does with her file",
