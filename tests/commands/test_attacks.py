@@ -409,6 +409,11 @@ class AttacksTest(CommandTest):
             answer.errors,
             ("one line that includes", answer),
         )
+        answer = self.call(TOOL, "-c", "one", "new.db", "new.db")
+        quiet = [b"NO differences"]
+        self.expect("no note without a difference", answer, 0, quiet, b"")
+        answer = self.call(TOOL, "-v", "-c", "one", "new.db", "new.db")
+        self.expect("more by -v", answer, 0, quiet, [b"one: 1 line that includes other files"])
         answer = self.call(TOOL, "-c", "conf", "-B", "# @@{HOSTNAME}\nreport_level=x")
         self.expect(
             "the line of -B",

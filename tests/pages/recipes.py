@@ -113,10 +113,11 @@ class Day:
         self.test.assertEqual(status, self.status, errors)
         if self.counts is None:
             self.test.assertTrue(output.startswith("no differences in "), output)
+            self.test.assertEqual((output.count("\n"), errors), (1, ""))
         else:
             self.test.assertTrue(output.startswith("18 open (4 high) of 22 changes\n"), output)
             self.test.assertEqual(errors.count(", SHA-256 "), 2, errors)
-        self.test.prints("compare", errors)
+            self.test.prints("compare", errors)
 
     def jobs(self) -> None:
         for name, commands in self.test.jobs():
