@@ -4,6 +4,7 @@ they group what people read, and packages that came, went or fell to an older ve
 first."""
 from __future__ import annotations
 
+import io
 import os
 import re
 import stat
@@ -40,6 +41,7 @@ PARAGRAPH = re.compile(
 )
 CONFFILE = re.compile(rb"^ ?(/.*?) ([0-9a-f]{32})(?: [a-z-]+)*$", re.M)
 SUM = re.compile(rb"([0-9a-f]{32})  ?(.+)")
+SUM_DIGITS = 32
 INFO = re.compile(rb"/var/lib/dpkg/info/([A-Za-z0-9][A-Za-z0-9+.-]*)(:[a-z0-9-]+)?\.list")
 UPGRADE = re.compile(
     rb"^[-0-9]+ [:0-9]+ upgrade ([^: \n]+)(?::[^ \n]*)? ([^ \n]+) ([^ \n]+)$", re.M
@@ -125,13 +127,15 @@ class Dpkg:
             for place in {path, diverted.get(path, path)} & wanted:
                 members.setdefault(place, []).append(member)
 
+        asked = _spellings({*wanted, *(old for old, to in diverted.items() if to in wanted)})
+        tails = {path[1:] for path in asked}
         for package, kind, text in self._texts():
-            for line in text.split(b"\n"):
+            for line in _lines_of(kind, text, asked, tails):
                 match = SUM.fullmatch(line)
                 if kind == "md5sums" and match:
                     digest = bytes.fromhex(match.group(1).decode())
                     take(b"/" + match.group(2), Member(package, "md5", digest))
-                elif kind == "list" and line.startswith(b"/"):
+                elif kind == "list":
                     take(line, Member(package))
         for package, path, digits in self.conffiles:
             take(path, Member(package, "md5", bytes.fromhex(digits.decode())))
@@ -143,8 +147,8 @@ class Dpkg:
             with closed_after(os.open("info", READ_ONLY | os.O_DIRECTORY, dir_fd=self.fd)) as info:
                 names = sorted(os.listdir(info))[:MAX_FILES]
         for name in names:
-            base = os.fsencode(os.path.splitext(name)[0])
-            kind = os.path.splitext(name)[1].lstrip(".")
+            stem, _, kind = name.rpartition(".")
+            base = os.fsencode(stem)
             version = self.versions.get(base)
             if version is not None and kind in ("list", "md5sums"):
                 package = words_of(base.partition(b":")[0], version)
@@ -181,6 +185,22 @@ class Dpkg:
                 for name, version, _ in UPGRADE.findall(os.pread(log, MAX_LOG, start)):
                     versions[name] = version
         return versions
+
+
+def _spellings(paths: Wanted) -> Wanted:
+    """Paths, and each without /usr too: that is how a list has it whose directory is a link."""
+    bare = {path[len(b"/usr") :] for path in paths if path.startswith(b"/usr/")}
+    return paths | bare
+
+
+def _lines_of(kind: str, text: bytes, asked: Wanted, tails: Wanted) -> Iterable[bytes]:
+    """The lines of a list that are one of these paths, or those of digests that end with one of
+    these tails. There are some hundred thousand lines on a machine, and few are asked for."""
+    lines = (line.rstrip(b"\n") for line in io.BytesIO(text))
+    if kind == "list":
+        return [line for line in lines if line in asked]
+    one = SUM_DIGITS + 1  # Behind one blank, or behind two.
+    return [line for line in lines if line[one:] in tails or line[one + 1 :] in tails]
 
 
 def words_of(name: bytes, version: bytes) -> str:

@@ -108,13 +108,19 @@ class Matcher:
         """The paths of the changes, of sources that were compiled, and of what links point to."""
         wanted: Set[bytes] = set()
         for finding in findings:
-            new = self.read(finding).new
-            others = (source_of(finding.path), target_of(finding.path, new))
             wanted.add(finding.path)
-            wanted.update(self.usr(path) for path in others if path)
+            source = source_of(finding.path)
+            if source is not None:
+                wanted.add(self.usr(source))
+            if finding.is_link:  # Only then the entry has to be read.
+                target = target_of(finding.path, self.read(finding).new)
+                if target is not None:
+                    wanted.add(self.usr(target))
         return wanted
 
     def _matched(self, finding: Finding) -> Finding:
+        if finding.path not in self.members and source_of(finding.path) is None:
+            return finding  # Nothing is known of it.
         sides = self.read(finding)
         old = sides.old
         new = sides.new
