@@ -10,13 +10,14 @@ from __future__ import annotations
 import base64
 import enum
 import hashlib
+import io
 import os
 import re
 import stat
 from collections import Counter
 from collections.abc import Callable, Iterator, Mapping, Sequence
 from functools import lru_cache
-from typing import BinaryIO, NamedTuple
+from typing import NamedTuple
 
 from aide_compare.base.database import MAX_LINE, PATH_COLUMN, Kind, Layout, fields_in
 from aide_compare.base.ending import Fault, Status, failing
@@ -26,6 +27,7 @@ from aide_compare.base.paths import Pattern, Table, pattern_of, unescaped
 from aide_compare.base.words import counted
 
 MAX_LINES = 10000
+AHEAD = 1 << 13
 # The directory of a path, as far as nothing of it is escaped: a / may be.
 DIRECTORY = re.compile(rb"(/[^%\s]{0,4095})/")
 PATH_FIRST = (PATH_COLUMN,)
@@ -93,6 +95,19 @@ class Exclusions(Table[Exclusion]):
             return False
         sizes = range(min(len(pieces), self.longest) + 1)
         return not any(pieces[:size] in self.by_start for size in sizes)
+
+    @lru_cache(maxsize=1024)
+    def free_tree(self, directory: bytes) -> bytes:
+        """The highest directory, this one or one above it, below which no line means anything and
+        no list is; b"" if there is none."""
+        end = 0
+        while end >= 0:
+            end = directory.find(b"/", end + 1)
+            tree = directory[:end] if end > 0 else directory
+            has_list = any(path.startswith(tree + b"/") for path in self.lists)
+            if not has_list and self.is_free(tree):
+                return tree
+        return b""
 
     def of(
         self, path: bytes, is_meant: Callable[[Exclusion], bool] | None = None
@@ -191,13 +206,14 @@ class LeftOut:
     def __init__(self, rules: Exclusions) -> None:
         self.rules = rules
         self.layout = Layout()
+        self.tree = b""  # What no line means a part of, and the last line was in; b"" for none.
         self.counts: Counter[Exclusion] = Counter()
         self.staying = 0
         self.changed_lists: list[str] = []
 
-    def lines(self, source: BinaryIO) -> Iterator[bytes]:
-        """All lines. An entry that is left out becomes an empty line, so that all keep their
-        numbers.
+    def lines(self, source: io.BufferedIOBase) -> Iterator[bytes]:
+        """All lines, of which several may come at once. An entry that is left out becomes an empty
+        line, so that all keep their numbers.
 
         What has no end of a line, or more bytes than a line of a database can have, stays.
         """
@@ -209,14 +225,34 @@ class LeftOut:
             else:
                 yield part
             is_new = is_whole
+            if is_new and self.tree:
+                yield from self._others_in_tree(source)
+
+    def _others_in_tree(self, source: io.BufferedIOBase) -> Iterator[bytes]:
+        """The lines that follow, as far as they are in the tree of the last one. They stay."""
+        start = self.tree + b"/"
+        is_over = False
+        while not is_over:
+            ahead = source.read1(AHEAD)
+            size = 0
+            *lines, _ = ahead.split(b"\n")
+            for line in lines:
+                if not line.startswith(start):
+                    break
+                size += len(line) + 1
+            source.seek(size - len(ahead), os.SEEK_CUR)
+            yield ahead[:size]
+            is_over = 2 * size < AHEAD
 
     def keeps(self, line: bytes) -> bool:
         """Whether a line stays. All do that are no entries, are refused by the program, or follow
         the end."""
         columns = self.layout.columns
+        self.tree = b""
         if columns[:1] == PATH_FIRST:
             directory = DIRECTORY.match(line)
             if directory and self.rules.is_free(directory.group(1)):
+                self.tree = self.rules.free_tree(directory.group(1))
                 return True  # No other field has to be looked at.
         if self.layout.kind_of(line) is not Kind.ENTRY:
             return True
@@ -281,7 +317,7 @@ def cut_copy(descriptor: int, rules: Exclusions) -> Cut:
     left_out = LeftOut(rules)
     target = nameless()
     with failing("cannot copy a database without the entries that are left out"):
-        with open(reopened(descriptor, os.O_RDONLY), "rb", BLOCK) as source:
+        with io.BufferedReader(io.FileIO(reopened(descriptor, os.O_RDONLY)), BLOCK) as source:
             with open(os.dup(target), "wb", BLOCK) as file:
                 file.writelines(left_out.lines(source))
     return Cut(target, left_out)
