@@ -14,6 +14,7 @@ from __future__ import annotations
 import fnmatch
 import re
 from collections.abc import Callable, Iterable, Iterator
+from functools import lru_cache
 from operator import itemgetter
 from typing import Generic, Protocol, TypeVar
 
@@ -165,14 +166,19 @@ class Table(Generic[RowType]):
             self.by_start.setdefault(row.pattern.fixed, []).append((place, row))
         self.longest = max(map(len, self.by_start), default=0)
 
+    @lru_cache(maxsize=1024)
+    def _candidates(self, start: tuple[bytes, ...]) -> list[RowType]:
+        """The rows whose patterns begin as a path does, by its first pieces, in their order."""
+        found = []
+        for size in range(len(start) + 1):
+            found += self.by_start.get(start[:size], [])
+        return [row for _, row in sorted(found, key=itemgetter(0))]
+
     def rows(self, path: bytes, test: Callable[[RowType], bool] | None = None) -> Iterator[RowType]:
         """The rows whose pattern means this path, and that the test lets pass, in their order."""
         if len(path) > MAX_PATH:
             return
         pieces = path[1:].split(b"/")
-        candidates = []
-        for size in range(min(len(pieces), self.longest) + 1):
-            candidates += self.by_start.get(tuple(pieces[:size]), [])
-        for _, row in sorted(candidates, key=itemgetter(0)):
+        for row in self._candidates(tuple(pieces[: self.longest])):
             if (test is None or test(row)) and row.pattern.matches(pieces):
                 yield row

@@ -200,6 +200,13 @@ TESTS: dict[str, Callable[[Side, Side], bool]] = {
 }
 
 
+def fields_of_tests(entry: Side) -> tuple[bytes, ...]:
+    """All that a test looks at."""
+    if entry is None:
+        return ()
+    return tuple([entry.field(column) for column in TESTED])
+
+
 class Weight(NamedTuple):
     """How much a change matters, and its place among all others: a smaller rank is read first."""
 
@@ -207,12 +214,18 @@ class Weight(NamedTuple):
     rank: int
 
 
+# The bit of each test in a number that says which hold.
+BITS = {word: 1 << place for place, word in enumerate(TESTS)}
+TESTED = ("attr", *RIGHTS)
+MAX_REMEMBERED = 1 << 12
+
+
 class Row(NamedTuple):
-    """One pattern of a line: the level, the tests, which all have to hold, and the line's place in
-    the table."""
+    """One pattern of a line: the level, the bits of the tests, which all have to hold, and the
+    line's place in the table."""
 
     level: str
-    tests: list[Callable[[Side, Side], bool]]
+    tests: int
     pattern: Pattern
     place: int
 
@@ -228,6 +241,8 @@ class Severity:
         lines = lines_of(path, "the table of severities")
         rows = [self._rows(number, *line) for number, line in enumerate(lines)]
         self.table = Table([row for each in rows for row in each])
+        # What holds of entries with these rights.
+        self.known: dict[object, int] = {}
 
     @staticmethod
     def _rows(number: int, line: bytes, place: str) -> Iterator[Row]:
@@ -240,7 +255,7 @@ class Severity:
         for word in words:
             if word not in TESTS:
                 raise Fault(Status.USAGE, f"{place}: unknown test: {shown(word, 100)}")
-        tests = [TESTS[word] for word in words]
+        tests = sum(BITS[word] for word in set(words))
         for part in parts[1:]:
             yield Row(level, tests, pattern_of(part, place), number)
 
@@ -257,9 +272,19 @@ class Severity:
             return min(weight, inside, key=lambda each: each.rank)
         return weight
 
+    def _held(self, old: Side, new: Side) -> int:
+        """The bits of the tests that hold. Most entries have the rights of many others."""
+        rights = (fields_of_tests(old), fields_of_tests(new))
+        held = self.known.get(rights)
+        if held is None:
+            held = sum(BITS[word] for word, test in TESTS.items() if test(old, new))
+            if len(self.known) < MAX_REMEMBERED:
+                self.known[rights] = held
+        return held
+
     def _first(self, path: bytes, old: Side, new: Side) -> Weight:
-        rows = self.table.rows(path, lambda row: all(test(old, new) for test in row.tests))
-        row = next(rows, None)
+        held = self._held(old, new)
+        row = next(self.table.rows(path, lambda row: not row.tests & ~held), None)
         if row is None:
             return Weight(OTHERWISE, SEVERITIES.index(OTHERWISE) * RANKS)
         return Weight(row.level, SEVERITIES.index(row.level) * RANKS + row.place)
