@@ -41,7 +41,6 @@ PARAGRAPH = re.compile(
 )
 CONFFILE = re.compile(rb"^ ?(/.*?) ([0-9a-f]{32})(?: [a-z-]+)*$", re.M)
 SUM = re.compile(rb"([0-9a-f]{32})  ?(.+)")
-SUM_DIGITS = 32
 INFO = re.compile(rb"/var/lib/dpkg/info/([A-Za-z0-9][A-Za-z0-9+.-]*)(:[a-z0-9-]+)?\.list")
 UPGRADE = re.compile(
     rb"^[-0-9]+ [:0-9]+ upgrade ([^: \n]+)(?::[^ \n]*)? ([^ \n]+) ([^ \n]+)$", re.M
@@ -129,30 +128,35 @@ class Dpkg:
 
         asked = _spellings({*wanted, *(old for old, to in diverted.items() if to in wanted)})
         tails = {path[1:] for path in asked}
-        for package, kind, text in self._texts():
-            for line in _lines_of(kind, text, asked, tails):
+        for base in self._bases():
+            package = words_of(base.partition(b":")[0], self.versions[base])
+            listed = [line for line in self._lines(base, "list") if line in asked]
+            for path in listed:
+                take(path, Member(package))
+            if not listed:
+                continue  # Its digests are of no other paths.
+            for line in self._lines(base, "md5sums"):
                 match = SUM.fullmatch(line)
-                if kind == "md5sums" and match:
+                if match and match.group(2) in tails:
                     digest = bytes.fromhex(match.group(1).decode())
                     take(b"/" + match.group(2), Member(package, "md5", digest))
-                elif kind == "list":
-                    take(line, Member(package))
         for package, path, digits in self.conffiles:
             take(path, Member(package, "md5", bytes.fromhex(digits.decode())))
         return members
 
-    def _texts(self) -> Iterator[Tuple[str, str, bytes]]:
-        """The lists and the digests of the packages that are there."""
+    def _bases(self) -> List[bytes]:
+        """The beginnings of the names of lists, of the packages that are there."""
         with failing(f"cannot read {self.words}"):
             with closed_after(os.open("info", READ_ONLY | os.O_DIRECTORY, dir_fd=self.fd)) as info:
                 names = sorted(os.listdir(info))[:MAX_FILES]
-        for name in names:
-            stem, _, kind = name.rpartition(".")
-            base = os.fsencode(stem)
-            version = self.versions.get(base)
-            if version is not None and kind in ("list", "md5sums"):
-                package = words_of(base.partition(b":")[0], version)
-                yield package, kind, self._read(f"info/{name}")
+        bases = [os.fsencode(name[: -len(".list")]) for name in names if name.endswith(".list")]
+        return [base for base in bases if base in self.versions]
+
+    def _lines(self, base: bytes, kind: str) -> Iterator[bytes]:
+        """The lines of a list, or of digests. There are some hundred thousand on a machine, and few
+        are asked for."""
+        text = self._read(f"info/{os.fsdecode(base)}.{kind}")
+        return (line.rstrip(b"\n") for line in io.BytesIO(text))
 
     def named(self, findings: Iterable[Finding]) -> Named:
         """The packages whose list came or went, and those of which dpkg's log says that their last
@@ -191,16 +195,6 @@ def _spellings(paths: Wanted) -> Wanted:
     """Paths, and each without /usr too: that is how a list has it whose directory is a link."""
     bare = {path[len(b"/usr") :] for path in paths if path.startswith(b"/usr/")}
     return paths | bare
-
-
-def _lines_of(kind: str, text: bytes, asked: Wanted, tails: Wanted) -> Iterable[bytes]:
-    """The lines of a list that are one of these paths, or those of digests that end with one of
-    these tails. There are some hundred thousand lines on a machine, and few are asked for."""
-    lines = (line.rstrip(b"\n") for line in io.BytesIO(text))
-    if kind == "list":
-        return [line for line in lines if line in asked]
-    one = SUM_DIGITS + 1  # Behind one blank, or behind two.
-    return [line for line in lines if line[one:] in tails or line[one + 1 :] in tails]
 
 
 def words_of(name: bytes, version: bytes) -> str:
