@@ -170,6 +170,49 @@ def run(
     return status
 
 
+def run_here(
+    words: Words,
+    seconds: int,
+    environment: Mapping[str, str],
+    is_silent: bool = False,
+) -> int:
+    """Runs a program of the system as a part of this command: on its terminal, in its group, so
+    that ^C ends both, and in the root directory. Returns its exit code; it is killed, and that is
+    an OverTime, if it takes longer. It writes where this command does, unless it is silent."""
+    output = subprocess.DEVNULL if is_silent else None
+    try:
+        done = subprocess.run(
+            words,
+            stdin=subprocess.DEVNULL,
+            stdout=output,
+            stderr=output,
+            env=environment,
+            cwd="/",
+            timeout=seconds,
+            check=False,
+        )
+    except subprocess.TimeoutExpired:
+        raise OverTime(words[0]) from None
+    return done.returncode
+
+
+def run_on(words: Words, descriptors: Mapping[int, int], seconds: int) -> int | None:
+    """Runs a program that lives on if this process is ended. Returns its exit code; None if it had
+    not ended by then, and was killed. `descriptors` are its standard ones."""
+    process = subprocess.Popen(
+        words,
+        stdin=descriptors[0],
+        stdout=descriptors[1],
+        stderr=descriptors[2],
+        start_new_session=True,
+    )
+    try:
+        return process.wait(seconds)
+    except subprocess.TimeoutExpired:
+        stop(process.pid)
+    return None
+
+
 def start_child(work: Callable[[], int]) -> int:
     """The number of a child that does some work, and ends with its status. The kernel ends it if
     this process ends first."""

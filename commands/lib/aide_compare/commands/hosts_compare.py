@@ -7,6 +7,7 @@ import select
 import signal
 import time
 from contextlib import suppress
+from functools import partial
 from typing import Iterator, NamedTuple, Sequence
 
 from aide_compare.base.ending import Fault, Status, fault_of, say, tell, write_all
@@ -16,7 +17,7 @@ from aide_compare.base.directories import closed_after
 from aide_compare.base.kinds import duration, matching
 from aide_compare.base.options import CONFIG, EXCLUDE_FROM, MAX_SIZE, NOT_SILENT, Option
 from aide_compare.base.parser import Parser
-from aide_compare.base.processes import end_with, limit_memory
+from aide_compare.base.processes import limit_memory, start_child
 from aide_compare.base.words import counted
 from aide_compare.compare.exclusions import read_exclusions
 from aide_compare.compare.state import State, is_alarm
@@ -123,21 +124,17 @@ class Worker:
         self.store = settings.store
         self.deadline = time.monotonic() + settings.seconds + GRACE
         self.fd, writing = os.pipe()
-        parent = os.getpid()
-        self.child = os.fork()
-        if self.child == 0:
-            try:
-                if end_with(parent):
-                    limit_memory(MAX_MEMORY)
-                    self._write_result(compare_host(host, settings), writing)
-            finally:
-                os._exit(0)
+        self.child = start_child(partial(self._write_result, settings, writing))
         os.close(writing)
 
-    def _write_result(self, result: HostResult, descriptor: int) -> None:
+    def _write_result(self, settings: Settings, descriptor: int) -> int:
+        """The work of the process."""
+        limit_memory(MAX_MEMORY)
+        result = compare_host(self.host, settings)
         text = guarded(result.text)[:MAX_TEXT]
         answer = json.dumps([result.status, result.is_alarm, text])
         write_all(descriptor, answer.encode())
+        return 0
 
     def result(self) -> HostResult:
         """The answer of the process. A pipe takes so few bytes in one piece."""

@@ -192,7 +192,7 @@ class Machine:
         paths = [os.path.join(PATHS.databases, name) for name in self.names]
         if os.geteuid() != 0 or not all(map(os.path.lexists, paths)):
             return None
-        return status_of(["aide-compare", "--quiet"], SECONDS_OF_COMPARISON, None)
+        return status_of(["aide-compare", "--quiet"], SECONDS_OF_COMPARISON)
 
     def send_test(self) -> None:
         if not self.request.wants_mail or self.request.changes_nothing:

@@ -5,13 +5,16 @@ from __future__ import annotations
 import os
 import pwd
 import re
-import subprocess
+import time
 from collections.abc import Sequence
 from contextlib import suppress
 from typing import NamedTuple
 
 from aide_compare.base.ending import Fault, Status, failing, tell
 from aide_compare.base.files import read_file
+from aide_compare.base.processes import run as run_program
+from aide_compare.base.processes import run_here
+from aide_compare.base.program import Drain
 
 HERE = os.path.dirname(os.path.realpath(__file__))
 # Where the package, packaging/install and the repository have the examples.
@@ -39,6 +42,8 @@ class Paths:
 
 PATHS = Paths("")
 PROGRAM_PATH = "/usr/local/sbin:/usr/local/bin:/usr/sbin:/usr/bin:/sbin:/bin"
+QUESTION_SECONDS = 60
+MAX_ANSWER = 1000
 ENVIRONMENT = {"PATH": PROGRAM_PATH, "LC_ALL": "C.UTF-8", "HOME": "/root"}
 AIDES_USER = "_aide"
 MAX_EXAMPLE = 1 << 20
@@ -71,33 +76,22 @@ def run(words: Sequence[str], seconds: int = SECONDS) -> None:
     """Runs a program of the system, whose status has to be 0. It is shown first, and writes where
     this command writes."""
     tell("    " + " ".join(words))
-    status = status_of(words, seconds, None)
+    status = status_of(words, seconds)
     if status:
         raise Fault(Status.DEVICE, f"{words[0]} ended with status {status}")
 
 
+def status_of(words: Sequence[str], seconds: int) -> int:
+    """The status with which a program of the system ends, which writes where this command does."""
+    with failing(f"cannot run {words[0]}"):
+        return run_here(words, seconds, ENVIRONMENT)
+
+
 def says_yes(words: Sequence[str]) -> bool:
     """Whether a program of the system ends with 0. It is not shown, and says nothing."""
-    try:
-        return status_of(words, 60, subprocess.DEVNULL) == 0
-    except Fault:
-        return False
-
-
-def status_of(words: Sequence[str], seconds: int, output: int | None) -> int:
-    try:
-        with failing(f"cannot run {words[0]}"):
-            return subprocess.run(
-                words,
-                stdin=subprocess.DEVNULL,
-                stdout=output,
-                stderr=output,
-                env=ENVIRONMENT,
-                cwd="/",
-                timeout=seconds,
-            ).returncode
-    except subprocess.TimeoutExpired:
-        raise Fault(Status.DEVICE, f"{words[0]} took more than {seconds} seconds")
+    with suppress(Fault, OSError):
+        return run_here(words, QUESTION_SECONDS, ENVIRONMENT, is_silent=True) == 0
+    return False
 
 
 def aides_user() -> pwd.struct_passwd:
@@ -111,15 +105,12 @@ def aides_user() -> pwd.struct_passwd:
 def next_time(timer: str) -> str:
     """When a timer elapses next, as systemd says it; "" if it does not."""
     words = ["systemctl", "show", "--value", "--property=NextElapseUSecRealtime", timer]
-    with suppress(OSError, subprocess.SubprocessError):
-        answer = subprocess.run(
-            words,
-            stdin=subprocess.DEVNULL,
-            capture_output=True,
-            timeout=60,
-            env=ENVIRONMENT,
-        )
-        date = answer.stdout.decode("ascii", "replace").strip()
-        if DATE.fullmatch(date):
-            return date
+    answer = bytearray()
+    takers = {1: Drain(MAX_ANSWER, answer.extend).take}
+    deadline = time.monotonic() + QUESTION_SECONDS
+    with suppress(Fault, OSError):
+        run_program(words, takers, environment=ENVIRONMENT, deadline=deadline)
+    date = answer.decode("ascii", "replace").strip()
+    if DATE.fullmatch(date):
+        return date
     return ""

@@ -25,7 +25,7 @@ from aide_compare.base.ending import Fault, Status, failing, say
 from aide_compare.base.escapes import shown
 from aide_compare.base.files import in_memory
 from aide_compare.base.kinds import Server
-from aide_compare.base.processes import bound_of, ended, in_child, kill_group
+from aide_compare.base.processes import bound_of, in_child, run_on
 from aide_compare.base.replacement import replace
 from aide_compare.mail.message import shortened
 
@@ -38,7 +38,6 @@ JOURNAL = "/run/systemd/journal/socket"
 AUTH_ALERT = 4 * 8 + 1
 MAX_ANSWER = 1 << 16
 MAX_ANSWERS = 64 << 20  # Bytes of memory for all that a server answers.
-STOP_SECONDS = 5
 QUIT_SECONDS = 5
 LOG_SECONDS = 5
 MAX_LABEL = 63  # Bytes of a part of a domain (RFC 1035).
@@ -84,28 +83,18 @@ def status_of_shell(code: int) -> int:
 def run_mailer(path: str, seconds: int, message: bytes) -> MailerEnd:
     """Runs sendmail, which lives on if this process is ended: a mail that is on its way should
     go."""
-    import subprocess
-
     sealed = os.MFD_CLOEXEC | os.MFD_ALLOW_SEALING
     with closed_after(in_memory(message)) as source:
         with closed_after(os.memfd_create("answer", sealed)) as answer:
             os.lseek(source, 0, os.SEEK_SET)
             os.ftruncate(answer, MAX_ANSWER)  # What sendmail says cannot grow beyond that.
             fcntl.fcntl(answer, fcntl.F_ADD_SEALS, fcntl.F_SEAL_GROW)
-            process = subprocess.Popen(
-                [path, "-oi", "-t"],
-                stdin=source,
-                stdout=answer,
-                stderr=answer,
-                start_new_session=True,
-            )
-            try:
-                status = status_of_shell(process.wait(seconds))
+            code = run_on([path, "-oi", "-t"], {0: source, 1: answer, 2: answer}, seconds)
+            status = TIMED_OUT
+            words = f"sendmail did not end within {seconds} seconds"
+            if code is not None:
+                status = status_of_shell(code)
                 words = f"status {status} of sendmail"
-            except subprocess.TimeoutExpired:
-                kill_group(process.pid)
-                status = ended(process.pid, time.monotonic() + STOP_SECONDS) or TIMED_OUT
-                words = f"sendmail did not end within {seconds} seconds"
             return MailerEnd(status, words, os.pread(answer, MAX_ANSWER, 0).strip(b"\0"))
 
 
