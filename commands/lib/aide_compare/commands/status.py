@@ -2,9 +2,7 @@
 Prometheus reads."""
 from __future__ import annotations
 
-import json
 import os
-import shlex
 from collections.abc import Sequence
 from typing import NamedTuple, Optional
 
@@ -114,6 +112,8 @@ def command_lines(state: State) -> list[str]:
     """The commands for what differs. An escaped name is not the name, so it is in no command."""
     if not state.status or "\\" in state.old + state.new:
         return []
+    import shlex
+
     old = shlex.quote(os.path.abspath(state.old))
     new = shlex.quote(os.path.abspath(state.new))
     return [
@@ -155,6 +155,8 @@ def write_text(request: StatusRequest) -> int:
 
 def write_json(request: StatusRequest) -> int:
     """What is not known is null, and a number is a number."""
+    import json
+
     state = read_state(request.state)
     values: dict[str, object] = {key: getattr(state, key) for key in KEYS}
     for key, text in state.more.items():
@@ -182,6 +184,8 @@ def write_metrics(request: StatusRequest) -> int:
     if state.skipped:
         text += f"# HELP {column} A column that is not compared.\n# TYPE {column} gauge\n"
     for name in state.skipped_names:
+        import json
+
         text += f"{column}{{name={json.dumps(name, ensure_ascii=False)}}} 1\n"
     if request.output == STDOUT:
         write_all(1, text.encode())
