@@ -283,8 +283,8 @@ class HostsAddTest(CommandTest):
             self.holds(f"the host {host}", good and not files(self), (asked, files(self)))
         fleet.put("denied", OLD, None)
         asked = add(self, "denied", "yes\n")
-        good = re.search(r"(?m)^restrict,command=", asked.text)
-        self.holds("a line that can be copied as it is", good, asked)
+        line = re.search(r"(?m)^restrict,command=", asked.text)
+        self.holds("a line that can be copied as it is", line is not None, asked)
         for name in ("a b", "-x", "x\ny", "a/b", "..", "$(x)", "a#b"):
             asked = add(self, "--", "yes\n", name)
             good = asked.status == 15 and not files(self)

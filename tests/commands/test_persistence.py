@@ -8,7 +8,7 @@ this mode, a link with its target, other columns, another content, or a removal.
 from __future__ import annotations
 
 import os
-from typing import Any, Dict, List, NamedTuple
+from typing import Any, Dict, List, NamedTuple, Tuple
 
 from tests.commands import test_mail as mail
 from tests.commands.made_up import Host, Night, standings_of
@@ -63,8 +63,8 @@ def put(host: Host, mark: Mark) -> None:
     path, form = mark.path, mark.form
     is_directory = path in (b"/usr/bin", b"/etc/cron.d")
     if form.startswith("1") and "=" not in form:
-        mode, uid, gid = (form + ":0:0").split(":")[:3]
-        host.new.file(path, EVIL, int(mode, 8), uid=int(uid), gid=int(gid))
+        octal, uid, gid = (form + ":0:0").split(":")[:3]
+        host.new.file(path, EVIL, int(octal, 8), uid=int(uid), gid=int(gid))
     elif form.startswith("->"):
         host.new.link(path, form[2:].encode())
     elif form == "removed":
@@ -76,7 +76,8 @@ def put(host: Host, mark: Mark) -> None:
         host.new.file(path, EVIL, mode)
     else:
         more: Dict[str, Any] = dict(pair.split("=", 1) for pair in form.split(";"))
-        for night, columns in ((host.old, {}), (host.new, more)):
+        nights: List[Tuple[Night, Dict[str, Any]]] = [(host.old, {}), (host.new, more)]
+        for night, columns in nights:
             if is_directory:
                 night.directory(path, **columns)
             else:

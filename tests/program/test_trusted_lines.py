@@ -187,8 +187,8 @@ class TrustedTest(ProgramTest):
         self.add("the stored cases", [] if paths else ["there is none in " + CASES])
         for path in paths:
             case, label = cases.read(path), os.path.basename(path)
-            with tempfile.TemporaryDirectory() as folder:
-                folder = folder.encode()
+            with tempfile.TemporaryDirectory() as directory:
+                folder = os.fsencode(directory)
                 want = cases.stored(case, folder)
                 words = cases.answers_in(case, folder, list)
                 self.check(label, run(self.lines_program, words), want)

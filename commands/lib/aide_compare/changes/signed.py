@@ -112,7 +112,9 @@ def open_package(signed: Signed, directories: Sequence[str]) -> int | None:
     if is_mirror and ".." not in signed["Filename"].split("/"):
         paths.append(os.path.join(mirror, signed["Filename"]))
     path = next(filter(os.path.isfile, paths), None)
-    return in_memory(read_signed(path, int(signed["Size"]), signed["SHA256"])) if path else None
+    if path is None:
+        return None
+    return in_memory(read_signed(path, int(signed["Size"]), signed["SHA256"]))
 
 
 def tar_of(package: int, part: str) -> IO[bytes]:

@@ -78,9 +78,10 @@ def upgrades_of(copies: list[Copy], directories: list[str], keyrings: list[str])
     upgrades = Upgrades(copies[0], directories)
     for own, entry in sums.items():
         reasons = [upgrades.take(own, signed, entry) for signed in newest.get(own, ())]
+        if not reasons:
+            reasons = ["no signed index has it"]
         if all(reasons):
-            why = reasons[-1] if reasons else "no signed index has it"
-            say(f"not applied, {shown(own)}: {why}")
+            say(f"not applied, {shown(own)}: {reasons[-1]}")
     return upgrades
 
 

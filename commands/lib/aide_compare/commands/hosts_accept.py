@@ -32,8 +32,8 @@ aide.db.previous."""
 EPILOG = "Status: 0 accepted; 24 refused: it is another database; 15, 18 or 22 as others."
 FIRST = Option(
     "--first",
-    "for a HOST without a baseline: print the SHA-256 of what was fetched, and accept it. Compare it"
-    " with that on HOST: zcat -f /var/lib/aide/aide.db.new | sha256sum",
+    "for a HOST without a baseline: print the SHA-256 of what was fetched, and accept it. Compare"
+    " it with that on HOST: zcat -f /var/lib/aide/aide.db.new | sha256sum",
 )
 SHA256 = Option(
     "--sha256",

@@ -172,7 +172,9 @@ class Machine:
 
     def summary(self, count: int) -> list[str]:
         """The last lines: what was done, and what comes next."""
-        done = f"Done: {counted(count, 'step')} now." if count else "All was there already."
+        done = "All was there already."
+        if count:
+            done = f"Done: {counted(count, 'step')} now."
         reader = shown(self.request.address or "root")
         cause = "if anything differs" if self.mails_any_change() else "if a change is not silent"
         mail = f"Then {reader} gets a mail {cause}, or if nothing was compared:"

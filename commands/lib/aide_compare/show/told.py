@@ -78,7 +78,9 @@ def left_out_numbers(comparison: Comparison) -> str:
 def _notes_of(comparison: Comparison, verbose: bool) -> list[str]:
     """What was not compared: with `verbose` how many entries each line of a list has left out. A
     comparison without a difference is one line, unless `verbose` asks for more."""
-    notes = list(comparison.notes) if verbose or comparison.status else []
+    notes: list[str] = []
+    if verbose or comparison.status:
+        notes.extend(comparison.notes)
     numbers = left_out_numbers(comparison)
     if verbose:
         for side, left_out in comparison.left_out.items():
