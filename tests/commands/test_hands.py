@@ -19,10 +19,10 @@ SYSTEMD = os.path.join(HERE, "contrib", "systemd")
 
 
 def started(unit):
-    """The words that a unit starts, without the program."""
+    """The words that a unit starts, without the program. A variable that is empty is no word."""
     with open(os.path.join(SYSTEMD, unit), encoding="ascii") as file:
         line = next(line for line in file if line.startswith("ExecStart="))
-    return shlex.split(line.partition("=")[2])[1:]
+    return shlex.split(line.partition("=")[2].replace("$TRUSTED", ""))[1:]
 
 
 def counts_in(sandbox, state):
@@ -135,9 +135,10 @@ class HandsTest(CommandTest):
         with open(
             os.path.join(HERE, "contrib", "cron", "aide-compare.cron.daily"), encoding="ascii"
         ) as file:
-            cron = shlex.split(
-                next(line for line in file if line.startswith("/usr/local/bin/aide-compare mail"))
-            )[2:]
+            line = next(
+                line for line in file if line.startswith("/usr/local/bin/aide-compare mail")
+            )
+        cron = shlex.split(line.replace('"$@"', ""))[2:]
         jobs = {
             "a mail": ["--state", "of.state"],
             "the unit": [

@@ -82,7 +82,8 @@ class Comparison(NamedTuple):
     fault: Fault | None  # Why nothing was compared, unless the program says it.
     errors: bytes  # The error lines of the program.
     hints: Sequence[str]  # What explains them.
-    notes: Sequence[str]  # What was passed over.
+    included: Sequence[str]  # What includes other files, and was passed over.
+    notes: Sequence[str]  # What was not compared, or not as it was meant.
     doubts: Sequence[str]  # What was not judged.
     warnings: Sequence[str]  # What is mailed even if nothing differs.
     # By side, as far as it is known:

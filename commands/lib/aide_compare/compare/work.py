@@ -48,6 +48,7 @@ class Work:
         self.asked = self.given  # As it has read them last.
         self.answer = Answer(0, b"")
         self.databases = Databases(request.old or "", request.new or "")
+        self.included: list[str] = []
         self.notes: list[str] = []
         self.warnings: list[str] = []
         self.copies: dict[str, Copy] = {}
@@ -59,7 +60,7 @@ class Work:
         cannot be compared."""
         request = self.request
         configuration = without_includes(self.path)
-        self.notes += configuration.notes
+        self.included += configuration.notes
         self.given = Texts(
             os.fsencode(request.before), configuration.text, os.fsencode(request.after)
         )
@@ -120,6 +121,7 @@ class Work:
             fault=None,
             errors=self.answer.errors,
             hints=(),
+            included=self.included,
             notes=self.notes,
             doubts=(),
             warnings=self.warnings,
