@@ -4,13 +4,12 @@ they group what people read, and packages that came, went or fell to an older ve
 first."""
 from __future__ import annotations
 
-import io
 import os
 import re
 import stat
 import time
 from contextlib import suppress
-from typing import Callable, Dict, Iterable, Iterator, List, NamedTuple, Optional, Set, Tuple
+from typing import Callable, Dict, Iterable, List, NamedTuple, Optional, Set, Tuple
 
 from aide_compare.base.ending import Fault, Status, failing
 from aide_compare.base.escapes import shown
@@ -129,12 +128,12 @@ class Dpkg:
         asked = _spellings({*wanted, *(old for old, to in diverted.items() if to in wanted)})
         tails = {path[1:] for path in asked}
         for base in self._bases():
-            package = words_of(base.partition(b":")[0], self.versions[base])
-            listed = [line for line in self._lines(base, "list") if line in asked]
-            for path in listed:
-                take(path, Member(package))
+            listed = asked.intersection(self._lines(base, "list"))
             if not listed:
                 continue  # Its digests are of no other paths.
+            package = words_of(base.partition(b":")[0], self.versions[base])
+            for path in listed:
+                take(path, Member(package))
             for line in self._lines(base, "md5sums"):
                 match = SUM.fullmatch(line)
                 if match and match.group(2) in tails:
@@ -152,11 +151,9 @@ class Dpkg:
         bases = [os.fsencode(name[: -len(".list")]) for name in names if name.endswith(".list")]
         return [base for base in bases if base in self.versions]
 
-    def _lines(self, base: bytes, kind: str) -> Iterator[bytes]:
-        """The lines of a list, or of digests. There are some hundred thousand on a machine, and few
-        are asked for."""
-        text = self._read(f"info/{os.fsdecode(base)}.{kind}")
-        return (line.rstrip(b"\n") for line in io.BytesIO(text))
+    def _lines(self, base: bytes, kind: str) -> List[bytes]:
+        """The lines of a list, or of digests. There are some hundred thousand on a machine."""
+        return self._read(f"info/{os.fsdecode(base)}.{kind}").split(b"\n")
 
     def named(self, findings: Iterable[Finding]) -> Named:
         """The packages whose list came or went, and those of which dpkg's log says that their last
