@@ -8,8 +8,9 @@ refusal answers what the definitions say.
 
 Two kinds of calls may be refused without an effect, so that the answer is the whole one: those of
 the C library itself, and those of a command line that is not understood. There the parser looks for
-names that are close, which are never printed. The sessions are the stored cases, the examples at
-each report level, long arguments, paths and configurations, and random ones.
+names that are close, which are never printed. The program of lines first asks a parser that knows a
+trusted pair and no --config-check. The sessions are the stored cases, the examples at each report
+level, long arguments, paths and configurations, and random ones.
 
 The same is done with the program that writes lines of JSON, over the examples at one level, the
 long and the random sessions, and random ones of four databases, of which two are trusted. Another
@@ -53,10 +54,12 @@ Refusal = namedtuple("Refusal", "answer calls own others")
 
 
 class Refuser:
-    """A program, the library that refuses it memory, and what is wanted of it over real files."""
+    """A program, the library that refuses it memory, what is wanted of it over real files, and an
+    option that one of its parsers does not know."""
 
-    def __init__(self, program, library, wanted=None):
+    def __init__(self, program, library, wanted=None, unknown=None):
         self.program, self.library, self.wanted = program, library, wanted
+        self.unknown = unknown
 
     def run(self, words, first=0, last=0):
         """What the program answers where the calls for memory with these numbers are refused, and
@@ -73,11 +76,11 @@ class Refuser:
         return Refusal(answer, *(notes[0] if notes else (0, 0, 0)))
 
 
-def faults_of(refusal, whole):
+def faults_of(refusal, whole, is_understood):
     """What is not as wanted of a run in which memory was refused."""
     if not refusal.own + refusal.others:
         return ["no memory was refused"] + difference(refusal.answer, whole)
-    may_go_on = not refusal.own or whole.status == USAGE
+    may_go_on = not refusal.own or not is_understood
     return difference(refusal.answer, whole if may_go_on and refusal.answer == whole else STARVED)
 
 
@@ -92,6 +95,7 @@ def try_session(refuser, words):
     """How often what became of a refusal, and the faults of a session by what was refused."""
     whole = refuser.wanted(words)
     free = refuser.run(words)
+    is_understood = whole.status != USAGE and refuser.unknown not in words
     counts, found = Counter(), {"nothing refused": faults_of_whole(free, whole)}
     for way, last_of in WAYS.items():
         found[way] = []
@@ -100,7 +104,8 @@ def try_session(refuser, words):
             counts.update(
                 refused=1, not_felt=refusal.answer == whole != STARVED, of_others=not refusal.own
             )
-            found[way] += ["growth %d: %s" % (first, fault) for fault in faults_of(refusal, whole)]
+            faults = faults_of(refusal, whole, is_understood)
+            found[way] += [f"growth {first}: {fault}" for fault in faults]
         found[way] += faults_of_whole(
             refuser.run(words, free.calls + 1, last_of(free.calls + 1)), whole
         )
@@ -308,7 +313,8 @@ class FailedAllocationsTest(ProgramTest):
         known = list(
             sessions_of_lines(os.path.join(self.directory, b"lines"), new_seed(), SESSIONS)
         )
-        try_sessions(Refuser(self.lines_program, self.library, wanted_lines), known, 2, self)
+        refuser = Refuser(self.lines_program, self.library, wanted_lines, b"--config-check")
+        try_sessions(refuser, known, 2, self)
 
     def test_sessions_in_memory(self) -> None:
         program = os.path.join(TOP, "crates", "aide_in_memory", "out", "aide_in_memory")
