@@ -67,12 +67,14 @@ module _ (limits : Limits) (asked trusted_asked : Asked) (a b s t : Seen) (room 
 
   pub nothing_written : (bytes : Option (List ℕ)) (fault : PairFault) → FaultsOfPairs ⊥ fault
       → OfCompared (HasWrittenIfAny bytes bytes) fault
-  nothing_written bytes (Compared fault) is = no_write (Rose a.failures b.failures) (IsAnswerOver limits asked a) (IsUntold a) bytes fault is.cause
+  nothing_written bytes (Compared fault) is = no_write (Rose a.failures b.failures) (IsAnswerOver limits asked a) (IsUntold a) bytes fault
+      is.cause
   nothing_written bytes (Trusted fault) is = tt
 
   pub nothing_failed : (X : Type 0) (n : ℕ) (fault : PairFault) → FaultsOfPairs ⊥ fault
       → CountsPairWrites {X = X} n n (Err fault)
-  nothing_failed X n (Compared fault) is = no_failed_write (Rose a.failures b.failures) (IsAnswerOver limits asked a) (IsUntold a) n fault is.cause
+  nothing_failed X n (Compared fault) is = no_failed_write (Rose a.failures b.failures) (IsAnswerOver limits asked a) (IsUntold a) n fault
+      is.cause
   nothing_failed X n (Trusted fault) is = refl
 
 pub nothing_sent : (opened_old opened_new : ℕ) (bytes : Option (List ℕ)) (fault : PairFault)
@@ -86,10 +88,12 @@ hinders : (old new trusted_old trusted_new : Option (List ℕ)) (sources trusted
 hinders old new trusted_old trusted_new sources trusted sink (Compared fault) h = hindered_by old new sources sink fault h
 hinders old new trusted_old trusted_new sources trusted sink (Trusted fault) h = h
 
-pub stops_read : (r : Result Report PairFault) (old new trusted_old trusted_new : Option (List ℕ)) (sources trusted sink : Type 0) (fault : PairFault)
+pub stops_read : (r : Result Report PairFault) (old new trusted_old trusted_new : Option (List ℕ)) (sources trusted sink : Type 0)
+    (fault : PairFault)
     → StopsForPair r (OfEach (IsHindered old new sources ⊥) (IsHindered trusted_old trusted_new trusted ⊥)) fault
     → StopsForPair r (OfEach (IsHindered old new sources sink) (IsHindered trusted_old trusted_new trusted ⊥)) fault
-stops_read (Ok report) old new trusted_old trusted_new sources trusted sink fault h = hinders old new trusted_old trusted_new sources trusted sink fault h
+stops_read (Ok report) old new trusted_old trusted_new sources trusted sink fault h = hinders old new trusted_old trusted_new sources
+    trusted sink fault h
 stops_read (Err right) old new trusted_old trusted_new sources trusted sink fault h =
     elim h [ inl is ↦ inl is | inr p ↦ inr (hinders old new trusted_old trusted_new sources trusted sink fault p) ]
 
@@ -104,7 +108,8 @@ stops_hindered (Err right) hindered fault h = inr h
 unsent_opened : (before middle after : ℕ) (old new : Option (List ℕ)) (fault : RunFault) → middle ≡ sum_of before 1
     → WasOpened middle after → HasSentNothing 1 before after old new fault
 unsent_opened before middle after old new (Open side) opened was = unsent_begun 1 before middle after old new (Open side) opened was
-unsent_opened before middle after old new (Database fault) opened was = unsent_begun 1 before middle after old new (Database fault) opened was
+unsent_opened before middle after old new (Database fault) opened was = unsent_begun 1 before middle after old new (Database fault) opened
+    was
 unsent_opened before middle after old new (Changed side) opened was = unsent_begun 1 before middle after old new (Changed side) opened was
 unsent_opened before middle after old new (Write written) opened was = tt
 
@@ -123,20 +128,27 @@ module _ (limits : Limits) (a b c s t w : Seen) (room trusted_room : ℕ) (sink 
       unsent_opened (a.openings Old) (b.openings Old) (c.openings Old) old new fault opens.of_old was
 
   module _ (keeps : KeepsSources a b) (sound : (side : Side) (text : List ℕ) → a.bytes_of side ≡ Some text → IsSound limits text)
-      (trusted_keeps : KeepsSources s t) (trusted_sound : (side : Side) (text : List ℕ) → s.bytes_of side ≡ Some text → IsSound limits text) where
+      (trusted_keeps : KeepsSources s t) (trusted_sound : (side : Side) (text : List ℕ) → s.bytes_of side ≡ Some text
+      → IsSound limits text) where
     pub pair_hinders : (old new trusted_old trusted_new : Option (List ℕ)) (fault : PairFault)
         → TellsSide (a.bytes_of Old) (a.is_missing Old) old → TellsSide (a.bytes_of New) (a.is_missing New) new
         → TellsSide (s.bytes_of Old) (s.is_missing Old) trusted_old → TellsSide (s.bytes_of New) (s.is_missing New) trusted_new
         → ((side : Side) → a.is_missing side ≡ false) → ((side : Side) → s.is_missing side ≡ false) → PassFaults fault
-        → OfEach (IsHindered old new (Rose a.failures c.failures) sink) (IsHindered trusted_old trusted_new (Rose s.failures w.failures) ⊥) fault
-    pair_hinders old new trusted_old trusted_new (Compared fault) told_old told_new told_trusted_old told_trusted_new there trusted_there is =
+        → OfEach (IsHindered old new (Rose a.failures c.failures) sink)
+        (IsHindered trusted_old trusted_new (Rose s.failures w.failures) ⊥) fault
+    pair_hinders old new trusted_old trusted_new (Compared fault) told_old told_new told_trusted_old told_trusted_new there trusted_there
+        is =
         later_over limits a.bytes_of a.is_missing old new (Rose a.failures c.failures) sink fault told_old told_new there sound
         (subst (λ bytes. IsLater limits bytes fault) keeps.same is.later)
-        (rose_later (Rose b.failures c.failures) (Rose a.failures c.failures) sink fault (rose_since a.failures b.failures c.failures keeps.never_falls) is.caused)
-    pair_hinders old new trusted_old trusted_new (Trusted fault) told_old told_new told_trusted_old told_trusted_new there trusted_there is =
-        later_over limits s.bytes_of s.is_missing trusted_old trusted_new (Rose s.failures w.failures) ⊥ fault told_trusted_old told_trusted_new trusted_there trusted_sound
+        (rose_later (Rose b.failures c.failures) (Rose a.failures c.failures) sink fault
+        (rose_since a.failures b.failures c.failures keeps.never_falls) is.caused)
+    pair_hinders old new trusted_old trusted_new (Trusted fault) told_old told_new told_trusted_old told_trusted_new there trusted_there
+        is =
+        later_over limits s.bytes_of s.is_missing trusted_old trusted_new (Rose s.failures w.failures) ⊥ fault told_trusted_old
+        told_trusted_new trusted_there trusted_sound
         (subst (λ bytes. IsLater limits bytes fault) trusted_keeps.same is.later)
-        (rose_later (Rose t.failures w.failures) (Rose s.failures w.failures) ⊥ fault (rose_since s.failures t.failures w.failures trusted_keeps.never_falls) is.caused)
+        (rose_later (Rose t.failures w.failures) (Rose s.failures w.failures) ⊥ fault
+        (rose_since s.failures t.failures w.failures trusted_keeps.never_falls) is.caused)
 
     pub faults_later : (asked trusted_asked : Asked) (room_before trusted_before : ℕ) (fault : PairFault)
         → OpensExactly a.openings b.openings 1 → room ≡ room_before → OpensExactly s.openings t.openings 1 → trusted_room ≡ trusted_before

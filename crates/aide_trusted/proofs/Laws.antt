@@ -41,20 +41,23 @@ found_sorted : (q : List ℕ) (es : List PathChange) → T (is_sorted path_cmp e
     → found_at q (seek q es) ≡ either_of (find path_cmp q es)
 found_sorted q [] sorted = refl
 found_sorted q (e ∷ es) sorted =
-    elim (path_cmp e.0 q) as (λ r. path_cmp e.0 q ≡ r → found_at q (cond (is_lt r) (seek q es) (e ∷ es)) ≡ either_of (find path_cmp q (e ∷ es))) [
+    elim (path_cmp e.0 q) as (λ r. path_cmp e.0 q ≡ r
+    → found_at q (cond (is_lt r) (seek q es) (e ∷ es)) ≡ either_of (find path_cmp q (e ∷ es))) [
       | Less ↦ λ is. found_sorted q es (and_second _ _ sorted)
           ∙ sym (ap (λ r. either_of (cond (is_eq r) (Some e.1) (find path_cmp q es))) (turned e.0 q Less is))
       | Equal ↦ λ is. ap (λ r. cond {A = Pair} (is_eq r) e.1 (None, None)) is
           ∙ sym (ap (λ r. either_of (cond (is_eq r) (Some e.1) (find path_cmp q es))) (turned e.0 q Equal is))
       | Greater ↦ λ is. ap (λ r. cond {A = Pair} (is_eq r) e.1 (None, None)) is
-          ∙ sym (ap either_of (find_below path_cmp path_cmp_total q (e ∷ es) (below_sorted path_cmp path_cmp_total q e es (turned e.0 q Greater is) sorted)))
+          ∙ sym (ap either_of (find_below path_cmp path_cmp_total q (e ∷ es)
+          (below_sorted path_cmp path_cmp_total q e es (turned e.0 q Greater is) sorted)))
     ] refl
 
 -- what is found at a path of the merge of two maps is what both have there
 found_merged : (old new : Database) (q : List ℕ)
     → found_at q (seek q (merged path_cmp (entries old) (entries new))) ≡ (get old q, get new q)
 found_merged old new q =
-    found_sorted q (merged path_cmp (entries old) (entries new)) (sorted-merged path_cmp path_cmp_total (entries old) (entries new) (entries_sorted old) (entries_sorted new))
+    found_sorted q (merged path_cmp (entries old) (entries new))
+    (sorted-merged path_cmp path_cmp_total (entries old) (entries new) (entries_sorted old) (entries_sorted new))
     ∙ ap either_of (find-merged path_cmp path_cmp_total (entries old) (entries new) (entries_sorted old) (entries_sorted new) q)
     ∙ (λ i. either_of (paired (sym (get-entries old q) i) (sym (get-entries new q) i)))
     ∙ either_paired (get old q) (get new q)

@@ -27,7 +27,8 @@ pub stops_compared : (compared trusted : Result Report RunFault) (over : Option 
     (hindered other : RunFault → Type 0) (fault : RunFault) → answer_by compared trusted over r → StopsFor compared hindered fault
     → StopsForPair r (OfEach hindered other) (Compared fault)
 stops_compared (Err right) trusted over r hindered other fault is h =
-    stops_as r (Err (Compared right)) (OfEach hindered other) (Compared fault) is (elim h [ inl same ↦ inl (ap Compared same) | inr p ↦ inr p ])
+    stops_as r (Err (Compared right)) (OfEach hindered other) (Compared fault) is
+    (elim h [ inl same ↦ inl (ap Compared same) | inr p ↦ inr p ])
 stops_compared (Ok report) (Err bad) over r hindered other fault is h =
     stops_as r (Err (Trusted bad)) (OfEach hindered other) (Compared fault) is (inr h)
 stops_compared (Ok report) (Ok second) None r hindered other fault is h = absurd is
@@ -67,7 +68,8 @@ module _ (limits : Limits) (asked : Asked) where
       → (r : Result Report RunFault) → RunsOver limits asked old new r → IsOkay r
   okay_over bytes_of is_missing old new told told_new there sound =
       over_texts limits (report_over asked) bytes_of is_missing old new IsOkay told told_new there
-      (λ old_text new_text is_old is_new run runs. okay_run old_text new_text run (sound Old old_text is_old) (sound New new_text is_new) runs)
+      (λ old_text new_text is_old is_new run runs. okay_run old_text new_text run (sound Old old_text is_old) (sound New new_text is_new)
+      runs)
 
 -- nothing is a front of every answer
 pub nothing_front_of : (r : Result Report PairFault) (bytes : Option (List ℕ)) → SendsFrontOf r bytes bytes

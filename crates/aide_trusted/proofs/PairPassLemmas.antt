@@ -111,15 +111,21 @@ pub pair_stopped : {X R : Type 0} {r : Reels R} {limits : Limits} {a b c s t w :
     → (0 < reels_failed r.failures k → Rose t.failures w.failures) → (t.is_reliable ≡ true → reels_failed r.failures k ≡ 0)
     → IsPairStop r m n e j k v pen fault
     → PairPasses {X = X} limits 1 a c d f s w u z (pen.failed ≡ true) (Err (pair_fault_of fault sent))
-pair_stopped {X} (stop.Compared fault) sent pen p opened keeps closes same rose unfailed p2 opened2 keeps2 closes2 same2 rose2 unfailed2 is =
-    pair_compared {X = X} (pass_failed p opened keeps closes same rose unfailed is.1) (pass_done {next = ⊥} {done = tt {0}} p2 opened2 keeps2 closes2 same2)
+pair_stopped {X} (stop.Compared fault) sent pen p opened keeps closes same rose unfailed p2 opened2 keeps2 closes2 same2 rose2 unfailed2
+    is =
+    pair_compared {X = X} (pass_failed p opened keeps closes same rose unfailed is.1)
+    (pass_done {next = ⊥} {done = tt {0}} p2 opened2 keeps2 closes2 same2)
 pair_stopped {X} (stop.Trusted fault) sent pen p opened keeps closes same rose unfailed p2 opened2 keeps2 closes2 same2 rose2 unfailed2 is =
-    pair_trusted {X = X} {Z = X} (pass_done {done = tt {0}} p opened keeps closes same) (pass_failed {U = X} p2 opened2 keeps2 closes2 same2 rose2 unfailed2 is.1)
-pair_stopped {X} {sink = sink} stop.Write sent pen p opened keeps closes same rose unfailed p2 opened2 keeps2 closes2 same2 rose2 unfailed2 is =
-    pair_compared {X = X} (passes_broken {sink = sink} 1 1 sent (omega arith) (pass_done {done = tt {0}} p opened keeps closes same) is) (pass_done {next = ⊥} {done = tt {0}} p2 opened2 keeps2 closes2 same2)
+    pair_trusted {X = X} {Z = X} (pass_done {done = tt {0}} p opened keeps closes same)
+    (pass_failed {U = X} p2 opened2 keeps2 closes2 same2 rose2 unfailed2 is.1)
+pair_stopped {X} {sink = sink} stop.Write sent pen p opened keeps closes same rose unfailed p2 opened2 keeps2 closes2 same2 rose2
+    unfailed2 is =
+    pair_compared {X = X} (passes_broken {sink = sink} 1 1 sent (omega arith) (pass_done {done = tt {0}} p opened keeps closes same) is)
+    (pass_done {next = ⊥} {done = tt {0}} p2 opened2 keeps2 closes2 same2)
 
 -- and has told what was written
-pub stop_pair_written : {R : Type 0} (r : Reels R) (m n : Merge R) (d : DeskView) (j k : Merge R) (u : DeskView) (pen : Pen) (fault : PairStop)
+pub stop_pair_written : {R : Type 0} (r : Reels R) (m n : Merge R) (d : DeskView) (j k : Merge R) (u : DeskView) (pen : Pen)
+    (fault : PairStop)
     → IsPairStop r m n d j k u pen fault → HasPairWritten pen (pair_fault_of fault pen.sent)
 stop_pair_written r m n d j k u pen (stop.Compared fault) is = written_at pen fault (cause_of fault.kind) is.0
 stop_pair_written r m n d j k u pen (stop.Trusted fault) is = is.0
@@ -186,9 +192,11 @@ pairs_unbegun limits n sent a d s u failed = record {
 
 -- what a failed write means has another name
 pub pairs_err : {X Y : Type 0} {limits : Limits} {a b s t : Seen} {d e u v : DeskView} {sink next : Type 0} {n : ℕ} {fault : PairFault}
-    → (sink → next) → PairPasses {X = X} limits n a b d e s t u v sink (Err fault) → PairPasses {X = Y} limits n a b d e s t u v next (Err fault)
+    → (sink → next) → PairPasses {X = X} limits n a b d e s t u v sink (Err fault)
+    → PairPasses {X = Y} limits n a b d e s t u v next (Err fault)
 pairs_err {X} {Y} {fault = Compared fault} f p =
-    let q = passes_err {T = X} {U = Y} f (record { sources = p.sources; desk = p.desk; opens = tt; opens_some = p.opens_some; fault = p.fault }) in
+    let q = passes_err {T = X} {U = Y} f (record
+    { sources = p.sources; desk = p.desk; opens = tt; opens_some = p.opens_some; fault = p.fault }) in
     record {
       sources = p.sources;
       trusted = p.trusted;

@@ -60,7 +60,8 @@ pub leaves_then : {limits : Limits} {a b c : Seen} {d e f : DeskView} (n k most 
     → KeepsSources b c → OpensAtMost b.openings c.openings k → KeepsDesk limits b.bytes_of e f
     → LeavesPair limits most a c d f
 leaves_then {a = a} {b = b} {c = c} n k most le sources opens desk then more kept =
-    leaves_by (sources_then sources then) (opens_then a.openings b.openings c.openings n k most le opens more) (clears_then sources.same desk kept)
+    leaves_by (sources_then sources then) (opens_then a.openings b.openings c.openings n k most le opens more)
+    (clears_then sources.same desk kept)
 
 -- a fault of the first readings
 pub fault_read : {limits : Limits} {a b : Seen} {room : ℕ} {sink : Type 0} (asked : Asked) (fault : RunFault)

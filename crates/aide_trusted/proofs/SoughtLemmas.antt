@@ -55,7 +55,8 @@ seek_again : (path later : List ℕ) → is_lt (path_cmp path later) ≡ true �
     → seek later (seek path es) ≡ seek later es
 seek_again path later before [] = refl
 seek_again path later before (e ∷ es) =
-    elim (is_lt (path_cmp e.0 path)) as (λ b. is_lt (path_cmp e.0 path) ≡ b → seek later (cond b (seek path es) (e ∷ es)) ≡ seek later (e ∷ es)) [
+    elim (is_lt (path_cmp e.0 path)) as (λ b. is_lt (path_cmp e.0 path) ≡ b
+    → seek later (cond b (seek path es) (e ∷ es)) ≡ seek later (e ∷ es)) [
       | true ↦ λ is.
           let across : is_lt (path_cmp e.0 later) ≡ true =
           ap is_lt (path_cmp_total.trans e.0 path later (lt_is (path_cmp e.0 path) is) (lt_is (path_cmp path later) before)) in

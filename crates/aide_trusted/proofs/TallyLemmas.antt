@@ -43,7 +43,13 @@ counted_pairs : (p : Accounted → Bool) (account : Accounts) (cs : List PathCha
     → count_by (λ c. p (c, account c)) cs ≡ count_by p (map (λ c. (c, account c)) cs)
 counted_pairs p account [] = refl
 counted_pairs p account (c ∷ cs) =
-    omega (arith, first_counted (λ x. p (x, account x)) c cs, first_counted p (c, account c) (map (λ x. (x, account x)) cs), counted_pairs p account cs)
+    omega (
+      arith,
+      first_counted (λ x. p (x, account x)) c cs,
+      first_counted p (c, account c) (map (λ x. (x, account x)) cs),
+      counted_pairs
+          p account cs,
+    )
 
 one_more : (p : Accounted → Bool) (m : Accounted) (a : ℕ) (rest more : List Accounted) → rest ≡ (m ∷ []) ++ more
     → (a + count_by p (m ∷ [])) + count_by p more ≡ a + count_by p rest
@@ -145,7 +151,8 @@ module _ (options : Options) where
       plus_none n = omega arith
 
   -- nothing was counted before
-  pub tally_start : (a all : LineCounts) → a ≡ record { total = 0; added = 0; removed = 0; changed = 0; same_as_old = 0; same_as_trusted = 0; others = 0 }
+  pub tally_start : (a all : LineCounts) → a ≡ record
+      { total = 0; added = 0; removed = 0; changed = 0; same_as_old = 0; same_as_trusted = 0; others = 0 }
       → sum_of_counts a all ≡ all
   tally_start a all is = ap (λ (c : LineCounts). sum_of_counts c all) is ∙ (λ i. record {
     total = none_plus all.total i;
@@ -160,7 +167,8 @@ module _ (options : Options) where
       none_plus : (n : ℕ) → 0 + n ≡ n
       none_plus n = omega arith
 
-  pub small_start : (a : LineCounts) (work : ℕ) → a ≡ record { total = 0; added = 0; removed = 0; changed = 0; same_as_old = 0; same_as_trusted = 0; others = 0 }
+  pub small_start : (a : LineCounts) (work : ℕ)
+      → a ≡ record { total = 0; added = 0; removed = 0; changed = 0; same_as_old = 0; same_as_trusted = 0; others = 0 }
       → work < 2 ^ 62 → AreLinesBelow a (2 ^ 62 - work)
   small_start a work is less = rw is (record {
     total = omega (arith, less);
@@ -185,7 +193,8 @@ module _ (options : Options) where
   lines_of_sought (c ∷ cs) trusted =
       ap (λ l. line_of (c, sought_by trusted c) ++ l) (lines_of_sought cs trusted) ∙ by_test (is_in options all_listed c)
     where
-      by_test : (b : Bool) → (cond b (change_line options (sought_by trusted) c) []) ++ flat_map (change_line options (sought_by trusted)) (listed_changes options cs)
+      by_test : (b : Bool) → (cond b (change_line options (sought_by trusted) c) []) ++ flat_map (change_line options (sought_by trusted))
+          (listed_changes options cs)
           ≡ flat_map (change_line options (sought_by trusted)) (cond b (c ∷ listed_changes options cs) (listed_changes options cs))
       by_test true = refl
       by_test false = refl

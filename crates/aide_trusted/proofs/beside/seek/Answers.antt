@@ -36,7 +36,8 @@ returns-in-None-clause-sought g c =
       ready = read.ready;
       not_due = read.not_due;
       same = λ old new s t.
-          seek_none path (remaining c.read_due.new.self c.read_due.new.desk old new) (upcoming_none c.read_due.new.self c.read_due.new.desk read.ready read.not_due c.in-None.ensures old new)
+          seek_none path (remaining c.read_due.new.self c.read_due.new.desk old new)
+          (upcoming_none c.read_due.new.self c.read_due.new.desk read.ready read.not_due c.in-None.ensures old new)
           ∙ sym (ap (seek path) (read.same old new (stands Old old s) (stands New new t)))
           ∙ sym (c.seek.invariant.same old new s t);
     }
@@ -53,8 +54,10 @@ returns-then-not-is_before-clause-sought g c =
       ready = read.ready;
       not_due = read.not_due;
       same = λ old new s t.
-          let one = upcoming_one c.read_due.new.self c.read_due.new.desk read.ready read.not_due (change_of c.in-Some.trusted) c.in-Some.ensures old new in
-          seek_here path (change_of c.in-Some.trusted) one.0 (remaining c.read_due.new.self c.read_due.new.desk old new) one.1 (sym c.if-not-is_before.ensures)
+          let one = upcoming_one c.read_due.new.self c.read_due.new.desk read.ready read.not_due (change_of c.in-Some.trusted)
+          c.in-Some.ensures old new in
+          seek_here path (change_of c.in-Some.trusted) one.0 (remaining c.read_due.new.self c.read_due.new.desk old new) one.1
+          (sym c.if-not-is_before.ensures)
           ∙ sym (ap (seek path) (read.same old new (stands Old old s) (stands New new t)))
           ∙ sym (c.seek.invariant.same old new s t);
     }

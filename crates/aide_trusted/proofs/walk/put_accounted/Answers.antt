@@ -27,7 +27,8 @@ pass-init g c = record {
   keeps_trusted = merge_none g.R.Reel c.args.trusted.now c.args.trusted_desk.now;
   sorted = λ old new s t in_order. in_order;
   writes = λ old new trusted_old trusted_new s t u v in_order. writing_start (flat_map (line_of c.args.options.now)
-      (all_sought (remaining c.args.merge.now c.args.desk.now old new) (remaining c.args.trusted.now c.args.trusted_desk.now trusted_old trusted_new)))
+      (all_sought (remaining c.args.merge.now c.args.desk.now old new)
+      (remaining c.args.trusted.now c.args.trusted_desk.now trusted_old trusted_new)))
       (on_sheet g.W.Sink c.args.out.now c.args.pen.now);
   counts = λ old new trusted_old trusted_new s t u v in_order. tally_start c.args.options.now _ _ c.no_counts-counts.ensures;
   lines = lines_start _ (on_sheet g.W.Sink c.args.out.now c.args.pen.now) c.no_counts-counts.ensures;
@@ -48,7 +49,8 @@ returns-in-Err-clause-keeps_trusted g c = c.pass.invariant.keeps_trusted
 
 pub returns-in-Err-clause-writes : goal.returns-in-Err-clause-writes
 returns-in-Err-clause-writes g c old new trusted_old trusted_new s t u v in_order =
-    part_as (lines_of_sought c.args.options.now (remaining c.args.merge.now c.args.desk.now old new) (remaining c.args.trusted.now c.args.trusted_desk.now trusted_old trusted_new))
+    part_as (lines_of_sought c.args.options.now (remaining c.args.merge.now c.args.desk.now old new)
+    (remaining c.args.trusted.now c.args.trusted_desk.now trusted_old trusted_new))
     (writing_so_far (c.pass.invariant.writes old new trusted_old trusted_new s t u v in_order))
 
 pub returns-in-Err-clause-some : goal.returns-in-Err-clause-some
@@ -71,7 +73,8 @@ returns-in-End-clause-trusted_ready g c = c.pass.invariant.trusted_ready
 pub returns-in-End-clause-writes : goal.returns-in-End-clause-writes
 returns-in-End-clause-writes g c old new trusted_old trusted_new s t u v in_order =
     let stands = c.pass.invariant.keeps.stands in
-    wrote_as (lines_of_sought c.args.options.now (remaining c.args.merge.now c.args.desk.now old new) (remaining c.args.trusted.now c.args.trusted_desk.now trusted_old trusted_new))
+    wrote_as (lines_of_sought c.args.options.now (remaining c.args.merge.now c.args.desk.now old new)
+    (remaining c.args.trusted.now c.args.trusted_desk.now trusted_old trusted_new))
     (writing_done (none_sought (line_of c.args.options.now) (remaining c.pass.merge c.pass.desk old new)
     (remaining c.pass.trusted c.pass.trusted_desk trusted_old trusted_new)
     (c.in_default.ensures.read.same old new (stands Old old s) (stands New new t) ∙ c.in-End.ensures.step.end old new refl))
@@ -81,10 +84,12 @@ pub returns-in-End-clause-counts : goal.returns-in-End-clause-counts
 returns-in-End-clause-counts g c old new trusted_old trusted_new s t u v in_order =
     let stands = c.pass.invariant.keeps.stands in
     tally_none c.args.options.now c.pass.counts _
-    (ap (λ rest. sum_of_counts c.pass.counts (tally_of c.args.options.now (all_sought rest (remaining c.pass.trusted c.pass.trusted_desk trusted_old trusted_new))))
+    (ap (λ rest. sum_of_counts c.pass.counts (tally_of c.args.options.now
+    (all_sought rest (remaining c.pass.trusted c.pass.trusted_desk trusted_old trusted_new))))
     (sym (c.in_default.ensures.read.same old new (stands Old old s) (stands New new t) ∙ c.in-End.ensures.step.end old new refl))
     ∙ c.pass.invariant.counts old new trusted_old trusted_new s t u v in_order)
-    ∙ sym (tally_pairs c.args.options.now (remaining c.args.merge.now c.args.desk.now old new) (remaining c.args.trusted.now c.args.trusted_desk.now trusted_old trusted_new))
+    ∙ sym (tally_pairs c.args.options.now (remaining c.args.merge.now c.args.desk.now old new)
+    (remaining c.args.trusted.now c.args.trusted_desk.now trusted_old trusted_new))
 
 pub returns-in-End-clause-lines : goal.returns-in-End-clause-lines
 returns-in-End-clause-lines g c = c.pass.invariant.lines
@@ -107,7 +112,8 @@ returns-in-Err-seek-clause-keeps_trusted g c = merge_then c.pass.invariant.keeps
 
 pub returns-in-Err-seek-clause-writes : goal.returns-in-Err-seek-clause-writes
 returns-in-Err-seek-clause-writes g c old new trusted_old trusted_new s t u v in_order =
-    part_as (lines_of_sought c.args.options.now (remaining c.args.merge.now c.args.desk.now old new) (remaining c.args.trusted.now c.args.trusted_desk.now trusted_old trusted_new))
+    part_as (lines_of_sought c.args.options.now (remaining c.args.merge.now c.args.desk.now old new)
+    (remaining c.args.trusted.now c.args.trusted_desk.now trusted_old trusted_new))
     (writing_so_far (c.pass.invariant.writes old new trusted_old trusted_new s t u v in_order))
 
 pub returns-in-Err-seek-clause-fault : goal.returns-in-Err-seek-clause-fault
@@ -130,11 +136,13 @@ returns-then-pen-clause-writes g c old new trusted_old trusted_new s t u v in_or
     let step = c.in-Differs.ensures.step in
     let stands = c.pass.invariant.keeps.stands in
     let beside = c.pass.invariant.keeps_trusted.stands in
-    part_as (lines_of_sought c.args.options.now (remaining c.args.merge.now c.args.desk.now old new) (remaining c.args.trusted.now c.args.trusted_desk.now trusted_old trusted_new))
+    part_as (lines_of_sought c.args.options.now (remaining c.args.merge.now c.args.desk.now old new)
+    (remaining c.args.trusted.now c.args.trusted_desk.now trusted_old trusted_new))
     (writing_so_far (writing_more
     (one_sought (line_of c.args.options.now) (change_of c.in-Differs.change) (remaining c.pass.merge c.pass.desk old new)
     step.changes (remaining c.next.new.self c.read_due.new.desk old new)
-    (remaining c.pass.trusted c.pass.trusted_desk trusted_old trusted_new) (remaining c.seek.new.merge c.seek.new.desk trusted_old trusted_new)
+    (remaining c.pass.trusted c.pass.trusted_desk trusted_old trusted_new)
+    (remaining c.seek.new.merge c.seek.new.desk trusted_old trusted_new)
     c.account_of-account.result
     (read.same old new (stands Old old s) (stands New new t) ∙ step.gives old new) step.shows
     (c.in_default-seek.ensures.sought.same trusted_old trusted_new (beside Old trusted_old u) (beside New trusted_new v))
@@ -151,18 +159,21 @@ pass-preserved-else-pen g c =
     record {
       ready = step.ready;
       trusted_ready = c.in_default-seek.ensures.sought.ready;
-      small = small_more c.args.options.now c.pass.counts c.put_counted.new.counts (change_of c.in-Differs.change, c.account_of-account.result) (2 ^ 62)
+      small = small_more c.args.options.now c.pass.counts c.put_counted.new.counts
+          (change_of c.in-Differs.change, c.account_of-account.result) (2 ^ 62)
           (total_work c.pass.merge) (total_work c.next.new.self) fewer c.put_counted.ensures.counted c.pass.invariant.small;
       writes_on = c.if-pen.false;
       keeps = merge_then c.pass.invariant.keeps (merge_then c.read_due.ensures.keeps c.next.ensures.keeps);
       keeps_trusted = merge_then c.pass.invariant.keeps_trusted c.seek.ensures.keeps;
       sorted = λ old new s t in_order. sorted_rest (change_of c.in-Differs.change) (remaining c.pass.merge c.pass.desk old new)
           step.changes (remaining c.next.new.self c.read_due.new.desk old new)
-          (read.same old new (stands Old old s) (stands New new t) ∙ step.gives old new) step.shows (c.pass.invariant.sorted old new s t in_order);
+          (read.same old new (stands Old old s) (stands New new t) ∙ step.gives old new) step.shows
+          (c.pass.invariant.sorted old new s t in_order);
       writes = λ old new trusted_old trusted_new s t u v in_order. writing_more
           (one_sought (line_of c.args.options.now) (change_of c.in-Differs.change) (remaining c.pass.merge c.pass.desk old new)
           step.changes (remaining c.next.new.self c.read_due.new.desk old new)
-          (remaining c.pass.trusted c.pass.trusted_desk trusted_old trusted_new) (remaining c.seek.new.merge c.seek.new.desk trusted_old trusted_new)
+          (remaining c.pass.trusted c.pass.trusted_desk trusted_old trusted_new)
+          (remaining c.seek.new.merge c.seek.new.desk trusted_old trusted_new)
           c.account_of-account.result
           (read.same old new (stands Old old s) (stands New new t) ∙ step.gives old new) step.shows
           (c.in_default-seek.ensures.sought.same trusted_old trusted_new (beside Old trusted_old u) (beside New trusted_new v))
@@ -172,14 +183,16 @@ pass-preserved-else-pen g c =
           (change_of c.in-Differs.change, c.account_of-account.result) _ _
           (sought_more (change_of c.in-Differs.change) (remaining c.pass.merge c.pass.desk old new)
           step.changes (remaining c.next.new.self c.read_due.new.desk old new)
-          (remaining c.pass.trusted c.pass.trusted_desk trusted_old trusted_new) (remaining c.seek.new.merge c.seek.new.desk trusted_old trusted_new)
+          (remaining c.pass.trusted c.pass.trusted_desk trusted_old trusted_new)
+          (remaining c.seek.new.merge c.seek.new.desk trusted_old trusted_new)
           c.account_of-account.result
           (read.same old new (stands Old old s) (stands New new t) ∙ step.gives old new) step.shows
           (c.in_default-seek.ensures.sought.same trusted_old trusted_new (beside Old trusted_old u) (beside New trusted_new v))
           (c.account_of-account.ensures trusted_old trusted_new) (c.pass.invariant.sorted old new s t in_order))
           c.put_counted.ensures.counted
           (c.pass.invariant.counts old new trusted_old trusted_new s t u v in_order);
-      lines = lines_more c.args.options.now c.account_of-account.result (change_of c.in-Differs.change) c.pass.counts c.put_counted.new.counts
+      lines = lines_more c.args.options.now c.account_of-account.result (change_of c.in-Differs.change) c.pass.counts
+          c.put_counted.new.counts
           c.put_counted.ensures.counted c.put_counted.ensures.wrote c.pass.invariant.lines;
       some = some_more c.pass.invariant.some (some_of c.put_counted.ensures.wrote);
     }
@@ -194,25 +207,30 @@ pass-preserved g c =
       ready = step.ready;
       trusted_ready = c.pass.invariant.trusted_ready;
       small = small_more c.args.options.now c.pass.counts _ (alike_of step.shows.entry, None) (2 ^ 62)
-          (total_work c.pass.merge) (total_work c.next.new.self) fewer (tally_alike c.args.options.now c.pass.counts step.shows.entry None) c.pass.invariant.small;
+          (total_work c.pass.merge) (total_work c.next.new.self) fewer
+          (tally_alike c.args.options.now c.pass.counts step.shows.entry None) c.pass.invariant.small;
       writes_on = c.pass.invariant.writes_on;
       keeps = merge_then c.pass.invariant.keeps (merge_then c.read_due.ensures.keeps c.next.ensures.keeps);
       keeps_trusted = c.pass.invariant.keeps_trusted;
       sorted = λ old new s t in_order. sorted_rest (alike_of step.shows.entry) (remaining c.pass.merge c.pass.desk old new)
           step.changes (remaining c.next.new.self c.read_due.new.desk old new)
-          (read.same old new (stands Old old s) (stands New new t) ∙ step.gives old new) step.shows.only (c.pass.invariant.sorted old new s t in_order);
+          (read.same old new (stands Old old s) (stands New new t) ∙ step.gives old new) step.shows.only
+          (c.pass.invariant.sorted old new s t in_order);
       writes = λ old new trusted_old trusted_new s t u v in_order. subst (λ rest. Writing (flat_map (line_of c.args.options.now)
-          (all_sought (remaining c.args.merge.now c.args.desk.now old new) (remaining c.args.trusted.now c.args.trusted_desk.now trusted_old trusted_new))) rest
+          (all_sought (remaining c.args.merge.now c.args.desk.now old new)
+          (remaining c.args.trusted.now c.args.trusted_desk.now trusted_old trusted_new))) rest
           (on_sheet g.W.Sink c.args.out.now c.args.pen.now) (on_sheet g.W.Sink c.pass.out c.pass.pen))
           (alike_sought (line_of c.args.options.now) step.shows.entry (remaining c.pass.merge c.pass.desk old new)
           step.changes (remaining c.next.new.self c.read_due.new.desk old new)
           (remaining c.pass.trusted c.pass.trusted_desk trusted_old trusted_new)
-          (line_alike c.args.options.now step.shows.entry) (read.same old new (stands Old old s) (stands New new t) ∙ step.gives old new) step.shows.only)
+          (line_alike c.args.options.now step.shows.entry) (read.same old new (stands Old old s) (stands New new t) ∙ step.gives old new)
+          step.shows.only)
           (c.pass.invariant.writes old new trusted_old trusted_new s t u v in_order);
       counts = λ old new trusted_old trusted_new s t u v in_order.
           let trusted = remaining c.pass.trusted c.pass.trusted_desk trusted_old trusted_new in
           tally_more c.args.options.now c.pass.counts _ _ (alike_of step.shows.entry, sought_by trusted (alike_of step.shows.entry)) _ _
-          (sought_alike step.shows.entry (remaining c.pass.merge c.pass.desk old new) step.changes (remaining c.next.new.self c.read_due.new.desk old new) trusted
+          (sought_alike step.shows.entry (remaining c.pass.merge c.pass.desk old new) step.changes
+          (remaining c.next.new.self c.read_due.new.desk old new) trusted
           (read.same old new (stands Old old s) (stands New new t) ∙ step.gives old new) step.shows.only)
           (tally_alike c.args.options.now c.pass.counts step.shows.entry (sought_by trusted (alike_of step.shows.entry)))
           (c.pass.invariant.counts old new trusted_old trusted_new s t u v in_order);

@@ -31,16 +31,20 @@ invariant-pass g l = record {
       → StandsAt g.R.Reel.to_come l.fn.trusted l.fn.trusted_desk Old trusted_old
       → StandsAt g.R.Reel.to_come l.fn.trusted l.fn.trusted_desk New trusted_new
       → is_sorted path_cmp (remaining l.fn.merge l.fn.desk old new) ≡ true
-      → Writing (flat_map (line_of l.options) (all_sought (remaining l.fn.merge l.fn.desk old new) (remaining l.fn.trusted l.fn.trusted_desk trusted_old trusted_new)))
-      (flat_map (line_of l.options) (all_sought (remaining l.merge l.desk old new) (remaining l.trusted l.trusted_desk trusted_old trusted_new)))
+      → Writing (flat_map (line_of l.options) (all_sought (remaining l.fn.merge l.fn.desk old new)
+      (remaining l.fn.trusted l.fn.trusted_desk trusted_old trusted_new)))
+      (flat_map (line_of l.options) (all_sought (remaining l.merge l.desk old new)
+      (remaining l.trusted l.trusted_desk trusted_old trusted_new)))
       (on_sheet g.W.Sink l.fn.out l.fn.pen) (on_sheet g.W.Sink l.out l.pen);
   counts : (old new trusted_old trusted_new : List ℕ) → StandsAt g.R.Reel.to_come l.fn.merge l.fn.desk Old old
       → StandsAt g.R.Reel.to_come l.fn.merge l.fn.desk New new
       → StandsAt g.R.Reel.to_come l.fn.trusted l.fn.trusted_desk Old trusted_old
       → StandsAt g.R.Reel.to_come l.fn.trusted l.fn.trusted_desk New trusted_new
       → is_sorted path_cmp (remaining l.fn.merge l.fn.desk old new) ≡ true
-      → sum_of_counts l.counts (tally_of l.options (all_sought (remaining l.merge l.desk old new) (remaining l.trusted l.trusted_desk trusted_old trusted_new)))
-      ≡ tally_of l.options (all_sought (remaining l.fn.merge l.fn.desk old new) (remaining l.fn.trusted l.fn.trusted_desk trusted_old trusted_new));
+      → sum_of_counts l.counts (tally_of l.options
+      (all_sought (remaining l.merge l.desk old new) (remaining l.trusted l.trusted_desk trusted_old trusted_new)))
+      ≡ tally_of l.options (all_sought (remaining l.fn.merge l.fn.desk old new)
+      (remaining l.fn.trusted l.fn.trusted_desk trusted_old trusted_new));
   lines : HasLines l.counts (on_sheet g.W.Sink l.fn.out l.fn.pen) (on_sheet g.W.Sink l.out l.pen);
   some : WritesSome (on_sheet g.W.Sink l.fn.out l.fn.pen) (on_sheet g.W.Sink l.out l.pen);
 }

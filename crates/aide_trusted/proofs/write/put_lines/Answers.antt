@@ -21,12 +21,16 @@ pub returns-then-pen-clause-writes : goal.returns-then-pen-clause-writes
 unfolding written_beside all_lines_beside
 returns-then-pen-clause-writes g c old new trusted_old trusted_new told_old told_new told_trusted_old told_trusted_new in_order =
     part_of_wrote (change_lines c.args.plan.now.task.now.options (sought_by (pass_of trusted_old trusted_new)) (pass_of old new)
-    ++ last_line true (tally c.args.plan.now.task.now.options (sought_by (pass_of trusted_old trusted_new)) (pass_of old new)) (status_by (tally c.args.plan.now.task.now.options (sought_by (pass_of trusted_old trusted_new)) (pass_of old new)))) c.put_first.ensures
+    ++ last_line true (tally c.args.plan.now.task.now.options (sought_by (pass_of trusted_old trusted_new)) (pass_of old new))
+    (status_by (tally c.args.plan.now.task.now.options (sought_by (pass_of trusted_old trusted_new)) (pass_of old new))))
+    c.put_first.ensures
 
 pub returns-in-Err-clause-writes : goal.returns-in-Err-clause-writes
 unfolding written_beside all_lines_beside
 returns-in-Err-clause-writes g c old new trusted_old trusted_new told_old told_new told_trusted_old told_trusted_new in_order =
-    part_after c.put_first.ensures (part_first (last_line true (tally c.args.plan.now.task.now.options (sought_by (pass_of trusted_old trusted_new)) (pass_of old new)) (status_by (tally c.args.plan.now.task.now.options (sought_by (pass_of trusted_old trusted_new)) (pass_of old new))))
+    part_after c.put_first.ensures (part_first
+    (last_line true (tally c.args.plan.now.task.now.options (sought_by (pass_of trusted_old trusted_new)) (pass_of old new))
+    (status_by (tally c.args.plan.now.task.now.options (sought_by (pass_of trusted_old trusted_new)) (pass_of old new))))
     (c.in-Err.ensures.writes old new trusted_old trusted_new told_old told_new told_trusted_old told_trusted_new in_order))
 
 pub returns-in-Err-clause-pen : goal.returns-in-Err-clause-pen
@@ -35,8 +39,11 @@ returns-in-Err-clause-pen g c = pair_pen_then (some_of c.put_first.ensures) c.in
 pub returns-then-pen-2-clause-writes : goal.returns-then-pen-2-clause-writes
 unfolding written_beside all_lines_beside
 returns-then-pen-2-clause-writes g c old new trusted_old trusted_new told_old told_new told_trusted_old told_trusted_new in_order =
-    part_whole (wrote_more c.put_first.ensures (wrote_more (c.in-Ok.ensures.writes old new trusted_old trusted_new told_old told_new told_trusted_old told_trusted_new in_order)
-    (wrote_as (ap (λ counts. last_line true counts (status_by counts)) (c.in-Ok.ensures.counts old new trusted_old trusted_new told_old told_new told_trusted_old told_trusted_new in_order)) c.put_last.ensures)))
+    part_whole (wrote_more c.put_first.ensures
+    (wrote_more (c.in-Ok.ensures.writes old new trusted_old trusted_new told_old told_new told_trusted_old told_trusted_new in_order)
+    (wrote_as (ap (λ counts. last_line true counts (status_by counts))
+    (c.in-Ok.ensures.counts old new trusted_old trusted_new told_old told_new told_trusted_old told_trusted_new in_order))
+    c.put_last.ensures)))
 
 pub returns-then-pen-2-clause-pen : goal.returns-then-pen-2-clause-pen
 returns-then-pen-2-clause-pen g c = record {
@@ -48,8 +55,11 @@ returns-then-pen-2-clause-pen g c = record {
 pub returns-clause-writes : goal.returns-clause-writes
 unfolding written_beside all_lines_beside
 returns-clause-writes g c old new trusted_old trusted_new told_old told_new told_trusted_old told_trusted_new in_order =
-    wrote_more c.put_first.ensures (wrote_more (c.in-Ok.ensures.writes old new trusted_old trusted_new told_old told_new told_trusted_old told_trusted_new in_order)
-    (wrote_as (ap (λ counts. last_line true counts (status_by counts)) (c.in-Ok.ensures.counts old new trusted_old trusted_new told_old told_new told_trusted_old told_trusted_new in_order)) c.put_last.ensures))
+    wrote_more c.put_first.ensures (wrote_more
+    (c.in-Ok.ensures.writes old new trusted_old trusted_new told_old told_new told_trusted_old told_trusted_new in_order)
+    (wrote_as (ap (λ counts. last_line true counts (status_by counts))
+    (c.in-Ok.ensures.counts old new trusted_old trusted_new told_old told_new told_trusted_old told_trusted_new in_order))
+    c.put_last.ensures))
 
 pub returns-clause-accounted : goal.returns-clause-accounted
 returns-clause-accounted g c = c.in-Ok.ensures.lines.accounted
@@ -78,4 +88,5 @@ pair_pass-requires-clause-writes_on g c = c.if-pen.false
 
 pub returns-then-pen-clause-passes : goal.returns-then-pen-clause-passes
 returns-then-pen-clause-passes g c =
-    pairs_unbegun c.args.plan.now.limits _ c.put_first.new.pen.sent (seen g.S.Sources c.args.sources.now) c.args.desk.now (seen g.S.Sources c.args.trusted.now) c.args.trusted_desk.now c.if-pen.true
+    pairs_unbegun c.args.plan.now.limits _ c.put_first.new.pen.sent (seen g.S.Sources c.args.sources.now) c.args.desk.now
+    (seen g.S.Sources c.args.trusted.now) c.args.trusted_desk.now c.if-pen.true

@@ -15,7 +15,8 @@ pub returns-clause-sends : goal.returns-clause-sends
 returns-clause-sends g c old new trusted_old trusted_new told_old told_new told_trusted_old told_trusted_new in_order =
     let fresh = ap (λ pen. pen.failed) c.new-pen.ensures in
     flushed_whole (g.W.Sink.delivered c.flush.new.self) fresh c.in-Ok.ensures.pen.writes_on
-    (c.in-Ok.ensures.writes old new trusted_old trusted_new told_old told_new told_trusted_old told_trusted_new in_order) c.flush.ensures.bytes
+    (c.in-Ok.ensures.writes old new trusted_old trusted_new told_old told_new told_trusted_old told_trusted_new in_order)
+    c.flush.ensures.bytes
 
 pub returns-clause-accounted : goal.returns-clause-accounted
 returns-clause-accounted g c = c.in-Ok.ensures.accounted
@@ -48,7 +49,8 @@ pub returns-in-Err-flush-clause-sends : goal.returns-in-Err-flush-clause-sends
 returns-in-Err-flush-clause-sends g c old new trusted_old trusted_new told_old told_new told_trusted_old told_trusted_new in_order =
     let fresh = ap (λ pen. pen.failed) c.new-pen.ensures in
     flushed_part (g.W.Sink.delivered c.flush.new.self) fresh c.in-Ok.ensures.pen.writes_on
-    (c.in-Ok.ensures.writes old new trusted_old trusted_new told_old told_new told_trusted_old told_trusted_new in_order) c.flush.ensures.bytes
+    (c.in-Ok.ensures.writes old new trusted_old trusted_new told_old told_new told_trusted_old told_trusted_new in_order)
+    c.flush.ensures.bytes
 
 pub returns-in-Err-flush-clause-sink : goal.returns-in-Err-flush-clause-sink
 returns-in-Err-flush-clause-sink g c =
@@ -82,7 +84,8 @@ returns-in-Err-clause-sink g c =
     record {
       flushed = tt;
       flushes = unflushed pen.some;
-      written = pair_written c.put_lines.new.pen (g.W.Sink.delivered c.args.out.now) (g.W.Sink.delivered c.put_lines.new.out) c.in-Err.fault (count_of_pen fresh start pen.some) pen.written;
+      written = pair_written c.put_lines.new.pen (g.W.Sink.delivered c.args.out.now) (g.W.Sink.delivered c.put_lines.new.out)
+          c.in-Err.fault (count_of_pen fresh start pen.some) pen.written;
       never_falls = never_falls fresh pen.some;
       fails = pair_counts c.put_lines.new.pen c.in-Err.fault refl fresh pen.some pen.written;
     }
