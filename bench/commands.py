@@ -95,8 +95,10 @@ def rows_of(bench: Bench, entries: int, pair: str) -> None:
         bench.runs,
         Command("the program alone", [program, "-E", "-c", "/dev/null", "-A", settings]),
         Command("`aide-compare OLD NEW`", [compare, old, new, *level]),
-        Command("the same with `--state FILE`", [compare, *state, old, new, *level]),
-        Command("the same with `--quiet`", [compare, "-q", *state, old, new, *level]),
+        Command("`aide-compare --state FILE OLD NEW`", [compare, *state, old, new, *level]),
+        Command(
+            "`aide-compare -q --state FILE OLD NEW`", [compare, "-q", *state, old, new, *level]
+        ),
         Command(
             "`aide-compare mail`, as the unit calls it",
             [compare, "mail", *queue, *state, *without, old, new, *level],
@@ -121,8 +123,8 @@ def fixed_cost(bench: Bench) -> None:
         25,
         Command("`python3 -IS -c pass`", ["/usr/bin/python3", "-IS", "-c", "pass"]),
         Command("`aide-compare OLD NEW`", [compare, *pair]),
-        Command("the same with `--state FILE`", [compare, *state, *pair]),
-        Command("`aide-compare status`", [compare, "status", bench.path("state")]),
+        Command("`aide-compare --state FILE OLD NEW`", [compare, *state, *pair]),
+        Command("`aide-compare status`", [compare, "status", *state]),
     )
 
 
