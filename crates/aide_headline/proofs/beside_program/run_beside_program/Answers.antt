@@ -10,26 +10,32 @@ use Rattle.aide_headline.proofs.beside_program.run_beside_program.Goals as goal
 pub returns-clause-answer : goal.returns-clause-answer
 returns-clause-answer g c job named settings old new trusted_old trusted_new asks site trusted out right is =
     (c.lines_session_beside_on.ensures.session.beside job asks.job_is).exact named (answer_beside named (trusted_of job) right)
-    (answer_by_what_is_asked_beside (g.S.Sources.file_at c.args.site.now) (g.S.Sources.file_at c.args.trusted.now) c.args.words.now job named
+    (answer_by_what_is_asked_beside (g.S.Sources.file_at c.args.site.now) (g.S.Sources.file_at c.args.trusted.now) c.args.words.now job
+    named
     settings old new trusted_old trusted_new right asks
-    (right_is_the_answer limits (asked_by settings.options named) (asked_by settings.options (trusted_of job)) old new trusted_old trusted_new
+    (right_is_the_answer limits (asked_by settings.options named) (asked_by settings.options (trusted_of job)) old new trusted_old
+    trusted_new
     right (omega arith) is))
     site trusted out
 
 pub returns-clause-bound : goal.returns-clause-bound
 returns-clause-bound g c job named settings old new trusted_old trusted_new asks =
-    let right = RunsBeside-exists limits (asked_by settings.options named) (asked_by settings.options (trusted_of job)) (Some old) (Some new)
+    let right = RunsBeside-exists limits (asked_by settings.options named) (asked_by settings.options (trusted_of job)) (Some old)
+    (Some new)
     (Some trusted_old) (Some trusted_new) (omega arith) in
     (c.lines_session_beside_on.ensures.session.beside job asks.job_is).bound named (answer_beside named (trusted_of job) right.0)
-    (answer_by_what_is_asked_beside (g.S.Sources.file_at c.args.site.now) (g.S.Sources.file_at c.args.trusted.now) c.args.words.now job named
+    (answer_by_what_is_asked_beside (g.S.Sources.file_at c.args.site.now) (g.S.Sources.file_at c.args.trusted.now) c.args.words.now job
+    named
     settings old new trusted_old trusted_new right.0 asks right.1)
     old new asks.old_there asks.new_there
 
 pub returns-clause-trusted_bound : goal.returns-clause-trusted_bound
 returns-clause-trusted_bound g c job named settings old new trusted_old trusted_new asks =
-    let right = RunsBeside-exists limits (asked_by settings.options named) (asked_by settings.options (trusted_of job)) (Some old) (Some new)
+    let right = RunsBeside-exists limits (asked_by settings.options named) (asked_by settings.options (trusted_of job)) (Some old)
+    (Some new)
     (Some trusted_old) (Some trusted_new) (omega arith) in
     (c.lines_session_beside_on.ensures.session.beside job asks.job_is).trusted_bound named (answer_beside named (trusted_of job) right.0)
-    (answer_by_what_is_asked_beside (g.S.Sources.file_at c.args.site.now) (g.S.Sources.file_at c.args.trusted.now) c.args.words.now job named
+    (answer_by_what_is_asked_beside (g.S.Sources.file_at c.args.site.now) (g.S.Sources.file_at c.args.trusted.now) c.args.words.now job
+    named
     settings old new trusted_old trusted_new right.0 asks right.1)
     trusted_old trusted_new asks.trusted_old_there asks.trusted_new_there

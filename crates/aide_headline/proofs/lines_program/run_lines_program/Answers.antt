@@ -14,7 +14,8 @@ returns-clause-answer g c named settings old new asks site out right runs =
 
 pub returns-clause-bound : goal.returns-clause-bound
 returns-clause-bound g c named settings old new asks =
-    let right = texts_have_an_answer limits (lines_over (asked_by settings.options named)) (asked_by settings.options named) old new (omega arith) in
+    let right = texts_have_an_answer limits (lines_over (asked_by settings.options named)) (asked_by settings.options named) old new
+    (omega arith) in
     c.lines_session_on.ensures.desk.bound named (answer_of_run right.0)
     (answer_by_what_is_asked the_lines (g.S.Sources.file_at c.args.site.now) c.args.words.now named settings old new right.0 asks right.1)
     old new asks.old_there asks.new_there
