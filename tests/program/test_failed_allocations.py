@@ -42,7 +42,17 @@ NOTES = struct.Struct("3l")
 STARVED = refused(b"out of memory", NO_MEMORY)
 # The calls of a session in memory that take memory, and how many of their allocations fail at
 # least.
-IN_MEMORY = {b"push": 70, b"add": 20, b"read_words": 300, b"point": 10, b"session": 500}
+IN_MEMORY = {
+    b"push": 70,
+    b"add": 20,
+    b"read_words": 300,
+    b"read_beside_words": 250,
+    b"point": 10,
+    b"session": 500,
+    b"lines_session_beside_on": 400,
+}
+# How many at most are of a parser that looks for names close to one that it does not know.
+MAX_UNFELT = 40
 WAYS = {
     "only one allocation fails": lambda first: first,
     "one allocation and all later ones fail": lambda first: 2**31 - 1,
@@ -258,14 +268,20 @@ def refused_call(refusal):
 def faults_in_memory(alone, onwards, free):
     """What is not as wanted where a growth of the sessions in memory is refused: only this one, and
     all later ones too."""
-    faults = [] if refused_call(alone) else ["no call told of it: %r" % alone.answer.errors]
+    is_felt = alone.answer.errors != b""
+    faults = []
+    if is_felt and not refused_call(alone):
+        faults.append("no call told of it: %r" % alone.answer.errors)
     faults += (
         []
         if alone.own == 1 and not alone.others
         else ["%d refused, %d of others" % (alone.own, alone.others)]
     )
     faults += difference(alone.answer, free.answer._replace(errors=alone.answer.errors))
-    if onwards.answer.status != NO_MEMORY or onwards.answer.errors != alone.answer.errors:
+    is_told = refused_call(onwards if not is_felt else alone)
+    if is_felt and onwards.answer.errors != alone.answer.errors:
+        is_told = None
+    if onwards.answer.status != NO_MEMORY or not is_told:
         faults.append("with all later ones: %r" % (onwards.answer,))
     if not free.answer.output.startswith(onwards.answer.output):
         faults.append("with all later ones it printed %r" % onwards.answer.output[-200:])
@@ -289,6 +305,9 @@ def try_in_memory(refuser, stored, jobs, tally):
         tally.add(
             "sessions in memory, growth %d refused" % first, faults_in_memory(alone, onwards, free)
         )
+    unfelt = counts[None]
+    many = [f"{unfelt} are not felt"] if unfelt > MAX_UNFELT else []
+    tally.add("sessions in memory, refusals that no call feels", many)
     for name, least in IN_MEMORY.items():
         few = ["%d refused, fewer than %d" % (counts[name], least)] if counts[name] < least else []
         tally.add("sessions in memory, allocations of " + name.decode(), few)
