@@ -51,8 +51,8 @@ IN_MEMORY = {
     b"session": 500,
     b"lines_session_beside_on": 400,
 }
-# How many at most are of a parser that looks for names close to one that it does not know.
-MAX_UNFELT = 40
+# What comes before the one call whose command line is not understood: it may feel no refusal.
+NOT_UNDERSTOOD = b"a trusted pair in part:\njob: no trusted pair\n"
 WAYS = {
     "only one allocation fails": lambda first: first,
     "one allocation and all later ones fail": lambda first: 2**31 - 1,
@@ -268,7 +268,7 @@ def refused_call(refusal):
 def faults_in_memory(alone, onwards, free):
     """What is not as wanted where a growth of the sessions in memory is refused: only this one, and
     all later ones too."""
-    is_felt = alone.answer.errors != b""
+    is_felt = alone.answer.errors != b"" or not onwards.answer.output.endswith(NOT_UNDERSTOOD)
     faults = []
     if is_felt and not refused_call(alone):
         faults.append("no call told of it: %r" % alone.answer.errors)
@@ -305,9 +305,6 @@ def try_in_memory(refuser, stored, jobs, tally):
         tally.add(
             "sessions in memory, growth %d refused" % first, faults_in_memory(alone, onwards, free)
         )
-    unfelt = counts[None]
-    many = [f"{unfelt} are not felt"] if unfelt > MAX_UNFELT else []
-    tally.add("sessions in memory, refusals that no call feels", many)
     for name, least in IN_MEMORY.items():
         few = ["%d refused, fewer than %d" % (counts[name], least)] if counts[name] < least else []
         tally.add("sessions in memory, allocations of " + name.decode(), few)
