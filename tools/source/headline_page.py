@@ -22,7 +22,9 @@ PROGRAM_LINES = "crates/aide_headline/src/lines_program.rt"
 PROGRAM_BESIDE = "crates/aide_headline/src/beside_program.rt"
 RUN = "crates/aide_report/src/comparison.rt"
 RUN_BY = "crates/aide_report/specs/RunBy.antt"
+# Columns of definitions, which are those of the crates, and of prose.
 WIDTH = 138
+PROSE = 80
 # Lines of a definition that are no longer than this share a line.
 SHORT = 48
 # What contracts see of a desk, which no clause names by its type.
@@ -56,35 +58,52 @@ MEANINGS = {
 INTRO = """\
 # The headline, and what it rests on
 
-This page is written by `python3 -m tools.source.headline_page --write`. `tests/source/check_docs.py`, a part of the tests, compares it with
-the definitions. It is all that has to be read to know what the headline of the [README](../README.md) says of two databases. How it was proved
-need not be read: the toolchain has checked that. Of the whole program it has all but what arguments and configurations mean.
+`python3 -m tools.source.headline_page --write` writes this page, and
+`tests/source/check_docs.py` compares it with the definitions. Read it to know
+what the headline of the [README](../README.md) claims about two databases. The
+proof need not be read: the toolchain has checked it. Only the meaning of
+arguments and configurations is left out.
 
-How to read a definition: its first line has its name, its type and what it means. A text is a list of bytes (`List ℕ`). A type that ends in
-`Type 0` makes the name a kind of data, or a fact about what comes before. `A → B` is a function, and between facts "if A then B". `A × B`
-is a pair, and between facts "both". `A ⊎ B` is "one of the two". `⊥` is never so. `xs ++ ys` joins lists, and `x ∷ xs` puts x before the
-list xs. `codes "text"` is that text. `f x y` is f of x and y, `λ x. y` is the function that gives y for x, and `r.part` is a part of the
-record r. If a definition has several lines, the first that fits counts; `_` fits everything. A `;` is between two lines or parts that share
-a line. A name that two files define, such as `row_of`, is that of the same file or of the part that is spoken of. In the clauses `.old` is
-before the call, `.new` after it, and `.now` is what a reference points to. `S.x`, `W.x` and `E.x` are what contracts see of the sources or
-the site, of the output and of standard error; a table at the end has them.
+How to read a definition:
+
+- Its first line has its name, its type and what it means.
+- A text is a list of bytes (`List ℕ`). `xs ++ ys` joins two lists, `x ∷ xs`
+  puts x in front of the list xs, and `codes "text"` is the bytes of that text.
+- `A → B` is a function and `A × B` a pair. `f x y` is f of x and y, `λ x. y` is
+  the function that returns y for x, and `r.part` is a part of the record r.
+- A type that ends in `Type 0` makes the name a kind of data, or a fact about
+  its arguments. Between facts `→` is "if .. then", `×` "and", `⊎` "or". `⊥` is
+  never true.
+- If a definition has several lines, the first that fits counts, and `_` fits
+  everything. A `;` separates two lines or parts that share a line.
+- A name that two files define, such as `row_of`, is that of the same file, or
+  of the part that the sentence is about.
+- In a clause `.old` is the value before the call, `.new` the value after it,
+  and `.now` what a reference points to. `S.x`, `W.x` and `E.x` are what
+  contracts see of the sources or the site, of the output and of standard error;
+  a table at the end lists them.
 """
 INTRO_OF_LINES = """\
 # The headline of the lines of JSON, and what it rests on besides
 
-This page is written by `python3 -m tools.source.headline_page --write`, and compared with the definitions by the tests, like
-[HEADLINE.md](HEADLINE.md). That page says how to read a definition, and has all definitions that the report needs too: the maps, their
-changes, the summary string, what arguments ask for. Here stand only those that the lines need besides.
+`python3 -m tools.source.headline_page --write` writes this page too, and the
+tests compare it with the definitions. [HEADLINE.md](HEADLINE.md) tells how to
+read a definition, and has all those that the report needs too: the maps, their
+changes, the summary string, what arguments ask for. This page adds those that
+only the lines need.
 """
 ASKED = """\
-Its premise also says which job the arguments ask for, and that the configuration is accepted with these settings. What that means is not
+Its premise also names the job that the arguments ask for, and says that the
+configuration is accepted with these settings. The definitions of both are not
 printed here:"""
 OF_TWO = "Two databases"
 OF_PROGRAM = "The whole program, by arguments and files"
 OF_PAIR = "The whole program, if its arguments name a trusted pair"
 FILES = """\
-The files of a machine tell contracts no bytes, so no clause above speaks of them. Two fields of the record that `run` promises do. In them
-`w` is `as_report`, `a` and `b` are the sources before and after the call, and `o` and `p` the output:"""
+Contracts do not see the bytes of a machine's files, so no clause above speaks
+of them. Two fields of the record that `run` promises do. In them `w` is
+`as_report`, `a` and `b` are the sources before and after the call, and `o` and
+`p` the output:"""
 WORDS = "All words of other crates, and those of the library that say more than their names do:"
 PLAIN = "The other words of the library mean what their names say: "
 
@@ -225,9 +244,9 @@ def shown(definition):
     return wrapped(definition.sentence, "-- ") + lines
 
 
-def wrapped(text, front):
+def wrapped(text, front, width=WIDTH):
     return [
-        front + line for line in textwrap.wrap(text, WIDTH - len(front), break_on_hyphens=False)
+        front + line for line in textwrap.wrap(text, width - len(front), break_on_hyphens=False)
     ]
 
 
@@ -282,7 +301,8 @@ def constants_of(outside: list[tuple[str, str, str]]) -> list[str]:
             above = re.search(rf"((?: +/// .*\n)+) +pub const {name}: \[{owner};", read(path))
             assert above, name
             words = " ".join(above.group(1).replace("/// ", "").split()).rstrip(".")
-            lines.append(f"`{name}` is `{owner}::{name}` of `{path}`: {words}.")
+            text = f"`{name}` is `{owner}::{name}` of `{path}`: {words}."
+            lines += wrapped(text, "", PROSE)
     return lines
 
 
@@ -343,12 +363,16 @@ def library_words(outside, known=()):
         "",
         "## Words of the toolchain's library",
         "",
-        WORDS,
+        *wrapped(WORDS, "", PROSE),
         "",
         *lines,
         "",
-        *wrapped(PLAIN + listed(plain) + ".", ""),
+        *wrapped(PLAIN + listed(plain) + ".", "", PROSE),
     ]
+
+
+def counted(count, word):
+    return f"{count} {word}" if count == 1 else f"{count} {word}s"
 
 
 def listed(names):
@@ -362,8 +386,10 @@ def premises(definitions, places):
         order = definitions.reached([place])[0]
         count = sum(len(definitions.definition(each).lines) for each in order)
         files = len({each[:2] for each in order})
-        lines.append("- `%s` of `crates/%s/specs/%s.antt`: " % (place[2], place[0], place[1]))
-        lines[-1] += "%d definitions, %d lines, in %d files" % (len(order), count, files)
+        crate, file, name = place
+        text = f"`{name}` of `crates/{crate}/specs/{file}.antt`: {len(order)} definitions, "
+        text += f"{count} lines, in {counted(files, 'file')}"
+        lines.append("- " + "\n  ".join(wrapped(text, "", PROSE - 2)))
     return lines + [""]
 
 
@@ -374,7 +400,7 @@ def begun(intro, definitions, calls, printed=()):
     made.add("", "## The clauses")
     for words, file, name in calls:
         contracts.append(contract_of(read(file), name))
-        made.add("", "%s (`%s`):" % (words, file), "")
+        made.add("", *wrapped(f"{words} (`{file}`):", "", PROSE), "")
         made.block("rust", contracts[-1])
     return made, contracts
 
