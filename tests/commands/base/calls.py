@@ -5,11 +5,13 @@ import os
 import shutil
 import tempfile
 import unittest
+from collections.abc import Callable
+from typing import Any
 
 from aide_compare.base.ending import Fault
 
 
-def outcome(work, *given, **more):
+def outcome(work: Callable[..., Any], *given: Any, **more: Any) -> Any:
     try:
         return work(*given, **more)
     except Fault as fault:
@@ -24,19 +26,41 @@ class ModuleTest(unittest.TestCase):
         self.addCleanup(shutil.rmtree, self.folder, True)
         os.chmod(self.folder, 0o755)
 
-    def holds(self, label, good, got=""):
+    def path(self, name: str) -> str:
+        return os.path.join(self.folder, name)
+
+    def write(self, name: str, data: bytes) -> str:
+        """A file in the directory of this test: its path."""
+        with open(self.path(name), "wb") as file:
+            file.write(data)
+        return self.path(name)
+
+    def read(self, name: str) -> bytes:
+        with open(self.path(name), "rb") as file:
+            return file.read()
+
+    def holds(self, label: str, good: object, got: object = "") -> None:
         """Something is so; `got` is shown if it is not."""
         with self.subTest(label):
             self.assertTrue(good, got)
 
-    def expect(self, label, got, want):
+    def expect(self, label: str, got: object, want: object) -> None:
         with self.subTest(label):
             self.assertEqual(got, want)
 
-    def expect_fault(self, label, got, status, *parts):
+    def expect_fault(self, label: str, got: Any, status: int, *parts: str) -> None:
         """A call ended with a Fault of this status, whose text has these parts."""
         with self.subTest(label):
             self.assertIsInstance(got, tuple)
             self.assertEqual(got[0], status, got)
             for part in parts:
                 self.assertIn(part, got[1])
+
+    def gives(self, want: object, work: Callable[..., Any], *given: Any) -> None:
+        """A call returns this."""
+        self.expect(f"{work.__name__} of {given!r:.300}", outcome(work, *given), want)
+
+    def fails(self, status: int, part: str, work: Callable[..., Any], *given: Any) -> None:
+        """A call ends with a Fault of this status, whose text has this part."""
+        label = f"{work.__name__} of {given!r:.300}"
+        self.expect_fault(label, outcome(work, *given), status, part)

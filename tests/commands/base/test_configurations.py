@@ -41,7 +41,7 @@ WRITTEN = b"database_in=file:/a\ndatabase_out=file:/c\n"
 NAMED = re.compile(rb"(?m)^[ \t]*database(?:_in)?[ \t]*=")
 
 
-def random_line(source):
+def random_line(source: random.Random) -> bytes:
     line, blank, way = source.choice(LINES), source.choice(BLANKS), source.random()
     if way < 0.12:
         return line + blank
@@ -50,35 +50,22 @@ def random_line(source):
     return line.replace(b" ", blank, 1) if way < 0.3 else line
 
 
-def asked(program):
-    """What asks the program for the databases of a text, as a comparison does: their paths, or None
-    where there are none."""
-
-    def databases(text):
-        try:
-            with mock.patch.object(asking, "find_installed", lambda name: program):
-                return databases_of(
-                    Texts(b"", text, b""), "conf", lambda texts: Question(texts).settings
-                )
-        except Fault as fault:
-            return "twice" if "twice" in fault.text else None
-
-    return databases
+def databases(text: bytes) -> object:
+    """What a comparison finds by asking the program: both paths, None if there are none, or
+    "twice"."""
+    try:
+        return databases_of(Texts(b"", text, b""), "conf", lambda texts: Question(texts).settings)
+    except Fault as fault:
+        return "twice" if "twice" in fault.text else None
 
 
-def wanted_of(text):
+def wanted_of(text: bytes) -> object:
     """What the definitions say: both paths, None if one is missing or both are the same."""
     settings = oracle.read(b"", text, b"", False)
-    found = (
-        ()
-        if isinstance(settings, oracle.Fault)
-        else (settings["database_in"], settings["database_new"])
-    )
-    return (
-        tuple(path.decode() for path in found)
-        if None not in found and len(set(found)) == 2
-        else None
-    )
+    if isinstance(settings, oracle.Fault):
+        return None
+    old, new = settings["database_in"], settings["database_new"]
+    return None if old is None or new is None or old == new else (old.decode(), new.decode())
 
 
 class ConfigurationsTest(ModuleTest):
@@ -88,19 +75,26 @@ class ConfigurationsTest(ModuleTest):
         program = find_program()
         if program is None:
             self.skipTest(reason_without())
-        source, accepted, databases = random.Random(SEED), 0, asked(lines_program_of(program))
-        texts = [
-            b"".join(random_line(source) + b"\n" for _ in range(source.randint(1, 9)))
-            for _ in range(COUNT)
-        ]
-        for text in texts + [FORM_FEED, FORM_FEED.replace(b"\x0c", b"")]:
-            wanted, found = wanted_of(text), databases(text)
-            accepted += wanted is not None
-            may_be_twice = len(NAMED.findall(text)) > 1 or text.count(b"_new") > 1
-            if found != "twice" or not may_be_twice:
-                self.assertEqual(found, wanted, text)
+        lines_program = lines_program_of(program)
+        asked = mock.patch.object(asking, "find_installed", lambda name: lines_program)
+        asked.start()
+        self.addCleanup(asked.stop)
+        source, accepted = random.Random(SEED), 0
+        for _ in range(COUNT):
+            lines = [random_line(source) for _ in range(source.randint(1, 9))]
+            accepted += self.check(b"".join(line + b"\n" for line in lines))
         self.assertGreaterEqual(accepted, LEAST_ACCEPTED)
+        self.check(FORM_FEED)
+        self.check(FORM_FEED.replace(b"\x0c", b""))
         self.assertEqual(databases(WRITTEN), ("/a", "/c"), "what AIDE writes is compared next")
+
+    def check(self, text: bytes) -> bool:
+        """Whether there are databases, which are found as the definitions have it."""
+        wanted, found = wanted_of(text), databases(text)
+        may_be_twice = len(NAMED.findall(text)) > 1 or text.count(b"_new") > 1
+        if found != "twice" or not may_be_twice:
+            self.assertEqual(found, wanted, text)
+        return wanted is not None
 
     def test_host_names(self) -> None:
         """A name of this machine of any bytes adds one line, which defines it; a name that is one

@@ -5,7 +5,7 @@ import base64
 import os
 from unittest import mock
 
-from tests.commands.base.calls import ModuleTest, outcome
+from tests.commands.base.calls import ModuleTest
 
 from aide_compare.changes import severity
 from aide_compare.changes.severity import Severity
@@ -25,6 +25,7 @@ FILE, PROGRAM, DIRECTORY = 0o100644, 0o100755, 0o40755
 
 
 def acl_field(access: bytes, default: bytes = b"") -> bytes:
+    """The field of a database for these lists."""
     parts = (base64.b64encode(text) if text else b"0" for text in (access, default))
     return b"POSIX," + b",".join(parts)
 
@@ -50,6 +51,11 @@ def entry(
     return Entry(fields, PLACES)
 
 
+CAPABLE = entry(PROGRAM, capabilities=SETUID)
+LISTS_ANNA = entry(FILE, acl=acl_field(TO_ANNA))
+LISTS_READER = entry(FILE, acl=acl_field(ANNA_READS))
+LISTS_MASKED = entry(FILE, acl=acl_field(MASKED))
+OF_ANNA = entry(FILE, uid=ANNA)
 # A change of rights wherever it is: the entry before, the entry now, and the level below /srv.
 RIGHTS: list[tuple[str, Entry | None, Entry | None, str]] = [
     ("a new file", None, entry(FILE), "medium"),
@@ -62,34 +68,14 @@ RIGHTS: list[tuple[str, Entry | None, Entry | None, str]] = [
     ("a set-user-ID file that went", entry(0o104755), None, "high"),
     ("a directory whose group new files get", None, entry(0o42755), "medium"),
     ("a pipe that is a set-user-ID file now", entry(0o14755), entry(0o104755), "high"),
-    ("capabilities", entry(PROGRAM), entry(PROGRAM, capabilities=SETUID), "high"),
+    ("capabilities", entry(PROGRAM), CAPABLE, "high"),
     ("a file that came with capabilities", None, entry(FILE, capabilities=SETUID), "high"),
-    (
-        "the same capabilities",
-        entry(PROGRAM, capabilities=SETUID),
-        entry(PROGRAM, capabilities=SETUID),
-        "high",
-    ),
+    ("the same capabilities", CAPABLE, CAPABLE, "high"),
     ("a link to a file with capabilities", None, entry(0o120777, capabilities=SETUID), "medium"),
-    ("a list for anna", entry(FILE), entry(FILE, acl=acl_field(TO_ANNA)), "high"),
-    (
-        "more in a list",
-        entry(FILE, acl=acl_field(ANNA_READS)),
-        entry(FILE, acl=acl_field(TO_ANNA)),
-        "high",
-    ),
-    (
-        "less in a list",
-        entry(FILE, acl=acl_field(TO_ANNA)),
-        entry(FILE, acl=acl_field(ANNA_READS)),
-        "medium",
-    ),
-    (
-        "a wider mask",
-        entry(FILE, acl=acl_field(MASKED)),
-        entry(FILE, acl=acl_field(TO_ANNA)),
-        "high",
-    ),
+    ("a list for anna", entry(FILE), LISTS_ANNA, "high"),
+    ("more in a list", LISTS_READER, LISTS_ANNA, "high"),
+    ("less in a list", LISTS_ANNA, LISTS_READER, "medium"),
+    ("a wider mask", LISTS_MASKED, LISTS_ANNA, "high"),
     ("a list that says the mode", entry(FILE), entry(FILE, acl=acl_field(OF_MODE)), "medium"),
     ("a list of an unknown form", entry(FILE), entry(FILE, acl=b"odd"), "high"),
     (
@@ -105,20 +91,15 @@ RIGHTS: list[tuple[str, Entry | None, Entry | None, str]] = [
     ("a sticky directory now", entry(DIRECTORY), entry(0o41777), "high"),
     ("a sticky directory that came", None, entry(0o41777), "medium"),
     ("a link that came", None, entry(0o120777), "medium"),
-    ("root's file given away", entry(FILE), entry(FILE, uid=ANNA), "high"),
-    ("a file given to root", entry(FILE, uid=ANNA), entry(FILE), "medium"),
+    ("root's file given away", entry(FILE), OF_ANNA, "high"),
+    ("a file given to root", OF_ANNA, entry(FILE), "medium"),
     ("root's file for a group", entry(FILE), entry(0o100664, gid=ANNA), "high"),
     ("root's file for root's group", entry(FILE), entry(0o100664), "medium"),
     ("root's file for another group", entry(0o100664, gid=5), entry(0o100664, gid=ANNA), "high"),
     ("root's file for its group now", entry(FILE, gid=5), entry(0o100664, gid=5), "high"),
     ("root's file for the same group", entry(0o100664, gid=5), entry(0o100660, gid=5), "medium"),
-    (
-        "what anna does with her file",
-        entry(FILE, uid=ANNA),
-        entry(0o100664, uid=ANNA, gid=5),
-        "medium",
-    ),
-    ("a file whose owner is not known", entry(FILE, uid=None), entry(FILE, uid=ANNA), "medium"),
+    ("what anna does with her file", OF_ANNA, entry(0o100664, uid=ANNA, gid=5), "medium"),
+    ("a file whose owner is not known", entry(FILE, uid=None), OF_ANNA, "medium"),
     ("another type", entry(FILE), entry(0o120777), "high"),
     ("names in a directory", entry(DIRECTORY), entry(DIRECTORY), "low"),
     ("a flag of a directory that grew", entry(DIRECTORY), entry(DIRECTORY, flags=b"528384"), "low"),
@@ -173,7 +154,6 @@ class SeverityTest(ModuleTest):
         table = Severity()
         for label, old, new, wanted in RIGHTS:
             self.expect(f"severity of {label}", table.of(b"/srv/x", old, new).level, wanted)
-        for label, old, new, wanted in RIGHTS:
             if wanted == "high":
                 found = table.of(b"/usr/share/doc/x", old, new).level
                 self.expect(f"severity of {label} among texts", found, "high")
@@ -213,26 +193,18 @@ class SeverityTest(ModuleTest):
 
     def test_tables(self) -> None:
         """Another table, those that are no tables, and a shipped one that is missing."""
-        path = os.path.join(self.folder, "table")
-
-        def table_of(text: bytes) -> Severity:
-            with open(path, "wb") as file:
-                file.write(text)
-            return Severity(path)
-
+        table = Severity(self.write("table", TABLE))
         link = entry(0o120777)
-        levels = [table_of(TABLE).of(name, None, link).level for name in (b"/opt/a", b"/srv/a")]
-        self.expect("another table", levels, ["low", "medium"])
-        self.expect(
-            "its second line", table_of(TABLE).of(b"/opt/a", None, entry(FILE)).level, "high"
-        )
-        for text in (
-            b"urgent any /opt/*\n",
-            b"low /opt/*\n",
-            b"low odd /opt/*\n",
-            b"low any opt\n",
-            b"low\n",
+        self.assertEqual(table.of(b"/opt/a", None, link).level, "low")
+        self.assertEqual(table.of(b"/srv/a", None, link).level, "medium", "in no line")
+        self.assertEqual(table.of(b"/opt/a", None, entry(FILE)).level, "high", "its second line")
+        for line in (
+            b"urgent any /opt/*",
+            b"low /opt/*",
+            b"low odd /opt/*",
+            b"low any opt",
+            b"low",
         ):
-            self.expect_fault(f"the table {text!r}", outcome(table_of, text), 15, "table, line 1: ")
+            self.fails(15, "table, line 1: ", Severity, self.write("table", line + b"\n"))
         with mock.patch.object(severity, "SHIPPED", ("nowhere",)):
-            self.expect_fault("no shipped table", outcome(Severity), 18, "severity.conf is missing")
+            self.fails(18, "severity.conf is missing", Severity)

@@ -8,7 +8,7 @@ import subprocess
 import sys
 
 from tests.commands.base import TOP
-from tests.commands.base.calls import ModuleTest, outcome
+from tests.commands.base.calls import ModuleTest
 from tests.oracle.configuration import BOOL_OPTIONS, SET_OPTIONS
 
 from aide_compare import VERSION
@@ -31,33 +31,10 @@ ESCAPED: tuple[tuple[str | bytes, str], ...] = (
     ("\ud800\udcff", r"\355\240\200\377"),
     ("\u200b\u00ad\ufeff\U000e0041", r"\342\200\213\302\255\357\273\277\363\240\201\201"),
 )
-TIMES = (
-    ("0", 0),
-    ("90", 90),
-    ("08", 8),
-    ("010", 10),
-    ("90s", 90),
-    ("15m", 900),
-    ("26h", 93600),
-    ("3d", 259200),
-    ("30d", 2592000),
-)
+TIMES = {"0": 0, "90": 90, "010": 10, "90s": 90, "15m": 900, "26h": 93600, "30d": 2592000}
 NO_TIMES = (
-    "",
-    "x",
-    "h",
-    "1h2",
-    "1.5h",
-    "-1",
-    "+1",
-    " 1",
-    "1 ",
-    "1_0",
-    "\u0663",
-    "31d",
-    "721h",
-    "2592001",
-    "9" * 10,
+    *("", "x", "h", "1h2", "1.5h", "-1", "+1", " 1", "1 ", "1_0", "\u0663"),
+    *("31d", "721h", "2592001", "9" * 10),
 )
 
 END = """import sys
@@ -75,48 +52,35 @@ class TextsTest(ModuleTest):
         databases and in the schema. The options of the definitions are none that is misspelt."""
         labels = [label for label, form in attributes.FORMS.items() if form == "digest"]
         columns = sorted(label.lower().replace("-", "_").replace("/", "_") for label in labels)
-        with open(
-            os.path.join(TOP, "contrib", "json", "aide-compare-lines.schema.json"), encoding="utf-8"
-        ) as file:
-            schema = json.load(file)
-        self.expect("digests by strength", sorted(attributes.STRENGTH), sorted(labels))
-        self.expect("digests of databases", sorted(attributes.DIGEST_COLUMNS), columns)
-        names = [
-            name for name in schema["$defs"]["side"]["properties"] if not name.endswith("_hex")
-        ]
-        self.expect("attributes of the schema", names, list(attributes.FORMS))
-        options = {
-            name.encode()
-            for name in ["report_level", "report_url", "report_format"] + BOOL_OPTIONS + SET_OPTIONS
-        }
-        self.expect("options of the report", sorted(options - configuration.OPTIONS), [])
+        self.assertEqual(sorted(attributes.STRENGTH), sorted(labels))
+        self.assertEqual(sorted(attributes.DIGEST_COLUMNS), columns)
+        path = os.path.join(TOP, "contrib", "json", "aide-compare-lines.schema.json")
+        with open(path, encoding="utf-8") as file:
+            side = json.load(file)["$defs"]["side"]["properties"]
+        names = [name for name in side if not name.endswith("_hex")]
+        self.assertEqual(names, list(attributes.FORMS), "attributes of the schema")
+        options = {"report_level", "report_url", "report_format", *BOOL_OPTIONS, *SET_OPTIONS}
+        self.assertEqual({name.encode() for name in options} - configuration.OPTIONS, set())
 
     def test_escapes(self) -> None:
         for text, want in ESCAPED:
-            self.expect("shown %r" % text, escapes.shown(text), want)
-        self.expect("a cut", escapes.shown("é" * 9, 5), "é" * 5 + "...")
-        self.expect("no cut", escapes.shown("é" * 5, 5), "é" * 5)
-        self.expect(
-            "a cut of bytes", escapes.shown("\U0001f600".encode() * 9, 8), "\U0001f600" * 8 + "..."
-        )
-        self.expect(
-            "lines", escapes.shown_lines(b"a\\012\tb\n\r\x1b\xff"), "a\\012\tb\n\\015\\033\\377"
-        )
-        self.expect(
-            "a line of ours", escapes.guarded("\\012\n\t\u202e"), "\\012\\012\\011\\342\\200\\256"
-        )
+            self.gives(want, escapes.shown, text)
+        self.gives("é" * 5 + "...", escapes.shown, "é" * 9, 5)
+        self.gives("é" * 5, escapes.shown, "é" * 5, 5)
+        self.gives("\U0001f600" * 8 + "...", escapes.shown, "\U0001f600".encode() * 9, 8)
+        self.gives("a\\012\tb\n\\015\\033\\377", escapes.shown_lines, b"a\\012\tb\n\r\x1b\xff")
+        self.gives("\\012\\012\\011\\342\\200\\256", escapes.guarded, "\\012\n\t\u202e")
 
     def test_times(self) -> None:
-        for text, want in [*TIMES, *((text, None) for text in NO_TIMES)]:
-            try:
-                got: int | None = kinds.duration(text)
-            except argparse.ArgumentTypeError:
-                got = None
-            self.expect("the time %r" % text, got, want)
-        self.expect("a date", words.date_of(1795602777), "2026-11-25T10:32:57Z")
-        self.expect("no date", words.date_of(1 << 62), "@%d" % (1 << 62))
-        self.expect("a minute", words.minute_of(1795602777), "2026-11-25 10:32 UTC")
-        self.expect("no minute", words.minute_of(1 << 62), "@%d" % (1 << 62))
+        for text, want in TIMES.items():
+            self.gives(want, kinds.duration, text)
+        for text in NO_TIMES:
+            with self.subTest(text), self.assertRaises(argparse.ArgumentTypeError):
+                kinds.duration(text)
+        self.gives("2026-11-25T10:32:57Z", words.date_of, 1795602777)
+        self.gives("@%d" % (1 << 62), words.date_of, 1 << 62)
+        self.gives("2026-11-25 10:32 UTC", words.minute_of, 1795602777)
+        self.gives("@%d" % (1 << 62), words.minute_of, 1 << 62)
         for seconds, age in (
             (119, "119 seconds"),
             (120, "2 minutes"),
@@ -125,7 +89,7 @@ class TextsTest(ModuleTest):
             (259199, "71 hours"),
             (259200, "3 days"),
         ):
-            self.expect("the age %d" % seconds, words.age_in_words(seconds), age)
+            self.gives(age, words.age_in_words, seconds)
 
     def test_words(self) -> None:
         """When an entry came or changed: the time of its inode, then its own, if it is another one
@@ -142,15 +106,12 @@ class TextsTest(ModuleTest):
                 (b"6", b"1795600000", b"1795600000", b"16"),
             )
         )
+        dated = "size 5 -> 6, 2026-11-25 10:32 UTC"
         for label, pair, want in (
             ("came", (None, back), "-rw-r--r-- root:root 6 bytes, 2026-11-25 10:32 UTC"),
             ("went", (back, None), "-rw-r--r-- root:root 6 bytes"),
-            ("changed, its time set back", (old, back), "size 5 -> 6, 2026-11-25 10:32 UTC"),
-            (
-                "changed, without the time of its inode",
-                (old, gone),
-                "size 5 -> 6, 2026-11-25 10:32 UTC",
-            ),
+            ("changed, its time set back", (old, back), dated),
+            ("changed, without the time of its inode", (old, gone), dated),
             ("changed with the times of before", (old, kept), "size 5 -> 6"),
             ("has other blocks", (moved, kept), "blocks"),
         ):
@@ -163,51 +124,37 @@ class TextsTest(ModuleTest):
         parser.add_argument("--max-age", type=kinds.duration)
         parser.add_argument("--text", type=kinds.some_text)
         given = parser.parse(["a", "--max-size", "2k", "b", "--max-age=2h"])
-        self.expect(
-            "options between operands",
-            (given.operands, given.max_size, given.max_age),
-            (["a", "b"], 2048, 7200),
-        )
+        found = (given.operands, given.max_size, given.max_age)
+        self.assertEqual(found, (["a", "b"], 2048, 7200), "options between operands")
         for refused in (
-            ["--max-siz", "1"],
-            ["--odd"],
-            ["--max-size", "1x"],
-            ["--max-size", ""],
-            ["--max-age", "31d"],
-            ["--text="],
-            ["--max-size"],
+            "--max-siz 1",
+            "--odd",
+            "--max-size 1x",
+            "--max-size=",
+            "--max-age 31d",
+            "--text=",
+            "--max-size",
         ):
-            self.expect_fault("the words %r" % refused, outcome(parser.parse, refused), 15)
+            self.fails(15, "", parser.parse, refused.split())
         with open(os.path.join(TOP, "VERSION")) as file:
-            self.expect("VERSION", VERSION, file.read().strip())
+            self.assertEqual(VERSION, file.read().strip())
 
     def test_state(self) -> None:
         good = state.State(
             7, 1795602777, 1, 2, 3, "a" * 64, "b" * 64, "o\\012", "n", 5, None, "", {"weekly": "3"}
         )
-        text = good.text().decode()
-        self.expect("a state read again", state.parse_state(text.encode()).text().decode(), text)
-        self.expect(
-            "the first lines",
-            text.split("\n")[:4],
-            ["format=2", "status=7", "time=1795602777", "date=2026-11-25T10:32:57Z"],
-        )
+        data = good.text()
+        read_again = state.parse_state(data)
+        self.assertEqual(read_again.text(), data)
+        self.assertEqual(read_again.more, {"weekly": "3"}, "further keys")
+        first = b"format=2\nstatus=7\ntime=1795602777\ndate=2026-11-25T10:32:57Z\n"
+        self.assertEqual(data[: len(first)], first)
         for written in (-(1 << 63), -(10**18), 1 - 10**18, (1 << 63) - 1):
             early = state.State(0, 1, 0, 0, 0, old_written=written).text()
-            self.expect(
-                "a file that was written at %d" % written,
-                outcome(lambda: state.parse_state(early).old_written),
-                written,
-            )
-        self.expect("further keys", state.parse_state(text.encode()).more, {"weekly": "3"})
-        self.expect(
-            "a newline in a value", state.State(18, 1, error="a\nb").text().count(b"\n"), 14
-        )
-        self.expect(
-            "a status by its name",
-            b"\nstatus=18\n" in state.State(ending.Status.DEVICE, 1).text(),
-            True,
-        )
+            self.assertEqual(state.parse_state(early).old_written, written)
+        text = state.State(ending.Status.DEVICE, 1, error="a\nb").text()
+        self.assertEqual(text.count(b"\n"), 14, "a newline in a value")
+        self.assertIn(b"\nstatus=18\n", text, "a status by its name")
         for old, new in (
             ("format=2", "format=3"),
             ("status=7", "status=5"),
@@ -225,20 +172,17 @@ class TextsTest(ModuleTest):
             ("weekly=3\n", "weekly=3"),
             ("weekly=3", "weekly=" + "3" * 65536),
         ):
-            try:
-                got = state.parse_state(text.replace(old, new, 1).encode()).text()
-            except (ValueError, KeyError):
-                got = b"refused"
-            self.expect("a state with %.40r for %.40r" % (new, old), got, b"refused")
+            with self.subTest(old=old, new=new[:40]), self.assertRaises((ValueError, KeyError)):
+                state.parse_state(data.replace(old.encode(), new.encode(), 1))
 
     def test_statuses(self) -> None:
-        given = [
-            reader.status_of(counts)
-            for counts in ((0, 0, 0), (9, 0, 0), (0, 9, 0), (0, 0, 9), (1, 1, 1))
-        ]
-        self.expect("statuses", given, [0, 1, 2, 4, 7])
+        counts = ((0, 0, 0), (9, 0, 0), (0, 9, 0), (0, 0, 9), (1, 1, 1))
+        self.assertEqual([reader.status_of(each) for each in counts], [0, 1, 2, 4, 7])
 
     def test_ends(self) -> None:
+        """How a command ends by what its main does. Without a text it ends with a message of its
+        own, and no traceback."""
+        failed = "name: a call of the system failed: /no\\012: No such file or directory\n"
         for body, status, errors in (
             ("return 7", 7, ""),
             ("raise Fault(15, 'a\\nb', 'c')", 15, "name: a\\012b\nname: c\n"),
@@ -246,11 +190,7 @@ class TextsTest(ModuleTest):
             ("raise Done", 0, ""),
             ("sys.exit(2)", 18, "name: a fault of this command: SystemExit: 2\n"),
             ("return None", 18, ""),
-            (
-                "open('/no\\n')",
-                18,
-                "name: a call of the system failed: /no\\012: No such file or directory\n",
-            ),
+            ("open('/no\\n')", 18, failed),
             ("main(arguments)", 18, None),
             ("raise KeyboardInterrupt", 18, None),
             ("1 / 0", 18, None),
@@ -258,19 +198,11 @@ class TextsTest(ModuleTest):
             ("os.kill(os.getpid(), 15)", -15, ""),
             ("print('x'); os.close(1); return 0", 18, None),
         ):
-            done = subprocess.run(
-                [
-                    sys.executable,
-                    "-I",
-                    "-S",
-                    "-c",
-                    END % (os.path.join(TOP, "commands", "lib"), body),
-                ],
-                stdout=subprocess.PIPE,
-                stderr=subprocess.PIPE,
-            )
-            given = done.stderr.decode()
-            good = done.returncode == status and (
-                given == errors if errors is not None else "Traceback" not in given
-            )
-            self.holds("the end by %r" % body, good, [repr(done)])
+            program = END % (os.path.join(TOP, "commands", "lib"), body)
+            words = [sys.executable, "-I", "-S", "-c", program]
+            done = subprocess.run(words, capture_output=True, text=True)
+            with self.subTest(body):
+                self.assertEqual(done.returncode, status, done)
+                self.assertNotIn("Traceback", done.stderr)
+                if errors is not None:
+                    self.assertEqual(done.stderr, errors)
