@@ -12,6 +12,7 @@ import subprocess
 import sys
 import tempfile
 import unittest
+from typing import Any, Optional, Union
 
 from tests.lib.apart import has_own_mounts
 from tests.lib.byte_code import compile_modules
@@ -84,6 +85,10 @@ OLD = HEAD + b"/b 36 40755 4096\n/c 36 100644 10\n/d 36 100644 1\n" + END
 NEW = HEAD + b"/a 36 100644 5\n/c 36 100600 7\n/d 36 100644 2\n" + END
 DIFFER = [b"aide-compare: old database: ", b"aide-compare: new database: "]
 COUNTS = {"added": "1", "removed": "1", "changed": "2"}
+
+
+# A text that an answer has, several of them, or any.
+Texts = Optional[Union[bytes, "list[bytes]"]]
 
 
 def sha256(text):
@@ -242,6 +247,31 @@ class CommandTest(Scratch, unittest.TestCase):
                 for part in [want] if isinstance(want, bytes) else want or []:
                     self.assertIn(part, text, answer)
             self.assertEqual(self.leftovers(), [])
+
+    def answered(
+        self, status: int, output: Texts, errors: Texts, tool: str, *words: str, **more: Any
+    ) -> Answer:
+        """A tool answers these words so, as `expect` has it."""
+        answer: Answer = self.call(tool, *words, **more)
+        self.expect(f"{tool} {words}", answer, status, output, errors)
+        return answer
+
+    def refused(
+        self, status: int, errors: Texts, tool: str, *words: str, state: str = "", **more: Any
+    ) -> Answer:
+        """A tool ends with this status and these errors, and prints nothing. The state file that it
+        is given says so too."""
+        options = ("--state", state) if state else ()
+        answer = self.answered(status, b"", errors, tool, *options, *words, **more)
+        if state:
+            kept = self.state(state)
+            self.assertEqual(kept.get("status"), str(status), (tool, words, kept))
+            self.assertIn(kept["error"].encode(), answer.errors, (tool, words))
+        return answer
+
+    def needs_root(self) -> None:
+        if os.getuid() != 0:
+            self.skipTest("it needs root")
 
     def state(self, name="state"):
         """A state file as a map, which keeps the order of its lines; nothing where there is

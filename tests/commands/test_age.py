@@ -1,229 +1,126 @@
 """aide-compare --max-age: a new database that AIDE wrote too long ago is refused, and all that
 reads the state says so."""
+from __future__ import annotations
+
 import gzip
 import os
 import re
 import time
 
-from .sandbox import CommandTest, DIFFER, NEW, OLD
+from .sandbox import Answer, CommandTest, DIFFER, NEW, OLD
 from .test_run import KEYS
 
 TOOL = "aide-compare compare --report"
 HOUR = 3600
+YEARS = 2 * 365 * 24 * HOUR
 REFUSAL = "aide-compare: the new database %s is %s old, more than --max-age allows: does AIDE still run?\n"
 
 
-def write_aged(sandbox, name, text, seconds):
-    """A database that was written so many seconds ago."""
-    path = sandbox.write(name, text)
-    os.utime(path, (time.time() - seconds,) * 2)
-    return path
-
-
-def refused(sandbox, label, answer, name="late.db", age="3 hours"):
-    """Nothing is compared, and the one line says why, in the state too."""
-    line = REFUSAL % (name, age)
-    sandbox.expect(label, answer, 18, b"", line.encode())
-    sandbox.assertEqual(answer.errors, line.encode(), ("one line, " + label, answer))
-    state = sandbox.state()
-    sandbox.holds(
-        "the state, " + label,
-        list(state) == KEYS
-        and (state["status"], state["error"] + "\n") == ("18", line)
-        and [state[key] for key in KEYS[4:9]] == [""] * 5,
-        state,
-    )
-
-
 class AgeTest(CommandTest):
+    def setUp(self) -> None:
+        super().setUp()
+        self.write_aged("late.db", NEW, 3 * HOUR + 60)
+        self.write_aged("fresh.db", NEW, 50)
+        self.write_aged("years.db", OLD, YEARS + 60)
+
+    def write_aged(self, name: str, text: bytes, seconds: int) -> None:
+        """A database that was written so many seconds ago."""
+        os.utime(self.write(name, text), (time.time() - seconds,) * 2)
+
+    def too_old(
+        self, new: str, *words: str, name: str = "", age: str = "3 hours", limit: str = "7200"
+    ) -> Answer:
+        """Nothing is compared, and the one line says why, in the state too."""
+        line = REFUSAL % (name or new, age)
+        databases = words or ("old.db", new)
+        answer = self.refused(
+            18, line.encode(), TOOL, "--max-age", limit, *databases, state="state"
+        )
+        self.assertEqual(answer.errors, line.encode(), "one line")
+        state = self.state()
+        self.assertEqual(list(state), KEYS)
+        self.assertEqual([state[key] for key in KEYS[4:9]], [""] * 5, "no counts, no digests")
+        return answer
+
     def test_old_files(self) -> None:
-        os.utime(self.path("old.db"))
-        write_aged(self, "late.db", NEW, 3 * HOUR + 60)
-        write_aged(self, "late.db.gz", gzip.compress(NEW), 3 * HOUR + 60)
-        write_aged(self, "years.db", OLD, 2 * 365 * 24 * HOUR + 60)
-        for words in (
-            ["--max-age", "7200"],
-            ["--max-age=7200"],
-            ["--max-age", str(3 * HOUR)],
-            ["--max-age", "1", "-A", "report_quiet=yes"],
-        ):
-            answer = self.call(TOOL, "--state", "state", "old.db", "late.db", *words)
-            refused(self, "an old database with %r" % words, answer)
-        refused(
-            self,
-            "an old database in gzip",
-            self.call(TOOL, "--state", "state", "--max-age", "7200", "old.db", "late.db.gz"),
-            "late.db.gz",
-        )
-        refused(
-            self,
-            "years without a difference",
-            self.call(TOOL, "--state", "state", "--max-age", "180000", "old.db", "years.db"),
-            "years.db",
-            "730 days",
-        )
-        self.write(
-            "conf",
-            "database_in=file:%s\ndatabase_out=file:%s\n"
-            % (self.path("old.db"), self.path("late.db")),
-        )
-        refused(
-            self,
-            "an old database of a configuration",
-            self.call(TOOL, "--state", "state", "--max-age", "7200", "-c", "conf"),
-            self.path("late.db"),
-        )
-        write_aged(self, "minute.db", NEW, 100)
+        self.write_aged("late.db.gz", gzip.compress(NEW), 3 * HOUR + 60)
+        self.too_old("late.db")
+        self.too_old("late.db", limit=str(3 * HOUR))
+        self.too_old("late.db.gz")
+        self.too_old("years.db", age="730 days", limit="180000")
+        lines = "database_in=file:%s\ndatabase_out=file:%s\n"
+        self.write("conf", lines % (self.path("old.db"), self.path("late.db")))
+        self.too_old("late.db", "-c", "conf", name=self.path("late.db"))
+        self.write_aged("minute.db", NEW, 100)
         answer = self.call(TOOL, "--max-age", "60", "old.db", "minute.db")
-        line = re.escape(REFUSAL) % ("minute\\.db", r"1\d\d seconds")
-        self.holds(
-            "an age of seconds",
-            answer.status == 18 and re.fullmatch(line, answer.errors.decode()),
-            answer,
-        )
-        self.expect(
-            "a missing database with --max-age",
-            self.call(TOOL, "--max-age", "60", "old.db", "missing"),
-            18,
-            b"",
-            b"cannot open the new",
-        )
+        self.assertEqual(answer.status, 18, answer)
+        line = re.escape(REFUSAL) % (r"minute\.db", r"1\d\d seconds")
+        self.assertRegex(answer.errors.decode(), f"^{line}$")
+        self.refused(18, b"cannot open the new", TOOL, "--max-age", "60", "old.db", "missing")
 
     def test_accepted(self) -> None:
-        """No limit, an age below it; a time in the future is refused; and the age of the old
-        database does not matter."""
-        write_aged(self, "years.old", OLD, 2 * 365 * 24 * HOUR)
-        write_aged(self, "late.db", NEW, 3 * HOUR)
-        write_aged(self, "fresh.db", NEW, 50)
-        write_aged(self, "soon.db", NEW, -500)
-        write_aged(self, "later.db", NEW, -90 * HOUR)
-        answer = self.call(TOOL, "--max-age", "2h", "years.old", "later.db")
-        self.expect(
-            "a time in the future",
-            answer,
-            18,
-            b"",
-            b"later.db was written 3 days in the future: is a clock wrong?",
-        )
+        """No limit, or an age below it; and the age of the old database does not matter."""
+        self.write_aged("soon.db", NEW, -500)
         for label, words in (
-            ("no limit", ["years.old", "late.db"]),
-            ("--max-age 0", ["--max-age", "0", "years.old", "late.db"]),
-            ("an age below the limit", ["--max-age", str(3 * HOUR + 600), "years.old", "late.db"]),
-            ("a fresh database", ["--max-age", "7200", "years.old", "fresh.db"]),
-            ("a clock that is a little behind", ["--max-age", "2h", "years.old", "soon.db"]),
-            ("the greatest limit", ["--max-age", "30d", "years.old", "late.db"]),
+            ("no limit", ["late.db"]),
+            ("--max-age 0", ["late.db", "--max-age", "0"]),
+            ("an age below the limit", ["late.db", "--max-age", str(3 * HOUR + 600)]),
+            ("a fresh database", ["fresh.db", "--max-age", "7200"]),
+            ("a clock that is a little behind", ["soon.db", "--max-age", "2h"]),
+            ("the greatest limit", ["late.db", "--max-age", "30d"]),
         ):
-            answer = self.call(TOOL, "--state", "state", *words)
+            answer = self.call(TOOL, "--state", "state", "years.db", *words)
             self.expect(label, answer, 7, b"Changed entries:         2", DIFFER)
-            self.assertEqual(
-                (self.state()["status"], self.state()["error"]),
-                ("7", ""),
-                ("the state, " + label, self.state()),
-            )
+            self.assertEqual((self.state()["status"], self.state()["error"]), ("7", ""), label)
+
+    def test_future(self) -> None:
+        self.write_aged("later.db", NEW, -90 * HOUR)
+        told = b"later.db was written 3 days in the future: is a clock wrong?"
+        self.refused(18, told, TOOL, "--max-age", "2h", "old.db", "later.db")
 
     def test_links(self) -> None:
         """The age is that of the file, and not of a link to it."""
-        write_aged(self, "late.db", NEW, 3 * HOUR + 60)
-        write_aged(self, "fresh.db", NEW, 50)
         for target, name in (("late.db", "fresh link"), ("fresh.db", "late link")):
             os.symlink(target, self.path(name))
         os.utime(self.path("late link"), (time.time() - 3 * HOUR,) * 2, follow_symlinks=False)
-        answer = self.call(TOOL, "--state", "state", "--max-age", "7200", "old.db", "fresh link")
-        refused(self, "a link to an old file", answer, "fresh link")
-        self.expect(
-            "an old link to a fresh file",
-            self.call(TOOL, "--max-age", "7200", "old.db", "late link"),
-            7,
-            b"Changed",
-            DIFFER,
-        )
+        self.too_old("fresh link")
+        self.answered(7, b"Changed", DIFFER, TOOL, "--max-age", "7200", "old.db", "late link")
 
     def test_pipes(self) -> None:
         """A pipe has no age: with a limit it is refused, and nobody waits for a writer. A
         redirected file has one."""
-        for name, more in (("/dev/stdin", {"text": NEW}),):
-            answer = self.call(
-                TOOL, "--state", "state", "--max-age", "7200", "old.db", name, **more
-            )
-            line = (
-                "aide-compare: the new database %s is not a regular file, so --max-age does not know its age"
-                % name
-            )
-            self.expect("a pipe with --max-age, " + name, answer, 18, b"", line.encode())
-            self.assertEqual(
-                self.state()["error"],
-                line,
-                ("the state of a pipe with --max-age, " + name, self.state()),
-            )
-        self.expect(
-            "a pipe with --max-age 0",
-            self.call(TOOL, "--max-age", "0", "old.db", "/dev/stdin", text=NEW),
-            7,
-            b"Changed",
-            DIFFER,
+        words = (TOOL, "--max-age", "7200")
+        told = (
+            b"the new database /dev/stdin is not a regular file, so --max-age does not know its age"
         )
-        self.expect(
-            "an old pipe",
-            self.call(TOOL, "--max-age", "7200", "/dev/stdin", "new.db", text=OLD),
-            7,
-            b"Changed",
-            DIFFER,
+        self.refused(18, told, *words, "old.db", "/dev/stdin", text=NEW, state="state")
+        self.answered(
+            7, b"Changed", DIFFER, TOOL, "--max-age", "0", "old.db", "/dev/stdin", text=NEW
         )
-        write_aged(self, "late.db", NEW, 3 * HOUR + 60)
-        for name, status in (("late.db", 18), ("new.db", 7)):
-            with open(self.path(name), "rb") as file:
-                answer = self.call(TOOL, "--max-age", "7200", "old.db", "/dev/stdin", stdin=file)
-            self.expect(
-                "a redirected file, " + name,
-                answer,
-                status,
-                None,
-                b"/dev/stdin is 3 hours old" if status == 18 else DIFFER,
+        self.answered(7, b"Changed", DIFFER, *words, "/dev/stdin", "new.db", text=OLD)
+        with open(self.path("late.db"), "rb") as file:
+            self.refused(
+                18, b"/dev/stdin is 3 hours old", *words, "old.db", "/dev/stdin", stdin=file
             )
+        with open(self.path("new.db"), "rb") as file:
+            self.answered(7, b"Changed", DIFFER, *words, "old.db", "/dev/stdin", stdin=file)
 
     def test_values(self) -> None:
+        """What is no time leaves the state as it was."""
         self.write("state", b"as before\n")
-        for words in (
-            ["--max-age"],
-            ["--max-age", ""],
-            ["--max-age="],
-            ["--max-age", "x"],
-            ["--max-age=-1"],
-            ["--max-age", "1w"],
-            ["--max-age", "1.5"],
-            ["--max-age", "31d"],
-            ["--max-age", "9" * 9],
-        ):
-            answer = self.call(TOOL, "--state", "state", "old.db", "new.db", *words)
-            self.expect("the arguments %r" % words, answer, 15, b"", b"--max-age")
-            self.assertEqual(self.read("state"), b"as before\n", "the state with %r" % words)
+        for words in (["--max-age"], ["--max-age="], ["--max-age", "1w"], ["--max-age", "31d"]):
+            self.refused(15, b"--max-age", TOOL, "--state", "state", "old.db", "new.db", *words)
+            self.assertEqual(self.read("state"), b"as before\n", words)
 
     def test_readers(self) -> None:
         """The check, the metrics and the line for the log take the refusal from the state."""
-        write_aged(self, "late.db", OLD, 3 * HOUR + 60)
-        self.call(TOOL, "--state", "state", "--max-age", "7200", "old.db", "late.db")
-        reason = (REFUSAL % ("late.db", "3 hours")).encode().strip()
-        self.expect(
-            "the check of an old database",
-            self.call("check_aide_compare", "--state", "state"),
-            3,
-            b"AIDE UNKNOWN: no comparison, status 18: " + reason + b"|age=",
-            b"",
-        )
-        self.expect(
-            "the log of an old database",
-            self.call("aide-compare status", "--state", "state"),
-            0,
-            [b"nothing was compared", reason],
-            b"",
-        )
-        answer = self.call(
-            "aide-compare status --format prometheus", "--state", "state", "metrics.prom"
-        )
+        reason = self.too_old("late.db").errors.strip()
+        told = b"AIDE UNKNOWN: no comparison, status 18: " + reason + b"|age="
+        self.answered(3, told, b"", "check_aide_compare", "--state", "state")
+        told_by_log: list[bytes] = [b"nothing was compared", reason]
+        self.answered(0, told_by_log, b"", "aide-compare status", "--state", "state")
+        words = ("--format", "prometheus", "--state", "state", "metrics.prom")
+        self.answered(0, b"", b"", "aide-compare status", *words)
         text = self.read("metrics.prom")
-        good = (
-            answer.status == 0
-            and re.search(rb"_status 18$", text, re.M)
-            and b"_entries" not in text
-        )
-        self.holds("the metrics of an old database", good, (answer, text))
+        self.assertRegex(text, rb"(?m)_status 18$")
+        self.assertNotIn(b"_entries", text)
