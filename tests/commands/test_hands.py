@@ -5,284 +5,180 @@ from __future__ import annotations
 import os
 import shlex
 import signal
+from typing import Any
 
 from tests.lib.waiting import is_alive, until
 
 from . import test_mail as mail
 from . import test_standings as standings
-from .sandbox import CommandTest, HERE, NOBODY
+from .sandbox import CommandTest, HERE, NOBODY, Texts
 
 TOOL, NAGIOS = "aide-compare", "check_aide_compare"
 LONG_HEAD = b"@@begin_db\n@@db_spec name attr perm uid gid size\n"
 COUNTED = ("added", "removed", "changed", "left_out_old", "left_out_new", *standings.COUNTS)
 SYSTEMD = os.path.join(HERE, "contrib", "systemd")
+CRON = os.path.join(HERE, "contrib", "cron", "aide-compare.cron.daily")
+NIGHT = ("o.db", "n.db")
+# A program in place of the proved one, which notes whose rights it has.
+NOTES = 'case $1 in -E) echo "$(id -u) $$" >> %s;; esac\n%s\nexec %s "$@"'
 
 
-def started(unit):
+def started(unit: str) -> list[str]:
     """The words that a unit starts, without the program. A variable that is empty is no word."""
     with open(os.path.join(SYSTEMD, unit), encoding="ascii") as file:
         line = next(line for line in file if line.startswith("ExecStart="))
     return shlex.split(line.partition("=")[2].replace("$TRUSTED", ""))[1:]
 
 
-def counts_in(sandbox, state):
-    values = sandbox.state(state)
-    return {name: values.get(name) for name in COUNTED}
+def started_by_cron() -> list[str]:
+    """The options that cron's job gives a mail."""
+    with open(CRON, encoding="ascii") as file:
+        line = next(line for line in file if line.startswith("/usr/local/bin/aide-compare mail"))
+    words = shlex.split(line.replace('"$@"', ""))
+    return words[words.index("--max-age") :]
 
 
-def no_environment(sandbox, words, **more):
-    """What the mail command does with these words, and with no environment but what is given."""
-    command = sandbox.command(
-        "aide-compare", *[sandbox.path("queue") if "/mail" in word else word for word in words]
-    )
-    child = os.posix_spawn(command[0], command, more)
-    return os.waitstatus_to_exitcode(os.waitpid(child, 0)[1]), mail.sent(sandbox)
-
-
-def prepare(sandbox, lines):
-    """The defaults, a file of what is left out, and a night of four changes; two of them are left
-    out."""
-    mail.prepare(sandbox)
-    standings.prepare(sandbox)
-    sandbox.write("etc/defaults", "# What all have in common\n\n--max-report 1G\n%s" % lines)
-    sandbox.write("etc/without", "/srv/*\n")
-
-
-def long_lines():
-    for number in range(4000):
-        yield b"/m/%s%04d %d 100644 0 0 1\n" % (b"x" * 250, number, 60)
-
-
-def put_baseline(sandbox):
-    """A baseline in a folder of another user, who alone can read it."""
-    standings.prepare(sandbox)
-    sandbox.write("his/o.db", sandbox.read("o.db"), 0o600)
-    sandbox.write("mine/n.db", sandbox.read("n.db"), 0o600)
-    os.chmod(sandbox.path("mine"), 0o700)
-    for name in ("his", "his/o.db"):
-        os.chown(sandbox.path(name), NOBODY, NOBODY)
-
-
-def note_users(sandbox, more=""):
-    """The program in place of which a small one notes whose rights it has."""
-    os.makedirs(sandbox.path("out"), exist_ok=True)
-    os.chmod(sandbox.path("out"), 0o777)
-    if not os.path.exists((sandbox.program + ".away")):
-        os.rename(sandbox.program, (sandbox.program + ".away"))
-    text = 'case $1 in -E) echo "$(id -u) $$" >> %s/users;; esac\n%s\nexec %s "$@"'
-    sandbox.stub(
-        "aide",
-        text % (sandbox.path("out"), more, (sandbox.program + ".away")),
-        "libexec/aide-compare",
-    )
-
-
-def users(sandbox):
-    found = [line.split() for line in sandbox.read("out/users").decode().splitlines()]
-    os.remove(sandbox.path("out/users"))
-    return found
+def long_lines() -> bytes:
+    names = (b"/m/%s%04d" % (b"x" * 250, number) for number in range(4000))
+    return b"".join(name + b" 60 100644 0 0 1\n" for name in names)
 
 
 class HandsTest(CommandTest):
+    def prepare(self, lines: str) -> None:
+        """The defaults, a file of what is left out, and a night of four changes; two of them are
+        left out."""
+        mail.prepare(self)
+        standings.prepare(self)
+        self.write("etc/defaults", "# What all have in common\n\n--max-report 1G\n%s" % lines)
+        self.write("etc/without", "/srv/*\n")
+
+    def mails(self, status: int, *words: str) -> Any:
+        """The mail of a comparison, which prints nothing."""
+        self.expect(f"the mail of {words}", mail.call(self, *words), status, b"", b"")
+        return mail.sent(self)
+
+    def of_unit(self, unit: str, **variables: str) -> Any:
+        """The mail that a unit's own words send, with no environment but what is given."""
+        words = [self.path("queue") if "/mail" in word else word for word in started(unit)]
+        command = self.command(TOOL, *words)
+        child = os.posix_spawn(command[0], command, variables)
+        self.assertEqual(os.waitstatus_to_exitcode(os.waitpid(child, 0)[1]), 0, unit)
+        return mail.sent(self)
+
+    def counts_in(self, state: str) -> dict[str, str | None]:
+        values = self.state(state)
+        return {name: values.get(name) for name in COUNTED}
+
     def test_failed_unit(self) -> None:
-        """The units' own words, without a variable of systemd: the one that is started after a
-        failure mails it."""
+        """The unit that is started after a failure mails it, with or without systemd's
+        variables."""
         mail.prepare(self)
         self.set_names("mail.sending", MAILERS=(self.path("stubs/sendmail"),))
         failed = "aide-compare.service failed%s. Its lines: journalctl -u aide-compare.service\n"
+        none: dict[str, str] = {}
         variables = {
             "MONITOR_SERVICE_RESULT": "exit-code",
             "MONITOR_EXIT_STATUS": "18",
             "MONITOR_UNIT": "aide-compare.service",
         }
-        rows: list[tuple[str, dict[str, str], str]] = [
-            ("no variables", {}, failed % ""),
-            ("the variables of systemd 251", variables, failed % ": exit-code, status 18"),
-        ]
-        for label, more, text in rows:
-            status, message = no_environment(self, started("aide-compare-failed.service"), **more)
-            good = (
-                mail.subject(message) == mail.SUBJECT + "the comparison failed"
-                and mail.body(message) == text.encode()
-            )
-            self.holds("a failed unit, with " + label, status == 0 and good, (status, message))
-        status, message = no_environment(self, started("aide-compare-mail.service"))
-        self.assertEqual((status, message), (0, None), "the unit of a success mails no failure")
-        status, message = no_environment(self, started("aide-compare-mail.service"), **variables)
-        self.assertIn(
-            b"failed: exit-code",
-            mail.body(message),
-            ("the variables alone are enough", (status, message)),
-        )
-        for words in (
-            ["--unit-failed", "x y", "--send-queue", "queue"],
-            ["--unit-failed", "", "--send-queue", "queue"],
-        ):
-            self.expect(
-                "no name of a unit", mail.call(self, *words), 15, b"", b"needs the name of a unit"
-            )
-        self.expect(
-            "without a queue", mail.call(self, "--unit-failed", "x"), 15, b"", b"needs --send-queue"
-        )
+        for more, cause in ((none, ""), (variables, ": exit-code, status 18")):
+            message = self.of_unit("aide-compare-failed.service", **more)
+            self.assertEqual(mail.subject(message), mail.SUBJECT + "the comparison failed")
+            self.assertEqual(mail.body(message), (failed % cause).encode())
+        self.assertIsNone(self.of_unit("aide-compare-mail.service"), "a success mails no failure")
+        message = self.of_unit("aide-compare-mail.service", **variables)
+        self.assertIn(b"failed: exit-code", mail.body(message), "the variables are enough")
+        tool = "aide-compare mail"
+        for name in ("x y", ""):
+            words = ("--unit-failed", name, "--send-queue", "queue")
+            self.refused(15, b"needs the name of a unit", tool, *words)
+        self.refused(15, b"needs --send-queue", tool, "--unit-failed", "x")
 
-    def test_defaults(self) -> None:
-        """A run by hand, a mail, the unit, cron and the command that a mail prints have the same
-        counts. The check judges by the same line."""
-        prepare(
-            self,
-            "  --alarm=not-silent \n--to a@b.example\n--weekly Mon\n--warning 99\n--max-age 5d\n",
+    def test_same_counts(self) -> None:
+        """A run by hand, a mail, the unit and cron have the same counts, by the same defaults. The
+        check judges by the same lines."""
+        lines = (
+            "  --alarm=not-silent \n--to a@b.example\n--weekly Mon\n--warning 99\n--max-age 5d\n"
         )
-        with open(
-            os.path.join(HERE, "contrib", "cron", "aide-compare.cron.daily"), encoding="ascii"
-        ) as file:
-            line = next(
-                line for line in file if line.startswith("/usr/local/bin/aide-compare mail")
-            )
-        cron = shlex.split(line.replace('"$@"', ""))[2:]
-        jobs = {
-            "a mail": ["--state", "of.state"],
-            "the unit": [
-                word
-                for word in started("aide-compare.service")
-                if word not in ("mail", "--alarm-sent-is-success", "--queue")
-            ],
-            "cron": cron[cron.index("--max-age") :],
-        }
-        jobs["the unit"] = [word for word in jobs["the unit"] if not word.endswith("/mail")]
-        answer = self.call(TOOL, "-v", "--state", "hand.state", "o.db", "n.db")
-        self.expect(
-            "by hand",
-            answer,
-            5,
-            None,
-            [b"1 open (1 high), 1 recorded of 2 changes", b"by /srv/* ("],
-        )
-        want = counts_in(self, "hand.state")
-        self.holds("the counts by hand", want["open"] == "1" and want["left_out_old"] == "4", want)
-        for label, words in jobs.items():
-            words = [
+        self.prepare(lines)
+        told: list[bytes] = [b"1 open (1 high), 1 recorded of 2 changes", b"by /srv/* ("]
+        self.answered(5, None, told, TOOL, "-v", "--state", "hand.state", *NIGHT)
+        want = self.counts_in("hand.state")
+        self.assertEqual((want["open"], want["left_out_old"]), ("1", "4"))
+        unit = [word for word in started("aide-compare.service") if not word.endswith("mail")]
+        for word in ("--alarm-sent-is-success", "--queue"):
+            unit.remove(word)
+        for words in (["--state", "of.state"], unit, started_by_cron()):
+            own = [
                 "of.state" if word.endswith("state") and not word.startswith("--") else word
                 for word in words
             ]
-            self.expect(
-                "the mail of " + label, mail.call(self, *words, "o.db", "n.db"), 5, b"", b""
-            )
-            message = mail.sent(self)
-            self.assertEqual(
-                counts_in(self, "of.state"),
-                want,
-                ("the counts of " + label, self.state("of.state")),
-            )
-            self.holds(
-                "to whom %s goes" % label,
-                message is not None and message["To"] == "a@b.example",
-                message,
-            )
-        self.expect("a mail by hand", mail.call(self, "o.db", "n.db"), 5, b"", b"")
-        message = mail.sent(self)
-        self.holds(
-            "a mail by hand needs no state",
-            message is not None and message["To"] == "a@b.example",
-            message,
-        )
-        self.write("long.db", b"".join([LONG_HEAD, *long_lines(), b"@@end_db\n"]))
-        self.expect(
-            "a mail that is cut",
-            mail.call(self, "--state", "of.state", "o.db", "long.db"),
-            3,
-            b"",
-            b"",
-        )
-        shown = (
-            mail.body(mail.sent(self))
-            .decode()
-            .partition(" as a page:\n    ")[2]
-            .partition("\nThis accepts")[0]
-        )
-        command = shown.replace(" \\\n      ", " ").partition(" > ")[0]
-        good = "--state" not in command and command.startswith("aide-compare page ")
-        self.holds("the command of a mail has no state, and makes the page", good, shown)
-        os.remove(self.path("of.state"))
-        by_hand = self.call(TOOL, *shlex.split(command)[1:])
-        is_page = (
-            by_hand.status == 3 and b"xxxx3999" in by_hand.output and b"</html>" in by_hand.output
-        )
-        self.holds("the page by the command of a mail", is_page, (command, by_hand.output[-900:]))
-        self.assertFalse(
-            os.path.exists(self.path("of.state")), "a command for reading leaves no state"
-        )
-        answer = self.call(NAGIOS, "--state", "hand.state")
-        self.expect(
-            "the check",
-            answer,
-            2,
-            [b"AIDE CRITICAL: 1 open (1 high), 1 recorded of 2 changes"],
-            b"",
-        )
+            self.assertEqual(self.mails(5, *own, *NIGHT)["To"], "a@b.example", words)
+            self.assertEqual(self.counts_in("of.state"), want, words)
+        message = self.mails(5, *NIGHT)
+        self.assertEqual(message["To"], "a@b.example", "a mail by hand needs no state")
+        check = (NAGIOS, "--state", "hand.state")
+        told_by_check = b"AIDE CRITICAL: 1 open (1 high), 1 recorded of 2 changes"
+        self.answered(2, told_by_check, b"", *check)
         self.write("etc/defaults", "--critical 99\n--warning 98\n")
-        self.expect(
-            "the check by limits",
-            self.call(NAGIOS, "--state", "hand.state"),
-            0,
-            [b"AIDE OK: "],
-            b"",
-        )
-        self.expect(
-            "the check without",
-            self.call(NAGIOS, "--no-defaults", "--state", "hand.state"),
-            2,
-            None,
-            b"",
-        )
-        answer = self.call(TOOL, "--no-defaults", "o.db", "n.db")
-        self.assertNotIn(b"left out", answer.errors, ("a run without", answer))
+        self.answered(0, b"AIDE OK: ", b"", *check)
+        self.answered(2, None, b"", *check, "--no-defaults")
+        answer = self.call(TOOL, "--no-defaults", *NIGHT)
+        self.assertNotIn(b"left out", answer.errors)
         self.write("own", "/usr/lib/*\n")
-        answer = self.call(TOOL, "-v", "--exclude-from", "own", "o.db", "n.db")
-        good = b"by /usr/lib/* (own, line 1)" in answer.errors and b"/srv/*" not in answer.errors
-        self.holds("another file in place of the usual one", good, answer)
+        answer = self.call(TOOL, "-v", "--exclude-from", "own", *NIGHT)
+        self.assertIn(b"by /usr/lib/* (own, line 1)", answer.errors)
+        self.assertNotIn(b"/srv/*", answer.errors, "another file in place of the usual one")
+
+    def test_command_of_mail(self) -> None:
+        """The command that a mail prints makes the page of the same changes, and leaves no
+        state."""
+        self.prepare("--to a@b.example\n")
+        self.write("long.db", LONG_HEAD + long_lines() + b"@@end_db\n")
+        message = self.mails(3, "--state", "of.state", "o.db", "long.db")
+        shown = mail.body(message).decode().partition(" as a page:\n    ")[2]
+        command = shown.replace(" \\\n      ", " ").partition(" > ")[0]
+        self.assertTrue(command.startswith("aide-compare page "), shown)
+        self.assertNotIn("--state", command)
+        os.remove(self.path("of.state"))
+        page: list[bytes] = [b"xxxx3999", b"</html>"]
+        self.answered(3, page, None, TOOL, *shlex.split(command)[1:])
+        self.assertFalse(os.path.exists(self.path("of.state")))
+
+    def refused_defaults(self, name: str, said: bytes) -> None:
+        """A comparison and a check are refused for a file of the administrator, and that is
+        mailed."""
+        self.refused(18, said, TOOL, *NIGHT)
+        answer = mail.call(self, *NIGHT)
+        self.assertEqual(answer.status, 18, answer)
+        self.assertIn(said, mail.body(mail.sent(self)))
+        if name == "defaults":
+            told = b"AIDE UNKNOWN: " + said
+            self.answered(3, told, b"", NAGIOS, "--state", "of.state")
 
     def test_faulty_defaults(self) -> None:
         """Defaults that others can write are refused as the file of --exclude-from is, and no alarm
         is lost for it."""
-        cases: list[tuple[str, int, int | None, int]] = [
-            ("everybody writes the file", 0o666, None, 0o755),
-            ("a group writes the file", 0o664, None, 0o755),
-        ]
+        cases: list[tuple[int, int, int]] = [(0o666, 0, 0o755), (0o664, 0, 0o755)]
         if os.geteuid() == 0:
-            cases += [
-                ("another user's file", 0o644, NOBODY, 0o755),
-                ("everybody writes the folder", 0o644, None, 0o777),
-            ]
-        for name in ("defaults", "without"):
-            for label, mode, owner, folder in cases:
-                prepare(self, "--max-age 5d\n")
+            cases += [(0o644, NOBODY, 0o755), (0o644, 0, 0o777)]
+        for name, what in (("defaults", b"defaults"), ("without", b"file of --exclude-from")):
+            for mode, owner, folder in cases:
+                self.prepare("--max-age 5d\n")
                 os.remove(self.path("etc/" + ("without" if name == "defaults" else "defaults")))
                 os.chmod(self.path("etc"), folder)
                 os.chmod(self.path("etc/" + name), mode)
-                if owner is not None:
+                if owner:
                     os.chown(self.path("etc/" + name), owner, owner)
-                said = b"other users can write the " + (
-                    b"defaults" if name == "defaults" else b"file of --exclude-from"
-                )
-                self.expect(
-                    "%s, %s" % (label, name), self.call(TOOL, "o.db", "n.db"), 18, b"", said
-                )
-                answer = mail.call(self, "o.db", "n.db")
-                message = mail.sent(self)
-                good = answer.status == 18 and said in mail.body(message)
-                self.holds("it is mailed: %s, %s" % (label, name), good, (answer, message))
-                if name == "defaults":
-                    answer = self.call(NAGIOS, "--state", "of.state")
-                    self.expect("the check: " + label, answer, 3, b"AIDE UNKNOWN: " + said, b"")
+                with self.subTest(name=name, mode=oct(mode), owner=owner, folder=oct(folder)):
+                    self.refused_defaults(name, b"other users can write the " + what)
                 os.chmod(self.path("etc"), 0o755)
                 os.remove(self.path("etc/" + name))
         os.symlink(self.path("nothing"), self.path("etc/defaults"))
-        self.expect("a link to nothing", self.call(TOOL, "o.db", "n.db"), 18, b"")
-        os.remove(self.path("etc/defaults"))
+        self.refused(18, None, TOOL, *NIGHT)
 
     def test_bad_lines(self) -> None:
-        """Only options that are the same for all may be there. A value that a mail cannot use costs
-        no mail, and the mail says it."""
+        """Only options that are the same for all may be there."""
         for line in (
             "--state x",
             "--user root",
@@ -296,101 +192,78 @@ class HandsTest(CommandTest):
             "--odd",
             "--to",
         ):
-            prepare(self, line + "\n")
-            answer = self.call(TOOL, "o.db", "n.db")
-            self.expect("the line %r" % line, answer, 15, b"", b"defaults, line 4: ")
-        for line, said in (
-            ("--alarm never", b"invalid choice"),
-            ("--to é", b"address"),
-        ):
-            prepare(self, line + "\n")
-            answer = mail.call(self, "--no-defaults", "o.db", "n.db")
-            self.expect("without the line %r" % line, answer, 7, b"", b"")
-            mail.sent(self)
-            answer = mail.call(self, "o.db", "n.db")
-            message = mail.sent(self)
-            self.holds(
-                "a mail despite %r" % line,
-                answer.status != 0 and said in mail.body(message),
-                (answer, message),
-            )
-            answer = mail.call(self, "--send-queue", "queue")
-            self.holds(
-                "the queue despite %r" % line, answer.status == 0 and said in answer.errors, answer
-            )
-        os.remove(self.path("etc/defaults"))
-        os.remove(self.path("etc/without"))
+            self.prepare(line + "\n")
+            self.refused(15, b"defaults, line 4: ", TOOL, *NIGHT)
+
+    def test_bad_values(self) -> None:
+        """A value that a mail cannot use costs no mail, and the mail says it."""
+        for line, said in (("--alarm never", b"invalid choice"), ("--to é", b"address")):
+            self.prepare(line + "\n")
+            self.mails(7, "--no-defaults", *NIGHT)
+            answer = mail.call(self, *NIGHT)
+            self.assertNotEqual(answer.status, 0, line)
+            self.assertIn(said, mail.body(mail.sent(self)), line)
+            self.answered(0, None, said, "aide-compare mail", "--send-queue", "queue")
+
+    def put_baseline(self) -> None:
+        """A baseline in a folder of another user, who alone can read it."""
+        self.needs_root()
+        standings.prepare(self)
+        self.write("his/o.db", self.read("o.db"), 0o600)
+        self.write("mine/n.db", self.read("n.db"), 0o600)
+        os.chmod(self.path("mine"), 0o700)
+        for name in ("his", "his/o.db"):
+            os.chown(self.path(name), NOBODY, NOBODY)
+        os.mkdir(self.path("out"))
+        os.chmod(self.path("out"), 0o777)
+        os.rename(self.program, self.program + ".away")
+        self.note_users()
+
+    def note_users(self, more: str = "") -> None:
+        """The program notes whose rights it has, and perhaps does something more."""
+        text = NOTES % (self.path("out/users"), more, self.program + ".away")
+        self.stub("aide", text, "libexec/aide-compare")
+
+    def users(self) -> set[str]:
+        """Whose rights the program had since this was asked the last time."""
+        found = {line.split()[0] for line in self.read("out/users").decode().splitlines()}
+        os.remove(self.path("out/users"))
+        return found
 
     def test_owner(self) -> None:
         """Root compares with the rights of the user in whose folder the baseline is. What only root
         may read or write, root opens and puts in place."""
-        if os.geteuid() != 0:
-            self.skipTest("it needs root")
-        put_baseline(self)
-        note_users(self)
-        words = ["--state", "mine/state"]
-        answer = self.call(TOOL, "--report", *words, "his/o.db", "mine/n.db")
-        self.expect(
-            "root's comparison",
-            answer,
-            7,
-            [b"Changed entries:         4"],
-            [standings.WORDS.encode()],
-        )
-        brief = self.call(TOOL, *words, "his/o.db", "mine/n.db").output
-        self.assertEqual(brief, standings.BRIEF.encode(), "what people read first")
-        self.assertEqual({user for user, _ in users(self)}, {str(NOBODY)}, "whose rights")
-        found = os.stat(self.path("mine/state"))
-        self.holds(
-            "root's state", b"open=4\n" in self.read("mine/state") and found.st_uid == 0, found
-        )
-        answer = self.call(TOOL, "--user", "root", "--report", *words, "his/o.db", "mine/n.db")
-        self.expect("--user root", answer, 7, None, standings.WORDS.encode())
-        self.assertEqual({user for user, _ in users(self)}, {"0"}, "root's own rights")
-        self.write(
-            "his.conf",
-            "database_in=file:%s\ndatabase_new=file:%s\n"
-            % (self.path("his/o.db"), self.path("mine/n.db")),
-        )
-        self.expect(
-            "by the configuration",
-            self.call(TOOL, "--report", "-c", "his.conf"),
-            7,
-            None,
-            [b"his/o.db, written"],
-        )
-        self.assertEqual(
-            {user for user, _ in users(self)}, {str(NOBODY)}, "whose rights by the configuration"
-        )
+        self.put_baseline()
+        words = ("--state", "mine/state", "his/o.db", "mine/n.db")
+        counts: Texts = standings.WORDS.encode()
+        self.answered(7, b"Changed entries:         4", counts, TOOL, "--report", *words)
+        self.assertEqual(self.call(TOOL, *words).output, standings.BRIEF.encode())
+        self.assertEqual(self.users(), {str(NOBODY)})
+        self.assertIn(b"open=4\n", self.read("mine/state"))
+        self.assertEqual(os.stat(self.path("mine/state")).st_uid, 0, "root's state")
+        self.answered(7, None, counts, TOOL, "--user", "root", "--report", *words)
+        self.assertEqual(self.users(), {"0"})
+        names = (self.path("his/o.db"), self.path("mine/n.db"))
+        self.write("his.conf", "database_in=file:%s\ndatabase_new=file:%s\n" % names)
+        self.answered(7, None, b"his/o.db, written", TOOL, "--report", "-c", "his.conf")
+        self.assertEqual(self.users(), {str(NOBODY)}, "by the configuration")
         self.write("bad.db", b"x\n")
-        answer = self.call(TOOL, *words, "his/o.db", "bad.db")
-        good = self.state("mine/state").get("status") == "24"
-        self.holds(
-            "no comparison",
-            answer.status == 24 and b"no @@begin_db" in answer.errors and good,
-            answer,
-        )
+        self.refused(24, b"no @@begin_db", TOOL, "his/o.db", "bad.db", state="mine/state")
 
     def test_lost_child(self) -> None:
         """The child of root's comparison is killed, or its parent: no status of a comparison, no
         state of before, no process left."""
-        if os.geteuid() != 0:
-            self.skipTest("it needs root")
-        put_baseline(self)
-        words = ["--report", "--state", "mine/state", "his/o.db", "mine/n.db"]
+        self.put_baseline()
         self.write("mine/state", b"as before\n")
-        note_users(self, "case $1 in -E) kill -9 $PPID; sleep 5;; esac")
-        answer = self.call(TOOL, *words)
-        self.expect("a child that is killed", answer, 18, b"", b"ended with -9")
-        good = self.state("mine/state").get("status") == "18"
-        self.holds("what it leaves", good, self.read("mine/state"))
-        self.read("out/users")
-        note_users(self, "case $1 in -E) exec sleep 60;; esac")
+        words = ("--report", "his/o.db", "mine/n.db")
+        self.note_users("case $1 in -E) kill -9 $PPID; sleep 5;; esac")
+        self.refused(18, b"ended with -9", TOOL, *words, state="mine/state")
         os.remove(self.path("out/users"))
-        process = self.start(TOOL, *words)
+        self.note_users("case $1 in -E) exec sleep 60;; esac")
+        process = self.start(TOOL, "--state", "mine/state", *words)
         noted = self.path("out/users")
         until(lambda: os.path.exists(noted) and os.path.getsize(noted))
-        program = int(users(self)[0][1])
+        program = int(self.read("out/users").split()[1])
         process.send_signal(signal.SIGTERM)
         process.communicate(timeout=20)
-        self.holds("no process is left", until(lambda: not is_alive(program)), program)
+        self.assertTrue(until(lambda: not is_alive(program)), "no process is left")
