@@ -1,19 +1,27 @@
 """The folder in which aide-compare accept is tried, as it is before, and the library that acts at a
 call."""
+from __future__ import annotations
+
 import gzip
 import os
 import shutil
+from typing import Any, Dict, Optional, Tuple
 
 from tests.lib import preload
 
-from .sandbox import NEW, OLD, sha256
+from .sandbox import Answer, CommandTest, NEW, OLD, Texts, sha256
 
 TOOL = "aide-compare accept"
 BASE = "base/"
+FILES = ("base/aide.db.new", "base/aide.db")
 OLDER = OLD.replace(b"/d 36", b"/c1 36")
+DIGEST = sha256(NEW)
+# What the three files have when NEW was accepted.
+DONE = (NEW, OLD, NEW, 3)
+Contents = Tuple[Optional[bytes], Optional[bytes], Optional[bytes], int]
 
 
-def fresh(sandbox, owner=None):
+def fresh(sandbox: CommandTest, owner: int | None = None) -> None:
     """The databases before something is accepted. With an owner the folder is his, and the baseline
     stays root's."""
     shutil.rmtree(sandbox.path("base"), ignore_errors=True)
@@ -26,39 +34,59 @@ def fresh(sandbox, owner=None):
         os.chown(sandbox.path("base/aide.db.new"), owner, owner)
 
 
-def contents(sandbox):
+def contents(sandbox: CommandTest) -> Contents:
     """What the three files have unpacked, and how many files are in their folder."""
 
-    def text(name):
+    def text(name: str) -> bytes | None:
         if not os.path.isfile(sandbox.path(BASE + name)):
             return None
-        found = sandbox.read(BASE + name)
+        found: bytes = sandbox.read(BASE + name)
         return gzip.decompress(found) if found[:2] == b"\x1f\x8b" else found
 
-    return (
-        text("aide.db"),
-        text("aide.db.previous"),
-        text("aide.db.new"),
-        len(os.listdir(sandbox.path("base"))),
-    )
+    count = len(os.listdir(sandbox.path("base")))
+    return text("aide.db"), text("aide.db.previous"), text("aide.db.new"), count
 
 
-def accept(sandbox, digest, *words, **more):
-    return sandbox.call(
-        TOOL, "--sha256", digest, *words, "base/aide.db.new", "base/aide.db", **more
-    )
+def accept(sandbox: CommandTest, digest: str, *words: str, **more: Any) -> Answer:
+    answer: Answer = sandbox.call(TOOL, "--sha256", digest, *words, *FILES, **more)
+    return answer
 
 
-def library(sandbox):
+class AcceptingTest(CommandTest):
+    """A test of aide-compare accept, with the databases before something is accepted."""
+
+    def setUp(self) -> None:
+        super().setUp()
+        fresh(self)
+
+    def put(self, old: bytes, new: bytes) -> None:
+        """Other databases in the places of both."""
+        fresh(self)
+        self.write("base/aide.db", old, 0o600)
+        self.write("base/aide.db.new", new, 0o600)
+
+    def accepts(self, told: Texts, digest: str = DIGEST, *words: str, **more: Any) -> None:
+        """The new database with this digest is accepted, and this is printed."""
+        answer = accept(self, digest, *words, **more)
+        self.expect(f"{digest!r} {words}", answer, 0, told, b"")
+
+    def refuses(
+        self, status: int, told: Texts, digest: str = DIGEST, *words: str, **more: Any
+    ) -> None:
+        """It is refused with this error, and nothing moves."""
+        before = contents(self)
+        answer = accept(self, digest, *words, **more)
+        self.expect(f"{digest!r} {words}", answer, status, b"", told)
+        self.assertEqual(contents(self), before, (digest, words))
+
+
+def library(sandbox: CommandTest) -> dict[str, str] | None:
     """The settings that load the library, or None if it cannot be built, which is a failure."""
     path, faults = preload.built("at_call.c", os.fsencode(sandbox.path("stubs")))
     sandbox.holds("the library that acts at a call is built", path, faults)
     return {"LD_PRELOAD": os.fsdecode(path)} if path else None
 
 
-def accept_at(sandbox, settings, **more):
-    return accept(
-        sandbox,
-        sha256(NEW),
-        environment={**settings, **{key: str(value) for key, value in more.items()}},
-    )
+def accept_at(sandbox: CommandTest, settings: Dict[str, str], **more: object) -> Answer:
+    environment = {**settings, **{key: str(value) for key, value in more.items()}}
+    return accept(sandbox, DIGEST, environment=environment)

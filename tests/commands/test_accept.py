@@ -12,288 +12,192 @@ from collections.abc import Callable
 
 from tests.lib.waiting import until, waits
 
-from .accepting import BASE, OLDER, accept, contents, fresh
-from .sandbox import AS_NOBODY, CommandTest, END, HEAD, NEW, NOBODY, OLD, UMASK, sha256
+from .accepting import DIGEST, DONE, FILES, OLDER, TOOL, AcceptingTest, contents, fresh
+from .sandbox import AS_NOBODY, END, HEAD, NEW, NOBODY, OLD, UMASK, sha256
 
-TOOL = "aide-compare accept"
 STATE = (
     "format=2\nstatus=7\ntime=1764000000\ndate=x\nadded=1\nremoved=1\nchanged=2\nold_sha256=%s\nnew_sha256=%s\n"
     "old=o\nnew=n\nold_written=\nnew_written=\nerror=\n"
 )
 
 
-class AcceptTest(CommandTest):
+class AcceptTest(AcceptingTest):
+    def rights(self, name: str) -> tuple[int, int, int]:
+        """The mode, the owner and the group of a file."""
+        found = os.stat(self.path("base/" + name))
+        return stat.S_IMODE(found.st_mode), found.st_uid, found.st_gid
+
     def test_digests(self) -> None:
-        digest = hashlib.sha256(NEW)
-        whole, text = digest.hexdigest(), base64.b64encode(digest.digest()).decode()
-        for given in (
-            whole,
-            whole.upper(),
-            whole[:16],
-            whole[:44],
-            text,
-            text[:32] + "\n" + text[32:],
-        ):
+        text = base64.b64encode(hashlib.sha256(NEW).digest()).decode()
+        wrapped = text[:32] + "\n" + text[32:]
+        for digest in (DIGEST, DIGEST.upper(), DIGEST[:16], DIGEST[:44], text, wrapped):
             fresh(self)
-            done = accept(self, given)
-            self.expect(
-                "accepted by %r" % given,
-                done,
-                0,
-                b"base/aide.db.new is the baseline now: base/aide.db\n",
-                b"",
-            )
-            self.assertEqual(contents(self), (NEW, OLD, NEW, 3), "what is kept by %r" % given)
-        self.expect("accepted again", accept(self, whole), 0, b"the baseline already", b"")
-        self.assertEqual(contents(self), (NEW, OLD, NEW, 3), "the former one after the second time")
-        fresh(self)
+            self.accepts(b"base/aide.db.new is the baseline now: base/aide.db\n", digest)
+            self.assertEqual(contents(self), DONE, digest)
+        self.accepts(b"the baseline already")
+        self.assertEqual(contents(self), DONE, "the former one after the second time")
+        words = ("--sha256", sha256(OLD), "base/aide.db.previous", "base/aide.db")
+        self.answered(0, b"the baseline now", b"", TOOL, *words)
+        self.assertEqual(contents(self)[:2], (OLD, NEW), "back to the former baseline")
+
+    def test_plain(self) -> None:
         self.write("base/aide.db.new", NEW)
-        self.expect("a plain file", accept(self, whole), 0, b"the baseline now", b"")
-        done = self.call(TOOL, "--sha256", sha256(OLD), "base/aide.db.previous", "base/aide.db")
-        self.expect("back to the former baseline", done, 0, b"the baseline now", b"")
-        self.assertEqual(contents(self)[:2], (OLD, NEW), ("what is there then", contents(self)))
-        fresh(self)
+        self.accepts(b"the baseline now")
+        self.assertEqual(contents(self), DONE)
+
+    def test_first(self) -> None:
         for name in ("aide.db", "aide.db.previous"):
             os.remove(self.path("base/" + name))
-        self.expect(
-            "the first baseline", accept(self, whole), 0, b"this is the first baseline", b""
-        )
-        self.assertEqual(contents(self), (NEW, None, NEW, 2), "what is there with the first one")
-        self.assertEqual(
-            stat.S_IMODE(os.stat(self.path("base/aide.db")).st_mode), 0o600, "its mode"
-        )
+        self.accepts(b"this is the first baseline")
+        self.assertEqual(contents(self), (NEW, None, NEW, 2))
+        self.assertEqual(self.rights("aide.db")[0], 0o600)
 
     def test_told(self) -> None:
-        fresh(self)
-        self.write("state", STATE % (sha256(OLD), sha256(NEW)))
-        done = accept(self, sha256(NEW), "--state", "state")
-        told = b"compared 2025-11-24T16:00:00Z: added 1, removed 1, changed 2\n"
-        self.expect(
-            "date and counts", done, 0, [told, sha256(OLD).encode(), sha256(NEW).encode()], b""
-        )
-        fresh(self)
-        self.write("state", STATE % (sha256(OLDER), sha256(NEW)))
-        done = accept(self, sha256(NEW), "--state", "state")
-        self.expect(
-            "another baseline", done, 0, b"changed 2, beside another baseline than this one\n", b""
-        )
-        fresh(self)
-        self.write("state", STATE % (sha256(OLD), sha256(OLDER)))
-        done = accept(self, sha256(NEW), "--state", "state")
-        self.expect(
-            "the state of another database", done, 0, [b"no counts are known", b", written 20"], b""
-        )
+        """The counts of the comparison that the state is of, and what is not known."""
+        date = b"compared 2025-11-24T16:00:00Z: added 1, removed 1, changed 2\n"
+        digests = [sha256(OLD).encode(), DIGEST.encode()]
+        other = b"changed 2, beside another baseline than this one\n"
+        for old, new, told in (
+            (OLD, NEW, [date, *digests]),
+            (OLDER, NEW, [other]),
+            (OLD, OLDER, [b"no counts are known", b", written 20"]),
+        ):
+            fresh(self)
+            self.write("state", STATE % (sha256(old), sha256(new)))
+            self.accepts(told, DIGEST, "--state", "state")
+
+    def test_unreadable(self) -> None:
+        """A former baseline that is damaged, or that the caller may not read, is kept."""
         unknown = b"former: SHA-256 unknown, it cannot be read, kept as"
-        fresh(self)
         self.write("base/aide.db", gzip.compress(OLD)[:-9], 0o600)
-        self.expect("a damaged baseline", accept(self, sha256(NEW)), 0, unknown, b"")
-        if os.getuid() == 0:
-            fresh(self, NOBODY)
-            done = accept(self, sha256(NEW), before=AS_NOBODY)
-            self.expect("a baseline that the caller may not read", done, 0, unknown, b"")
+        self.accepts(unknown)
+        self.needs_root()
+        fresh(self, NOBODY)
+        self.accepts(unknown, before=AS_NOBODY)
 
     def test_refusals(self) -> None:
-        fresh(self)
-        answer = accept(self, sha256(OLD))
-        told = [sha256(OLD).encode(), sha256(NEW).encode(), b"refused: base/aide.db.new"]
-        self.expect("another digest", answer, 24, b"", told)
-        self.write("state", STATE % (sha256(OLD), sha256(NEW)))
-        answer = self.call(TOOL, "--state", "state", "base/aide.db.new", "base/aide.db")
-        self.expect("no digest", answer, 15, b"", b"--sha256")
-        self.write("odd", "format=1\nstatus=0\nnew_sha256=%s\n" % sha256(NEW))
-        whole = sha256(NEW)
-        rows: list[tuple[str, list[str], int]] = [
-            (whole, ["--state", "odd"], 18),
-            (whole, ["--state", "missing"], 18),
-            (whole, ["--odd"], 15),
-            (whole[:15], [], 15),
-            ("x" * 64, [], 15),
-            ("", [], 15),
-            (whole + "0", [], 15),
-            ("A" * 42 + "B=", [], 15),
-            (whole, ["--max-size", "20"], 18),
-            (whole, ["--max-size", "x"], 15),
-            (whole, ["--keep", "kept"], 15),
-        ]
-        for digest, words, status in rows:
-            answer = accept(self, digest, *words)
-            self.expect(
-                "the arguments %r %r" % (digest, words),
-                answer,
-                status,
-                b"",
-                b"aide-compare accept: ",
-            )
-        for words in (
-            ["base/aide.db.new"],
-            ["base/aide.db.new", "base/"],
-            ["base/aide.db.new", "base/.."],
+        told = [sha256(OLD).encode(), DIGEST.encode(), b"refused: base/aide.db.new"]
+        self.refuses(24, told, sha256(OLD))
+        self.write("state", STATE % (sha256(OLD), DIGEST))
+        self.refused(15, b"--sha256", TOOL, "--state", "state", *FILES)
+        self.write("odd", "format=1\nstatus=0\nnew_sha256=%s\n" % DIGEST)
+        name = b"aide-compare accept: "
+        for digest in (DIGEST[:15], "x" * 64, "", DIGEST + "0", "A" * 42 + "B="):
+            self.refuses(15, name, digest)
+        for status, words in (
+            (18, "--state odd"),
+            (18, "--state missing"),
+            (15, "--odd"),
+            (18, "--max-size 20"),
+            (15, "--max-size x"),
+            (15, "--keep kept"),
         ):
-            self.expect("the files %r" % words, self.call(TOOL, "--sha256", whole, *words), 15, b"")
-        done = self.call(TOOL, "--sha256", whole, "missing", "base/aide.db")
-        self.expect("a missing database", done, 18, b"", b"cannot open the new database missing")
-        packed = self.read("base/aide.db.new")
-        self.write("base/aide.db.new", packed[:-4], 0o600)
-        self.expect("a database cut short", accept(self, whole), 18, b"", b"cut short or damaged")
-        self.write("base/aide.db.new", packed, 0o600)
+            self.refuses(status, name, DIGEST, *words.split())
+        digest = ("--sha256", DIGEST)
+        for files in (FILES[:1], (FILES[0], "base/"), (FILES[0], "base/..")):
+            self.refused(15, name, TOOL, *digest, *files)
+        told_of_missing = b"cannot open the new database missing"
+        self.refused(18, told_of_missing, TOOL, *digest, "missing", FILES[1])
         self.assertEqual(contents(self), (OLD, OLDER, NEW, 3), "what is there after all refusals")
-        fresh(self)
+
+    def test_cut(self) -> None:
+        self.write("base/aide.db.new", self.read("base/aide.db.new")[:-4], 0o600)
+        done = self.call(TOOL, "--sha256", DIGEST, *FILES)
+        self.expect("a database cut short", done, 18, b"", b"cut short or damaged")
+        self.assertEqual(gzip.decompress(self.read("base/aide.db")), OLD)
+
+    def test_full_output(self) -> None:
+        told = b"is the baseline, but that could not be printed"
         with open("/dev/full", "wb") as full:
-            answer = self.call(
-                TOOL, "--sha256", whole, "base/aide.db.new", "base/aide.db", stdout=full
-            )
-        self.expect(
-            "nothing can be printed",
-            answer,
-            18,
-            None,
-            b"is the baseline, but that could not be printed",
-        )
+            self.answered(18, None, told, TOOL, "--sha256", DIGEST, *FILES, stdout=full)
 
     def test_places(self) -> None:
         """What is no regular file is no baseline, and a folder where everybody can write holds
         none."""
-        kinds: list[tuple[str, Callable[[str], object]]] = [
-            ("a link", lambda path: os.symlink("aide.db.new", path)),
-            ("a FIFO", os.mkfifo),
-            ("a directory", os.mkdir),
+        makers: list[tuple[bytes, Callable[[str], object]]] = [
+            (b"a link", lambda path: os.symlink("aide.db.new", path)),
+            (b"a FIFO", os.mkfifo),
+            (b"a directory", os.mkdir),
         ]
-        for name, make in kinds:
+        for name, make in makers:
             fresh(self)
             os.remove(self.path("base/aide.db"))
             make(self.path("base/aide.db"))
-            self.expect(
-                "the baseline is " + name,
-                accept(self, sha256(NEW)),
-                18,
-                b"",
-                [b"it is " + name.encode()],
-            )
-            self.assertEqual(
-                self.read("base/aide.db.new"), gzip.compress(NEW, mtime=0), name + " stays"
-            )
-        for mode in (0o775, 0o777, 0o1777):
-            fresh(self)
-            os.chmod(self.path("base"), mode)
-            answer = accept(self, sha256(NEW))
-            self.expect(
-                "a folder with the mode %o" % mode, answer, 18, b"", b"more than one user can write"
-            )
+            self.refuses(18, b"it is " + name)
         fresh(self)
+        for mode in (0o775, 0o777, 0o1777):
+            os.chmod(self.path("base"), mode)
+            self.refuses(18, b"more than one user can write")
 
     def test_directory_of_former(self) -> None:
         """A directory with the name that the former baseline gets is found before anything
         changes."""
-        fresh(self)
         os.remove(self.path("base/aide.db.previous"))
         os.mkdir(self.path("base/aide.db.previous"))
-        before = sorted(os.listdir(self.path("base")))
-        for attempt in ("once", "again"):
-            done = accept(self, sha256(NEW))
-            said = b"cannot write the baseline base/aide.db: aide.db.previous is a directory\n"
-            self.expect("a directory is in the way, " + attempt, done, 18, b"", said)
-            found = sorted(os.listdir(self.path("base")))
-            self.holds(
-                "all is as before, " + attempt, found == before and contents(self)[0] == OLD, found
-            )
-        os.rmdir(self.path("base/aide.db.previous"))
+        said = b"cannot write the baseline base/aide.db: aide.db.previous is a directory\n"
+        self.refuses(18, said)
+        self.refuses(18, said)
 
     def test_modes(self) -> None:
+        owner = (12345, 12346) if os.getuid() == 0 else (os.getuid(), os.getgid())
         for mode in (0o600, 0o640, 0o4755):
             fresh(self)
-            if os.getuid() == 0:
-                os.chown(self.path("base/aide.db"), 12345, 12346)
+            os.chown(self.path("base/aide.db"), *owner)
             os.chmod(self.path("base/aide.db"), mode)
-            accept(self, sha256(NEW), before=UMASK % 0)
-            for name, wanted in (("aide.db", mode & 0o666), ("aide.db.previous", mode)):
-                found = os.stat(self.path("base/" + name))
-                self.assertEqual(
-                    stat.S_IMODE(found.st_mode),
-                    wanted,
-                    ("the mode of %s, %o" % (name, mode), found),
-                )
-                kept = os.getuid() != 0 or (found.st_uid, found.st_gid) == (12345, 12346)
-                self.holds("the owner of %s" % name, kept, found)
+            self.accepts(None, before=UMASK % 0)
+            self.assertEqual(self.rights("aide.db"), (mode & 0o666, *owner))
+            self.assertEqual(self.rights("aide.db.previous"), (mode, *owner))
 
     def test_owner(self) -> None:
         """The folder of another user, in which the baseline is root's, as after aideinit."""
-        if os.getuid() != 0:
-            self.skipTest("it needs root")
+        self.needs_root()
         fresh(self, NOBODY)
-        done = accept(self, sha256(NEW))
-        self.expect(
-            "in another user's folder", done, 0, b"the former one belongs to root:root\n", b""
-        )
-        self.assertEqual(contents(self), (NEW, OLD, NEW, 3), "what is there")
-        new, former = (os.stat(self.path(BASE + name)) for name in ("aide.db", "aide.db.previous"))
-        self.assertEqual(
-            (new.st_uid, stat.S_IMODE(new.st_mode)),
-            (NOBODY, 0o600),
-            ("the new one is the owner's", new),
-        )
-        self.assertEqual(
-            (former.st_uid, stat.S_IMODE(former.st_mode)),
-            (0, 0o600),
-            ("the former one stays root's", former),
-        )
+        self.accepts(b"the former one belongs to root:root\n")
+        self.assertEqual(contents(self), DONE)
+        self.assertEqual(self.rights("aide.db")[:2], (0o600, NOBODY))
+        self.assertEqual(self.rights("aide.db.previous")[:2], (0o600, 0))
         fresh(self, 12345)
         self.write("readable", NEW)
-        done = self.call(
-            TOOL, "--sha256", sha256(NEW), "readable", "base/aide.db", before=AS_NOBODY
-        )
-        self.expect("no right", done, 18, b"", b"cannot")
-        fresh(self)
+        words = ("--sha256", DIGEST, "readable", "base/aide.db")
+        self.refused(18, b"cannot", TOOL, *words, before=AS_NOBODY)
 
     def test_full_disk(self) -> None:
         """A baseline that cannot be replaced for want of room stays, and nothing is left beside
         it."""
-        shutil.rmtree(self.path("base"), ignore_errors=True)
+        shutil.rmtree(self.path("base"))
         os.mkdir(self.path("base"))
         with self.mounted("base", "-t", "tmpfs", "-o", "size=64k,mode=755", "none") as is_small:
             if not is_small:
                 self.skipTest("nothing can be mounted here")
             self.write("base/aide.db", OLD, 0o600)
-            large = (
-                HEAD + b"".join(b"/x%05d 36 100644 1\n" % number for number in range(9000)) + END
-            )
+            lines = (b"/x%05d 36 100644 1\n" % number for number in range(9000))
+            large = HEAD + b"".join(lines) + END
             self.write("large.db", large)
-            done = self.call(TOOL, "--sha256", sha256(large), "large.db", "base/aide.db")
-            self.expect("a full disk", done, 18, b"", b"No space left on device")
-            found = sorted(os.listdir(self.path("base")))
-            self.assertEqual(found, ["aide.db"], "it stays alone")
+            words = ("--sha256", sha256(large), "large.db", "base/aide.db")
+            self.refused(18, b"No space left on device", TOOL, *words)
+            self.assertEqual(os.listdir(self.path("base")), ["aide.db"], "it stays alone")
             self.assertEqual(self.read("base/aide.db"), OLD, "as it was")
-        fresh(self)
 
     def test_at_once(self) -> None:
-        fresh(self)
-        words = ["--sha256", sha256(NEW), "base/aide.db.new", "base/aide.db"]
+        """A locked folder is waited for, and of five at once each accepts."""
+        words = (TOOL, "--sha256", DIGEST, *FILES)
         folder = os.open(self.path("base"), os.O_RDONLY)
         fcntl.flock(folder, fcntl.LOCK_EX)
-        run = self.start(TOOL, *words)
-        # It asks for the lock again and again, and sleeps meanwhile.
-        until(
-            lambda: run.poll() is not None
-            or waits(run.pid, "nanosleep", lambda names: self.path("base") in names)
-        )
-        self.holds(
-            "a locked folder is waited for",
-            run.poll() is None and contents(self)[0] == OLD,
-            run.poll(),
-        )
+        run = self.start(*words)
+
+        def is_waiting() -> bool:
+            """It asks for the lock again and again, and sleeps meanwhile."""
+            has_folder = waits(run.pid, "nanosleep", lambda names: self.path("base") in names)
+            return run.poll() is not None or bool(has_folder)
+
+        until(is_waiting)
+        self.assertEqual((run.poll(), contents(self)[0]), (None, OLD), "it waits")
         os.close(folder)
         run.communicate()
-        self.holds(
-            "and then it is accepted",
-            run.returncode == 0 and contents(self)[0] == NEW,
-            run.returncode,
-        )
+        self.assertEqual((run.returncode, contents(self)), (0, DONE), "then it accepts")
         fresh(self)
-        runs = [self.start(TOOL, *words) for _ in range(5)]
+        runs = [self.start(*words) for _ in range(5)]
         for run in runs:
             run.communicate()
-        self.assertEqual(
-            {run.returncode for run in runs},
-            {0},
-            ("accepted at once", [run.returncode for run in runs]),
-        )
-        self.assertEqual(contents(self), (NEW, OLD, NEW, 3), "what is there then")
+        self.assertEqual([run.returncode for run in runs], [0] * 5)
+        self.assertEqual(contents(self), DONE)
