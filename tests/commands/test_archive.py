@@ -32,12 +32,21 @@ HOME = {
     "/var/lib/aide": "base",
 }
 PROGRAMS = ("gpg", "gpgv", "dpkg-deb")
+APPLIED = b"applied: 21 files\n"
+MISSING = b"tool: the file of 2, the newest"
+ARCHIVE = "aide-compare archive"
 RELEASE = "Origin: Trial\nDate: {date}\n{more}SHA256:\n"
 
 
 def sums_of(version: str) -> bytes:
     """What a package of a version has as its digests."""
     return b"sums of " + version.encode()
+
+
+def gpg(sandbox: CommandTest, key: str, *words: str) -> bytes:
+    """What gpg prints, with the home of a key."""
+    command = ["gpg", "--homedir", sandbox.path(key), "--batch", *words]
+    return subprocess.run(command, check=True, capture_output=True).stdout
 
 
 class Built:
@@ -107,12 +116,11 @@ class Place:
             night.file(b"/usr/bin/true", ONE, 0o100755)
             night.file(b"/usr/bin/passwd", ONE, 0o104755)
 
-    def listed(self, name: str, version: str = "1", sums: bool = True) -> None:
+    def listed(self, name: str, version: str = "1") -> None:
         """A package that dpkg has unpacked again between the nights, with the version of now."""
         for night, text in ((self.old, "0"), (self.new, version)):
             night.file(INFO + name.encode() + b".list", sums_of(text))
-            if sums:
-                night.file(INFO + name.encode() + b".md5sums", sums_of(text))
+            night.file(INFO + name.encode() + b".md5sums", sums_of(text))
 
     def package(self, built: Built) -> None:
         built.build(self.sandbox)
@@ -133,17 +141,8 @@ class Place:
         text = RELEASE.format(date=date, more=more)
         text += f" {hashlib.sha256(data).hexdigest()} {len(data)} {name}\n"
         self.sandbox.write("release", text.encode())
-        words = [
-            "gpg",
-            "--homedir",
-            self.sandbox.path(key),
-            "--batch",
-            "--yes",
-            "--digest-algo",
-            "SHA256",
-        ]
-        words += ["--output", folder + "/InRelease", "--clearsign", self.sandbox.path("release")]
-        subprocess.run(words, check=True, capture_output=True)
+        words = ["--yes", "--digest-algo", "SHA256", "--output", folder + "/InRelease"]
+        gpg(self.sandbox, key, *words, "--clearsign", self.sandbox.path("release"))
 
     def ask(
         self, *words: str, sources: Tuple[str, ...] = (SUITE,), keyring: str = "keys.gpg"
@@ -155,6 +154,11 @@ class Place:
         more.append(f"--keyring={self.sandbox.path(keyring)}")
         names = ("host-old.db", "host-new.db")
         return self.sandbox.call("aide-compare archive", *more, *words, *names)
+
+    def expect(self, answer: Answer, want: str, *paths: bytes) -> None:
+        """What accounts for the changes of some paths, beside what was made."""
+        for path in paths:
+            self.sandbox.assertEqual(self.standing(answer, path), want, path)
 
     def standing(self, answer: Answer, path: bytes) -> str:
         """What accounts for a change beside the old database and the one that was made."""
@@ -195,13 +199,10 @@ def upgraded(sandbox: CommandTest) -> Place:
 def make_keys(sandbox: CommandTest) -> None:
     """Two keys, of which the first is trusted."""
     for key in ("gpg", "other"):
-        folder = sandbox.path(key)
-        os.mkdir(folder, 0o700)
-        words = ["gpg", "--homedir", folder, "--batch", "--passphrase", "", "--quick-gen-key"]
-        words += [f"{key} <t@example.org>", "ed25519", "sign", "0"]
-        subprocess.run(words, check=True, capture_output=True)
-    keys = ["gpg", "--homedir", sandbox.path("gpg"), "--export"]
-    sandbox.write("keys.gpg", subprocess.run(keys, check=True, capture_output=True).stdout)
+        os.mkdir(sandbox.path(key), 0o700)
+        words = ("--quick-gen-key", f"{key} <t@example.org>", "ed25519", "sign", "0")
+        gpg(sandbox, key, "--passphrase", "", *words)
+    sandbox.write("keys.gpg", gpg(sandbox, "gpg", "--export"))
 
 
 def keep_as_apt(sandbox: CommandTest, place: Place) -> None:
@@ -231,6 +232,7 @@ class ArchiveTest(CommandTest):
             self.skipTest("not installed: " + " ".join(missing))
         make_keys(self)
         self.addCleanup(self.stop_agents)
+        self.place = upgraded(self)
 
     def stop_agents(self) -> None:
         """Ends what gpg has started."""
@@ -238,82 +240,72 @@ class ArchiveTest(CommandTest):
             words = ["gpgconf", "--homedir", self.path(key), "--kill", "all"]
             subprocess.run(words, check=False, capture_output=True)
 
+    def applied(self, *words: str, told: bytes = APPLIED, **more: Any) -> Answer:
+        """What the command makes of the packages."""
+        answer = self.place.ask(*words, **more)
+        self.expect(f"{words} {more}", answer, 0, errors=[told])
+        return answer
+
+    def not_made(self, told: bytes, status: int = 18, *words: str, **more: Any) -> None:
+        """Nothing is made of them."""
+        answer = self.place.ask(*words, **more)
+        self.expect(f"{words} {more}", answer, status, output=b"", errors=[told])
+
     def test_agrees(self) -> None:
         """What the packages have agrees, wherever it is; configuration and what went stay open."""
-        place = upgraded(self)
+        place = self.place
         place.sign()
-        answer = place.ask()
-        self.expect("a signed upgrade", answer, 0, errors=[b"applied: 21 files\n"])
-        self.assertIsNone(
-            first_fault(answer.output), ("it is a sound database", answer.output[:300])
-        )
-        trusted = (
-            TOOL,
-            b"/usr/bin/true",
-            b"/usr/bin/plain",
-            b"/usr/bin/alias",
-            b"/usr/bin/zero",
-            LIBRARY,
-            ODD,
-        )
-        added = (b"/usr/share/tool/new", b"/usr/share/tool/new/file")
-        for path, want in {
-            **dict.fromkeys((*trusted, *added), "trusted"),
-            CONFIGURATION: "open",
-            b"/usr/share/tool/gone": "open",
-            b"/usr/bin/passwd": "old",
-        }.items():
-            got = place.standing(answer, path)
-            self.assertEqual(got, want, (f"signed: {path!r}", (got, want)))
-        for name, text in (
-            (b"tool.md5sums", b"sums of 2"),
-            (b"lib:amd64.list", b"/.\n/lib\n/lib/multi\n/lib/multi/lib.so\n"),
-        ):
-            place.new.file(INFO + name, text)
-            got = place.standing(answer, INFO + name)
-            self.assertEqual(got, "trusted", f"what dpkg keeps: {name!r}")
+        answer = self.applied()
+        self.assertIsNone(first_fault(answer.output), "it is a sound database")
+        for name in ("true", "plain", "alias", "zero"):
+            place.expect(answer, "trusted", b"/usr/bin/" + name.encode())
+        new = (b"/usr/share/tool/new", b"/usr/share/tool/new/file")
+        place.expect(answer, "trusted", TOOL, LIBRARY, ODD, *new)
+        place.expect(answer, "open", CONFIGURATION, b"/usr/share/tool/gone")
+        place.expect(answer, "old", b"/usr/bin/passwd")
+        place.new.file(INFO + b"tool.md5sums", b"sums of 2")
+        place.new.file(INFO + b"lib:amd64.list", b"/.\n/lib\n/lib/multi\n/lib/multi/lib.so\n")
+        place.expect(answer, "trusted", INFO + b"tool.md5sums", INFO + b"lib:amd64.list")
         self.write("trusted.db", answer.output)
         both = self.call("aide-compare", "-q", "host-old.db", "trusted.db")
-        self.holds("the programs read it", 1 <= both.status <= 7, both)
+        self.assertIn(both.status, range(1, 8), "the programs read it")
 
     def test_differs(self) -> None:
         """Nothing else agrees: another content, owner, mode, or a right that the package gives."""
-        place = upgraded(self)
+        place = self.place
         place.sign()
-        answer = place.ask()
-        rows: Dict[str, Dict[str, Any]] = {
-            "another owner": {"uid": 33},
-            "another group": {"gid": 33},
-            "capabilities": {"capabilities": base64.b64encode(b"x").decode()},
-            "another mode": {"perm": "100775"},
-        }
-        for path in (TOOL, b"/usr/share/tool/new/file"):
-            mode = 0o100755 if path == TOOL else 0o100644
-            for label, more in rows.items():
+        answer = self.applied()
+        rights: List[Dict[str, Any]] = [
+            {"uid": 33},
+            {"gid": 33},
+            {"capabilities": base64.b64encode(b"x").decode()},
+            {"perm": "100775"},
+        ]
+        for path, mode in ((TOOL, 0o100755), (b"/usr/share/tool/new/file", 0o100644)):
+            for more in rights:
                 place.new.file(path, TWO, mode, **more)
-                got = place.standing(answer, path)
-                self.assertEqual(got, "open", f"{label}: {path!r}")
+                self.assertEqual(place.standing(answer, path), "open", (path, more))
             place.new.file(path, b"evil", mode)
-            got = place.standing(answer, path)
-            self.assertEqual(got, "open", f"another content: {path!r}")
+            place.expect(answer, "open", path)
+        # An administrator took a set-ID bit away.
         place.new.file(b"/usr/bin/plain", TWO, 0o104755)
-        got = place.standing(answer, b"/usr/bin/plain")
-        self.assertEqual(got, "open", "a set-ID bit that an administrator took away")
         place.new.file(LIBRARY, b"of another version\n")
-        got = place.standing(answer, LIBRARY)
-        self.assertEqual(got, "open", "a file of an older version")
+        place.expect(answer, "open", b"/usr/bin/plain", LIBRARY)
+
+    def test_path_of_two(self) -> None:
+        """A path that two packages have stays open, whichever content it has."""
+        place = self.place
         place.package(Built("tool-more", "1").file(TOOL, b"of two packages\n", 0o755))
         place.listed("tool-more", "1")
         place.sign()
         answer = place.ask()
         for content in (TWO, b"of two packages\n"):
             place.new.file(TOOL, content, 0o100755)
-            got = place.standing(answer, TOOL)
-            self.assertEqual(got, "open", ("a path of two packages", content))
+            place.expect(answer, "open", TOOL)
 
     def test_not_applied(self) -> None:
         """New, removed and older packages are named, and nothing of them is applied."""
-        place = upgraded(self)
+        place = self.place
         rows = {
             "came": "it is new: came",
             "went": "it was removed: went",
@@ -324,97 +316,97 @@ class ArchiveTest(CommandTest):
             "lost": "lost: the file of 2, the newest one of the archive, is not there",
         }
         versions = {"late": "1", "fell": "3", "local": "1+own"}
-        for name in rows:
+        endings = (b".list", b".md5sums")
+        for name in (*rows, "same"):
             place.listed(name, versions.get(name, "2"))
             path = b"/usr/bin/" + name.encode()
             if name != "local":
                 place.package(Built(name, "2").file(path, TWO, 0o755))
             place.new.file(path, TWO, 0o100755)
-            for night, missing in ((place.old, "came"), (place.new, "went")):
-                for ending in (b".list", b".md5sums") if name == missing else ():
-                    del night.entries[INFO + name.encode() + ending]
+        for ending in endings:
+            del place.old.entries[INFO + b"came" + ending]
+            del place.new.entries[INFO + b"went" + ending]
+            place.new.entries[INFO + b"same" + ending] = place.old.entries[INFO + b"same" + ending]
         del place.old.entries[INFO + b"purged.md5sums"]  # dpkg keeps the list of a removed package.
         os.unlink(self.path("mirror/pool/lost_2_amd64.deb"))
-        place.package(Built("same", "2").file(b"/usr/bin/same", TWO, 0o755))
-        place.listed("same", "2")
-        for ending in (b".list", b".md5sums"):
-            place.new.entries[INFO + b"same" + ending] = place.old.entries[INFO + b"same" + ending]
-        place.new.file(b"/usr/bin/same", TWO, 0o100755)
         place.sign()
         answer = place.ask("-q")
         notes = [f"aide-compare archive: not applied, {line}\n".encode() for line in rows.values()]
         self.expect("packages that are not applied", answer, 0, errors=notes)
-        self.assertEqual(answer.errors.count(b"\n"), len(rows), ("nothing else is said", answer))
-        for name in (*rows, "same"):
-            got = place.standing(answer, b"/usr/bin/" + name.encode())
-            self.assertEqual(got, "open", f"not applied: {name}")
-        got = place.standing(answer, TOOL)
-        self.assertEqual(got, "trusted", "the others are applied")
+        self.assertEqual(answer.errors.count(b"\n"), len(rows), "nothing else is said")
+        place.expect(answer, "open", *(b"/usr/bin/" + name.encode() for name in (*rows, "same")))
+        place.expect(answer, "trusted", TOOL)
 
     def test_sources(self) -> None:
         """Packed indexes, and what apt keeps of indexes and packages."""
-        place = upgraded(self)
+        place = self.place
         for ending in (".gz", ".xz"):
             place.sign(ending=ending)
-            got = place.standing(place.ask(), TOOL)
-            self.assertEqual(got, "trusted", f"an index {ending}")
+            place.expect(place.ask(), "trusted", TOOL)
         place.sign()
         keep_as_apt(self, place)
-        answer = place.ask(sources=("lists", "archives"))
-        self.expect("what apt keeps", answer, 0, errors=[b"applied: 21 files\n"])
-        got = place.standing(answer, TOOL)
-        self.assertEqual(got, "trusted", "what apt keeps agrees")
-        answer = place.ask(sources=("lists",))
-        self.expect("without packages", answer, 0, errors=[b"tool: the file of 2, the newest"])
+        place.expect(self.applied(sources=("lists", "archives")), "trusted", TOOL)
+        self.applied(sources=("lists",), told=MISSING)
 
-    def test_refused(self) -> None:
-        """What is not signed, or not as it was signed, is refused; nothing is written then."""
-        place = upgraded(self)
+    def test_unsigned(self) -> None:
+        """What no trusted key has signed is refused; nothing is written then."""
+        place = self.place
         release = SUITE + "/InRelease"
-
-        def refused(label: str, words: bytes, status: int = 18) -> None:
-            answer = place.ask()
-            self.expect(label, answer, status, output=b"", errors=[words])
-
+        told = b"no key of the keyrings that signed"
         place.sign(key="other")
-        refused("another key", b"no key of the keyrings that signed")
+        self.not_made(told)
         place.sign()
         signed = self.read(release)
-        for label, text in (
-            ("a changed text", signed.replace(b"Origin: Trial", b"Origin: Other")),
-            ("no signature", self.read("release")),
-            ("two texts", signed + signed),
-            ("half of it", signed[: len(signed) // 2]),
-            ("nothing", b""),
+        for text in (
+            signed.replace(b"Origin: Trial", b"Origin: Other"),
+            self.read("release"),
+            signed + signed,
+            signed[: len(signed) // 2],
+            b"",
         ):
             self.write(release, text)
-            refused(label, b"no key of the keyrings that signed")
+            self.not_made(told)
+
+    def test_not_as_signed(self) -> None:
+        """An index or a package that is not as it was signed is refused."""
+        place = self.place
+        told = b"Packages is not as it was signed"
         place.sign(index=b"Package: evil\n")
-        evil = hashlib.sha256(b"Package: evil\n").hexdigest()
-        name = "main/binary-amd64/Packages"
-        self.write(release, f" {evil} 14 {name}\n".encode() + self.read(release))
-        refused("a text before it that names the index", b"Packages is not as it was signed")
-        place.sign(more="Valid-Until: Sat, 01 Jan 2022 00:00:00 UTC\n")
-        refused("one that has expired", b"was valid until Sat, 01 Jan 2022")
-        place.sign(more="Valid-Until: Sat, 01 Jan 2095 00:00:00 UTC\n")
-        self.expect("one that has not", place.ask(), 0, errors=[b"applied: 21 files\n"])
-        place.sign(index=b"Package: evil\n")
-        refused("another index", b"Packages is not as it was signed")
+        self.not_made(told)
+        # A text before the signed one names the index.
+        digest = hashlib.sha256(b"Package: evil\n").hexdigest()
+        line = f" {digest} 14 main/binary-amd64/Packages\n".encode()
+        self.write(SUITE + "/InRelease", line + self.read(SUITE + "/InRelease"))
+        self.not_made(told)
         place.sign()
         package = "mirror/pool/tool_2_amd64.deb"
         whole = self.read(package)
         self.write(package, whole[:-1] + bytes([whole[-1] ^ 1]))
-        refused("another package", b"tool_2_amd64.deb is not as it was signed")
+        self.not_made(b"tool_2_amd64.deb is not as it was signed")
         self.write(package, whole + b"more")
-        refused("a longer package", b"has more than")
-        self.write(package, whole)
-        place.built[0].fields = place.built[0].fields.replace("pool/", "../pool/")
+        self.not_made(b"has more than")
+
+    def test_expired(self) -> None:
+        line = "Valid-Until: Sat, 01 Jan %d 00:00:00 UTC\n"
+        self.place.sign(more=line % 2022)
+        self.not_made(b"was valid until Sat, 01 Jan 2022")
+        self.place.sign(more=line % 2095)
+        self.applied()
+
+    def test_above_mirror(self) -> None:
+        """A signed path that leads out of the mirror is not followed."""
+        built = self.place.built[0]
+        built.fields = built.fields.replace("pool/", "../pool/")
         shutil.copytree(self.path("mirror/pool"), self.path("pool"))
-        place.sign()
-        answer = place.ask()
-        self.expect(
-            "a path above the mirror", answer, 0, errors=[b"tool: the file of 2, the newest"]
-        )
+        self.place.sign()
+        self.applied(told=MISSING)
+
+    def mailed(self, words: List[str]) -> bytes:
+        """The text of the nightly mail, with these words for the trusted pair."""
+        both = (self.path("base/aide.db"), self.path("base/aide.db.new"))
+        self.expect("mailed", mail.call(self, *words, *both), 7, output=b"")
+        text: bytes = mail.body(mail.sent(self))
+        return text
 
     def test_nightly(self) -> None:
         """The words of the daily unit and of cron's job: the night of a signed upgrade mails what
@@ -427,28 +419,23 @@ class ArchiveTest(CommandTest):
         job = job.replace("$directory", "/var/lib/aide-compare/daily").replace('"', "")
         for words in (line.split()[1:], trusted.split()):
             self.assertIn(" ".join(words).split("--")[-1], " ".join(job.split()), "cron's words")
-        place = upgraded(self)
-        place.sign()
-        keep_as_apt(self, place)
-        self.write("base/aide.db", place.old.database())
-        self.write("base/aide.db.new", place.new.database())
+        self.place.sign()
+        keep_as_apt(self, self.place)
+        self.write("base/aide.db", self.place.old.database())
+        self.write("base/aide.db.new", self.place.new.database())
         words = [f"--keyring={self.path('keys.gpg')}", *map(self.at_home, line.split()[1:])]
         pair = list(map(self.at_home, trusted.split()))
-        both = [self.path("base/aide.db"), self.path("base/aide.db.new")]
-        self.expect("made", self.call("aide-compare archive", *words), 0, output=b"")
-        self.expect("mailed", mail.call(self, *pair, *both), 7, output=b"")
-        body = mail.body(mail.sent(self))
-        self.assertIn(b" 11 are silent: as ", body, ("the sentence", body))
-        named = [path for path in (TOOL, LIBRARY, ODD) if path in body]
-        self.assertEqual(named, [], ("what is signed is not named", body))
-        self.assertIn(CONFIGURATION, body, "what is not")
+        self.answered(0, b"", None, ARCHIVE, *words)
+        text = self.mailed(pair)
+        self.assertIn(b" 11 are silent: as ", text)
+        named = [path for path in (TOOL, LIBRARY, ODD, CONFIGURATION) if path in text]
+        self.assertEqual(named, [CONFIGURATION], "what is not signed")
         os.remove(self.path("archives/tool_2_amd64.deb"))
         shutil.rmtree(self.path("lists"))
-        self.expect("no lists", self.call("aide-compare archive", *words), 18, output=b"")
-        self.expect("mailed without", mail.call(self, *pair, *both), 7, output=b"")
-        body = mail.body(mail.sent(self))
-        self.assertNotIn(b" are silent: as in", body, "nothing is trusted")
-        self.assertIn(TOOL, body, ("what is signed is told then", body))
+        self.refused(18, None, ARCHIVE, *words)
+        text = self.mailed(pair)
+        self.assertNotIn(b" are silent: as in", text)
+        self.assertIn(TOOL, text, "what is signed is told then")
 
     def at_home(self, word: str) -> str:
         """A word of the unit with the paths of this test."""
@@ -459,7 +446,7 @@ class ArchiveTest(CommandTest):
 
     def test_architectures(self) -> None:
         """A package of another architecture, or of an older version there, is not taken for it."""
-        place = upgraded(self)
+        place = self.place
         files = place.built
         place.built = []
         place.package(Built("tool", "2", "arm64").file(TOOL, b"of arm64\n", 0o755))
@@ -468,85 +455,70 @@ class ArchiveTest(CommandTest):
         place.sign()
         answer = place.ask()
         # Of two packages that have the digests of the host, neither decides on a path of both.
-        self.assertEqual(place.standing(answer, TOOL), "open", "another architecture first")
-        self.assertEqual(place.standing(answer, ODD), "trusted", "what only one of them has")
-        self.assertEqual(place.standing(answer, LIBRARY), "trusted", "dpkg's own name has one")
+        place.expect(answer, "open", TOOL)
+        place.expect(answer, "trusted", ODD, LIBRARY)
 
     def test_output(self) -> None:
         """A file is replaced by what was made; by the old database if that fails, so that nothing
         is silent that was not signed."""
-        place = upgraded(self)
+        place = self.place
         place.sign()
         made = place.ask().output
+        old = place.old.database()
         self.write("made.db", b"of another night\n")
-        answer = place.ask("--output", "made.db")
-        self.expect("a file", answer, 0, output=b"", errors=[b"applied: 21 files\n"])
-        self.assertEqual(self.read("made.db"), made, "the file has what was made")
+        answer = self.applied("--output", "made.db")
+        self.assertEqual((answer.output, self.read("made.db")), (b"", made))
         mode = os.stat(self.path("made.db")).st_mode & 0o7777
         self.assertEqual(mode, 0o600, "nobody else reads what a database has")
         place.sign(key="other")
-        answer = place.ask("--output", "made.db")
-        self.expect("a file of what is not signed", answer, 18, output=b"")
-        self.assertEqual(self.read("made.db"), place.old.database(), "the file has the old one")
+        self.not_made(b"no key", 18, "--output", "made.db")
+        self.assertEqual(self.read("made.db"), old)
+        self.write("host-new.db", b"no database\n")
+        source = f"--from={self.path(SUITE)}"
         for name, status in (("host-new.db", 24), ("gone.db", 18)):
-            self.write("host-new.db", b"no database\n")
             self.write("made.db", b"of another night\n")
-            words = (f"--from={self.path(SUITE)}", "--output=made.db", "host-old.db", name)
-            answer = self.call("aide-compare archive", *words)
-            self.expect(f"a file without {name}", answer, status, output=b"")
-            self.assertEqual(self.read("made.db"), place.old.database(), "the file has the old one")
-        answer = self.call(
-            "aide-compare archive", *words[:1], "--output=nowhere/made.db", *words[2:]
-        )
-        self.expect("a directory that is not there", answer, 18, output=b"")
+            self.refused(status, None, ARCHIVE, source, "--output=made.db", "host-old.db", name)
+            self.assertEqual(self.read("made.db"), old, name)
+        words = (source, "--output=nowhere/made.db", "host-old.db", "gone.db")
+        self.refused(18, None, ARCHIVE, *words)
         self.assertFalse(os.path.lexists(self.path("nowhere")), "no directory is made")
-        self.assertFalse(self.leftovers(), "nothing is left")
 
     def test_user(self) -> None:
         """Root may give up its privileges first, and the file is the user's then."""
-        if os.geteuid() != 0:
-            self.skipTest("another user (it needs root)")
-        place = upgraded(self)
-        place.sign()
+        self.needs_root()
+        self.place.sign()
         os.makedirs(self.path("his"))
         os.chown(self.path("his"), NOBODY, NOBODY)
-        answer = place.ask("--user=nobody", "--output=his/made.db")
-        self.expect("another user", answer, 0, errors=[b"applied: 21 files\n"])
-        self.assertEqual(os.stat(self.path("his/made.db")).st_uid, NOBODY, "whose file it is")
+        self.applied("--user=nobody", "--output=his/made.db")
+        self.assertEqual(os.stat(self.path("his/made.db")).st_uid, NOBODY)
         os.chmod(self.path("host-old.db"), 0o600)
         words = ("--user=nobody", f"--from={self.path(SUITE)}", "host-old.db", "host-new.db")
-        answer = self.call("aide-compare archive", *words)
-        self.expect("what the user may not read", answer, 18, errors=[b"Permission denied"])
+        self.answered(18, None, b"Permission denied", ARCHIVE, *words)
 
     def test_keyrings(self) -> None:
         """A keyring is as both databases have it, or in neither."""
-        place = upgraded(self)
+        place = self.place
         place.sign()
         path = os.fsencode(self.path("keys.gpg"))
         keys = self.read("keys.gpg")
-        rows: List[Tuple[str, List[bytes], int]] = [
-            ("as in both", [keys, keys], 0),
-            ("not as in the old one", [b"other", keys], 18),
-            ("not as in the new one", [keys, b"other"], 18),
-            ("in the new one only", [b"", keys], 18),
-            ("in the old one only", [keys, b""], 18),
-        ]
-        for label, texts, status in rows:
+        for texts, status in (
+            ((keys, keys), 0),
+            ((b"other", keys), 18),
+            ((keys, b"other"), 18),
+            ((b"", keys), 18),
+            ((keys, b""), 18),
+        ):
             for night, text in zip((place.old, place.new), texts):
                 night.entries.pop(path, None)
                 if text:
                     night.file(path, text)
-            answer = place.ask()
-            self.assertEqual(answer.status, status, (f"a keyring {label}", answer))
+            self.assertEqual(place.ask().status, status, texts)
         for night in (place.old, place.new):
             night.entries.pop(path, None)
         os.chmod(self.path("keys.gpg"), 0o666)
-        self.expect("a keyring that others can write", place.ask(), 18, output=b"")
+        self.not_made(b"")
         os.chmod(self.path("keys.gpg"), 0o644)
-        self.expect("no keyring", place.ask(keyring="nowhere"), 18, output=b"")
-        answer = place.ask("more")
-        self.expect("three databases", answer, 15, output=b"")
+        self.not_made(b"", keyring="nowhere")
+        self.not_made(b"", 15, "more")
         self.write("host-old.db", b"no database\n")
-        words = ("--from=mirror", "host-old.db", "host-new.db")
-        answer = self.call("aide-compare archive", *words)
-        self.expect("no sound database", answer, 24, output=b"")
+        self.refused(24, None, ARCHIVE, "--from=mirror", "host-old.db", "host-new.db")
