@@ -7,7 +7,7 @@ import select
 import subprocess
 import time
 
-from .accepting import DIGEST, FILES, OLDER, AcceptingTest, contents, fresh
+from .accepting import DIGEST, FILES, OLDER, TOOL, AcceptingTest, contents, fresh
 from .sandbox import CommandTest, END, HEAD, NEW, NOBODY, OLD
 
 PROMPT = b"? [y/N] "
@@ -17,10 +17,10 @@ SECONDS = 120
 class Terminal:
     """A command on a terminal: what it has printed, and what is typed."""
 
-    def __init__(self, sandbox: CommandTest, *words: str) -> None:
+    def __init__(self, sandbox: CommandTest, tool: str, *words: str) -> None:
         self.ours, theirs = pty.openpty()
         environment = sandbox.environment(TERM="xterm", NO_COLOR="1")
-        command = sandbox.command("aide-compare accept", *words)
+        command = sandbox.command(tool, *words)
         self.process = subprocess.Popen(
             command, 0, None, theirs, theirs, theirs, cwd=sandbox.root, env=environment
         )
@@ -53,7 +53,7 @@ class Terminal:
 class AcceptAskedTest(AcceptingTest):
     def asked(self, answer: bytes, words: tuple[str, ...] = FILES) -> tuple[int, bytes]:
         """The status and the text of a command whose question, if it asks one, gets an answer."""
-        terminal = Terminal(self, *words)
+        terminal = Terminal(self, TOOL, *words)
         terminal.read(PROMPT)
         if PROMPT in terminal.text:
             terminal.type(answer)
@@ -79,7 +79,7 @@ class AcceptAskedTest(AcceptingTest):
 
     def test_typed_ahead(self) -> None:
         """What was typed before the question was there is no answer."""
-        terminal = Terminal(self, *FILES)
+        terminal = Terminal(self, TOOL, *FILES)
         terminal.type(b"y\n" * 5)
         terminal.read(PROMPT)
         time.sleep(0.5)
@@ -89,7 +89,7 @@ class AcceptAskedTest(AcceptingTest):
 
     def test_exchanged(self) -> None:
         """Another database that came after the question was asked is not accepted."""
-        terminal = Terminal(self, *FILES)
+        terminal = Terminal(self, TOOL, *FILES)
         terminal.read(PROMPT)
         self.write("base/aide.db.new", OLDER, 0o600)
         terminal.type(b"y\n")
@@ -108,9 +108,8 @@ class AcceptAskedTest(AcceptingTest):
     def test_refused(self) -> None:
         """Without a terminal on both sides nobody is asked; and if nothing was compared, there is
         nothing to accept."""
-        tool = "aide-compare accept"
-        self.refused(15, b"--sha256 DIGEST is needed", tool, *FILES, text=b"y\n")
-        self.refused(15, b"unrecognized arguments: --yes", tool, "--yes", *FILES)
+        self.refused(15, b"--sha256 DIGEST is needed", TOOL, *FILES, text=b"y\n")
+        self.refused(15, b"unrecognized arguments: --yes", TOOL, "--yes", *FILES)
         status, text = self.asked(b"y\n", ("-q", *FILES))
         self.assertEqual((status, PROMPT in text), (15, False), text)
         for new in (HEAD + b"/a\n" + END, b""):

@@ -1,5 +1,7 @@
 """Many hosts against one that was taken over: its report, its bytes, its silence; and runs that are
 ended half way."""
+from __future__ import annotations
+
 import gzip
 import os
 import re
@@ -7,12 +9,17 @@ import signal
 import subprocess
 import sys
 import time
+from collections.abc import Sequence
+from typing import Any, NamedTuple
 
 from tests.lib.waiting import is_alive, until
 
 from .sandbox import CommandTest, END, NEW, OLD
 
+COMPARE = "aide-compare hosts compare"
 ROOM = 40 << 20
+COUNTS = "added 1, removed 1, changed 2"
+DIFFERS = f"7 {COUNTS}: 4 open of 4 changes"
 PAIR = ("good1", "good2", "good3", "good4", "good5", "good6")
 SSH = '''while [ "${1#-}" != "$1" ]; do [ "$1" = -o ] && shift; shift; done
 case $1 in
@@ -24,344 +31,263 @@ case $1 in
     killer) kill -9 $PPID; exit 1 ;;
 esac
 exec cat "ROOT/remote/$1"'''
-# What is kept of nine bytes that come in three blocks, with room for five.
-DRAIN = """import sys
+# The room that a host gets on a file system with 40 MB.
+SHARE = """import os, sys
 sys.path.insert(0, sys.argv[1])
-from aide_compare.base.program import Drain
-kept = []
-drain = Drain(5, kept.append)
-for block in (b"1234", b"5678", b"9"):
-    drain.take(block)
-print(b"".join(kept).decode(), drain.size)
+from aide_compare.hosts import store
+class Small:
+    f_bavail, f_frsize = 10240, 4096
+real = os.fstatvfs
+os.fstatvfs = lambda descriptor: Small
+print(store.HostDirectory(sys.argv[2], "endless", 1).room(8))
 """
 
 
-def hostile():
+def hostile() -> bytes:
     """Some kB of gzip, a database of 54 MB, and a report of ten times that: link names of control
     bytes."""
     return gzip.compress(links(b"%01" * 300000))
 
 
-def links(name):
+def links(name: bytes) -> bytes:
     lines = b"".join(b"/l%03d 7 120777 %s\n" % (number, name) for number in range(60))
     return b"@@begin_db\n@@db_spec name attr perm lname\n" + lines + END
 
 
-def set_limit(sandbox, module, name, value):
-    """A limit of a module of the sandbox gets another value."""
-    path = "lib/aide_compare/hosts/%s.py" % module
-    text = sandbox.read(path).decode()
-    sandbox.holds("the limit " + name, re.search(r"(?m)^[A-Z_, ]*\b%s\b.* = " % name, text))
-    sandbox.write(path, "%s%s = %d\n" % (text, name, value))
+class Said(NamedTuple):
+    """What a command about many hosts answered."""
+
+    status: int
+    output: str
+    errors: str
 
 
 class Fleet:
     """The commands as they are installed, and a store with hosts that a small program in ssh's
     place sends for. Each trial begins with its own, so that it can be run by itself."""
 
-    def __init__(self, sandbox):
+    def __init__(self, sandbox: CommandTest) -> None:
         self.sandbox = sandbox
         sandbox.stub("ssh", SSH.replace("ROOT", sandbox.root))
         for host in PAIR:
             self.put(host, NEW)
 
-    def put(self, host, text, baseline=OLD):
+    def put(self, host: str, text: bytes, baseline: bytes | None = OLD) -> None:
         self.sandbox.write("remote/" + host, text)
         if baseline is not None:
             self.sandbox.write("store/hosts/%s/aide.db" % host, baseline, 0o600)
 
-    def words(self, command, *words):
-        return self.sandbox.command(command, "--store", self.sandbox.path("store"), *words)
+    def list_hosts(self, *hosts: str) -> str:
+        """The file of hosts, which has these names."""
+        path: str = self.sandbox.write("hosts", "".join("%s\n" % host for host in hosts))
+        return path
 
-    def set_limit(self, module, name, value):
-        set_limit(self.sandbox, module, name, value)
-
-    def start(self, words, **more):
-        environment = self.sandbox.environment(
-            PATH="%s:%s:%s"
-            % (self.sandbox.path("stubs"), self.sandbox.path("bin"), os.environ["PATH"])
+    def words(self, command: str, *words: str) -> list[str]:
+        found: list[str] = self.sandbox.command(
+            command, "--store", self.sandbox.path("store"), *words
         )
+        return found
+
+    def set_limit(self, module: str, name: str, value: int) -> None:
+        """A limit of a module of the sandbox gets another value."""
+        path = "lib/aide_compare/hosts/%s.py" % module
+        text = self.sandbox.read(path).decode()
+        self.sandbox.assertRegex(text, r"(?m)^[A-Z_, ]*\b%s\b.* = " % name)
+        self.sandbox.write(path, "%s%s = %d\n" % (text, name, value))
+
+    def start(self, words: Sequence[str], **more: Any) -> subprocess.Popen[bytes]:
+        places = (self.sandbox.path("stubs"), self.sandbox.path("bin"), os.environ["PATH"])
         return subprocess.Popen(
             words,
             cwd=self.sandbox.root,
-            env=environment,
+            env=self.sandbox.environment(PATH=":".join(places)),
             stdin=subprocess.DEVNULL,
             stdout=subprocess.PIPE,
             stderr=subprocess.PIPE,
             **more,
         )
 
-    def call(self, command, *words, before=()):
-        run = self.start(list(before) + self.words(command, *words))
+    def call(self, command: str, *words: str, before: Sequence[str] = ()) -> Said:
+        run = self.start([*before, *self.words(command, *words)])
         output, errors = run.communicate(timeout=900)
-        return run.returncode, output.decode(), errors.decode()
+        return Said(run.returncode, output.decode(), errors.decode())
 
-    def state(self, host):
+    def compare(self, *words: str, before: Sequence[str] = ()) -> Said:
+        return self.call(COMPARE, *words, before=before)
+
+    def compare_one(self, host: str, *words: str, before: Sequence[str] = ()) -> Said:
+        return self.compare(*words, "--one", host, before=before)
+
+    def state(self, host: str) -> str:
         path = "store/states/" + host
         return self.sandbox.read(path).decode() if os.path.exists(self.sandbox.path(path)) else ""
 
-    def size(self, host):
-        folder = self.sandbox.path("store/hosts/" + host)
-        return sum(os.stat(folder + "/" + name).st_size for name in os.listdir(folder))
-
-    def lines(self, output):
-        return dict(line.split(" ", 1) for line in output.splitlines()[:-1])
+    def not_compared(self, told: str, said: Said, host: str, status: int = 18) -> None:
+        """A host was not compared, which its line and its state say with this text."""
+        self.sandbox.assertEqual(said.status, status, said)
+        line = re.search(f"(?m)^{re.escape(host)} {status} (.*)$", said.output)
+        self.sandbox.assertIn(told, line.group(1) if line else "", said)
+        state = self.state(host)
+        self.sandbox.assertIn(f"\nstatus={status}\n", state)
+        self.sandbox.assertIn(told, state)
 
 
 class FleetTest(CommandTest):
+    def setUp(self) -> None:
+        super().setUp()
+        self.fleet = Fleet(self)
+
+    def check_pair(self, said: Said) -> None:
+        """All hosts that are not hostile are compared."""
+        for host in PAIR:
+            self.assertIn(f"{host} {DIFFERS}\n", said.output, said)
+
     def test_hostile(self) -> None:
         """One host sends some kB whose changes have hundreds of MB: it is compared, its lines are
         cut, the others are as always."""
-        fleet = Fleet(self)
+        fleet = self.fleet
         fleet.put("evil", hostile(), links(b"x"))
-        self.write("hosts", "".join("%s\n" % host for host in ("evil",) + PAIR))
+        hosts = fleet.list_hosts("evil", *PAIR)
         fleet.set_limit("host_comparison", "MAX_KEPT", 2 << 20)
-        words = ["--max-size", "200M", "--jobs", "3", self.path("hosts")]
-        status, output, errors = fleet.call("aide-compare hosts compare", *words)
-        lines = fleet.lines(output)
-        good = all(
-            lines.get(host) == "7 added 1, removed 1, changed 2: 4 open of 4 changes"
-            for host in PAIR
-        )
-        self.holds("one hostile host and six others", good and status == 7, (output, errors))
-        self.assertEqual(
-            lines.get("evil"),
-            "4 added 0, removed 0, changed 60: 60 open of 60 changes",
-            ("the hostile host is compared", lines),
-        )
-        tail = self.read("store/hosts/evil/lines").splitlines()[-1]
-        self.holds("what it takes of the store", fleet.size("evil") < 3 << 20, fleet.size("evil"))
-        self.holds(
-            "its lines say that they were cut",
-            b'"open":60,' in tail and b'"listed":60' not in tail,
-            tail,
-        )
-        done = subprocess.run(
-            [sys.executable, "-c", DRAIN, self.path("lib")], stdout=subprocess.PIPE
-        )
-        self.assertEqual(
-            done.stdout, b"12345 9\n", ("lines beyond the bound are counted and not kept", done)
-        )
-        state = fleet.state("evil")
-        self.assertIn("\nchanged=60\n", state, "its state has the counts")
-        fleet.put("bomb", gzip.compress(bytes(80 << 20)))
-        status, output, errors = fleet.call("aide-compare hosts compare", "--one", "bomb")
-        self.holds(
-            "more than 64 MB unpacked, without --max-size",
-            status == 18 and "has more than 67108864 bytes" in output,
-            output,
-        )
+        said = fleet.compare("--max-size", "200M", "--jobs", "3", hosts)
+        self.assertEqual(said.status, 7, said)
+        self.check_pair(said)
+        line = "evil 4 added 0, removed 0, changed 60: 60 open of 60 changes\n"
+        self.assertIn(line, said.output)
+        self.assertIn("\nchanged=60\n", fleet.state("evil"))
+        folder = self.path("store/hosts/evil")
+        size = sum(os.stat(f"{folder}/{name}").st_size for name in os.listdir(folder))
+        self.assertLess(size, 3 << 20, "what it takes of the store")
+        end = self.read("store/hosts/evil/lines").splitlines()[-1]
+        self.assertIn(b'"open":60,', end)
+        self.assertNotIn(b'"listed":60', end, "its lines say that they were cut")
+
+    def test_bomb(self) -> None:
+        """A database has 64 MB at most, without --max-size."""
+        self.fleet.put("bomb", gzip.compress(bytes(80 << 20)))
+        told = "has more than 67108864 bytes"
+        self.fleet.not_compared(told, self.fleet.compare_one("bomb"), "bomb")
 
     def test_small_store(self) -> None:
         """A store of 40 MB and no option: the host that sends without end gets a share of the room,
         and the others theirs. Where nothing can be mounted, MAX_SENT is what limits it; the share
-        is tried in try_endless."""
-        os.makedirs(self.path("store"), exist_ok=True)
+        is tried in test_share."""
         with self.mounted("store", "-t", "tmpfs", "-o", "size=40m,mode=755", "none") as is_small:
             fleet = Fleet(self)
             fleet.put("endless", OLD)
-            self.write("hosts", "".join("%s\n" % host for host in ("endless",) + PAIR))
             fleet.set_limit("fetching", "MAX_SENT", 1 << 30 if is_small else 3 << 20)
-            words = ["--time", "60s", self.path("hosts")]
-            output = fleet.call("aide-compare hosts compare", *words)[1]
-            good = all(
-                "%s 7 added 1, removed 1, changed 2: 4 open of 4 changes\n" % host in output
-                for host in PAIR
-            )
-            self.holds("a store of 40 MB", good and "endless 18 sent more than" in output, output)
+            said = fleet.compare("--time", "60s", fleet.list_hosts("endless", *PAIR))
+            self.check_pair(said)
+            fleet.not_compared("sent more than", said, "endless")
 
     def test_endless(self) -> None:
-        """A host that sends without end: on a store with little room it takes a share of the room,
-        and nothing is left of it."""
-        fleet = Fleet(self)
-        fleet.put("endless", OLD)
+        """A host that sends without end: nothing is left of it."""
+        self.fleet.put("endless", OLD)
+        self.fleet.set_limit("fetching", "MAX_SENT", 3 << 20)
         # No file can get more than 4 MB here: that it is said is not enough, it has to be kept.
         limited = ["sh", "-c", 'ulimit -f 8192; exec "$@"', "sh"]
-        fleet.set_limit("fetching", "MAX_SENT", 3 << 20)
-        status, output, errors = fleet.call(
-            "aide-compare hosts compare", "--one", "endless", before=limited
-        )
-        self.holds(
-            "a host that sends without end",
-            status == 18 and "sent more than 3145728 bytes" in output,
-            (output, errors),
-        )
-        left = [
-            name
-            for name in os.listdir(self.path("store/hosts/endless"))
-            if name not in ("aide.db", "lock", "not-fetched")
-        ]
-        self.assertFalse(left, "nothing is left of what it sent")
-        # The share of the room is asked of the module itself, so that no file system has to be
-        # mounted here.
-        program = (
-            "import sys, os\nsys.path.insert(0, %r)\nfrom aide_compare.hosts import store as f\n"
-            "real = os.fstatvfs\n"
-            "class S: f_bavail, f_frsize = 10240, 4096\n"
-            "os.fstatvfs = lambda fd: S\n"
-            'print(f.HostDirectory(%r, "endless", 1).room(8))'
-            % (self.path("lib"), self.path("store"))
-        )
-        got = subprocess.run([sys.executable, "-c", program], stdout=subprocess.PIPE).stdout
-        self.holds("a host never takes the room of the others", 0 < int(got or 0) * 9 <= ROOM, got)
+        said = self.fleet.compare_one("endless", before=limited)
+        self.fleet.not_compared("sent more than 3145728 bytes", said, "endless")
+        left = set(os.listdir(self.path("store/hosts/endless")))
+        self.assertEqual(left - {"aide.db", "lock", "not-fetched"}, set())
+
+    def test_share(self) -> None:
+        """A host never takes the room of the others. (The module itself is asked, so that no file
+        system has to be mounted.)"""
+        self.fleet.put("endless", OLD)
+        words = [sys.executable, "-c", SHARE, self.path("lib"), self.path("store")]
+        share = int(subprocess.check_output(words))
+        self.assertTrue(0 < share * 9 <= ROOM, share)
 
     def test_slow(self) -> None:
-        fleet = Fleet(self)
         for host in ("slow", "silent"):
-            fleet.put(host, OLD)
-            begun = time.time()
-            status, output, _ = fleet.call(
-                "aide-compare hosts compare", "--time", "1s", "--one", host
-            )
-            good = status == 18 and "after 1 seconds" in output and time.time() - begun < 40
-            self.holds(
-                "a host that is " + host,
-                good and "error=%s: had not sent" % host in fleet.state(host),
-                output,
-            )
+            self.fleet.put(host, OLD)
+            begun = time.monotonic()
+            said = self.fleet.compare_one(host, "--time", "1s")
+            self.fleet.not_compared("after 1 seconds", said, host)
+            self.assertIn("error=%s: had not sent" % host, self.fleet.state(host))
+            self.assertLess(time.monotonic() - begun, 40)
 
     def test_ended(self) -> None:
         """A signal ends the command at once, and ssh with it."""
-        fleet = Fleet(self)
-        self.write("two", "silent\ngood1\n")
+        hosts = self.fleet.list_hosts("silent", "good1")
+        pid = self.path("ssh.pid")
         for number in (signal.SIGTERM, signal.SIGHUP, signal.SIGKILL):
-            for command, last in (
-                ("aide-compare hosts compare", self.path("two")),
-                ("aide-compare hosts fetch", "silent"),
-            ):
-                pid = self.path("ssh.pid")
-                if os.path.exists(pid):
-                    os.remove(pid)
-                run = fleet.start(fleet.words(command, last))
-                until(lambda: os.path.exists(pid) and self.read("ssh.pid").strip())
-                begun = time.time()
+            for command, last in ((COMPARE, hosts), ("aide-compare hosts fetch", "silent")):
+                self.write("ssh.pid", "")
+                run = self.fleet.start(self.fleet.words(command, last))
+                until(lambda: self.read("ssh.pid").strip())
+                ssh = int(self.read(pid))
+                begun = time.monotonic()
                 run.send_signal(number)
                 run.communicate(timeout=60)
-                ssh = int(self.read("ssh.pid"))
-                gone = until(lambda: not is_alive(ssh))
-                good = run.returncode == -number and time.time() - begun < 30 and gone
-                self.holds(
-                    "%s ended by signal %d" % (command, number),
-                    good,
-                    (run.returncode, gone, time.time() - begun),
-                )
+                self.assertEqual(run.returncode, -number, command)
+                self.assertLess(time.monotonic() - begun, 30, (command, number))
+                self.assertTrue(until(lambda: not is_alive(ssh)), (command, number))
 
     def test_told(self) -> None:
         """What people see of a host's bytes, and a process that ends without an answer."""
-        fleet = Fleet(self)
-        for host, want in (
-            (
-                "unknown",
-                "Host key verification failed. (ssh ended with 255); is its key in known_hosts?",
-            ),
-            ("coloured", r"a\033[31mb\302\233c (ssh ended with 1)"),
-        ):
-            fleet.put(host, OLD)
-            status, output, _ = fleet.call("aide-compare hosts compare", "--one", host)
-            self.holds(
-                "what %s says" % host, status == 18 and output.split("\n")[0].endswith(want), output
-            )
-            self.holds(
-                "its state",
-                "\nstatus=18\n" in fleet.state(host) and want in fleet.state(host),
-                fleet.state(host),
-            )
-        fleet.put("killer", OLD)
-        self.write("lost", "good1\nkiller\ngood2\n")
-        status, output, _ = fleet.call("aide-compare hosts compare", self.path("lost"))
-        good = (
-            status == 18
-            and len(output.splitlines()) == 4
-            and "killer 18 ended without an answer" in output
-        )
-        self.holds(
-            "a host whose process is killed has a line",
-            good and "\nstatus=18\n" in fleet.state("killer"),
-            output,
-        )
+        unknown = "Host key verification failed. (ssh ended with 255); is its key in known_hosts?"
+        coloured = r"a\033[31mb\302\233c (ssh ended with 1)"
+        for host, told in (("unknown", unknown), ("coloured", coloured)):
+            self.fleet.put(host, OLD)
+            said = self.fleet.compare_one(host)
+            self.fleet.not_compared(told, said, host)
+            self.assertTrue(said.output.split("\n")[0].endswith(told), said)
+        self.fleet.put("killer", OLD)
+        said = self.fleet.compare(self.fleet.list_hosts("good1", "killer", "good2"))
+        self.fleet.not_compared("ended without an answer", said, "killer")
+        self.assertEqual(len(said.output.splitlines()), 4, said)
 
     def test_wrong(self) -> None:
-        fleet = Fleet(self)
-        for words in (
-            ["--same-for", "08x"],
-            ["--same-for", "31d"],
-            ["--time", "-1"],
-            ["--max-size", "1T"],
-        ):
-            status, output, errors = fleet.call(
-                "aide-compare hosts compare", *words, self.path("hosts")
-            )
-            self.holds(
-                "the option %r" % words, status == 15 and not output and errors, (status, errors)
-            )
+        hosts = self.fleet.list_hosts("good1")
+        for words in ("--same-for 08x", "--same-for 31d", "--time -1", "--max-size 1T"):
+            said = self.fleet.compare(*words.split(), hosts)
+            self.assertEqual((said.status, said.output), (15, ""), words)
+            self.assertTrue(said.errors, words)
         for name in ("..", "a..b", "-x", "a/b", "a b", "x\ny", "é", "a" * 201, "a\n"):
-            status = fleet.call("aide-compare hosts fetch", "--", name)[0]
-            self.holds(
-                "the name %r" % name[:9],
-                status == 15 and name not in os.listdir(self.path("store/hosts")),
-                status,
-            )
+            said = self.fleet.call("aide-compare hosts fetch", "--", name)
+            self.assertEqual(said.status, 15, (name, said))
+            self.assertNotIn(name, os.listdir(self.path("store/hosts")))
 
     def test_same_for(self) -> None:
         """The same bytes for too long are no comparison, with differences or without. 08 hours are
         eight."""
-        fleet = Fleet(self)
-        for host, text, counts in (
-            ("good1", NEW, "; it differs: added 1, removed 1, changed 2"),
-            ("same", OLD, ""),
+        for host, text, counts, status in (
+            ("good1", NEW, f"; it differs: {COUNTS}", 7),
+            ("same", OLD, "", 0),
         ):
-            fleet.put(host, text)
-            fleet.call("aide-compare hosts compare", "--one", host)
+            self.fleet.put(host, text)
+            self.fleet.compare_one(host)
             kept = self.path("store/hosts/%s/aide.db.new" % host)
             os.utime(kept, (time.time() - 9 * 3600,) * 2)
-            for words, want in (
-                (["--same-for", "08h"], 18),
-                (["--same-for", "10h"], 7 if counts else 0),
-                (["--same-for", "0"], 7 if counts else 0),
-            ):
-                status, output, _ = fleet.call("aide-compare hosts compare", *words, "--one", host)
-                self.assertEqual(status, want, ("%s with %r" % (host, words), output))
-                if want == 18:
-                    good = (
-                        "for more than 8 hours" in output
-                        and counts in output
-                        and "error=%s: has sent" % host in fleet.state(host)
-                    )
-                    self.holds("%s says so" % host, good, (output, fleet.state(host)))
+            said = self.fleet.compare_one(host, "--same-for", "08h")
+            self.fleet.not_compared("for more than 8 hours", said, host)
+            self.assertIn(counts, said.output)
+            self.assertIn("error=%s: has sent" % host, self.fleet.state(host))
+            for age in ("10h", "0"):
+                said = self.fleet.compare_one(host, "--same-for", age)
+                self.assertEqual(said.status, status, (host, age, said))
             os.utime(kept, (time.time() + 7200,) * 2)
-            status, output, _ = fleet.call("aide-compare hosts compare", "--one", host)
-            self.holds(
-                "%s from the future" % host, status == 18 and "in the future" in output, output
-            )
+            self.fleet.not_compared("in the future", self.fleet.compare_one(host), host)
 
     def test_accepting(self) -> None:
-        fleet = Fleet(self)
-        fleet.put("fresh", OLD, None)
-        fleet.call("aide-compare hosts fetch", "fresh")
-        self.assertEqual(fleet.call("aide-compare hosts accept", "fresh")[0], 15, "no digest")
-        status, output, _ = fleet.call("aide-compare hosts accept", "--first", "fresh")
-        self.holds(
-            "the first baseline",
-            status == 0 and re.search("SHA-256 [0-9a-f]{64}\n", output),
-            output,
-        )
-        self.assertEqual(
-            os.stat(self.path("store/hosts/fresh/aide.db")).st_mode & 0o777, 0o600, "its mode"
-        )
-        self.assertEqual(
-            fleet.call("aide-compare hosts accept", "--first", "fresh")[0], 24, "a second first one"
-        )
+        """The first baseline of a host, once."""
+        accept = "aide-compare hosts accept"
+        self.fleet.put("fresh", OLD, None)
+        self.fleet.call("aide-compare hosts fetch", "fresh")
+        self.assertEqual(self.fleet.call(accept, "fresh").status, 15, "no digest")
+        said = self.fleet.call(accept, "--first", "fresh")
+        self.assertEqual(said.status, 0, said)
+        self.assertRegex(said.output, "SHA-256 [0-9a-f]{64}\n")
+        mode = os.stat(self.path("store/hosts/fresh/aide.db")).st_mode & 0o777
+        self.assertEqual(mode, 0o600)
+        self.assertEqual(self.fleet.call(accept, "--first", "fresh").status, 24)
 
     def test_shared(self) -> None:
         """A store in which another user can write is refused, also by a link."""
-        fleet = Fleet(self)
-        if os.getuid() != 0:
-            self.skipTest("it needs root")
+        self.needs_root()
         os.chown(self.path("store/hosts/good1"), 65534, 65534)
-        status, output, _ = fleet.call("aide-compare hosts compare", "--one", "good1")
-        self.holds(
-            "the folder of another user",
-            status == 18 and "another user can write" in output,
-            output,
-        )
-        os.chown(self.path("store/hosts/good1"), 0, 0)
+        said = self.fleet.compare_one("good1")
+        self.assertEqual(said.status, 18, said)
+        self.assertIn("another user can write", said.output)

@@ -3,20 +3,18 @@ ssh's place and with real sshds on the loopback device."""
 from __future__ import annotations
 
 import os
-import pty
-import re
-import select
 import shutil
 import socket
 import subprocess
-import time
 from typing import NamedTuple
 
 from tests.lib.waiting import until
 
-from .test_fleet import Fleet, set_limit
 from .sandbox import CommandTest, NEW, OLD, sha256
+from .test_accept_asked import Terminal
+from .test_fleet import DIFFERS, Fleet
 
+PROMPT = b"yes or no: "
 # A key of nobody, and what ssh-keygen(1) says of it.
 KEY = "ssh-ed25519 AAAAC3NzaC1lZDI1NTE5AAAAIIaS9mDLWYfaRaq7GYEbe2sm9tMRUE2XNYaLWqBLEIaG"
 PRINT = "SHA256:L2v0QbKcufJgssnGsi5PmfNUIYsRnd/PnVc75xj4Nu8"
@@ -46,41 +44,15 @@ class Asked(NamedTuple):
     text: str
 
 
-def prepare(sandbox: CommandTest) -> Fleet:
-    for name in ("store", "etc-hosts", "known_hosts", "key.pub"):
-        path = sandbox.path(name)
-        if os.path.isdir(path):
-            shutil.rmtree(path)
-        elif os.path.lexists(path):
-            os.remove(path)
-    fleet = Fleet(sandbox)
-    shutil.rmtree(sandbox.path("store"))
-    sandbox.stub("ssh", SSH.replace("ROOT", sandbox.root).replace("KEY", KEY))
-    return fleet
-
-
 def add(sandbox: CommandTest, host: str, answer: str, *words: str) -> Asked:
     """Runs the command on a terminal, and answers its question once it is asked."""
-    ours, theirs = pty.openpty()
-    options = ["--store", sandbox.path("store"), "--hosts-file", sandbox.path("etc-hosts")]
-    process = sandbox.start(
-        "aide-compare hosts add", *options, *words, host, stdin=theirs, stdout=theirs, stderr=theirs
-    )
-    os.close(theirs)
-    text = b""
-    is_answered = False
-    deadline = time.monotonic() + 60
-    while time.monotonic() < deadline:
-        try:
-            if select.select([ours], [], [], 0.2)[0]:
-                text += os.read(ours, 1 << 16)
-        except OSError:  # So Linux tells the end of a terminal.
-            break
-        if not is_answered and text.endswith(b"yes or no: "):
-            os.write(ours, answer.encode())
-            is_answered = True
-    os.close(ours)
-    return Asked(process.wait(), text.decode("utf-8", "replace").replace("\r\n", "\n"))
+    options = ("--store", sandbox.path("store"), "--hosts-file", sandbox.path("etc-hosts"))
+    terminal = Terminal(sandbox, "aide-compare hosts add", *options, *words, host)
+    terminal.read(PROMPT)
+    if PROMPT in terminal.text:
+        terminal.type(answer.encode())
+    status, text = terminal.end()
+    return Asked(status, text.decode("utf-8", "replace"))
 
 
 def files(sandbox: CommandTest) -> dict[str, str]:
@@ -158,157 +130,129 @@ def known_hosts(sandbox: CommandTest, sshds: Sshds, *names: str) -> str:
     return lines
 
 
-def fleet_by_sshd(sandbox: CommandTest, sshds: Sshds) -> None:
-    """The next nights of both."""
-
-    def compare() -> tuple[int, str]:
-        words = ["--store", sandbox.path("store"), sandbox.path("etc-hosts")]
-        answer = sandbox.call("aide-compare hosts compare", *words)
-        return answer.status, answer.output.decode()
-
-    done = compare()
-    good = done[0] == 0 and "www 0 no differences\n" in done[1] and "db1 0 no" in done[1]
-    sandbox.holds("an idle night", good, done)
-    sandbox.write("remote/www", NEW)
-    sshds.running["db1"].kill()
-    sshds.running["db1"].wait()
-    done = compare()
-    good = done[0] == 18 and "www 7 added 1, removed 1, changed 2: 4 open of 4 changes\n" in done[1]
-    sandbox.holds("one differs, one is down", good, done)
-    sandbox.holds("why", re.search("(?m)^db1 18 ssh: .*Connection refused", done[1]), done)
-    set_limit(sandbox, "fetching", "MAX_SENT", 1 << 20)
-    sandbox.write("store/hosts/evil/aide.db", OLD, 0o600)
-    sshds.start("evil", "cat /dev/zero")
-    sshds.start("fresh", f"cat {sandbox.path('remote/www')}")
-    sandbox.write("known_hosts", known_hosts(sandbox, sshds, "www", "db1", "evil", "fresh"))
-    sandbox.write("etc-hosts", "www\ndb1\nevil\nfresh\nunknown\n")
-    done = compare()
-    for line in (
-        "www 7 added 1, removed 1, changed 2: 4 open of 4 changes",
-        "evil 18 sent more than 1048576 bytes",
-        "fresh 18 there is no baseline yet; see aide-compare hosts add --help",
-        "unknown 18 ssh: Could not resolve hostname unknown: ",
-    ):
-        sandbox.assertIn(f"{line}", done[1], (f"hostile and new hosts: {line[:9]}", done))
-    sshds.start("db1", "cat /dev/null")
-    done = compare()
-    sandbox.assertIn("db1 18 Host key verification failed", done[1], ("another key", done))
-    shutil.rmtree(sandbox.path("store/hosts/db1"))
-    asked = add(sandbox, "db1", "yes\n")
-    good = asked.status == 18 and "Host key verification failed" in asked.text
-    sandbox.holds(
-        "a host with another key is not added", good and "yes or no" not in asked.text, asked
-    )
-
-
 class HostsAddTest(CommandTest):
+    def setUp(self) -> None:
+        super().setUp()
+        self.fleet = Fleet(self)
+        shutil.rmtree(self.path("store"))
+        self.stub("ssh", SSH.replace("ROOT", self.root).replace("KEY", KEY))
+
+    def refuses(self, status: int, told: str, host: str, *words: str) -> str:
+        """A host is not asked about, and nothing of it is kept, or no more than there was."""
+        before = files(self)
+        asked = add(self, host, "yes\n", *words)
+        self.assertEqual(asked.status, status, asked)
+        self.assertIn(told, asked.text)
+        self.assertNotIn("yes or no", asked.text)
+        self.assertEqual(files(self), before, asked)
+        return asked.text
+
     def test_yes(self) -> None:
         """The key and the digest are shown before the question; after yes all is there, once."""
-        fleet = prepare(self)
-        fleet.put("www", OLD, None)
+        self.fleet.put("www", OLD, None)
         asked = add(self, "www", "yes\n")
+        self.assertEqual(asked.status, 0, asked)
         before = asked.text.partition("yes or no: ")[0]
-        for part in (f"    {PRINT} (ssh-ed25519)\n", f"    {sha256(OLD)}\n"):
-            self.assertIn(part, before, (f"shown before the question: {part.strip()}", asked))
         for part in (
+            f"    {PRINT} (ssh-ed25519)\n",
+            f"    {sha256(OLD)}\n",
             "    ssh-keygen -lf /etc/ssh/ssh_host_ed25519_key.pub\n",
             "    zcat -f /var/lib/aide/aide.db.new | sha256sum\n",
         ):
-            self.assertIn(part, before, (f"where to look: {part.strip()}", asked))
-        self.holds("80 columns", max(map(len, before.split("\n"))) <= 80, before)
+            self.assertIn(part, before)
+        self.assertLessEqual(max(map(len, before.split("\n"))), 80, before)
         kept = {"known_hosts": f"www {KEY}\n", "etc-hosts": "www\n"}
         kept.update({"www/aide.db": OLD.decode(), "www/aide.db.new": OLD.decode()})
-        self.holds("what is kept", asked.status == 0 and files(self) == kept, (asked, files(self)))
-        mode = os.stat(self.path("known_hosts")).st_mode & 0o777
-        self.assertEqual(mode, 0o600, ("the mode of known_hosts", oct(mode)))
-        asked = add(self, "www", "yes\n")
-        good = (
-            asked.status == 24
-            and "has a baseline already" in asked.text
-            and "yes or no" not in asked.text
-        )
-        self.holds("twice", good and files(self) == kept, asked)
+        self.assertEqual(files(self), kept)
+        self.assertEqual(os.stat(self.path("known_hosts")).st_mode & 0o777, 0o600)
+        self.refuses(24, "has a baseline already", "www")
         shutil.rmtree(self.path("store/hosts/www"))
         asked = add(self, "www", "YES\n")
-        good = asked.status == 0 and files(self)["etc-hosts"] == "www\n"
-        self.holds("its name stands there once", good, (asked, files(self)))
+        self.assertEqual((asked.status, files(self)["etc-hosts"]), (0, "www\n"), asked)
+
+    def test_known(self) -> None:
+        """A host whose key is known is added to a file whose last line has no end."""
         self.write("known_hosts", f"www {KEY}\n")
-        with open(self.path("etc-hosts"), "a") as file:
-            file.write("# no end of line")
+        self.write("etc-hosts", "www\n# no end of line")
         self.write("known-db1", "")
-        fleet.put("db1", NEW, None)
+        self.fleet.put("db1", NEW, None)
         asked = add(self, "db1", "yes\n")
-        good = asked.status == 0 and "has the key that is known here" in asked.text
-        self.holds("a key that is known", good and "ssh-keygen" not in asked.text, asked)
-        self.assertEqual(
-            files(self)["etc-hosts"], "www\n# no end of line\ndb1\n", "the file of hosts"
-        )
-        self.assertEqual(files(self)["known_hosts"], f"www {KEY}\n", "no key twice")
-        done = fleet.call("aide-compare hosts compare", self.path("etc-hosts"))
-        self.holds("then it is compared", done[0] == 0 and "db1 0 no differences" in done[1], done)
+        self.assertEqual(asked.status, 0, asked)
+        self.assertIn("has the key that is known here", asked.text)
+        self.assertNotIn("ssh-keygen", asked.text)
+        kept = files(self)
+        self.assertEqual(kept["etc-hosts"], "www\n# no end of line\ndb1\n")
+        self.assertEqual(kept["known_hosts"], f"www {KEY}\n", "no key twice")
+        self.assertIn("db1 0 no differences", self.fleet.compare_one("db1").output)
 
     def test_no(self) -> None:
         """Any other answer, or no terminal, keeps nothing."""
-        fleet = prepare(self)
-        fleet.put("www", OLD, None)
+        self.fleet.put("www", OLD, None)
         for answer in ("no\n", "\n", "y\n", "yes please\n", "\x04"):
             asked = add(self, "www", answer)
-            good = asked.status == 24 and "nothing was added" in asked.text and not files(self)
-            self.holds(f"the answer {answer!r}", good, (asked, files(self)))
-        done = fleet.call("aide-compare hosts add", "www")
-        good = done[0] == 15 and "needs a terminal" in done[2] and not files(self)
-        self.holds("no terminal", good, done)
-        for words in (["--yes"], ["-y"], ["--force"]):
-            done = fleet.call("aide-compare hosts add", *words, "www")
-            self.holds(f"no option {words}", done[0] == 15 and not files(self), done)
+            self.assertEqual((asked.status, files(self)), (24, {}), asked)
+            self.assertIn("nothing was added", asked.text)
+        command = "aide-compare hosts add"
+        said = self.fleet.call(command, "www")
+        self.assertEqual((said.status, files(self)), (15, {}), said)
+        self.assertIn("needs a terminal", said.errors)
+        for option in ("--yes", "-y", "--force"):
+            said = self.fleet.call(command, option, "www")
+            self.assertEqual((said.status, files(self)), (15, {}), (option, said))
 
     def test_faults(self) -> None:
         """What cannot be fetched or is no database is not asked about."""
-        fleet = prepare(self)
         self.write("key.pub", "ssh-ed25519 AAAA collector\n")
-        for host, text, status, said in (
-            (
-                "denied",
-                OLD,
-                18,
-                'restrict,command="cat /var/lib/aide/aide.db.new" ssh-ed25519 AAAA',
-            ),
-            ("changed", OLD, 18, "Host key verification failed"),
-            ("empty", b"", 18, "sent nothing"),
-            ("other", b"x\n" * 500, 24, "no sound database"),
-        ):
-            fleet.put(host, text, None)
-            asked = add(self, host, "yes\n")
-            good = asked.status == status and said in asked.text and "yes or no" not in asked.text
-            self.holds(f"the host {host}", good and not files(self), (asked, files(self)))
-        fleet.put("denied", OLD, None)
-        asked = add(self, "denied", "yes\n")
-        line = re.search(r"(?m)^restrict,command=", asked.text)
-        self.holds("a line that can be copied as it is", line is not None, asked)
-        for name in ("a b", "-x", "x\ny", "a/b", "..", "$(x)", "a#b"):
-            asked = add(self, "--", "yes\n", name)
-            good = asked.status == 15 and not files(self)
-            self.holds(f"the name {name!r}", good, (asked, files(self)))
+        for host, data in (("denied", OLD), ("changed", OLD), ("empty", b""), ("other", b"x\n")):
+            self.fleet.put(host, data, None)
+        line = 'restrict,command="cat /var/lib/aide/aide.db.new" ssh-ed25519 AAAA'
+        text = self.refuses(18, line, "denied")
+        self.assertRegex(text, "(?m)^restrict,command=", "a line that can be copied as it is")
+        self.refuses(18, "Host key verification failed", "changed")
+        self.refuses(18, "sent nothing", "empty")
+        self.refuses(24, "no sound database", "other")
+        for name in ("a b", "-x", "x\ny", "$(x)", "a#b"):
+            self.refuses(15, "", name, "--")
 
     def test_sshd(self) -> None:
         """Two hosts by real ssh: added, one down, one with another key, one that sends without
         end."""
-        if os.geteuid() != 0 or not os.path.exists(SSHD) or not shutil.which("ssh"):
-            self.skipTest("it needs root" if os.geteuid() else "not installed: sshd")
-        prepare(self)
+        self.needs_root()
+        if not os.path.exists(SSHD) or not shutil.which("ssh"):
+            self.skipTest("not installed: sshd")
         os.makedirs("/run/sshd", exist_ok=True)
         sshds = Sshds(self)
-        try:
-            for name in ("www", "db1"):
-                self.write(f"remote/{name}", OLD)
-                sshds.start(name, f"cat {self.path('remote/' + name)}")
-                asked = add(self, name, "yes\n")
-                words = ["ssh-keygen", "-lf", self.path(f"{name}.key.pub")]
-                printed = (
-                    subprocess.run(words, stdout=subprocess.PIPE).stdout.decode().split(" ")[1]
-                )
-                self.assertIn(printed, asked.text, (f"{name}: its fingerprint", (printed, asked)))
-                self.assertEqual(asked.status, 0, (f"{name}: added", asked))
-            fleet_by_sshd(self, sshds)
-        finally:
-            sshds.end()
+        self.addCleanup(sshds.end)
+        for name in ("www", "db1"):
+            self.write(f"remote/{name}", OLD)
+            sshds.start(name, f"cat {self.path('remote/' + name)}")
+            asked = add(self, name, "yes\n")
+            self.assertEqual(asked.status, 0, asked)
+            words = ["ssh-keygen", "-lf", self.path(f"{name}.key.pub")]
+            fingerprint = subprocess.check_output(words).decode().split(" ")[1]
+            self.assertIn(fingerprint, asked.text)
+        self.compared(0, "www 0 no differences", "db1 0 no differences")
+        self.write("remote/www", NEW)
+        sshds.running["db1"].kill()
+        sshds.running["db1"].wait()
+        output = self.compared(18, f"www {DIFFERS}")
+        self.assertRegex(output, "(?m)^db1 18 ssh: .*Connection refused")
+        self.fleet.set_limit("fetching", "MAX_SENT", 1 << 20)
+        self.write("store/hosts/evil/aide.db", OLD, 0o600)
+        sshds.start("evil", "cat /dev/zero")
+        self.write("known_hosts", known_hosts(self, sshds, "www", "db1", "evil"))
+        self.write("etc-hosts", "www\ndb1\nevil\nunknown\n")
+        unknown = "unknown 18 ssh: Could not resolve hostname unknown: "
+        self.compared(18, f"www {DIFFERS}", "evil 18 sent more than 1048576 bytes", unknown)
+        sshds.start("db1", "cat /dev/null")
+        self.compared(18, "db1 18 Host key verification failed")
+        shutil.rmtree(self.path("store/hosts/db1"))
+        self.refuses(18, "Host key verification failed", "db1")
+
+    def compared(self, status: int, *lines: str) -> str:
+        """The next night: the beginnings of some of its lines."""
+        said = self.fleet.compare(self.path("etc-hosts"))
+        self.assertEqual(said.status, status, said)
+        for line in lines:
+            self.assertIn("\n" + line, "\n" + said.output)
+        return said.output
