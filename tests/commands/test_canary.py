@@ -5,17 +5,18 @@ from __future__ import annotations
 import os
 import re
 import time
-from typing import Dict
-from typing import Any
+from typing import Any, Dict, List
 
 from tests.commands.made_up import Night, time_of
 from tests.commands.sandbox import CommandTest
 from tests.commands.test_hosts_report import Hosts
 
 ONE, TWO, EVIL = b"one", b"two, of the upgraded package", b"EVIL"
-USED = "Canary www1: what differs there too is silent on the other hosts\n"
-OTHERS = ("www2", "www3", "www4")
+NOTE = "canary www1: what differs there too is silent on the other hosts"
+USED = f"C{NOTE[1:]}\n"
+NAMES = ("www1", "www2", "www3", "www4")
 MARK = b"/usr/bin/mark"
+SAME = "4 added 0, removed 0, changed 5: "
 # A state of another database than the one that is there.
 OTHER = """
 read = read_state
@@ -27,7 +28,7 @@ def read_state(path):
 def database(is_new: bool, number: int, mark: bytes = b"") -> bytes:
     """A host before or after an upgrade, perhaps with a file that nobody else has."""
     night = Night()
-    times: dict[str, Any] = {"mtime": time_of(1000 + number), "inode": number}
+    times: Dict[str, Any] = {"mtime": time_of(1000 + number), "inode": number}
     for path in (b"/", b"/usr", b"/usr/bin"):
         night.directory(path, **times)
     for name in (b"a", b"b"):
@@ -37,143 +38,114 @@ def database(is_new: bool, number: int, mark: bytes = b"") -> bytes:
     return night.database()
 
 
-def fleet(sandbox: CommandTest, marks: Dict[str, bytes]) -> Hosts:
-    """Four hosts with the same upgrade, of which some have a mark."""
-    hosts = Hosts(sandbox)
-    for number, host in enumerate(("www1", *OTHERS), 1):
-        hosts.put(host, database(True, 50 + number, marks.get(host, b"")), database(False, number))
-    sandbox.write("hosts", "www1\nwww2\nwww3\nwww4\n")
-    return hosts
-
-
-def compare(hosts: Hosts, *words: str) -> str:
-    path = hosts.sandbox.path("hosts")
-    status, output, errors = hosts.call("aide-compare hosts compare", *words, path)
-    hosts.sandbox.holds(
-        f"compared with {words}", status >= 4 and not errors, (status, output, errors)
-    )
-    return str(output)
-
-
 class CanaryTest(CommandTest):
+    def fleet(self, *marked: str) -> Hosts:
+        """Four hosts with the same upgrade, of which some have a mark."""
+        hosts = Hosts(self)
+        for number, host in enumerate(NAMES, 1):
+            new = database(True, 50 + number, EVIL if host in marked else b"")
+            hosts.put(host, new, database(False, number))
+        hosts.list_hosts(*NAMES)
+        return hosts
+
+    def compared(self, hosts: Hosts, *words: str) -> List[str]:
+        """The lines of a comparison of all hosts."""
+        status, output, errors = hosts.compare(*words, self.path("hosts"))
+        self.assertGreaterEqual(status, 4, (words, output))
+        self.assertEqual(errors, "", words)
+        return output.splitlines()
+
     def test_upgrade(self) -> None:
         """Only hosts with a mark are named, and the canary, which is told whole."""
-        hosts = fleet(self, {"www3": EVIL})
-        output = compare(hosts, "--canary", "www1")
-        lines = output.splitlines()
-        whole = "www1 4 added 0, removed 0, changed 5: 2 open (2 high) of 5 changes"
-        self.assertEqual(lines[0], whole, ("the canary comes first, and whole", lines))
-        good = "www3 5 added 1, removed 0, changed 5: 1 open (1 high) of 6 changes" in lines
-        self.holds("a host with a mark", good, lines)
-        good = "www2 4 added 0, removed 0, changed 5: 5 changes, all silent" in lines
-        self.holds("a host without one", good, lines)
-        good = lines[-1] == "4 hosts: 0 without differences, 4 with, 0 not compared"
-        self.holds("the summary", good, lines)
-        quiet = compare(hosts, "-q", "--canary", "www1").splitlines()
-        names = [line.split(" ")[0] for line in quiet[:-1]]
-        self.assertEqual(names, ["www1", "www3"], ("who is named by -q", quiet))
+        hosts = self.fleet("www3")
+        lines = self.compared(hosts, "--canary", "www1")
+        self.assertEqual(lines[0], f"www1 {SAME}2 open (2 high) of 5 changes", "it comes first")
+        marked = "www3 5 added 1, removed 0, changed 5: 1 open (1 high) of 6 changes"
+        self.assertIn(marked, lines)
+        self.assertIn(f"www2 {SAME}5 changes, all silent", lines)
+        self.assertEqual(lines[-1], "4 hosts: 0 without differences, 4 with, 0 not compared")
+        quiet = self.compared(hosts, "-q", "--canary", "www1")
+        self.assertEqual([line.split(" ")[0] for line in quiet[:-1]], ["www1", "www3"])
+        self.assertIn("/hosts/www1/aide.db.new\n", hosts.state("www2"), "it names the pair")
+
+    def test_reports(self) -> None:
+        """A report begins with the canary, and names nobody who has only what it has."""
+        hosts = self.fleet("www3")
+        self.compared(hosts, "--canary", "www1")
         for form in ("text", "brief"):
-            _, text, _ = hosts.report("--format", form)
-            self.holds(
-                f"the {form} begins with the canary",
-                text.startswith(USED + "\naide on 4 hosts: 2 differ"),
-                text,
-            )
-            good = "www2" not in text and "www4" not in text and "/usr/bin/mark" in text
-            self.holds(f"the {form} names nobody else", good, text)
-        _, page, _ = hosts.report("--format", "page")
-        self.assertIn(
-            f'<p class="remark">{USED.strip()}</p>', page, ("the page has it", page[-2000:])
-        )
+            text = hosts.report("--format", form).output
+            self.assertTrue(text.startswith(USED + "\naide on 4 hosts: 2 differ"), text)
+            self.assertNotRegex(text, "www2|www4")
+            self.assertIn("/usr/bin/mark", text)
+        page = hosts.report("--format", "page").output
+        self.assertIn(f'<p class="remark">{USED.strip()}</p>', page)
         summary, _, changes = hosts.objects()
-        self.assertEqual(
-            summary["canary"],
-            [USED.strip()[0].lower() + USED.strip()[1:]],
-            ("JSON has it", summary),
-        )
+        self.assertEqual(summary["canary"], [NOTE])
         told = {(each["path"], tuple(each["names"])) for each in changes}
         wanted = {("/usr/bin/a", ("www1",)), ("/usr/bin/b", ("www1",)), (MARK.decode(), ("www3",))}
         self.assertEqual(told, wanted, "each change of the fleet is told at least once")
-        state = hosts.state("www2")
-        self.assertIn("/hosts/www1/aide.db.new\n", state, "the state of a host names the pair")
-        compare(hosts)
-        _, text, _ = hosts.report()
-        self.holds(
-            "no note without a canary", text.startswith("aide on 4 hosts: 4 differ"), text[:200]
-        )
+        self.compared(hosts)
+        text = hosts.report().output
+        self.assertTrue(text.startswith("aide on 4 hosts: 4 differ"), "no note without a canary")
+
+    def check_failed(self, hosts: Hosts, cause: str, *words: str) -> None:
+        """The canary was not compared: the others were, nothing is silent, and the report says so
+        first."""
+        note = f"canary www1 was not compared, so the others were compared without it: {cause}"
+        lines = self.compared(hosts, *words, "--canary", "www1")
+        self.assertTrue(lines[1].startswith(note), lines)
+        text = hosts.report().output
+        self.assertTrue(text.startswith("C" + note[1:]), text)
+        self.assertIn("\nopen=2\n", hosts.state("www2"))
 
     def test_failed(self) -> None:
         """A canary that cannot be compared, or is late, silences nothing, and that is said
         first."""
-        hosts = fleet(self, {"www3": EVIL})
+        hosts = self.fleet("www3")
         sound = self.read("remote/www1")
-        for label, words, text, cause in (
-            ("sends nothing", (), b"", "sent nothing"),
-            ("sends no database", (), b"x\n", "aide: new database:1: no @@begin_db"),
-            (
-                "is late",
-                ("--same-for", "8h"),
-                sound,
-                "has sent the same database for more than 8 hours",
-            ),
-        ):
-            if text is sound:
-                self.write("remote/www1", sound)
-                compare(hosts, "--canary", "www1")
-                nine_hours_ago = time.time() - 9 * 3600
-                kept = self.path("store/hosts/www1/aide.db.new")
-                os.utime(kept, (nine_hours_ago, nine_hours_ago))
-            else:
-                self.write("remote/www1", text)
-            output = compare(hosts, *words, "--canary", "www1")
-            lines = output.splitlines()
-            note = f"canary www1 was not compared, so the others were compared without it: {cause}"
-            self.holds(f"a canary that {label}", lines[1].startswith(note), lines)
-            _, text_of_all, _ = hosts.report()
-            self.holds(
-                f"the report of one that {label}",
-                text_of_all.startswith("C" + note[1:]),
-                text_of_all[:300],
-            )
-            state = hosts.state("www2")
-            self.assertIn("\nopen=2\n", state, f"without one that {label}")
-            self.write("remote/www1", sound)
-        output = compare(hosts, "--canary", "nobody")
-        lines = output.splitlines()
-        self.holds("a canary that is no host", lines[0].startswith("nobody 18 "), lines)
-        self.holds("it is one more host", lines[-1].startswith("5 hosts: "), lines)
+        self.write("remote/www1", b"")
+        self.check_failed(hosts, "sent nothing")
+        self.write("remote/www1", b"x\n")
+        self.check_failed(hosts, "aide: new database:1: no @@begin_db")
+        self.write("remote/www1", sound)
+        self.compared(hosts, "--canary", "www1")
+        kept = self.path("store/hosts/www1/aide.db.new")
+        os.utime(kept, (time.time() - 9 * 3600,) * 2)
+        late = "has sent the same database for more than 8 hours"
+        self.check_failed(hosts, late, "--same-for", "8h")
+
+    def test_no_host(self) -> None:
+        """A canary that is in no list is one more host; what is no name is refused."""
+        hosts = self.fleet()
+        lines = self.compared(hosts, "--canary", "nobody")
+        self.assertTrue(lines[0].startswith("nobody 18 "), lines)
+        self.assertTrue(lines[-1].startswith("5 hosts: "), lines)
         for name in ("-x", "../www1", "a b", ""):
-            status, output, _ = hosts.call(
-                "aide-compare hosts compare", f"--canary={name}", self.path("hosts")
-            )
-            self.holds(f"the canary {name!r}", status == 15 and not output, (status, output))
+            said = hosts.compare(f"--canary={name}", self.path("hosts"))
+            self.assertEqual((said.status, said.output), (15, ""), name)
 
     def test_changed(self) -> None:
         """Only the very databases that were compared are trusted."""
-        hosts = fleet(self, {"www3": EVIL})
+        hosts = self.fleet("www3")
         self.after_import("hosts.canary", OTHER)
-        lines = compare(hosts, "--canary", "www1").splitlines()
+        lines = self.compared(hosts, "--canary", "www1")
         cause = "aide.db.new is not the database that was compared"
-        self.holds("another database", lines[1].endswith(cause), lines)
-        good = "www2 4 added 0, removed 0, changed 5: 2 open (2 high) of 5 changes" in lines
-        self.holds("nothing is silent then", good, lines)
+        self.assertTrue(lines[1].endswith(cause), lines)
+        self.assertIn(f"www2 {SAME}2 open (2 high) of 5 changes", lines, "nothing is silent then")
 
     def test_one(self) -> None:
         """One host beside the canary, and the canary alone."""
-        hosts = fleet(self, {"www3": EVIL})
+        hosts = self.fleet("www3")
         for host, count in (("www3", 1), ("www2", 0), ("www1", 2)):
-            _, output, errors = hosts.call(
-                "aide-compare hosts compare", "--one", host, "--canary", "www1"
-            )
-            paths = re.findall(r"^(?:added|changed) File: .*", output, re.M)
-            good = len(paths) == count and output.startswith("www1 4 ")
-            self.holds(f"{host} alone", good, (output, errors))
+            said = hosts.compare_one(host, "--canary", "www1")
+            self.assertTrue(said.output.startswith("www1 4 "), said)
+            paths = re.findall(r"(?m)^(?:added|changed) File: .*", said.output)
+            self.assertEqual(len(paths), count, said)
 
-    def test_names(self) -> None:
+    def test_jobs(self) -> None:
         """Jobs of any number give the same."""
         found = []
         for jobs in ("1", "3", "9"):
-            hosts = fleet(self, {"www2": EVIL, "www4": EVIL})
-            lines = compare(hosts, "--jobs", jobs, "--canary", "www1").splitlines()
-            found.append(sorted(lines))
-        self.holds("the same by any number of jobs", found[0] == found[1] == found[2], found)
+            hosts = self.fleet("www2", "www4")
+            found.append(sorted(self.compared(hosts, "--jobs", jobs, "--canary", "www1")))
+        self.assertEqual(found[1:], found[:1] * 2)

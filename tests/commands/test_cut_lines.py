@@ -5,11 +5,12 @@ from __future__ import annotations
 import json
 import os
 
-from .test_hosts_report import Hosts, database, four_hosts, line
 from .sandbox import CommandTest
+from .test_hosts_report import Fields, Hosts, database, four_hosts, line
 
 FLOOD = 300
 SHADOW = line(b"/zz/.ssh/authorized_keys", b"mine")
+LINES = "store/hosts/www1/lines"
 
 
 class CutLinesTest(CommandTest):
@@ -18,75 +19,69 @@ class CutLinesTest(CommandTest):
         hosts = Hosts(self)
         hosts.set_limit("host_comparison", "MAX_KEPT", 20 << 10)
         flood = (line(b"/a%04d" % number, b"%d" % number) for number in range(FLOOD))
-        texts = {
-            "long": (database(line(b"/a")), database(line(b"/a"), *flood, SHADOW)),
-            "short": (database(line(b"/a")), database(line(b"/a", b"2"))),
-        }
-        hosts.compared(texts)
+        old = database(line(b"/a"))
+        long = database(line(b"/a"), *flood, SHADOW)
+        hosts.compared({"long": (old, long), "short": (old, database(line(b"/a", b"2")))})
         summary, found, changes = hosts.objects()
-        listed = found["long"]["listed"]
-        good = found["long"]["report"] == "cut" and 10 < listed < FLOOD
-        self.holds("a host that is cut", good and found["short"]["report"] == "whole", found)
+        host = found["long"]
+        self.assertEqual((host["report"], found["short"]["report"]), ("cut", "whole"))
+        self.assertTrue(10 < host["listed"] < FLOOD, host)
         paths = [each["path"] for each in changes if "long" in each["names"]]
-        self.assertEqual(len(paths), listed, ("all that is kept", (listed, len(paths))))
+        self.assertEqual(len(paths), host["listed"], "all that is kept")
         self.assertIn("/zz/.ssh/authorized_keys", paths, "the severe one is kept")
-        counts = found["long"]["told"], found["long"]["high"], summary["cut"]
-        self.assertEqual(counts, (FLOOD + 1, 1, 1), "all are counted")
+        self.assertEqual((host["told"], host["high"], summary["cut"]), (FLOOD + 1, 1, 1))
         words = "long: its changes were cut, the least severe ones; "
-        words += f"{listed} of {FLOOD + 1} changes are listed; 1 of all are high\n"
-        self.assertIn(words, hosts.report()[1], "the text says so")
-        size = os.stat(self.path("store/hosts/long/lines")).st_size
-        self.holds("the limit", size < 21 << 10, size)
-        status, output, errors = hosts.call("aide-compare hosts compare", "--one", "long")
-        good = status == 1 and words in errors and "/zz/.ssh/authorized_keys\n" in output
-        self.holds("a single host says so", good, (status, output[-300:], errors))
-        status, output, errors = hosts.call(
-            "aide-compare hosts compare", "--quiet", "--one", "long"
-        )
-        good = status == 1 and output.count("\n") == 2 and not errors
-        self.holds("with --quiet only its line", good, (output, errors))
+        words += f"{host['listed']} of {FLOOD + 1} changes are listed; 1 of all are high\n"
+        self.assertIn(words, hosts.report().output)
+        self.assertLess(os.stat(self.path("store/hosts/long/lines")).st_size, 21 << 10)
+        said = hosts.compare_one("long")
+        self.assertEqual(said.status, 1, said)
+        self.assertIn(words, said.errors)
+        self.assertIn("/zz/.ssh/authorized_keys\n", said.output)
+        said = hosts.compare_one("long", "--quiet")
+        self.assertEqual((said.status, said.output.count("\n"), said.errors), (1, 2, ""), said)
+
+    def report_of(self, hosts: Hosts, lines: bytes) -> Fields:
+        """What the report says of a host whose lines these are."""
+        self.write(LINES, lines, 0o600)
+        return hosts.objects()[1]["www1"]
 
     def test_each_byte(self) -> None:
         """Lines that end at any byte before their end are unreadable, and give what is whole in
         them."""
         hosts = four_hosts(self)
-        text = self.read("store/hosts/www1/lines")
-        lines = text.splitlines(keepends=True)
-        self.assertEqual(len(lines), 6, ("the lines of a host", lines))
-        self.write("hosts", "www1\n")
+        hosts.list_hosts("www1")
+        text = self.read(LINES)
+        self.assertEqual(text.count(b"\n"), 6, text)
         for size in [*range(0, len(text), 97), *range(len(text) - 30, len(text))]:
-            self.write("store/hosts/www1/lines", text[:size], 0o600)
-            found = hosts.objects()[1]["www1"]
+            found = self.report_of(hosts, text[:size])
             whole = max(text[:size].count(b"\n") - 1, 0)
-            good = found["report"] == "unreadable" and found["listed"] == min(whole, 4)
-            self.holds(f"cut at {size}", good, found)
+            self.assertEqual(found["report"], "unreadable", size)
+            self.assertEqual(found["listed"], min(whole, 4), size)
 
     def test_damaged(self) -> None:
         """Lines in which something is not as it was written, and those of another run."""
         hosts = four_hosts(self)
-        text = self.read("store/hosts/www1/lines")
-        self.write("hosts", "www1\n")
-        for label, old, new in (
-            ("a path", b'"path":"/etc/p"', b'"path":"etc/p"'),
-            ("a severity", b'"severity":"high"', b'"severity":"none"'),
-            ("a standing", b'"path":"/etc/p"', b'"same_as":"old","path":"/etc/p"'),
-            ("the count of the listed", b'"listed":4', b'"listed":3'),
-            ("the count of the severe", b'"open_high":', b'"open_high":1'),
-            ("the end", b'"end":true', b'"end":true}\n{"end":true'),
-            ("the format", b'"format":1', b'"format":2'),
-            ("no object", b'{"kind":"changed"', b'["kind"'),
+        hosts.list_hosts("www1")
+        text = self.read(LINES)
+        for old, new in (
+            (b'"path":"/etc/p"', b'"path":"etc/p"'),
+            (b'"severity":"high"', b'"severity":"none"'),
+            (b'"path":"/etc/p"', b'"same_as":"old","path":"/etc/p"'),
+            (b'"listed":4', b'"listed":3'),
+            (b'"open_high":', b'"open_high":1'),
+            (b'"end":true', b'"end":true}\n{"end":true'),
+            (b'"format":1', b'"format":2'),
+            (b'{"kind":"changed"', b'["kind"'),
         ):
-            damaged = text.replace(old, new, 1)
-            self.assertNotEqual(damaged, text, f"{label} is there")
-            self.write("store/hosts/www1/lines", damaged, 0o600)
-            found = hosts.objects()[1]["www1"]
-            self.assertEqual(found["report"], "unreadable", (f"{label} is damaged", found))
-        end = json.loads(text.splitlines()[-1])
-        end.update(open=3, open_high=end["open_high"] - 1, listed=3)
-        fewer = b"".join(text.splitlines(keepends=True)[:-2]) + json.dumps(end).encode() + b"\n"
-        self.write("store/hosts/www1/lines", fewer, 0o600)
-        found = hosts.objects()[1]["www1"]
-        self.assertEqual(found["report"], "unreadable", ("the lines of another run", found))
+            self.assertIn(old, text)
+            found = self.report_of(hosts, text.replace(old, new, 1))
+            self.assertEqual(found["report"], "unreadable", (old, new))
+        *lines, _, end = text.splitlines(keepends=True)
+        counts = json.loads(end)
+        counts.update(open=3, open_high=counts["open_high"] - 1, listed=3)
+        found = self.report_of(hosts, b"".join(lines) + json.dumps(counts).encode() + b"\n")
+        self.assertEqual(found["report"], "unreadable", "the lines of another run")
 
     def test_silent(self) -> None:
         """What is as it was, but for times and inodes, is counted and raises no alarm."""
@@ -95,23 +90,23 @@ class CutLinesTest(CommandTest):
         touched = line(b"/a", b"1", 7, when=1700000009), line(b"/b", b"1", 8)
         calm = database(*touched, line(b"/d", b"xy", 9, b"40755"))
         loud = database(*touched, line(b"/d", b"xy", 9, b"40777"))
-        status, output, errors = hosts.compared({"calm": (old, calm)}, "--quiet")
-        self.assertEqual((status, output, errors), (4, "", ""), "a quiet night")
+        said = hosts.compared({"calm": (old, calm)}, "--quiet")
+        self.assertEqual(said, (4, "", ""), "a quiet night")
         self.stub("sendmail", f'cat > "{self.path("mail")}"')
-        status, output, errors = hosts.report("--to", "root")
-        good = status == 4 and not os.path.exists(self.path("mail"))
-        self.holds("no mail", good and not output + errors, (status, output, errors))
-        status, output, _ = hosts.compared({"calm": (old, calm), "loud": (old, loud)}, "--quiet")
-        good = status == 4 and "calm" not in output
-        line_of_loud = "loud 4 added 0, removed 0, changed 3: 1 open (1 high) of 3 changes\n"
-        self.holds("a loud night", good and output.startswith(line_of_loud), output)
+        self.assertEqual(hosts.report("--to", "root"), (4, "", ""))
+        self.assertFalse(os.path.exists(self.path("mail")))
+        said = hosts.compared({"calm": (old, calm), "loud": (old, loud)}, "--quiet")
+        self.assertEqual(said.status, 4, said)
+        told = "loud 4 added 0, removed 0, changed 3: 1 open (1 high) of 3 changes\n"
+        self.assertTrue(said.output.startswith(told), said)
+        self.assertNotIn("calm", said.output)
         summary, found, changes = hosts.objects()
-        counts = summary["differ"], summary["silent"], summary["unchanged"], summary["changes"]
-        self.assertEqual(counts, (1, 1, 0, 1), ("the counts of the report", summary))
-        good = [each["path"] for each in changes] == ["/d"] and found["calm"]["told"] == 0
-        self.holds("only what is open is listed", good, (changes, found))
-        text = hosts.report("--format=brief")[1]
+        counts = [summary[name] for name in ("differ", "silent", "unchanged", "changes")]
+        self.assertEqual(counts, [1, 1, 0, 1])
+        self.assertEqual([each["path"] for each in changes], ["/d"], "only what is open")
+        self.assertEqual(found["calm"]["told"], 0)
+        text = hosts.report("--format=brief").output
         first = (
             "aide on 2 hosts: 1 differ, 0 not compared\n0 without differences, 1 with silent ones\n"
         )
-        self.holds("the brief text", text.startswith(first), text)
+        self.assertTrue(text.startswith(first), text)

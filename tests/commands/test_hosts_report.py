@@ -3,6 +3,7 @@ and one mail for all."""
 from __future__ import annotations
 
 import base64
+import contextlib
 import hashlib
 import json
 import os
@@ -12,13 +13,14 @@ import shutil
 import signal
 import subprocess
 import time
-from typing import Any
-from collections.abc import Callable
+from collections.abc import Callable, Iterator, Sequence
+from typing import Any, Dict, List, Tuple
 
 from tests.lib.waiting import until
 
-from .test_fleet import Fleet
+from .made_up import path_of
 from .sandbox import CommandTest, END, NEW, OLD
+from .test_fleet import Fleet, Said
 
 SPEC = b"@@begin_db\n@@db_spec name perm uid gid size mtime inode lcount attr sha256\n"
 HOSTILE = (
@@ -38,110 +40,99 @@ HOSTILE = (
 )
 
 
-def line(path, text=b"", inode=1, perm=b"100644", when=1700000000):
+Fields = Dict[str, Any]
+Objects = Tuple[Fields, Dict[str, Fields], List[Fields]]
+
+
+def line(
+    path: bytes, text: bytes = b"", inode: int = 1, perm: bytes = b"100644", when: int = 1700000000
+) -> bytes:
     """The line of a database for a file with this text. A folder has a size, but no digest."""
     digest = base64.b64encode(hashlib.sha256(text).digest()) if perm.startswith(b"10") else b"0"
-    return b" ".join(
-        [
-            path,
-            perm,
-            b"0 0 %d" % len(text),
-            base64.b64encode(b"%d" % when),
-            b"%d 1 35433483069" % inode,
-            digest,
-        ]
-    )
+    time_field = base64.b64encode(b"%d" % when)
+    rest = b"%d 1 35433483069" % inode
+    return b" ".join([path, perm, b"0 0 %d" % len(text), time_field, rest, digest])
 
 
-def database(*lines):
+def database(*lines: bytes) -> bytes:
     ordered = sorted(lines, key=lambda each: decoded(each.split(b" ")[0]).split(b"/"))
     return SPEC + b"".join(each + b"\n" for each in ordered) + END
 
 
-def decoded(path):
+def decoded(path: bytes) -> bytes:
     return re.sub(b"%([0-9A-F]{2})", lambda found: bytes([int(found.group(1), 16)]), path)
 
 
 class Hosts(Fleet):
     """A store in which some hosts have been compared."""
 
-    def compared(self, texts, *words):
+    def compared(self, texts: dict[str, tuple[bytes, bytes]], *words: str) -> Said:
         """Fetches and compares hosts, each given by its old and its new database."""
         for host, (old, new) in texts.items():
             self.put(host, new, old)
-        self.sandbox.write("hosts", "".join("%s\n" % host for host in texts))
-        return self.call("aide-compare hosts compare", *words, self.sandbox.path("hosts"))
+        return self.compare(*words, self.list_hosts(*texts))
 
-    def copies(self, host, names):
+    def copies(self, host: str, names: list[str]) -> None:
         """More hosts with the report and the state of one."""
+        hosts, states = self.sandbox.path("store/hosts/"), self.sandbox.path("store/states/")
         for name in names:
-            shutil.copytree(
-                self.sandbox.path("store/hosts/" + host), self.sandbox.path("store/hosts/" + name)
-            )
-            shutil.copy(
-                self.sandbox.path("store/states/" + host), self.sandbox.path("store/states/" + name)
-            )
-        self.sandbox.write("hosts", "".join("%s\n" % name for name in names))
+            shutil.copytree(hosts + host, hosts + name)
+            shutil.copy(states + host, states + name)
+        self.list_hosts(*names)
 
-    def report(self, *words, before=()):
-        return self.call(
-            "aide-compare hosts report", *words, self.sandbox.path("hosts"), before=before
-        )
+    def report(self, *words: str, before: Sequence[str] = ()) -> Said:
+        hosts = self.sandbox.path("hosts")
+        return self.call("aide-compare hosts report", *words, hosts, before=before)
 
-    def objects(self, *words):
+    def objects(self, *words: str) -> Objects:
         """The objects of a report in JSON: the summary, the hosts by their names, and the
         changes."""
-        status, output, errors = self.report("--format=json", *words)
-        found = [json.loads(each) for each in output.splitlines()]
-        good = (
-            bool(found)
-            and found[0]["lines"] == len(found)
-            and [each["record"] for each in found]
-            == (["summary"] + ["host"] * found[0]["hosts"] + ["change"] * found[0]["changes"])
-        )
-        self.sandbox.holds(
-            "JSON of %s" % (words,), good and output.isascii(), (status, output[-300:], errors)
-        )
-        hosts = {each["host"]: each for each in found if each["record"] == "host"}
-        return (
-            found[0] if found else {},
-            hosts,
-            [each for each in found if each["record"] == "change"],
-        )
+        said = self.report("--format=json", *words)
+        summary, *rest = [json.loads(each) for each in said.output.splitlines()] or [{}]
+        self.sandbox.assertTrue(said.output.isascii(), said)
+        self.sandbox.assertEqual(summary.get("lines"), 1 + len(rest), said)
+        hosts, changes = rest[: summary["hosts"]], rest[summary["hosts"] :]
+        self.sandbox.assertEqual({each["record"] for each in hosts} - {"host"}, set())
+        self.sandbox.assertEqual({each["record"] for each in changes} - {"change"}, set())
+        self.sandbox.assertEqual(len(changes), summary["changes"])
+        return summary, {each["host"]: each for each in hosts}, changes
+
+    @contextlib.contextmanager
+    def locked(self, host: str) -> Iterator[None]:
+        """Another run is at work on a host meanwhile."""
+        lock = self.sandbox.path(f"store/hosts/{host}/lock")
+        words = ["flock", lock, "sleep", "100"]
+        with subprocess.Popen(words, start_new_session=True) as holder:
+            try:
+                until(lambda: subprocess.run(["flock", "-n", lock, "true"]).returncode == 1)
+                yield
+            finally:
+                os.killpg(holder.pid, signal.SIGKILL)
 
 
-def path_of(fields):
-    return bytes.fromhex(fields["path_hex"]) if "path_hex" in fields else fields["path"].encode()
+def four_hosts(sandbox: CommandTest) -> Hosts:
+    """Three hosts with the same new file, one with another text of it, and one as it was."""
+    hosts = Hosts(sandbox)
+    rest = [line(b"/gone", b"1"), line(b"/d", b"", 5, b"40755")]
+    old = database(line(b"/etc/p", b"1"), *rest)
 
-
-def four_hosts(sandbox):
-    """Three hosts with the same new file, and one with another text of it."""
-    hosts, old = Hosts(sandbox), [
-        line(b"/etc/p", b"1"),
-        line(b"/gone", b"1"),
-        line(b"/d", b"", 5, b"40755"),
-    ]
-
-    def new(text, number):
+    def new(text: bytes, number: int) -> bytes:
         return database(
             line(b"/etc/p", b"2", number, b"100600"),
             line(b"/d", b"x" * number, 5, b"40700"),
             line(b"/usr/.x", text, number, b"104755", 1700000000 + number),
         )
 
-    texts = {"www%d" % number: (database(*old), new(b"evil", number)) for number in (1, 2, 3)}
-    texts["www4"] = (database(line(b"/etc/p", b"0"), *old[1:]), new(b"other", 4))
-    texts["calm"] = (database(*old), database(*old))
-    status, output, errors = hosts.compared(texts)
-    sandbox.holds(
-        "five hosts",
-        status == 7 and "5 hosts: 1 without differences, 4 with" in output,
-        (output, errors),
-    )
+    texts = {"www%d" % number: (old, new(b"evil", number)) for number in (1, 2, 3)}
+    texts["www4"] = (database(line(b"/etc/p", b"0"), *rest), new(b"other", 4))
+    texts["calm"] = (old, old)
+    said = hosts.compared(texts)
+    sandbox.assertEqual(said.status, 7, said)
+    sandbox.assertIn("5 hosts: 1 without differences, 4 with", said.output)
     return hosts
 
 
-def command_in(text):
+def command_in(text: str) -> str:
     """The command at the end of a short text, which may have several lines."""
     return text.rpartition("with their values:\n")[2].replace("\\\n", " ")
 
@@ -150,60 +141,43 @@ class HostsReportTest(CommandTest):
     def test_same(self) -> None:
         """The same change is one, whatever the inodes and times are; another digest is another
         change."""
-        hosts = four_hosts(self)
-        summary, found, changes = hosts.objects()
-        wanted = {
-            "hosts": 5,
-            "unchanged": 1,
-            "differ": 4,
-            "not_compared": 0,
-            "cut": 0,
-            "not_listed": 0,
-            "changes": 5,
-        }
-        self.holds(
-            "the summary", all(summary[key] == value for key, value in wanted.items()), summary
+        summary, hosts, changes = four_hosts(self).objects()
+        wanted = {"hosts": 5, "unchanged": 1, "differ": 4, "not_compared": 0, "cut": 0}
+        wanted.update(not_listed=0, changes=5)
+        self.assertEqual({key: summary[key] for key in wanted}, wanted)
+        self.assertEqual((hosts["www1"]["listed"], hosts["www1"]["report"]), (4, "whole"))
+        got = [(each["kind"], each["path"], each["names"]) for each in changes]
+        most, every = ["www1", "www2", "www3"], ["www1", "www2", "www3", "www4"]
+        self.assertEqual(
+            got[:3],
+            [("changed", "/d", every), ("changed", "/etc/p", every), ("removed", "/gone", every)],
         )
-        self.holds(
-            "a host", found["www1"]["listed"] == 4 and found["www1"]["report"] == "whole", found
+        self.assertEqual(
+            sorted(got[3:]), [("added", "/usr/.x", most), ("added", "/usr/.x", ["www4"])]
         )
-        got = [(each["kind"], each["path"], each["hosts"], each["names"]) for each in changes]
-        most, all_of_them = ["www1", "www2", "www3"], ["www1", "www2", "www3", "www4"]
-        self.holds(
-            "the changes",
-            got[:2] == [("changed", "/d", 4, all_of_them), ("changed", "/etc/p", 4, all_of_them)]
-            and got[2] == ("removed", "/gone", 4, all_of_them)
-            and sorted(got[3:])
-            == [("added", "/usr/.x", 1, ["www4"]), ("added", "/usr/.x", 3, most)],
-            got,
-        )
-        none: dict[str, Any] = {"old": {}, "new": {}, "per_host": []}
+        self.assertEqual([each["hosts"] for each in changes], [len(each[2]) for each in got])
+
+    def test_values(self) -> None:
+        """Values that are the same on all hosts of a change, and the names of those that are
+        not."""
+        changes = four_hosts(self).objects()[2]
+        none: dict[str, Any] = {"old": {}, "per_host": []}
         found = {(each["path"], each["hosts"]): {**none, **each} for each in changes}
-        folder, file, same, other = (
-            found.get(key, none)
-            for key in (("/d", 4), ("/etc/p", 4), ("/usr/.x", 3), ("/usr/.x", 1))
-        )
-        good = folder["per_host"] == ["Size"] and (folder["old"], folder["new"]) == (
-            {"Perm": "0755"},
-            {"Perm": "0700"},
-        )
-        self.holds("a folder's size is its own", good, folder)
-        good = (
-            file["per_host"] == ["Inode"]
-            and not file["old"]
-            and file["old_various"] == list(file["new"]) == ["Perm", "SHA256"]
-        )
-        self.holds("old values that are not the same", good, file)
-        good = (
-            "SHA256" in same["new"]
-            and not {"Inode", "Mtime"} & set(same["new"])
-            and "summary" not in same
-        )
-        self.holds(
-            "values of three hosts", good and {"Inode", "Mtime"} <= set(same["per_host"]), same
-        )
-        good = other["new"].get("Inode") == 4 and not other["per_host"] and "summary" in other
-        self.holds("values of one host", good, other)
+        folder = found["/d", 4]
+        self.assertEqual(folder["per_host"], ["Size"], "a folder's size is its own")
+        self.assertEqual((folder["old"], folder["new"]), ({"Perm": "0755"}, {"Perm": "0700"}))
+        file = found["/etc/p", 4]
+        self.assertEqual((file["per_host"], file["old"]), (["Inode"], {}))
+        self.assertEqual(file["old_various"], ["Perm", "SHA256"])
+        self.assertEqual(list(file["new"]), ["Perm", "SHA256"])
+        same = found["/usr/.x", 3]
+        own = {"Inode", "Mtime"}
+        self.assertIn("SHA256", same["new"])
+        self.assertEqual((own & set(same["new"]), own & set(same["per_host"])), (set(), own))
+        self.assertNotIn("summary", same)
+        other = found["/usr/.x", 1]
+        self.assertEqual((other["new"]["Inode"], other["per_host"]), (4, []))
+        self.assertIn("summary", other)
 
     def test_orders(self) -> None:
         """The orders, the bound of the names, and the paths that are asked for."""
@@ -211,96 +185,66 @@ class HostsReportTest(CommandTest):
         for order, wanted in (("rare", [1, 3]), ("common", [3, 1])):
             changes = hosts.objects("--order", order)[2]
             got = [each["hosts"] for each in changes if each["path"] == "/usr/.x"]
-            self.assertEqual(got, wanted, ("the order " + order, changes))
+            self.assertEqual(got, wanted, order)
             severities = [each["severity"] for each in changes]
             by_severity = sorted(severities, key=("high", "medium", "low").index)
-            self.assertEqual(severities, by_severity, ("the severe ones first, " + order, changes))
+            self.assertEqual(severities, by_severity, order)
             paths = [each["path"] for each in changes if each["hosts"] == 4]
-            self.assertEqual(paths, ["/d", "/etc/p", "/gone"], "paths within the order " + order)
+            self.assertEqual(paths, ["/d", "/etc/p", "/gone"], order)
         changes = hosts.objects("--max-hosts", "2", "--only-path", "/usr/**")[2]
         got = sorted((each["path"], each["hosts"], each["names"]) for each in changes)
-        self.assertEqual(
-            got, [("/usr/.x", 1, ["www4"]), ("/usr/.x", 3, ["www1", "www2"])], "two names"
-        )
-        status, output, errors = hosts.report("--max-hosts", "2")
-        good = (
-            output.startswith("aide on 5 hosts: 4 differ, 0 not compared, 1 without differences\n")
-            and status == 7
-        )
-        self.holds("the text", good and not errors, (status, output, errors))
-        parts = (
+        self.assertEqual(got, [("/usr/.x", 1, ["www4"]), ("/usr/.x", 3, ["www1", "www2"])])
+
+    def test_text(self) -> None:
+        hosts = four_hosts(self)
+        said = hosts.report("--max-hosts", "2")
+        self.assertEqual((said.status, said.errors), (7, ""), said)
+        first = "aide on 5 hosts: 4 differ, 0 not compared, 1 without differences\n"
+        self.assertTrue(said.output.startswith(first), said)
+        for part in (
             "added on 3 of 5 hosts: File /usr/.x\n    on www1, www2 and 1 more\n",
             "\n    Size 4, Perm -rwsr-xr-x, UID 0",
             "added on 1 of 5 hosts: File /usr/.x\n    on www4\n",
             "changed on 4 of 5 hosts: File /etc/p\n",
             "\n    Perm (various) -> -rw-------, ",
             "\n  www4: added 1, removed 1, changed 2\n",
-        )
-        for part in parts:
-            self.assertIn(part, output, "the text has %r" % part)
-        for words in (
-            ["--max-hosts", "0"],
-            ["--order", "x"],
-            ["--only-path", "x"],
-            ["--max-age", "31d"],
-            ["--format=json", "--to", "root"],
-            ["--attach-page"],
-            ["--smtp", "mail.example:0"],
-            ["--to", "-x"],
-            ["x"],
         ):
-            status, output, errors = hosts.report(*words)
-            self.holds(
-                "the words %r" % words,
-                status == 15 and not output and errors,
-                (status, output, errors),
-            )
+            self.assertIn(part, said.output)
+
+    def test_wrong(self) -> None:
+        hosts = Hosts(self)
+        hosts.list_hosts("good1")
+        for words in (
+            "--max-hosts 0",
+            "--order x",
+            "--only-path x",
+            "--max-age 31d",
+            "--format=json --to root",
+            "--attach-page",
+            "--smtp mail.example:0",
+            "--to -x",
+            "x",
+        ):
+            said = hosts.report(*words.split())
+            self.assertEqual((said.status, said.output), (15, ""), words)
+            self.assertTrue(said.errors, words)
 
     def test_not_compared(self) -> None:
         """Whatever is not the result of today counts as not compared."""
         hosts = Hosts(self)
-        pair = (OLD, NEW)
-        hosts.compared(
-            {
-                "good1": pair,
-                "unknown": pair,
-                "stale": pair,
-                "ahead": pair,
-                "odd": pair,
-                "busy": pair,
-                "linked": pair,
-            }
-        )
+        names = ("good1", "unknown", "stale", "ahead", "odd", "busy", "linked")
+        hosts.compared(dict.fromkeys(names, (OLD, NEW)))
         for name, seconds in (("stale", -27 * 3600), ("ahead", 7200)):
-            text = self.read("store/states/" + name).decode()
-            self.write(
-                "store/states/" + name,
-                re.sub("\ntime=.*", "\ntime=%d" % (time.time() + seconds), text),
-            )
+            then = "\ntime=%d" % (time.time() + seconds)
+            self.write("store/states/" + name, re.sub("\ntime=.*", then, hosts.state(name)))
         self.write("store/states/odd", "status=0\n")
         os.rename(self.path("store/hosts/linked/lines"), self.path("elsewhere"))
         os.symlink(self.path("elsewhere"), self.path("store/hosts/linked/lines"))
-        self.write("hosts", "good1\nunknown\nstale\nahead\nodd\nbusy\nnever\na..b\nlinked\n")
-        lock = subprocess.Popen(
-            ["flock", self.path("store/hosts/busy/lock"), "sleep", "100"], start_new_session=True
-        )
-        try:
-            until(
-                lambda: subprocess.run(
-                    ["flock", "-n", self.path("store/hosts/busy/lock"), "true"]
-                ).returncode
-                == 1
-            )
+        hosts.list_hosts(*names, "never", "a..b")
+        with hosts.locked("busy"):
             summary, found, changes = hosts.objects("--time", "1s")
-            status, output, _ = hosts.report("--time", "1s")
-        finally:
-            os.killpg(lock.pid, signal.SIGKILL)
-            lock.wait()
-        self.holds(
-            "how many",
-            summary["not_compared"] == 7 and summary["differ"] == 2 and status == 18,
-            (status, summary),
-        )
+            said = hosts.report("--time", "1s")
+        self.assertEqual((summary["not_compared"], summary["differ"], said.status), (7, 2, 18))
         for name, want in (
             ("unknown", "Host key verification failed"),
             ("stale", "was compared 27 hours ago and not since"),
@@ -310,148 +254,96 @@ class HostsReportTest(CommandTest):
             ("never", "was never compared"),
             ("a..b", "the name of a host"),
         ):
-            good = found[name]["status"] in (15, 18) and want in found[name]["error"]
-            self.holds(
-                "the host " + name,
-                good and "\n  %s: " % name in output and want in output,
-                (found[name], output),
-            )
-        self.holds(
-            "only those of today",
-            all(set(each["names"]) <= {"good1", "linked"} for each in changes),
-            changes,
-        )
-        self.assertFalse(
-            os.path.exists(self.path("store/hosts/never")), "nothing is made for a host"
-        )
+            self.assertIn(found[name]["status"], (15, 18), name)
+            self.assertIn(want, found[name]["error"])
+            self.assertRegex(said.output, f"\n  {re.escape(name)}: .*{want}")
+        told = {name for each in changes for name in each["names"]}
+        self.assertLessEqual(told, {"good1", "linked"}, "only those of today")
+        self.assertFalse(os.path.exists(self.path("store/hosts/never")))
         found = hosts.objects("--max-age", "0", "--time", "1s")[1]
-        self.assertEqual(found["stale"]["status"], 7, ("any age", found["stale"]))
-        if os.getuid() == 0:
-            os.chown(self.path("store/hosts/good1"), 65534, 65534)
-            found = hosts.objects("--time", "1s")[1]
-            os.chown(self.path("store/hosts/good1"), 0, 0)
-            good = "another user can write" in found["good1"].get("error", "")
-            self.holds("the folder of another user", good, found["good1"])
+        self.assertEqual(found["stale"]["status"], 7, "any age")
+
+    def test_anothers_folder(self) -> None:
+        self.needs_root()
+        hosts = Hosts(self)
+        hosts.compared({"good1": (OLD, NEW)})
+        os.chown(self.path("store/hosts/good1"), 65534, 65534)
+        found = hosts.objects()[1]["good1"]
+        self.assertIn("another user can write", found.get("error", ""))
 
     def test_broken(self) -> None:
         """What cannot be read of one host, such as on a damaged disk, keeps no other host from the
         report."""
         hosts = Hosts(self)
-        hosts.compared({name: (OLD, NEW) for name in ("good1", "good2", "good3", "good4", "good5")})
+        hosts.compared({f"good{number}": (OLD, NEW) for number in range(1, 6)})
         makers: dict[str, Callable[[str], object]]
         makers = {"good1": os.mkdir, "good2": lambda path: os.symlink("none", path)}
         for name, make in makers.items():
-            os.remove(self.path("store/hosts/%s/lock" % name))
-            make(self.path("store/hosts/%s/lock" % name))
+            os.remove(self.path(f"store/hosts/{name}/lock"))
+            make(self.path(f"store/hosts/{name}/lock"))
         shutil.rmtree(self.path("store/hosts/good3"))
         self.write("store/hosts/good3", "")
         os.remove(self.path("store/hosts/good4/lines"))
         os.symlink("/proc/self/mem", self.path("store/hosts/good4/lines"))
         summary, found, changes = hosts.objects()
-        counts = [summary.get(key) for key in ("differ", "not_compared", "not_listed", "changes")]
-        self.assertEqual(counts, [2, 3, 1, 4], ("broken hosts", (summary, found)))
-        self.assertEqual(
-            {name for each in changes for name in each["names"]},
-            {"good5"},
-            ("the one that is whole", changes),
-        )
-        self.assertEqual(
-            found.get("good4", {}).get("report"),
-            "unreadable",
-            ("a report that cannot be read", found),
-        )
-        errors = [found.get(name, {}).get("error", "") for name in ("good1", "good2", "good3")]
-        good = "Is a directory" in errors[0] and "Too many levels" in errors[1] and errors[2]
-        self.holds("what is said of them", good, errors)
-        shutil.rmtree(self.path("store"))
+        counts = [summary[key] for key in ("differ", "not_compared", "not_listed", "changes")]
+        self.assertEqual(counts, [2, 3, 1, 4], found)
+        self.assertEqual({name for each in changes for name in each["names"]}, {"good5"})
+        self.assertEqual(found["good4"]["report"], "unreadable")
+        self.assertIn("Is a directory", found["good1"]["error"])
+        self.assertIn("Too many levels", found["good2"]["error"])
+        self.assertTrue(found["good3"]["error"])
 
     def test_hostile_names(self) -> None:
         """Names that hosts have chosen: in the order of paths, exact in JSON, escaped in the text,
         and always last in a line."""
         hosts = Hosts(self)
-        lines = [line(path, path) for path in HOSTILE]
-        hosts.compared(
-            {"good1": (database(), database(*lines)), "good2": (database(), database(*lines))}
-        )
+        new = database(*(line(path, path) for path in HOSTILE))
+        hosts.compared({"good1": (database(), new), "good2": (database(), new)})
         changes = hosts.objects()[2]
-        paths, wanted = [path_of(each) for each in changes], [decoded(path) for path in HOSTILE]
-        self.assertEqual(
-            paths, sorted(wanted, key=lambda path: path.split(b"/")), "the order of paths"
-        )
-        self.holds("all on two hosts", all(each["hosts"] == 2 for each in changes), changes)
-        output = hosts.start(
-            hosts.words("aide-compare hosts report", self.path("hosts"))
-        ).communicate()[0]
-        good = (
-            not re.search(rb"[\x00-\x09\x0b-\x1f\x7f]", output) and "\u202e".encode() not in output
-        )
-        self.holds("escaped", good, output[:900])
-        self.holds(
-            "UTF-8",
-            output.decode() and max(map(len, output.split(b"\n"))) < 6000,
-            max(map(len, output.split(b"\n"))),
-        )
-        starts = re.findall(rb"^added on (\d+) of (\d+) hosts: ", output, re.M)
-        self.assertEqual(starts, [(b"2", b"2")] * len(HOSTILE), "no name begins a line")
+        wanted = sorted(map(decoded, HOSTILE), key=lambda path: path.split(b"/"))
+        self.assertEqual([path_of(each) for each in changes], wanted)
+        self.assertEqual({each["hosts"] for each in changes}, {2})
+        output = hosts.report().output
+        self.assertNotRegex(output, "[\x00-\x09\x0b-\x1f\x7f\u202e]")
+        self.assertLess(max(map(len, output.split("\n"))), 6000)
+        starts = re.findall(r"(?m)^added on (\d+) of (\d+) hosts: ", output)
+        self.assertEqual(starts, [("2", "2")] * len(HOSTILE), "no name begins a line")
+
+    def mailed(self, hosts: Hosts, *words: str) -> str:
+        """The mail about all hosts. The command prints nothing."""
+        said = hosts.report("--to", "root", *words)
+        self.assertEqual(said, (18, "", ""))
+        text: str = self.read("mail").decode()
+        return text
 
     def test_mail(self) -> None:
         """One mail for all hosts; none without differences; bounded; an error if it cannot be
         sent."""
         hosts = Hosts(self)
-        self.stub("sendmail", 'cat > "%s/mail"; exit $(cat "%s/answer")' % (self.root, self.root))
-        self.write("answer", "0")
+        self.stub("sendmail", 'cat > "%s"' % self.path("mail"))
         hosts.compared({"calm": (OLD, OLD)})
-        status, output, errors = hosts.report("--to", "root")
-        good = status == 0 and not os.path.exists(self.path("mail")) and not output + errors
-        self.holds("no mail", good, (status, errors))
-        new = database(*(line(b"/n%04d" % number, b"%d" % number) for number in range(500)))
-        hosts.compared(
-            {
-                "calm": (OLD, OLD),
-                "good1": (database(), new),
-                "good2": (database(), new),
-                "unknown": (OLD, OLD),
-            }
-        )
-        status, output, errors = hosts.report("--to", "root")
-        mail = self.read("mail")
-        good = (
-            b"\nSubject: aide on 4 hosts: 2 differ, 1 not compared\n" in mail
-            and mail.startswith(b"To: root\n")
-        )
-        self.holds(
-            "its subject",
-            good and status == 18 and not output + errors,
-            (status, output, errors, mail[:300]),
-        )
-        text = mail.partition(b"\n\n")[2].decode()
-        self.assertEqual(hosts.report("--format=brief")[1], text, "its text is the brief one")
-        words = ["--only-path", "/n*", "--only-path", "/it's/**", "--max-age", "2d", "--to", "root"]
-        hosts.report(*words)
-        command = command_in(self.read("mail").decode())
-        good = shlex.split(command)[5:-1] == [
-            "--only-path",
-            "/n*",
-            "--only-path",
-            "/it's/**",
-            "--max-age",
-            "172800",
-        ]
-        self.holds("the command has the options that were given", good, command)
-        done = subprocess.run(["sh", "-c", command], stdout=subprocess.PIPE, env=self.environment())
+        self.assertEqual(hosts.report("--to", "root"), (0, "", ""))
+        self.assertFalse(os.path.exists(self.path("mail")))
+        pair = (database(), database(*(line(b"/n%04d" % number) for number in range(500))))
+        same = (OLD, OLD)
+        hosts.compared({"calm": same, "good1": pair, "good2": pair, "unknown": same})
+        title = "aide on 4 hosts: 2 differ, 1 not compared"
+        head, _, text = self.mailed(hosts).partition("\n\n")
+        self.assertTrue(head.startswith("To: root\n"), head)
+        self.assertIn(f"\nSubject: {title}\n", head)
+        self.assertEqual(hosts.report("--format=brief").output, text)
+        only = ["--only-path", "/n*", "--only-path", "/it's/**"]
+        command = command_in(self.mailed(hosts, *only, "--max-age", "2d"))
+        self.assertEqual(shlex.split(command)[5:-1], [*only, "--max-age", "172800"])
+        done = subprocess.run(["sh", "-c", command], capture_output=True, env=self.environment())
         listed = done.stdout.count(b"\nadded on 2 of 4 hosts: File /n")
-        self.assertEqual(listed, 500, ("the command that prints all", (command, listed)))
-        hosts.report("--to", "root", "--attach-page")
-        mail = self.read("mail")
-        good = (
-            b"multipart/" in mail
-            and b"<title>aide on 4 hosts: 2 differ, 1 not compared</title>" in mail
-        )
-        self.holds("a mail with the page", good and len(mail) < 1 << 20, mail[:400])
-        self.write("answer", "75")
-        status, output, errors = hosts.report("--to", "root")
-        self.holds(
-            "a mail that is refused",
-            status == 18 and "cannot send the mail: status 75" in errors,
-            (status, errors),
-        )
+        self.assertEqual(listed, 500, "the command prints all")
+        text = self.mailed(hosts, "--attach-page")
+        self.assertIn("multipart/", text)
+        self.assertIn(f"<title>{title}</title>", text)
+        self.assertLess(len(text), 1 << 20)
+        self.stub("sendmail", "exit 75")
+        said = hosts.report("--to", "root")
+        self.assertEqual(said.status, 18)
+        self.assertIn("cannot send the mail: status 75", said.errors)
