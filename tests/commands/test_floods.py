@@ -8,7 +8,8 @@ from __future__ import annotations
 import base64
 import hashlib
 import re
-from typing import Any
+from collections.abc import Callable, Iterator
+from typing import Any, List, Tuple
 
 from tests.lib.program_test import slow
 
@@ -32,48 +33,38 @@ ADDED, REMOVED = ROOTS[0:5:4], ROOTS[3]
 SHELL = b"/var/www/html/shell.php"
 
 
-def digest(kind, text):
+Line = Tuple[bytes, bytes]
+
+
+def digest(kind: str, text: bytes) -> bytes:
     return base64.b64encode(hashlib.new(kind, text).digest())
 
 
-def entry(path, content=b"a", mode=b"100644", owner=0, mtime=1, inode=1, attr=ATTR, sha256=None):
+def entry(
+    path: bytes,
+    content: bytes = b"a",
+    mode: bytes = b"100644",
+    owner: int = 0,
+    mtime: int = 1,
+    inode: int = 1,
+    attr: int = ATTR,
+    sha256: bytes = b"",
+) -> Line:
     """A line of a database, with the key of its path before it."""
-    field = path.replace(b" ", b"%20")
-    sums = digest("md5", content), sha256 or digest("sha256", content)
-    line = b"%s %d %s %d %d %d %d %d %s %s\n" % (
-        field,
-        attr,
-        mode,
-        owner,
-        owner,
-        len(content),
-        mtime,
-        inode,
-        *sums,
-    )
-    return path.replace(b"/", b"\1"), line
+    fields = [path.replace(b" ", b"%20"), b"%d" % attr, mode]
+    fields += [b"%d" % number for number in (owner, owner, len(content), mtime, inode)]
+    fields += [digest("md5", content), sha256 or digest("sha256", content)]
+    return path.replace(b"/", b"\1"), b" ".join(fields) + b"\n"
 
 
-def database(entries):
+def database(entries: List[Line]) -> bytes:
     return SPEC + b"".join(line for _, line in sorted(entries)) + END
 
 
-def write_night(sandbox, hostile):
-    """Root's files were changed, added and removed, a service has a new file, and somebody else has
-    hostile ones."""
-    modes = {path: b"100755" if b"bin/" in path else b"100600" for path in ROOTS}
-    old = [entry(path, mode=modes[path]) for path in ROOTS if path not in ADDED]
-    new = [entry(path, b"EVIL", modes[path], mtime=2) for path in ROOTS if path != REMOVED]
-    new.append(entry(SHELL, owner=33))
-    sandbox.write("night.old", database(old))
-    sandbox.write("night.new", database(new + hostile))
-    return len(hostile)
-
-
-def hostile_files(count):
+def hostile_files(count: int) -> Iterator[Line]:
     """Files with severity high: of one user in one folder, in folders of their own, with long
     names, and of many users."""
-    kinds = (
+    kinds: tuple[Callable[[int], tuple[bytes, int]], ...] = (
         lambda number: (b"/home/anna/.ssh/%06d" % number, 1000),
         lambda number: (b"/home/anna/%06d/.ssh/x" % number, 1000),
         lambda number: (b"/home/bob/.ssh/%s%06d" % (b"n" * 200, number), 1001),
@@ -84,154 +75,126 @@ def hostile_files(count):
         yield entry(path, owner=owner)
 
 
-def brief_of(sandbox, *databases):
-    answer = sandbox.call(TOOL, *databases)
-    sandbox.assertIn(answer.status, range(1, 8), ("a comparison of %s and %s" % databases, answer))
-    return answer.output.decode().split("\n")
-
-
-def counted(sandbox, *databases):
-    """The counts of standings in the state of a run."""
-    sandbox.call(TOOL, "--state", "counted.state", *databases)
-    return {
-        name: int(value)
-        for name, value in sandbox.state("counted.state").items()
-        if value.isdigit()
-    }
+def numbered(text: str, *numbers: int) -> list[str]:
+    return [text % number for number in range(*numbers)]
 
 
 @slow
 class FloodsTest(CommandTest):
+    def write_night(self, hostile: List[Line]) -> None:
+        """Root's files were changed, added and removed, a service has a new file, and somebody else
+        has hostile ones."""
+        modes = {path: b"100755" if b"bin/" in path else b"100600" for path in ROOTS}
+        old = [entry(path, mode=modes[path]) for path in ROOTS if path not in ADDED]
+        new = [entry(path, b"EVIL", modes[path], mtime=2) for path in ROOTS if path != REMOVED]
+        new.append(entry(SHELL, owner=33))
+        self.write("night.old", database(old))
+        self.write("night.new", database(new + hostile))
+
+    def mailed(self, *words: str) -> bytes:
+        """The text of the mail about this night, which is short."""
+        answer = mail.call(self, "night.old", "night.new", *words, limit=TIME_LIMIT)
+        self.expect("a flood", answer, 7, b"", b"")
+        text: bytes = mail.body(mail.sent(self))
+        mail.check_size(self, "a flooded mail", text)
+        return text
+
     def test_order(self) -> None:
         """The order of the lines: root's before a service's before others', the first few of each
         folder, changed and removed before added; and the shares."""
         hostile = [entry(b"/home/anna/.ssh/%03d" % number, owner=1000) for number in range(250)]
         hostile += [entry(b"/home/bob/%03d/.ssh/x" % number, owner=1001) for number in range(90)]
         hostile += [entry(b"/opt/root/.ssh/%02d" % number) for number in range(30)]
-        hostile += [
-            entry(b"/srv/.ssh/%02d" % number, attr=ATTR & ~8, owner=0) for number in range(30)
-        ]
-        write_night(self, hostile + [entry(b"/srv/www/.ssh/x", owner=33)])
-        lines = [
-            line for line in brief_of(self, "night.old", "night.new") if line.startswith("  high")
-        ]
+        hostile += [entry(b"/srv/.ssh/%02d" % number, attr=ATTR & ~8) for number in range(30)]
+        self.write_night(hostile + [entry(b"/srv/www/.ssh/x", owner=33)])
+        text = self.answered(7, None, None, TOOL, "night.old", "night.new").output.decode()
+        lines = [line for line in text.split("\n") if line.startswith("  high")]
         names = [re.sub(r": .*", "", line[10:]) for line in lines]
         roots = [
             "changed  /etc/passwd",
             "changed  /root/.ssh/authorized_keys",
             "removed  /usr/bin/sudo",
             "changed  /usr/sbin/sshd",
+            "added    /etc/cron.d/evil",
+            *numbered("added    /opt/root/.ssh/%02d", 5),
+            *numbered("added    /srv/.ssh/%02d", 5),
+            "added    /usr/local/sbin/.x",
+            *numbered("added    /opt/root/.ssh/%02d", 5, 30),
+            *numbered("added    /srv/.ssh/%02d", 5, 20),
         ]
-        roots += ["added    /etc/cron.d/evil"] + [
-            "added    /opt/root/.ssh/%02d" % number for number in range(5)
+        others = [
+            "added    /srv/www/.ssh/x",
+            *numbered("added    /home/anna/.ssh/%03d", 5),
+            *numbered("added    /home/bob/%03d/.ssh/x", 50),
+            *numbered("added    /home/anna/.ssh/%03d", 5, 20),
+            "added    /home/anna/.ssh",
         ]
-        roots += ["added    /srv/.ssh/%02d" % number for number in range(5)] + [
-            "added    /usr/local/sbin/.x"
-        ]
-        roots += ["added    /opt/root/.ssh/%02d" % number for number in range(5, 30)]
-        roots += ["added    /srv/.ssh/%02d" % number for number in range(5, 20)]
-        others = ["added    /srv/www/.ssh/x"] + [
-            "added    /home/anna/.ssh/%03d" % number for number in range(5)
-        ]
-        others += ["added    /home/bob/%03d/.ssh/x" % number for number in range(50)]
-        others += ["added    /home/anna/.ssh/%03d" % number for number in range(5, 20)] + [
-            "added    /home/anna/.ssh"
-        ]
-        self.assertEqual(names[: len(roots)], roots, ("root's changes come first", names[:80]))
-        self.assertIn(
-            "added    /srv/.ssh",
-            names,
-            ("what is not listed of a folder whose owner is not known", names[50:80]),
-        )
+        self.assertEqual(names[: len(roots)], roots, "root's changes come first")
+        # What is not listed of a folder whose owner is not known.
+        self.assertEqual(names[len(roots)], "added    /srv/.ssh")
         rest = names[len(roots) + 1 :]
-        self.assertEqual(rest[: len(others)], others, ("then those of others", rest))
-        self.assertIn(
-            "  high    added    /home/anna/.ssh: 230 more files",
-            lines,
-            ("a folder that is counted", lines[-20:]),
-        )
-        self.assertEqual(
-            lines[-1],
-            "  high    and 31 more in 31 more directories",
-            ("folders that are not named", lines[-3:]),
-        )
+        self.assertEqual(rest[: len(others)], others, "then those of others")
+        self.assertIn("  high    added    /home/anna/.ssh: 230 more files", lines)
+        self.assertEqual(lines[-1], "  high    and 31 more in 31 more directories")
 
     def test_flooded_mail(self) -> None:
         """100,000 hostile paths: the mail names each change of root's with severity high, before
         all of theirs, in 80 lines."""
         mail.prepare(self)
-        count = write_night(self, list(hostile_files(100000)))
-        self.expect(
-            "a flood", mail.call(self, "night.old", "night.new", limit=TIME_LIMIT), 7, b"", b""
-        )
-        text = mail.body(mail.sent(self))
-        mail.check_size(self, "a flooded mail", text)
-        places = [text.find(path + b": ") for path in ROOTS]
+        self.write_night(list(hostile_files(100000)))
+        text = self.mailed()
         first = text.find(b"/home/")
-        good = all(0 < place < first for place in places)
-        self.holds("root's changes are in the mail", good, (places, first, text))
-        self.holds("a service's is", text.find(SHELL + b": ") > 0, text)
-        self.assertIn(
-            b"%s changes are open" % format(count + 7, ",").encode(),
-            text,
-            "how many changes there are",
-        )
-        listed = [
-            line.split()[1].rpartition(b"/")[0]
-            for line in text.split(b"\n")
-            if line.startswith(b"  added    /home/")
-        ]
-        self.assertEqual(
-            listed.count(b"/home/anna/.ssh"), 5, ("the first few of each folder come first", listed)
-        )
-        rest = b"  and %s more, " % format(count - len(listed), ",").encode() in text
-        self.holds("what is not listed is counted", rest, text)
+        for path in ROOTS:
+            self.assertTrue(0 < text.find(path + b": ") < first, (path, text))
+        self.assertIn(SHELL + b": ", text)
+        self.assertIn(b"100,007 changes are open", text)
+        lines = [line for line in text.split(b"\n") if line.startswith(b"  added    /home/")]
+        of_anna = [line for line in lines if re.match(rb"  added    /home/anna/\.ssh/\d", line)]
+        self.assertEqual(len(of_anna), 5, "the first few of each folder come first")
+        rest = b"  and %s more, " % format(100000 - len(lines), ",").encode()
+        self.assertIn(rest, text, "what is not listed is counted")
 
     def test_unjudged(self) -> None:
         """If nobody can judge the changes, what changed and went comes first, and each folder has a
         share."""
         mail.prepare(self)
-        write_night(
-            self,
-            [
-                entry(b"/home/anna/%s%04d" % (b"n" * 200, number), owner=1000)
-                for number in range(5000)
-            ],
-        )
-        answer = mail.call(self, "night.old", "night.new", "--max-report", "1M")
-        self.expect("a long report", answer, 7, b"", b"")
-        text = mail.body(mail.sent(self))
-        mail.check_size(self, "a mail that nobody could judge", text)
+        long = b"/home/anna/" + b"n" * 200
+        self.write_night([entry(long + b"%04d" % number, owner=1000) for number in range(5000)])
+        text = self.mailed("--max-report", "1M")
         # The lines of the flood come first, and those that follow were cut.
-        places = [text.find(b"  " + path + b"\n") for path in ROOTS if path.startswith(b"/etc")]
-        self.holds("each change is named", min(places) > 0, (places, text))
-        count = text.count(b"/home/anna/n")
-        self.assertEqual(count, 5, ("the share of a folder", (count, text)))
-        self.holds("how many more there are", b" more\n" in text and b"5,003 added" in text, text)
+        for path in ROOTS:
+            if path.startswith(b"/etc"):
+                self.assertIn(b"  " + path + b"\n", text)
+        self.assertEqual(text.count(b"/home/anna/n"), 5, "the share of a folder")
+        self.assertIn(b" more\n", text)
+        self.assertIn(b"5,003 added", text)
 
     def test_same_content(self) -> None:
         """An entry with all that it had but times and inode is the same, by a digest of 256 bits of
         a file. Anything else is open."""
+        socket, other = b"140666", {"sha256": b"0"}
+        rows: list[tuple[str, dict[str, Any], dict[str, Any]]] = [
+            ("same", {}, {"inode": 2, "mtime": 2}),
+            ("same", {}, {"mtime": 2}),
+            ("open", {}, {"inode": 2, "content": b"b"}),
+            ("open", {}, {"inode": 2, "mode": b"100600"}),
+            ("open", {}, {"inode": 2, "owner": 33}),
+            ("same", {}, {"inode": 2, "attr": ATTR ^ 1 << 12}),  # A rule asks for more.
+            ("open", {}, {"inode": 2, "sha256": b"0"}),
+            ("same", {"mode": socket, **other}, {"inode": 2, "mtime": 2}),
+            ("open", {"mode": socket, **other}, {"inode": 2, "owner": 33}),
+            ("same", {"mode": b"10600", **other}, {"mtime": 2}),  # A FIFO.
+            ("same", {"mode": b"40755", **other}, {"mtime": 2}),
+            ("same", {"mode": b"20600", **other}, {"inode": 2}),  # A device.
+            ("open", {"mode": b"120777", **other}, {"inode": 2}),  # A link without a target.
+        ]
         path = b"/var/spool/postfix/etc/000"
-        rows: dict[str, tuple[Any, ...]] = {
-            "another inode": ({"inode": 2, "mtime": 2}, "same"),
-            "other times": ({"mtime": 2}, "same"),
-            "another content": ({"inode": 2, "content": b"b"}, "open"),
-            "another mode": ({"inode": 2, "mode": b"100600"}, "open"),
-            "another owner": ({"inode": 2, "owner": 33}, "open"),
-            "a rule that asks for more": ({"inode": 2, "attr": ATTR ^ 1 << 12}, "same"),
-            "no digest of 256 bits in the new entry": ({"inode": 2, "sha256": b"0"}, "open"),
-            "a socket, another inode": ({"inode": 2, "mtime": 2}, "same", b"140666"),
-            "a socket, another owner": ({"inode": 2, "owner": 33}, "open", b"140666"),
-            "a FIFO, other times": ({"mtime": 2}, "same", b"10600"),
-            "a directory, other times": ({"mtime": 2}, "same", b"40755"),
-            "a device, another inode": ({"inode": 2}, "same", b"20600"),
-            "a link without a target, another inode": ({"inode": 2}, "open", b"120777"),
-        }
-        for label, (more, standing, *modes) in rows.items():
-            same = {"mode": modes[0], "sha256": b"0"} if modes else {}
-            self.write("same.old", database([entry(path, **same)]))
-            self.write("same.new", database([entry(path, **{**same, **more})]))
-            counts = counted(self, "same.old", "same.new")
-            want = {"same": 0, "open": 0, "recorded": 0, standing: 1}
-            self.assertEqual({name: counts.get(name) for name in want}, want, (label, counts))
+        for standing, old, more in rows:
+            self.write("same.old", database([entry(path, **old)]))
+            self.write("same.new", database([entry(path, **{**old, **more})]))
+            self.call(TOOL, "--state", "state", "same.old", "same.new")
+            state = self.state()
+            counts = {
+                name: state[name] for name in ("same", "open", "recorded") if state[name] != "0"
+            }
+            self.assertEqual(counts, {standing: "1"}, (old, more))
