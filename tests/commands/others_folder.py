@@ -1,12 +1,16 @@
 """A folder of another user, what is root's beside it, and that user's process, for attacks on
 aide-compare accept."""
+from __future__ import annotations
+
 import os
 import shutil
 import stat
 import subprocess
 import sys
+from collections.abc import Iterator
+from typing import Any, Dict, List, Optional, Tuple
 
-from .sandbox import AS_NOBODY, NEW, NOBODY, OLD, sha256
+from .sandbox import AS_NOBODY, Answer, CommandTest, NEW, NOBODY, OLD, sha256
 
 TOOL = "aide-compare accept"
 BASELINE = "theirs/base/aide.db"
@@ -39,51 +43,44 @@ while os.getppid() == parent != 1:
 )
 
 
-def put(sandbox, kind):
+def put(sandbox: CommandTest, kind: str) -> Tuple[str, str, Optional[str]]:
     """Makes the folders anew. Returns the two names of an attack, and the target of the link."""
     for name in ("root", "theirs"):
         shutil.rmtree(sandbox.path(name), ignore_errors=True)
-    for name, data in (
-        ("root/secret", SECRET),
-        ("root/aide.db", SECRET),
-        (BASELINE, OLD),
-        ("theirs/second/aide.db", OLD),
-        ("new", NEW),
-    ):
-        sandbox.write(name, data, 0o600)
-    one, other, target = KINDS[kind]
-    if target:
-        target = sandbox.path(target)
-        os.symlink(target, sandbox.path("theirs/" + other))
+    for name in ("root/secret", "root/aide.db"):
+        sandbox.write(name, SECRET, 0o600)
+    for name in (BASELINE, "theirs/second/aide.db"):
+        sandbox.write(name, OLD, 0o600)
+    sandbox.write("new", NEW, 0o600)
     for folder, _, names in os.walk(sandbox.path("theirs")):
         for path in [folder] + [os.path.join(folder, name) for name in names]:
-            if not os.path.islink(path):
-                os.chown(path, NOBODY, NOBODY)
+            os.chown(path, NOBODY, NOBODY)
+    one, other, name_of_target = KINDS[kind]
+    target = sandbox.path(name_of_target) if name_of_target else None
+    if target:
+        os.symlink(target, sandbox.path("theirs/" + other))
     return sandbox.path("theirs/" + one), sandbox.path("theirs/" + other), target
 
 
-def call(sandbox, database=NEW, **environment):
+def call(sandbox: CommandTest, database: bytes = NEW, **environment: object) -> Answer:
     words = ["--sha256", sha256(database), "new", BASELINE]
-    return sandbox.call(
-        TOOL, *words, environment={key: str(value) for key, value in environment.items()}
-    )
+    settings = {key: str(value) for key, value in environment.items()}
+    answer: Answer = sandbox.call(TOOL, *words, environment=settings)
+    return answer
 
 
-def roots(sandbox):
+def roots(sandbox: CommandTest) -> Dict[str, Tuple[int, int, int, bytes]]:
     """All that is in root's folder, and the folder: owner, mode, and the bytes of files."""
     found = {}
     for folder, folders, names in os.walk(sandbox.path("root")):
         for path in [folder] + [os.path.join(folder, name) for name in folders + names]:
             entry = os.lstat(path)
-            data = b""
-            if stat.S_ISREG(entry.st_mode):
-                with open(path, "rb") as file:
-                    data = file.read()
+            data = sandbox.read(path) if stat.S_ISREG(entry.st_mode) else b""
             found[path] = entry.st_uid, entry.st_gid, entry.st_mode, data
     return found
 
 
-def made_by_root(sandbox):
+def made_by_root(sandbox: CommandTest) -> Iterator[str]:
     """The regular files in the other user's folder that are not his."""
     for _, _, names, folder in os.fwalk(sandbox.path("theirs")):
         for name in names:
@@ -95,7 +92,7 @@ def made_by_root(sandbox):
                 yield name
 
 
-def harm(sandbox, before):
+def harm(sandbox: CommandTest, before: Dict[str, Any]) -> List[object]:
     """What an attack has changed of root's, and what root's rights have made in the other user's
     folder."""
     now = roots(sandbox)
@@ -106,30 +103,25 @@ def harm(sandbox, before):
 class Swapping:
     """Another user who lets two names change places, again and again, in a process of his own."""
 
-    def __init__(self, sandbox, one, other, target):
+    def __init__(self, sandbox: CommandTest, one: str, other: str, target: str) -> None:
         spare = sandbox.path("theirs/spare")
         self.counts = open(sandbox.path("counts"), "w+b")
         words = [sys.executable, "-c", SWAPPING, one, other, spare, target]
         self.process = subprocess.Popen(words, stdin=subprocess.DEVNULL, stdout=self.counts)
 
-    def count(self):
+    def count(self) -> int:
         return int(os.pread(self.counts.fileno(), 12, 0) or 0)
 
-    def user(self):
+    def user(self) -> int | None:
         """Whose process it is; None if it has ended."""
-        try:
-            return (
-                os.stat("/proc/%d" % self.process.pid).st_uid
-                if self.process.poll() is None
-                else None
-            )
-        except FileNotFoundError:
+        if self.process.poll() is not None:
             return None
+        return os.stat("/proc/%d" % self.process.pid).st_uid
 
-    def __enter__(self):
+    def __enter__(self) -> Swapping:
         return self
 
-    def __exit__(self, *_):
+    def __exit__(self, *_: object) -> None:
         self.process.kill()
         self.process.wait()
         self.counts.close()
