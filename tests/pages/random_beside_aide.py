@@ -7,6 +7,9 @@ it is, its summary string, and the names of its details. A difference passes onl
 docs/DIFFERENCES.md lists it. Each kind is counted. Prints what is not listed and, at the end, `N
 passed, M failed`. Needs AIDE and a file system with extended attributes; run by hand.
 """
+from __future__ import annotations
+
+import collections
 import gzip
 import os
 import random
@@ -15,53 +18,34 @@ import shutil
 import subprocess
 import sys
 import tempfile
+from typing import Dict, List, NamedTuple
 
-from tools.lib.arguments import parser_of
+from tools.lib.arguments import add_program, parser_of
 from tests.lib.tally import Tally
 
+# The names of the details of an entry, by its path.
+Details = Dict[str, List[str]]
 SLOTS = "YlZbpugamcinHAXSEC"
+ALL = "p+ftype+u+g+s+b+m+c+i+n+l+md5+sha256+sha512+acl+xattrs+e2fsattrs"
 GROUPS = [
     "p+ftype+u+g+s+m+sha256+xattrs+acl",
     "p+u+s+i+n+md5",
     "ftype+p+l+s+b+m+c+sha256+sha512+xattrs+e2fsattrs",
 ]
-NAMES = [
-    "p",
-    "ftype",
-    "u",
-    "g",
-    "s",
-    "b",
-    "m",
-    "c",
-    "i",
-    "n",
-    "l",
-    "md5",
-    "sha256",
-    "sha512",
-    "acl",
-    "xattrs",
-    "e2fsattrs",
-]
 LEVELS = ["list_entries", "changed_attributes", "added_removed_attributes", "added_removed_entries"]
+SETS = [f"report_ignore_{kind}_attrs" for kind in ("added", "removed", "changed")]
 LETTERS = dict(zip("l p u g s b m c i n".split(), "l p u g Z b m c i n".split()))
 LETTERS.update(md5="H", sha256="H", sha512="H", acl="A", xattrs="X", e2fsattrs="E", ftype="Y")
 
 
-def change(tree, chance):
+def change(tree: str, chance: random.Random) -> None:
     """One random operation on the files of a tree."""
-    paths = [
-        os.path.join(path, name)
-        for path, folders, files in os.walk(tree)
-        for name in folders + files
-    ]
-    fresh = os.path.join(
-        tree, chance.choice(["", "sub", "sub/deep"]), "new%d" % chance.randrange(10**6)
-    )
-    if not os.path.isdir(os.path.dirname(fresh)):
-        os.makedirs(os.path.dirname(fresh), exist_ok=True)
+    found = list(os.walk(tree))
+    paths = [os.path.join(top, name) for top, names, files in found for name in names + files]
     path = chance.choice(paths) if paths else tree
+    place = os.path.join(tree, chance.choice(["", "sub", "sub/deep"]))
+    os.makedirs(place, exist_ok=True)
+    fresh = os.path.join(place, f"new{chance.randrange(10**6)}")
     kind = chance.randrange(12)
     if kind == 0:
         with open(fresh, "wb") as file:
@@ -70,93 +54,98 @@ def change(tree, chance):
         os.symlink(chance.choice(["target", "other", "a b"]), fresh)
     elif kind == 2:
         os.mkdir(fresh)
-    elif kind == 3 and os.path.isfile(path) and not os.path.islink(path):
+    elif kind == 3:
+        os.chown(path, chance.randrange(3), chance.randrange(3), follow_symlinks=False)
+    elif kind in (4, 5) and not os.path.islink(path):
+        if kind == 4:
+            os.chmod(path, chance.choice([0o644, 0o600, 0o755, 0o4755]))
+        else:
+            os.utime(path, (10**9, 10**9 + chance.randrange(1000)))
+    elif kind in (6, 7) and not os.path.isdir(path):
+        os.remove(path)
+        if kind == 7:
+            os.symlink("target", path)
+    elif kind > 7 and os.path.isfile(path) and not os.path.islink(path):
+        change_file(path, fresh, kind, chance)
+
+
+def change_file(path: str, fresh: str, kind: int, chance: random.Random) -> None:
+    """One operation on a regular file."""
+    name = f"user.x{chance.randrange(3)}"
+    if kind == 8:
         with open(path, "ab") as file:
             file.write(b"more")
-    elif kind == 4 and os.path.isfile(path) and not os.path.islink(path):
+    elif kind == 9:
         os.truncate(path, 0)
-    elif kind == 5 and not os.path.islink(path):
-        os.chmod(path, chance.choice([0o644, 0o600, 0o755, 0o4755]))
-    elif kind == 6:
-        os.chown(path, chance.randrange(3), chance.randrange(3), follow_symlinks=False)
-    elif kind == 7 and not os.path.islink(path):
-        os.utime(path, (10**9, 10**9 + chance.randrange(1000)))
-    elif kind == 8 and not os.path.isdir(path):
-        os.remove(path)
-    elif kind == 9 and not os.path.isdir(path):
-        os.remove(path)
-        os.symlink("target", path)
-    elif kind == 10 and os.path.isfile(path) and not os.path.islink(path):
-        name = "user.x%d" % chance.randrange(3)
-        if chance.random() < 0.5:
-            os.setxattr(path, name, b"value%d" % chance.randrange(3))
-        elif name in os.listxattr(path):
-            os.removexattr(path, name)
-    elif kind == 11 and os.path.isfile(path) and not os.path.islink(path):
+    elif kind == 10:
         os.link(path, fresh)
+    elif chance.random() < 0.5:
+        os.setxattr(path, name, b"value%d" % chance.randrange(3))
+    elif name in os.listxattr(path):
+        os.removexattr(path, name)
 
 
-def read_tree(folder, tree, group, name):
+def read_tree(folder: str, tree: str, group: str, name: str) -> None:
     """A database that AIDE writes of a tree, unpacked."""
     conf, packed = os.path.join(folder, "init.conf"), os.path.join(folder, name + ".gz")
     with open(conf, "w") as file:
-        file.write("database_out=file:%s\ngzip_dbout=yes\n%s %s\n" % (packed, tree, group))
+        file.write(f"database_out=file:{packed}\ngzip_dbout=yes\n{tree} {group}\n")
     subprocess.run(["aide", "--init", "-c", conf], check=True, stdout=subprocess.DEVNULL)
     with gzip.open(packed) as file, open(os.path.join(folder, name), "wb") as plain:
         plain.write(file.read())
     os.remove(packed)
 
 
-def options(chance):
+def options(chance: random.Random) -> dict[str, str]:
     """Random options of the report, as a map."""
-    some = lambda: "+".join(chance.sample(NAMES, chance.randrange(1, 4)))
     chosen = {"report_level": chance.choice(LEVELS)}
-    for name in (
-        "report_ignore_added_attrs",
-        "report_ignore_removed_attrs",
-        "report_ignore_changed_attrs",
-        "report_force_attrs",
-    ):
+    for name in (*SETS, "report_force_attrs"):
         if chance.random() < 0.4:
-            chosen[name] = some()
+            chosen[name] = "+".join(chance.sample(ALL.split("+"), chance.randrange(1, 4)))
     for name in ("report_grouped", "report_base16"):
         if chance.random() < 0.3:
             chosen[name] = chance.choice(["yes", "no"])
     return chosen
 
 
-def entries(report):
+def entries(report: str) -> tuple[dict[str, str], Details]:
     """The list lines of a report by path, and the names of the details by path."""
-    listed = {
-        path: letters for letters, path in re.findall(r"^([a-z!?].{17}): (/.*)$", report, re.M)
-    }
+    rows = re.findall(r"^([a-z!?].{17}): (/.*)$", report, re.M)
     details = {}
     for path, block in re.findall(r"^[A-Z][\w ]*: (/.*)\n((?: +\S.*\n)+)", report, re.M):
-        details[path] = [
-            name.strip() for name in re.findall(r"^ {1,2}([A-Z]\w[\w/ -]*?) *:", block, re.M)
-        ]
-    return listed, details
+        found = re.findall(r"^ {1,2}([A-Z]\w[\w/ -]*?) *:", block, re.M)
+        details[path] = [name.strip() for name in found]
+    return {path: letters for letters, path in rows}, details
 
 
 class Agreement(Tally):
-    """What agreed, and which told difference the rest is."""
+    """What agreed, and which listed difference the rest is. `label` names the pair."""
 
-    def __init__(self):
+    def __init__(self) -> None:
         super().__init__()
-        self.told = {}
+        self.told: collections.Counter[str] = collections.Counter()
+        self.label = ""
 
-    def agree(self, label):
-        self.holds(label, True)
-
-    def tell(self, kind):
-        self.told[kind] = self.told.get(kind, 0) + 1
+    def tell(self, kind: str) -> None:
+        self.told[kind] += 1
         self.holds(kind, True)
 
-    def fail(self, label, *what):
+    def refuse(self, label: str, *what: object) -> None:
         self.add(label, ["not listed: " + " ".join(map(str, what))])
 
 
-def letter_is_told(slot, theirs, ours, ignored, removed, kind):
+class Trial(NamedTuple):
+    """Two reports by these options, and the entries of which AIDE compares only some attributes."""
+
+    tally: Agreement
+    label: str
+    chosen: dict[str, str]
+    partial: set[str]
+
+
+def letter_is_told(
+    slot: str, theirs: str, ours: str, ignored: set[str], trial: Trial
+) -> str | None:
     """Why a letter may differ, by docs/DIFFERENCES.md, or None."""
     if slot == "Y" and ours == "!":
         return "another type begins with !"
@@ -168,124 +157,123 @@ def letter_is_told(slot, theirs, ours, ignored, removed, kind):
         return "an ignored attribute that did not change"
     if slot in ignored and ours == ":":
         return "a forced attribute that is ignored"
+    removed = trial.chosen.get("report_ignore_removed_attrs", "").split("+")
     if slot == "Z" and "s" in removed and (theirs, ours) == (">", "<"):
         return "a file that shrank, removed sizes ignored"
-    if kind == "one side only":
-        return kind
     return None
 
 
-def compare_entry(path, theirs, ours, chosen, partial, tally, label):
-    ignored = {
-        LETTERS[name]
-        for key in chosen
-        if key.startswith("report_ignore")
-        for name in chosen[key].split("+")
-    }
-    removed = chosen.get("report_ignore_removed_attrs", "").split("+")
-    kind = "one side only" if path in partial else ""
+def compare_entry(trial: Trial, path: str, theirs: str | None, ours: str | None) -> None:
+    """Compares the summary strings of an entry; None if a report does not list it."""
+    tally = trial.tally
     if theirs == ours:
-        tally.agree(label)
-        return
-    if theirs is None and kind:
-        return tally.tell("an attribute that only one of two entries has")
-    if theirs is None and ours and set(ours[1:]) <= set("+-:.= ") and set(ours) & set("+-"):
-        return tally.tell("a first or last extended attribute, flag or list")
-    if ours is None and theirs and set(theirs[1:]) <= set("XEA:.= <>p") and theirs[0] != "!":
-        return tally.tell("reported by AIDE only: X, E, or p for a type that is ignored")
-    if theirs is None or ours is None:
-        return tally.fail(label, path, "AIDE:", theirs, "here:", ours)
+        tally.holds(trial.label, True)
+    elif theirs is None and path in trial.partial:
+        tally.tell("an attribute that only one of two entries has")
+    elif theirs is None and ours and set(ours[1:]) <= set("+-:.= ") and set(ours) & set("+-"):
+        tally.tell("a first or last extended attribute, flag or list")
+    elif ours is None and theirs and set(theirs[1:]) <= set("XEA:.= <>p") and theirs[0] != "!":
+        tally.tell("reported by AIDE only: X, E, or p for a type that is ignored")
+    elif theirs is None or ours is None:
+        tally.refuse(trial.label, path, "AIDE:", theirs, "here:", ours)
+    else:
+        compare_letters(trial, path, theirs, ours)
+
+
+def compare_letters(trial: Trial, path: str, theirs: str, ours: str) -> None:
+    named = "+".join(trial.chosen.get(name, "") for name in SETS).split("+")
+    ignored = {LETTERS[name] for name in named if name}
     for slot, their, our in zip(SLOTS, theirs, ours):
-        if their != our:
-            why = letter_is_told(slot, their, our, ignored, removed, kind)
-            if why is None:
-                return tally.fail(label, path, "AIDE:", repr(theirs), "here:", repr(ours))
-            tally.tell(why)
+        if their == our:
+            continue
+        why = letter_is_told(slot, their, our, ignored, trial)
+        if why is None and path in trial.partial:
+            why = "one side only"
+        if why is None:
+            trial.tally.refuse(trial.label, path, "AIDE:", repr(theirs), "here:", repr(ours))
+            return
+        trial.tally.tell(why)
 
 
-def compare_details(path, theirs, ours, listed, chosen, partial, tally, label):
+def compare_details(pair: tuple[Details, Details], trial: Trial, path: str, listed: str) -> None:
     """Compares the sets of names: AIDE's `File type` is `Type` here, and its `Uid` is `UID`."""
-    names, our_names = {name.lower().replace("file type", "type") for name in theirs}, {
-        name.lower() for name in ours
-    }
+    names = {name.lower().replace("file type", "type") for name in pair[0][path]}
+    our_names = {name.lower() for name in pair[1][path]}
+    tally = trial.tally
     if names == our_names:
-        tally.agree(label)
-    elif path in partial or "report_force_attrs" in chosen:
+        tally.holds(trial.label, True)
+    elif path in trial.partial or "report_force_attrs" in trial.chosen:
         tally.tell("details of attributes that one side has, or that are forced")
-    elif listed and ("+++" in listed or "---" in listed):
+    elif "+++" in listed or "---" in listed:
         tally.tell("details of added and removed entries have all attributes")
     elif names ^ our_names <= {"xattrs", "e2fsattrs", "acl", "type", "perm"}:
         tally.tell("details of a first or last attribute, or of another type")
     else:
-        tally.fail(label, path, "details", sorted(names ^ our_names))
+        tally.refuse(trial.label, path, "details", sorted(names ^ our_names))
 
 
-def compare_reports(program, folder, tree, chosen, tally, label):
-    conf = os.path.join(folder, "compare.conf")
+def compare_reports(program: str, folder: str, chosen: dict[str, str], tally: Agreement) -> None:
+    """Both programs' reports of the two databases of a folder, by these options."""
+    conf, label = os.path.join(folder, "compare.conf"), f"{tally.label}, {chosen}"
     with open(conf, "w") as file:
-        file.write("database_in=file:%s/old\ndatabase_new=file:%s/new\n" % (folder, folder))
-        file.write("".join("%s=%s\n" % pair for pair in chosen.items()))
-        file.write("%s p+ftype+u+g+s+b+m+c+i+n+l+md5+sha256+sha512+acl+xattrs+e2fsattrs\n" % tree)
-    run = lambda command: subprocess.run(command, stdout=subprocess.PIPE, stderr=subprocess.PIPE)
-    theirs, ours = run(["aide", "-E", "-c", conf]), run([program, "-E", "-c", conf])
-    their_text, our_text = theirs.stdout.decode(errors="replace"), ours.stdout.decode(
-        errors="replace"
+        file.write(f"database_in=file:{folder}/old\ndatabase_new=file:{folder}/new\n")
+        file.write("".join(f"{name}={value}\n" for name, value in chosen.items()))
+        file.write(f"{folder}/tree {ALL}\n")
+    theirs, ours = (
+        subprocess.run([each, "-E", "-c", conf], capture_output=True, text=True, errors="replace")
+        for each in ("aide", program)
     )
     if ours.returncode > 7 or ours.stderr:
-        return tally.fail(label, "status", ours.returncode, ours.stderr)
-    warned = theirs.stderr.decode(errors="replace") + their_text
+        tally.refuse(label, "status", ours.returncode, ours.stderr)
+        return
+    warned = theirs.stderr + theirs.stdout
     partial = set(re.findall(r"Entry (/.*?) in databases has different attributes", warned))
-    (their_list, their_details), (our_list, our_details) = entries(their_text), entries(our_text)
-    for path in sorted(set(their_list) | set(our_list)):
-        compare_entry(path, their_list.get(path), our_list.get(path), chosen, partial, tally, label)
-    for path in sorted(set(their_details) & set(our_details)):
-        compare_details(
-            path,
-            their_details[path],
-            our_details[path],
-            our_list.get(path),
-            chosen,
-            partial,
-            tally,
-            label,
-        )
+    trial = Trial(tally, label, chosen, partial)
+    (their_list, their_details), (our_list, our_details) = map(
+        entries, (theirs.stdout, ours.stdout)
+    )
+    for path in sorted(their_list.keys() | our_list.keys()):
+        compare_entry(trial, path, their_list.get(path), our_list.get(path))
+    for path in sorted(their_details.keys() & our_details.keys()):
+        compare_details((their_details, our_details), trial, path, our_list.get(path, ""))
 
 
-def main():
+def try_pair(program: str, number: int, seed: int, count: int, tally: Agreement) -> None:
+    """A pair of databases, and so many random configurations of their reports."""
+    chance = random.Random(f"{seed} {number}")
+    with tempfile.TemporaryDirectory(prefix="random-beside-aide-") as folder:
+        tree = os.path.join(folder, "tree")
+        os.mkdir(tree)
+        for _ in range(60):
+            change(tree, chance)
+        group = chance.choice(GROUPS)
+        read_tree(folder, tree, group, "old")
+        for _ in range(30):
+            change(tree, chance)
+        read_tree(folder, tree, chance.choice([group] * 3 + GROUPS), "new")
+        for turn in range(count):
+            tally.label = f"pair {number}, {turn}"
+            compare_reports(program, folder, options(chance), tally)
+
+
+def main() -> int:
     parser = parser_of("tests.pages.random_beside_aide", __doc__)
-    parser.add_argument("program")
+    add_program(parser)
     parser.add_argument("--pairs", type=int, default=100, help="how many pairs of databases")
     parser.add_argument(
         "--configurations", type=int, default=5, help="how many report configurations for each pair"
     )
     parser.add_argument("--seed", type=int, default=random.SystemRandom().randrange(10**9))
-    given = parser.parse_args()
+    args = parser.parse_args()
     if not shutil.which("aide"):
         sys.exit("random_beside_aide.py: AIDE is not installed")
-    print("seed %d" % given.seed, flush=True)
-    program, tally = os.path.abspath(given.program), Agreement()
-    for number in range(given.pairs):
-        chance = random.Random("%d %d" % (given.seed, number))
-        folder = tempfile.mkdtemp(prefix="random-beside-aide-")
-        tree = os.path.join(folder, "tree")
-        try:
-            os.mkdir(tree)
-            for _ in range(60):
-                change(tree, chance)
-            group = chance.choice(GROUPS)
-            read_tree(folder, tree, group, "old")
-            for _ in range(30):
-                change(tree, chance)
-            read_tree(folder, tree, chance.choice([group] * 3 + GROUPS), "new")
-            for turn in range(given.configurations):
-                compare_reports(
-                    program, folder, tree, options(chance), tally, "pair %d, %d" % (number, turn)
-                )
-        finally:
-            shutil.rmtree(folder)
+    print("seed", args.seed, flush=True)
+    tally = Agreement()
+    for number in range(args.pairs):
+        try_pair(args.program, number, args.seed, args.configurations, tally)
     for kind, count in sorted(tally.told.items()):
-        print("%6d listed: %s" % (count, kind))
-    return tally.status()
+        print(f"{count:6} listed: {kind}")
+    return int(tally.status())
 
 
 if __name__ == "__main__":
