@@ -12,10 +12,9 @@ from tests.lib.programs import VARIABLE
 
 from .sandbox import AS_NOBODY, PYTHON, CommandTest, after
 
+OF_MAIL = "texts statuses errors short refusals missing queue odd_queue full_queue".split()
 TESTS = (
-    "test_mail.MailTest.test_texts",
-    "test_mail.MailTest.test_refusals",
-    "test_mail.MailTest.test_queue",
+    *("test_mail.MailTest.test_" + name for name in OF_MAIL),
     "test_run.RunTest.test_state",
     "test_run.RunTest.test_state_faults",
     "test_accept.AcceptTest.test_digests",
