@@ -1,61 +1,75 @@
 """aide-compare: reports, configurations, arguments and the state file."""
+from __future__ import annotations
+
 import gzip
 import os
 import re
 import subprocess
 import time
+from typing import Any
 
 from . import test_standings as standings
-from .sandbox import COUNTS, CommandTest, DIFFER, END, HEAD, NEW, OLD, UMASK, sha256
+from .sandbox import COUNTS, DIFFER, END, HEAD, NEW, OLD, UMASK, Answer, CommandTest, sha256
 
-KEYS = [
-    "format",
-    "status",
-    "time",
-    "date",
-    "added",
-    "removed",
-    "changed",
-    "old_sha256",
-    "new_sha256",
-    "old",
-    "new",
-    "old_written",
-    "new_written",
-    "error",
-]
+KINDS = ["added", "removed", "changed"]
+NAMES = "old_sha256 new_sha256 old new old_written new_written error".split()
+KEYS = ["format", "status", "time", "date", *KINDS, *NAMES]
 ALL_KEYS = KEYS + list(standings.COUNTS)  # With the counts of the standings.
 TOOL = "aide-compare compare --report"
 DATE = r"\d{4}-\d\d-\d\dT\d\d:\d\d:\d\dZ"
-
-
-def direct(sandbox, *words):
-    """What the program itself answers over the plain databases."""
-    text = "database_in=file:%s\ndatabase_new=file:%s" % (
-        sandbox.path("old.db"),
-        sandbox.path("new.db"),
-    )
-    done = subprocess.run(
-        [sandbox.program, "-E", "-c", "/dev/null", "-A", "\n".join(words) + "\n" + text],
-        stdin=subprocess.DEVNULL,
-        stdout=subprocess.PIPE,
-    )
-    return done.returncode, done.stdout
+MINIMAL = b"AIDE found differences between the two databases.\n"
+# What Debian's configuration has before its databases; and databases by variables and blocks.
+DEBIAN = """@@x_include_setenv PATH /bin
+  @@x_include /etc/aide/aide.conf.d ^[a-z]+$
+report_ignore_e2fsattrs=VNIE
+"""
+DEFINED = """@@define DIR %s
+@@ifdef DIR
+database_in = file:@@{DIR}/old.db
+@@else
+database_in=file:/no
+@@endif
+@@ifndef DIR
+database_new=file:/no
+@@else
+ @@if not defined X
+database_new=file:@@{DIR}/@@{X}new.db\t
+@@endif
+@@endif
+@@undef DIR
+@@ifdef DIR
+database_new=file:/no
+@@endif
+"""
 
 
 class RunTest(CommandTest):
+    def run_tool(self, *words: str, **more: Any) -> Answer:
+        """What the command says of these words and the two databases."""
+        return self.call(TOOL, "old.db", "new.db", *words, **more)
+
+    def named(self, old: str, new: str) -> str:
+        """The lines of a configuration that name two databases."""
+        return f"database_in=file:{self.path(old)}\ndatabase_new=file:{self.path(new)}\n"
+
     def test_reports(self) -> None:
-        status, report = direct(self)
-        self.assertEqual(status, 7, "the databases differ in every way")
-        for old in ("old.db", "old.db.gz"):
-            for new in ("new.db", "new.db.gz"):
-                want = report.replace(self.path("old.db").encode(), b"/proc/self/fd/3")
-                want = want.replace(self.path("new.db").encode(), b"/proc/self/fd/4")
-                answer = self.call(TOOL, old, new)
-                self.expect("the report of %s and %s" % (old, new), answer, 7, want, DIFFER)
-                self.assertEqual(
-                    answer.output, want, ("the whole report of %s and %s" % (old, new), answer)
-                )
+        """The report is that of the program itself over the plain databases."""
+        after = "\n" + self.named("old.db", "new.db")
+        words = [self.program, "-E", "-c", "/dev/null", "-A", after]
+        done = subprocess.run(words, stdin=subprocess.DEVNULL, stdout=subprocess.PIPE)
+        self.assertEqual(done.returncode, 7, "the databases differ in every way")
+        report = done.stdout.replace(self.path("old.db").encode(), b"/proc/self/fd/3")
+        report = report.replace(self.path("new.db").encode(), b"/proc/self/fd/4")
+        self.write("members.gz", gzip.compress(NEW[:70]) + gzip.compress(NEW[70:]))
+        for old in ("old.db", "old.db.gz", "/dev/stdin"):
+            for new in ("new.db", "new.db.gz", "members.gz"):
+                answer = self.call(TOOL, old, new, text=gzip.compress(OLD))
+                self.expect("the report of %s and %s" % (old, new), answer, 7, report)
+                if "gz" not in old + new:
+                    self.assertEqual(answer.output, report, (old, new))
+        self.expect("the databases are named", self.run_tool(), 7, report, DIFFER)
+
+    def test_statuses(self) -> None:
         for other, status in (
             (OLD, 0),
             (OLD.replace(END, b"/e 36 100644 1\n" + END), 1),
@@ -65,55 +79,24 @@ class RunTest(CommandTest):
         ):
             self.write("other.db", other)
             self.expect("the status %d" % status, self.call(TOOL, "old.db", "other.db"), status)
-        self.write("members.gz", gzip.compress(NEW[:70]) + gzip.compress(NEW[70:]))
-        self.expect("gzip in two pieces", self.call(TOOL, "old.db", "members.gz"), 7, report[:200])
-        self.expect(
-            "standard input",
-            self.call(TOOL, "/dev/stdin", "new.db", text=gzip.compress(OLD)),
-            7,
-            report[:200],
-        )
-        self.write("column.db", NEW.replace(b"perm size", b"perm odd"))
-        self.expect(
-            "a skipped column",
-            self.call(TOOL, "old.db", "column.db"),
-            7,
-            None,
-            b"aide: new database: column 4 skipped\n",
-        )
-        self.write("stubs/down.gz", gzip.compress(OLD))
-        self.expect(
-            "a file beside the missing one is not taken",
-            self.call(TOOL, "stubs/down", "new.db"),
-            18,
-            b"",
-            b"cannot open",
-        )
-        with open("/dev/full", "wb") as full:
-            self.expect(
-                "a full output",
-                self.call(TOOL, "old.db", "new.db", stdout=full),
-                18,
-                b"",
-                b"aide-compare: cannot write the report",
-            )
         with open("/dev/full", "wb") as full:
             self.expect("full errors", self.call(TOOL, "old.db", "other.db", stderr=full), 24, b"")
+            answer = self.run_tool(stdout=full)
+        self.expect("a full output", answer, 18, b"", b"aide-compare: cannot write the report")
+        self.write("column.db", NEW.replace(b"perm size", b"perm odd"))
+        answer = self.call(TOOL, "old.db", "column.db")
+        skipped = b"aide: new database: column 4 skipped\n"
+        self.expect("a skipped column", answer, 7, None, skipped)
+        self.write("stubs/down.gz", gzip.compress(OLD))
+        answer = self.call(TOOL, "stubs/down", "new.db")
+        self.expect("a file beside the missing one is not taken", answer, 18, b"", b"cannot open")
         self.expect("--help", self.call(TOOL, "--help"), 0, b"usage: aide-compare", b"")
 
     def test_names(self) -> None:
         quoted = 'it\'s "$HOME" `x` *'
-        for name in (
-            "with blank",
-            "é",
-            "-dash",
-            quoted,
-            "end ",
-            "back\\slash",
-            "@@{X}",
-            "two\nlines",
-            os.fsdecode(b"\xff\x01"),
-        ):
+        odd = os.fsdecode(b"\xff\x01")
+        names = ["with blank", "é", "-dash", "end ", "back\\slash", "@@{X}", "two\nlines"]
+        for name in (*names, quoted, odd):
             self.write("odd/old " + name, OLD)
             self.write("odd/" + name, gzip.compress(NEW))
             answer = self.call(TOOL, "odd/old " + name, "./odd/" + name, "--state", "state")
@@ -122,191 +105,120 @@ class RunTest(CommandTest):
                 "\\%03o" % byte if byte < 32 or byte in (92, 127, 255) else chr(byte)
                 for byte in os.fsencode("./odd/" + name)
             )
-            given = self.state().get("new", "").encode("utf-8", "surrogateescape").decode("latin-1")
+            given = self.state()["new"].encode("utf-8", "surrogateescape").decode("latin-1")
             self.assertEqual(given, printed, "the name %r in the state" % name)
-        self.expect(
-            "a name with ..",
-            self.call(
-                TOOL,
-                "odd/../old.db",
-                self.path("bin/../../") + os.path.basename(self.root) + "/new.db",
-            ),
-            7,
-            b"Old database: /proc/self/fd/3\n",
-            [b"aide-compare: old database: odd/../old.db, written "],
-        )
-        errors = self.call(TOOL, "odd/old é", "new.db").errors
-        self.holds(
-            "the true names",
-            re.fullmatch(
-                (
-                    "aide-compare: old database: odd/old é, written %s, SHA-256 %s\n"
-                    "aide-compare: new database: new.db, written %s, SHA-256 %s\n"
-                    % (DATE, sha256(OLD), DATE, sha256(NEW))
-                ).encode(),
-                errors,
-            ),
-            errors,
-        )
+        new = self.path("bin/../../") + os.path.basename(self.root) + "/new.db"
+        answer = self.call(TOOL, "odd/../old.db", new)
+        said = b"aide-compare: old database: odd/../old.db, written "
+        self.expect("a name with ..", answer, 7, b"Old database: /proc/self/fd/3\n", [said])
+        errors = self.call(TOOL, "odd/old é", "new.db").errors.decode()
+        line = "aide-compare: %s database: %s, written " + DATE + ", SHA-256 %s\n"
+        lines = line % ("old", "odd/old é", sha256(OLD)) + line % ("new", "new.db", sha256(NEW))
+        self.assertRegex(errors, rf"\A{lines}\Z")
         self.expect("one file twice", self.call(TOOL, "old.db", "old.db"), 0, b"NO differences")
         self.write("paths.db", HEAD + b"/a%0Ab%20c 36 100644 1\n" + END)
-        self.expect(
-            "a newline in a path", self.call(TOOL, "old.db", "paths.db"), 3, b": /a\\012b c\n"
-        )
+        answer = self.call(TOOL, "old.db", "paths.db")
+        self.expect("a newline in a path", answer, 3, b": /a\\012b c\n")
 
     def test_configurations(self) -> None:
-        databases = "database_in=file:%s\n%s=file:%s\n" % (
-            self.path("old.db.gz"),
-            "%s",
-            self.path("new.db.gz"),
+        """The databases that a configuration names, with the lines of -A and -B."""
+        both, root = self.named("old.db.gz", "new.db.gz"), self.root
+        by_variable = "database_in=file:@@{D}/old.db\ndatabase_new=file:@@{D}/new.db"
+        in_block = f"@@ifdef X\ndatabase_in=file:/no\n@@else\n{both}@@endif\n"
+        old, unread = (
+            self.path("old.db"),
+            "# database_in=file:/no\n/etc R\n!/database_in=file:/no\n",
         )
-        debian = "@@x_include_setenv PATH /bin\n  @@x_include /etc/aide/aide.conf.d ^[a-z]+$\nreport_ignore_e2fsattrs=VNIE\n"
-        defined = (
-            "@@define DIR %s\n@@ifdef DIR\ndatabase_in = file:@@{DIR}/old.db\n@@else\ndatabase_in=file:/no\n@@endif\n"
-            "@@ifndef DIR\ndatabase_new=file:/no\n@@else\n @@if not defined X\ndatabase_new=file:@@{DIR}/@@{X}new.db \n@@endif\n@@endif\n"
-            "@@undef DIR\n@@ifdef DIR\ndatabase_new=file:/no\n@@endif\n" % self.root
-        )
-        for label, text, words in (
-            ("database_new", databases % "database_new", ()),
-            ("database_out", databases % "database_out", ()),
-            ("Debian's lines", debian + databases % "database_new", ()),
-            ("database", (databases % "database_new").replace("_in", ""), ()),
-            ("variables and blocks", defined, ()),
-            ("the same line twice", databases % "database_new" * 2, ()),
+        rows: list[tuple[str, str, tuple[str, ...]]] = [
+            ("database_new", both, ()),
+            ("database_out", both.replace("_new", "_out"), ()),
+            ("Debian's lines", DEBIAN + both, ()),
+            ("database", both.replace("_in", ""), ()),
+            ("variables and blocks", DEFINED % root, ()),
+            ("the same line twice", both * 2, ()),
+            ("an output beside the new one", both + "database_out=file:/no", ()),
             (
-                "an output beside the new one",
-                databases % "database_new" + "database_out=file:/no",
-                (),
+                "two, and one of -A",
+                both + "database_in=file:/no",
+                ("-A", f"database_in=file:{old}"),
             ),
-            (
-                "two of a side, and one of -A",
-                databases % "database_new" + "database_in=file:/no",
-                ("-A", "database_in=file:" + self.path("old.db")),
-            ),
-            (
-                "a variable of -B",
-                "database_in=file:@@{D}/old.db\ndatabase_new=file:@@{D}/new.db",
-                ("-B", "@@define D " + self.root),
-            ),
-            (
-                "two of a side in blocks, and one of -B",
-                "@@ifdef X\ndatabase_in=file:/no\n@@else\n"
-                + databases % "database_new"
-                + "@@endif\n",
-                ("-B", "database_in=file:/other"),
-            ),
-            (
-                "a database of -A",
-                "database_in=file:/no\ndatabase_new=file:/no",
-                ("-A", databases % "database_new"),
-            ),
-            (
-                "a rule and a comment",
-                "# database_in=file:/no\n/etc R\n!/database_in=file:/no\n"
-                + databases % "database_new",
-                (),
-            ),
-        ):
+            ("a variable of -B", by_variable, ("-B", "@@define D " + root)),
+            ("two in blocks, and one of -B", in_block, ("-B", "database_in=file:/other")),
+            ("databases of -A", "database_in=file:/no\ndatabase_new=file:/no", ("-A", both)),
+            ("a rule and a comment", unread + both, ()),
+        ]
+        for label, text, words in rows:
             self.write("conf", text)
-            self.expect(
-                "a configuration with " + label,
-                self.call(TOOL, "-c", "conf", *words),
-                7,
-                b"Changed entries:         2",
-                DIFFER,
-            )
-        for label, text, errors in (
-            ("no database", "", b"conf names no old database"),
-            ("no new one", "database_in=file:/x", b"conf names no new database"),
-            (
-                "two of a side",
-                databases % "database_new" + "database_in=file:/other",
-                b"names the old database twice",
-            ),
-            (
-                "one for both",
-                "database_in=file:/x\ndatabase_out=file:/x",
-                b"one file as the old and as the new database: /x",
-            ),
-            (
-                "an output to elsewhere",
-                "database_in=file:/x\ndatabase_out=stdout",
-                b"conf names a database that is no file",
-            ),
-            ("a fault", "database_in=file:/x\nreport_level=1", b"aide: config:2: bad value\n"),
-        ):
-            self.write("conf", text)
-            self.expect(
-                "a configuration with " + label, self.call(TOOL, "-c", "conf"), 17, b"", errors
-            )
+            answer = self.call(TOOL, "-c", "conf", *words)
+            self.expect(label, answer, 7, b"Changed entries:         2", DIFFER)
         self.write("conf", "report_level=summary\nreport_ignore_changed_attrs=s")
-        self.expect(
-            "options of a configuration",
-            self.call(TOOL, "-c", "conf", "old.db", "new.db"),
-            7,
-            b"Changed entries:         1",
-        )
-        self.expect(
-            "a missing configuration",
-            self.call(TOOL, "-c", "missing"),
-            18,
-            b"",
-            b"cannot open the configuration missing",
-        )
-        self.expect(
-            "a long configuration",
-            self.call(TOOL, "-c", self.write("long", "#" * 4194305), "old.db", "new.db"),
-            17,
-            b"",
-            b"the configuration is longer than 4194304 bytes",
-        )
+        answer = self.run_tool("-c", "conf")
+        self.expect("options of a configuration", answer, 7, b"Changed entries:         1")
+
+    def test_refused_configurations(self) -> None:
+        twice = self.named("old.db", "new.db") + "database_in=file:/other"
+        one, of_both = "database_in=file:/x", b"one file as the old and as the new database: /x"
+        for text, status, errors in (
+            ("", 17, b"conf names no old database"),
+            (one, 17, b"conf names no new database"),
+            (twice, 17, b"names the old database twice"),
+            (one + "\ndatabase_out=file:/x", 17, of_both),
+            (one + "\ndatabase_out=stdout", 17, b"conf names a database that is no file"),
+            (one + "\nreport_level=1", 17, b"aide: config:2: bad value\n"),
+            ("#" * 4194305, 17, b"the configuration is longer than 4194304 bytes"),
+            (None, 18, b"cannot open the configuration conf"),
+        ):
+            if text is None:
+                os.remove(self.path("conf"))
+            else:
+                self.write("conf", text)
+            self.expect(errors, self.call(TOOL, "-c", "conf"), status, b"", errors)
+
+    def test_faults_of_lines(self) -> None:
+        """A fault of the configuration is told with its line, also if -A replaces that, and so is
+        one of -A."""
+        for text, after, said in (
+            ("report_url=stdout\nreport_level=nonsense\n", "", "config:2"),
+            ("report_url=stdout\nreport_level=nonsense\n", "report_level=summary", "config:2"),
+            ("report_url=stdout\n", "\nreport_level=nonsense", "after:2"),
+        ):
+            self.write("faulty", text)
+            answer = self.run_tool("-c", "faulty", *(["-A", after] if after else []))
+            wanted = [f"aide: {said}: bad value\n".encode(), b"line 2: report_level=nonsense\n"]
+            self.expect("a fault in %s" % said, answer, 17, b"", wanted)
 
     def test_arguments(self) -> None:
-        minimal = b"AIDE found differences between the two databases.\n"
+        option = "report_level=minimal"
         for words in (
-            ["-A", "report_level=minimal"],
-            ["-Areport_level=minimal"],
-            ["-A=report_level=minimal"],
-            ["--after", "report_level=minimal"],
-            ["--after=report_level=minimal"],
-            ["-B", "report_level=minimal"],
+            ["-A", option],
+            ["-A" + option],
+            ["-A=" + option],
+            ["--after", option],
+            ["--after=" + option],
+            ["-B", option],
         ):
-            answer = self.call(TOOL, "old.db", "new.db", *words)
-            self.assertEqual(
-                (answer.status, answer.output), (7, minimal), ("the arguments %r" % words, answer)
-            )
-        for name in ("-A", "--json"):
-            self.write(name, OLD)
-            answer = self.call(TOOL, "-B", "report_level=minimal", "--", name, "new.db")
-            self.assertEqual(
-                (answer.status, answer.output),
-                (7, minimal),
-                ("an operand after --: %s" % name, answer),
-            )
-        for operands, text in ((("-", "new.db"), OLD), (("old.db.gz", "-"), gzip.compress(NEW))):
-            answer = self.call(TOOL, *operands, "-A", "report_level=minimal", text=text)
-            self.assertEqual(
-                (answer.status, answer.output),
-                (7, minimal),
-                ("standard input in %s" % (operands,), answer),
-            )
-        self.expect(
-            "standard input twice",
-            self.call(TOOL, "-", "-", text=OLD),
-            15,
-            b"",
-            b"one database only",
-        )
-        answer = self.call(TOOL, "old.db", "new.db", "-A", "database_in=file:/no")
-        self.expect("the databases of the command line win", answer, 7, minimal, DIFFER)
+            answer = self.run_tool(*words)
+            self.assertEqual((answer.status, answer.output), (7, MINIMAL), (words, answer))
+        packed = gzip.compress(NEW)
+        for operands, text in (
+            (["-", "new.db"], OLD),
+            (["old.db.gz", "-"], packed),
+            (["--", "-A", "new.db"], None),
+            (["--", "--json", "new.db"], None),
+        ):
+            self.write("-A", OLD)
+            self.write("--json", OLD)
+            answer = self.call(TOOL, "-B", option, *operands, text=text)
+            self.assertEqual((answer.status, answer.output), (7, MINIMAL), (operands, answer))
+        answer = self.call(TOOL, "-", "-", text=OLD)
+        self.expect("standard input twice", answer, 15, b"", b"one database only")
+        answer = self.run_tool("-A", "database_in=file:/no")
+        report = self.run_tool().output
+        self.expect("the databases of the command line win", answer, 7, report, DIFFER)
+
+    def test_wrong_arguments(self) -> None:
         for words in (["old.db"], ["old.db", "new.db", "x"]):
-            self.expect(
-                "the operands %r" % words,
-                self.call(TOOL, *words),
-                15,
-                b"",
-                b"databases",
-            )
+            self.expect("%s" % words, self.call(TOOL, *words), 15, b"", b"databases")
         for words in (
             ["--", "-D"],
             ["--", "-c", "x"],
@@ -321,89 +233,61 @@ class RunTest(CommandTest):
             ["--user", "no such user"],
             ["--state", ""],
             ["--odd"],
-            ["--", "x"],
         ):
-            self.expect(
-                "the arguments %r" % words,
-                self.call(TOOL, "old.db", "new.db", *words),
-                15,
-                b"",
-                b"aide-compare: ",
-            )
+            self.expect("%s" % words, self.run_tool(*words), 15, b"", b"aide-compare: ")
 
     def test_state(self) -> None:
         before = int(time.time())
         self.call(TOOL, "old.db.gz", "./new.db", "--state", "state")
         state = self.state()
-        self.holds(
-            "the keys of a state",
-            list(state) == ALL_KEYS and self.read("state").count(b"\n") == len(ALL_KEYS),
-            state,
-        )
+        self.assertEqual(list(state), ALL_KEYS)
+        self.assertEqual(self.read("state").count(b"\n"), len(ALL_KEYS))
         want = {
-            "format": "2",
-            "status": "7",
-            **COUNTS,
-            "old_sha256": sha256(OLD),
-            "new_sha256": sha256(NEW),
-            "old": "old.db.gz",
-            "new": "./new.db",
-            "error": "",
+            **{"format": "2", "status": "7", **COUNTS, "error": ""},
+            **{"old_sha256": sha256(OLD), "new_sha256": sha256(NEW)},
+            **{"old": "old.db.gz", "new": "./new.db"},
         }
         self.assertEqual({**state, **want}, state, "the values of a state")
-        moment = int(state.get("time", "0"))
-        self.holds("the time of a state", before <= moment <= time.time(), state)
-        self.assertEqual(
-            state.get("date"),
-            time.strftime("%Y-%m-%dT%H:%M:%SZ", time.gmtime(moment)),
-            ("the date of a state", state),
-        )
-        for mask in (0o77, 0o22):
-            self.call(TOOL, "old.db", "new.db", "--state", "masked/by/state", before=UMASK % mask)
-            self.assertEqual(
-                os.stat(self.path("masked/by/state")).st_mode & 0o7777, 0o644, "the mode of a state"
-            )
-            self.assertEqual(
-                os.stat(self.path("masked/by")).st_mode & 0o777, 0o755, "the mode of its folder"
-            )
-        self.assertEqual(os.listdir(self.path("masked/by")), ["state"], "nothing beside a state")
+        moment = int(state["time"])
+        self.assertTrue(before <= moment <= time.time(), state)
+        date = time.strftime("%Y-%m-%dT%H:%M:%SZ", time.gmtime(moment))
+        self.assertEqual(state["date"], date)
         self.call(TOOL, "old.db", "old.db", "--state", "state")
         state = self.state()
-        self.holds(
-            "a state without a difference",
-            [state[key] for key in KEYS[4:7]] == ["0"] * 3 and state["status"] == "0",
-            state,
-        )
+        self.assertEqual([state[key] for key in ("status", *KINDS)], ["0"] * 4)
+
+    def test_modes(self) -> None:
+        """Everybody may read a state, whatever the umask is; nothing else is made beside it."""
+        for mask in (0o77, 0o22):
+            self.run_tool("--state", "masked/by/state", before=UMASK % mask)
+            self.assertEqual(os.stat(self.path("masked/by/state")).st_mode & 0o7777, 0o644)
+            self.assertEqual(os.stat(self.path("masked/by")).st_mode & 0o777, 0o755)
+        self.assertEqual(os.listdir(self.path("masked/by")), ["state"], "nothing beside a state")
+
+    def test_failed_states(self) -> None:
+        """A failure leaves a state with its cause and without counts; bad arguments leave it."""
         self.write("bad.db", NEW.replace(b"@@end_db", b"\x01|x"))
+        missing = "aide-compare: cannot open the new database missing|\\012"
         for words, status, error in (
             (("old.db", "bad.db"), "24", "aide: new database:6: "),
-            (
-                ("old.db", "missing|\n"),
-                "18",
-                "aide-compare: cannot open the new database missing|\\012",
-            ),
+            (("old.db", "missing|\n"), "18", missing),
             (("-c", "/dev/null"), "17", "aide-compare: /dev/null names no old database"),
         ):
             self.call(TOOL, "--state", "state", *words)
             state = self.state()
-            self.holds(
-                "the state of a status %s" % status,
-                state["status"] == status
-                and state["error"].startswith(error)
-                and list(state) == KEYS
-                and [state[key] for key in KEYS[4:7]] == [""] * 3,
-                state,
-            )
+            found = [state["status"], *(state[key] for key in KINDS), list(state)]
+            self.assertEqual(found, [status, "", "", "", KEYS], words)
+            self.assertTrue(state["error"].startswith(error), state)
         before = self.read("state")
         self.call(TOOL, "--state", "state", "old.db")
         self.assertEqual(self.read("state"), before, "bad arguments leave the state")
 
     def test_counts(self) -> None:
+        """The counts of a state are those of the comparison, whatever the report shows; and a
+        state changes no report."""
         self.write("quiet", "report_quiet=yes\nreport_level=minimal\nreport_grouped=no\n")
-        self.write(
-            "fixed",
-            "report_level=minimal\nreport_ignore_changed_attrs=p\n report_url = stdout\nreport_level=summary\nreport_ignore_changed_attrs=s+p\n",
-        )
+        fixed = "report_level=minimal\nreport_ignore_changed_attrs=p\n report_url = stdout\n"
+        self.write("fixed", fixed + "report_level=summary\nreport_ignore_changed_attrs=s+p\n")
         self.write("named", "@@define N report_url\nreport_level=minimal\n@@{N}=stdout\n")
         for words, changed in (
             (["-c", "quiet"], "2"),
@@ -414,42 +298,13 @@ class RunTest(CommandTest):
             (["-A", "report_ignore_changed_attrs=s"], "1"),
             (["-A", "report_level=added_removed_entries\nreport_base16=yes"], "2"),
         ):
-            plain = self.call(TOOL, "old.db", "new.db", *words)
-            answer = self.call(TOOL, "--state", "state", "old.db", "new.db", *words)
+            plain = self.run_tool(*words)
+            answer = self.run_tool("--state", "state", *words)
             state = self.state()
-            self.assertEqual(
-                [state[key] for key in KEYS[4:7]],
-                ["1", "1", changed],
-                ("the counts with %r" % words, state),
-            )
-            self.holds(
-                "the report with %r" % words,
-                (answer.output, answer.status) == (plain.output, plain.status)
-                and answer.errors.startswith(plain.errors),
-                answer,
-            )
-
-        self.write("faulty", "report_url=stdout\nreport_level=nonsense\n")
-        for after in ((), ("-A", "report_level=summary")):
-            answer = self.call(TOOL, "-c", "faulty", "old.db", "new.db", *after)
-            self.expect(
-                "a fault in a line that -A replaces, with %r" % (after,),
-                answer,
-                17,
-                b"",
-                [b"aide: config:2: bad value", b"line 2: report_level=nonsense"],
-            )
-        self.write("faulty", "report_url=stdout\n")
-        answer = self.call(
-            TOOL, "-c", "faulty", "old.db", "new.db", "-A", "\nreport_level=nonsense"
-        )
-        self.expect(
-            "a fault in -A",
-            answer,
-            17,
-            b"",
-            [b"aide: after:2: bad value\n", b"line 2: report_level=nonsense\n"],
-        )
+            self.assertEqual([state[key] for key in KINDS], ["1", "1", changed], words)
+            self.expect("the report with %s" % words, answer, plain.status, plain.output)
+            self.assertEqual(answer.output, plain.output)
+            self.assertTrue(answer.errors.startswith(plain.errors), answer)
 
     def test_runs(self) -> None:
         """Each program compares once: one for the report if that is printed, one for the changes if
@@ -458,61 +313,38 @@ class RunTest(CommandTest):
             os.rename(program, program + ".away")
             text = 'echo "%s$1" >> "%s"; exec "%s.away" "$@"' % (name, self.path("ran"), program)
             self.stub(name, text, "libexec/aide-compare")
-        self.write(
-            "conf",
-            "database_in=file:%s\ndatabase_new=file:%s\n"
-            % (self.path("old.db"), self.path("new.db")),
-        )
+        self.write("conf", self.named("old.db", "new.db"))
+        pair, state = ["old.db", "new.db"], ["--state", "state"]
+        minimal = [*state, "-A", "report_level=minimal", *pair]
         for words, runs in (
-            (["--report", "old.db", "new.db"], ["aide-E"]),
-            (["-q", "old.db", "new.db"], ["aide-E"]),
-            (["--report", "--state", "state", "old.db", "new.db"], ["aide_lines-E", "aide-E"]),
-            (["--state", "state", "old.db", "new.db"], ["aide_lines-E"]),
-            (["old.db", "new.db"], ["aide_lines-E"]),
-            (
-                ["--state", "state", "-A", "report_level=minimal", "old.db", "new.db"],
-                ["aide_lines-E", "aide-E"],
-            ),
-            (["--state", "state", "-q", "old.db", "new.db"], ["aide_lines-E"]),
-            (["-q", "--state", "state", "-c", "conf"], ["aide_lines-D", "aide_lines-E"]),
+            (["--report", *pair], ["aide-E"]),
+            (["-q", *pair], ["aide-E"]),
+            (["--report", *state, *pair], ["aide_lines-E", "aide-E"]),
+            ([*state, *pair], ["aide_lines-E"]),
+            (pair, ["aide_lines-E"]),
+            (minimal, ["aide_lines-E", "aide-E"]),
+            ([*state, "-q", *pair], ["aide_lines-E"]),
+            (["-q", *state, "-c", "conf"], ["aide_lines-D", "aide_lines-E"]),
         ):
             self.write("ran", "")
             answer = self.call("aide-compare", *words)
-            found = self.read("ran").decode().split()
-            self.holds(
-                "the runs with %r" % words, answer.status == 7 and found == runs, (found, answer)
-            )
-        for program in (self.program, self.lines_program):
-            os.rename(program + ".away", program)
+            self.assertEqual(self.read("ran").decode().split(), runs, (words, answer))
+            self.assertEqual(answer.status, 7, answer)
 
     def test_state_faults(self) -> None:
-        os.makedirs(self.path("folder"), exist_ok=True)
-        self.expect(
-            "a state that is a folder",
-            self.call(TOOL, "old.db", "new.db", "--state", "folder"),
-            15,
-            b"",
-            b"is a directory",
-        )
-        self.expect(
-            "a state below a file",
-            self.call(TOOL, "old.db", "new.db", "--state", "old.db/state"),
-            18,
-            b"",
-            b"cannot write the state file",
-        )
-        self.call(TOOL, "old.db", "new.db", "--state", "state")
-        runs = [self.start(TOOL, "old.db", "new.db", "--state", "state") for _ in range(6)]
+        os.makedirs(self.path("folder"))
+        answer = self.run_tool("--state", "folder")
+        self.expect("a state that is a folder", answer, 15, b"", b"is a directory")
+        answer = self.run_tool("--state", "old.db/state")
+        said = b"cannot write the state file"
+        self.expect("a state below a file", answer, 18, b"", said)
+
+    def test_at_once(self) -> None:
+        """Runs at once leave one whole state, and nothing else."""
+        words = ("old.db", "new.db", "--state", "state")
+        runs = [self.start(TOOL, *words) for _ in range(6)]
         reports = {run.communicate()[0] for run in runs}
-        self.holds(
-            "runs at once",
-            len(reports) == 1
-            and {run.returncode for run in runs} == {7}
-            and list(self.state()) == ALL_KEYS,
-            reports,
-        )
-        self.holds(
-            "nothing is left of runs at once",
-            not self.leftovers()
-            and not [name for name in os.listdir(self.root) if re.match(r"state\.", name)],
-        )
+        self.assertEqual((len(reports), {run.returncode for run in runs}), (1, {7}), reports)
+        self.assertEqual(list(self.state()), ALL_KEYS)
+        self.assertEqual(self.leftovers(), [])
+        self.assertFalse([name for name in os.listdir(self.root) if re.match(r"state\.", name)])
