@@ -1,58 +1,56 @@
-"""The commands without their modules, as after a copy of one file or a broken update: they say so,
-and report nothing."""
+"""The commands without their modules, as after a copy of one file or a broken update, say so and
+report nothing. And none runs code that other packages have put beside the standard library: a .pth
+file there is read by no command."""
+from __future__ import annotations
+
 import os
 import shutil
 import subprocess
-import tempfile
 
-from tests.commands.sandbox import CommandTest, HERE, TIME_LIMIT
+from .sandbox import CommandTest, HERE, TIME_LIMIT
 
-# The command, and the name by which monitoring calls it.
-FRONT, NAMES = os.path.join(HERE, "commands", "bin", "aide-compare"), (
-    "aide-compare",
-    "check_aide_compare",
-)
-
-
-def started(path):
-    """The status and both outputs of a command that is started without arguments."""
-    done = subprocess.run(
-        [path],
-        stdin=subprocess.DEVNULL,
-        stdout=subprocess.PIPE,
-        stderr=subprocess.PIPE,
-        timeout=TIME_LIMIT,
-    )
-    return done.returncode, done.stdout, done.stderr
-
-
-def check_one(sandbox, name, path, why):
-    status, output, errors = started(path)
-    if name == NAMES[1]:
-        wanted = status == 3 and output.startswith(b"AIDE UNKNOWN: ")
-    else:
-        wanted = (
-            status == 18
-            and output == b""
-            and errors.startswith(name.encode() + b": cannot start: ")
-        )
-    sandbox.holds("%s, %s" % (name, why), wanted, (status, output, errors))
+FRONT = os.path.join(HERE, "commands", "bin", "aide-compare")
+# In a name space of its own, so that nothing of the machine changes. Python itself, at the end,
+# runs what another package has put there.
+SCRIPT = """set -e
+mount --make-rprivate /
+mount -t tmpfs -o mode=755 none "$1"
+printf 'import os; open("%s", "a").write("x")' "$2" > "$1/evil.pth"
+for word in compare json page mail accept status sort setup hosts; do
+    "$3" "$word" --help > /dev/null 2>&1 || :
+done
+/usr/bin/python3 -I -c ''
+"""
 
 
 class LostModulesTest(CommandTest):
     def test_lost_modules(self) -> None:
-        room, found = tempfile.mkdtemp(prefix="try-lost-"), 0
-        try:
-            broken = os.path.join(room, "broken", "lib", "aide_compare")
-            os.makedirs(broken)
-            with open(os.path.join(broken, "__init__.py"), "w") as file:
-                file.write("this is no Python\n")
-            for name in NAMES:
-                for place, why in (("alone", "no modules"), ("broken/bin", "broken modules")):
-                    os.makedirs(os.path.join(room, place), exist_ok=True)
-                    path = shutil.copy(FRONT, os.path.join(room, place, name))
-                    check_one(self, name, path, why)
-                    found += 1
-            self.assertEqual(found, 4, "a command is found")
-        finally:
-            shutil.rmtree(room, ignore_errors=True)
+        """Under the name of the command, and under that by which monitoring calls it."""
+        self.write("lost/broken/lib/aide_compare/__init__.py", "this is no Python\n")
+        for name, status, begin in (
+            ("aide-compare", 18, b"aide-compare: cannot start: "),
+            ("check_aide_compare", 3, b"AIDE UNKNOWN: "),
+        ):
+            for place in ("lost/alone", "lost/broken/bin"):
+                os.makedirs(self.path(place), exist_ok=True)
+                path = shutil.copy(FRONT, self.path(place, name))
+                done = subprocess.run([path], capture_output=True, timeout=TIME_LIMIT)
+                self.assertEqual(done.returncode, status, done)
+                said = done.stdout if status == 3 else done.stderr
+                self.assertTrue(said.startswith(begin), done)
+                self.assertEqual(done.stdout == b"", status == 18, done)
+
+    def test_others_modules(self) -> None:
+        with open(FRONT, "rb") as file:
+            self.assertEqual(file.readline(), b"#!/usr/bin/python3 -IS\n")
+        words = ["/usr/bin/python3", "-c", "import site; print(*site.getsitepackages())"]
+        found = subprocess.run(words, capture_output=True, check=True, text=True).stdout.split()
+        folders = [path for path in found if os.path.isdir(path)]
+        if os.getuid() != 0 or not shutil.which("unshare") or not folders:
+            self.skipTest("it needs root, and unshare")
+        mark = self.path("ran")
+        words = ["unshare", "-m", "sh", "-c", SCRIPT, "sh", folders[0], mark, FRONT]
+        done = subprocess.run(words, capture_output=True, timeout=TIME_LIMIT)
+        if done.returncode:
+            self.skipTest("nothing can be mounted here")
+        self.assertEqual(self.read("ran"), b"x", "only Python itself runs another package's code")
