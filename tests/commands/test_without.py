@@ -1,27 +1,33 @@
 """Entries that are left out by --exclude-from: which paths a pattern means, what is said, and who
 may write the file."""
+from __future__ import annotations
+
 import base64
 import hashlib
 import os
-import random
 import re
 import subprocess
 import sys
+import unittest
 
-from .sandbox import CommandTest, END, HEAD, HERE, sha256
+from tests.commands.base import TOP as HERE
+
+from .sandbox import Answer, CommandTest, END, HEAD, NOBODY, sha256
+
+from aide_compare.base.paths import Pattern
 
 TOOL = "aide-compare compare --report -v"
 LOGS = b"# Logs\n\n  /var/log/**  \n/etc/*.bak\n"
-OLD = (
-    HEAD
-    + b"/etc/a 36 100644 1\n/var/log 36 40755 1\n/var/log/x%20y 36 100644 1\n/var/log/z 36 100644 1\n"
-    + END
-)
-NEW = (
-    HEAD
-    + b"/etc/a 36 100644 2\n/etc/a.bak 36 100644 1\n/var/log 36 40755 1\n/var/log/x%20y 36 100644 2\n"
-    + END
-)
+
+
+def files(sizes: dict[bytes, int]) -> bytes:
+    """A database of files with these sizes."""
+    return HEAD + b"".join(b"%s 36 100644 %d\n" % pair for pair in sizes.items()) + END
+
+
+LOG, SPACE, GONE = b"/var/log", b"/var/log/x%20y", b"/var/log/z"
+OLD = files({b"/etc/a": 1, LOG: 1, SPACE: 1, GONE: 1})
+NEW = files({b"/etc/a": 2, b"/etc/a.bak": 1, LOG: 1, SPACE: 2})
 
 # Hostile paths, in a process that may take so many seconds of processor time.
 HOSTILE = """import resource, sys
@@ -103,39 +109,23 @@ RIGHTS = [
 ]
 
 
-def write_databases(sandbox):
-    sandbox.write("o.db", OLD)
-    sandbox.write("n.db", NEW)
-
-
-def modules():
-    path = os.path.join(HERE, "commands", "lib")
-    if path not in sys.path:
-        sys.path.append(path)
-    from aide_compare.base import paths
-
-    return paths
-
-
-def means(pattern, path):
+def means(pattern: bytes, path: bytes) -> bool:
     """Whether a pattern means a path, plainly: every way to share the pieces out is tried."""
     return pieces_fit(pattern[1:].split(b"/"), path[1:].split(b"/"), True)
 
 
-def pieces_fit(pattern, path, is_whole):
+def pieces_fit(pattern: list[bytes], path: list[bytes], is_whole: bool) -> bool:
     if not pattern:
         return not path
     if pattern[0] == b"**":
-        least = 1 if len(pattern) == 1 else 0
-        return any(
-            pieces_fit(pattern[1:], path[count:], False) for count in range(least, len(path) + 1)
-        )
-    return (
-        bool(path) and piece_fits(pattern[0], path[0]) and pieces_fit(pattern[1:], path[1:], False)
-    )
+        counts = range(1 if len(pattern) == 1 else 0, len(path) + 1)
+        return any(pieces_fit(pattern[1:], path[count:], False) for count in counts)
+    if not path or not piece_fits(pattern[0], path[0]):
+        return False
+    return pieces_fit(pattern[1:], path[1:], False)
 
 
-def piece_fits(pattern, name):
+def piece_fits(pattern: bytes, name: bytes) -> bool:
     if not pattern:
         return not name
     if pattern[:1] == b"*":
@@ -152,7 +142,7 @@ def piece_fits(pattern, name):
     return pattern[:1] == name[:1] and piece_fits(pattern[1:], name[1:])
 
 
-def class_has(text, byte):
+def class_has(text: bytes, byte: int) -> bool:
     """Whether a class without its brackets has a byte."""
     turned = text[:1] in (b"!", b"^")
     letters, found = list(text[1:] if turned else text), False
@@ -189,358 +179,237 @@ SEEN = """
 """
 
 
-def list_database(path, column, digest):
+def list_database(path: bytes, column: bytes, digest: bytes) -> bytes:
     """A database that has a list, with its digest in a column."""
     head = b"@@begin_db\n@@db_spec name attr perm size %s\n" % column
     return head + b"%s 4194340 100644 1 %s\n" % (path, digest) + END
 
 
-class WithoutTest(CommandTest):
+class PatternsTest(unittest.TestCase):
     def test_patterns(self) -> None:
-        paths = modules()
         for text, path, want in PATTERNS:
-            got = paths.Pattern(text).matches(path[1:].split(b"/"))
-            self.assertEqual(got, want, "the pattern %r and %r" % (text, path))
-            self.assertEqual(
-                means(text, path), want, "the plain definition, %r and %r" % (text, path)
-            )
+            self.assertEqual(Pattern(text).matches(path[1:].split(b"/")), want, (text, path))
+            self.assertEqual(means(text, path), want, ("the plain definition", text, path))
         for text in NO_PATTERNS:
-            try:
-                paths.Pattern(text)
-                self.assertFalse(text, ("%r is no pattern" % text, "taken"))
-            except ValueError:
-                self.holds("%r is no pattern" % text, True)
-
-    def test_random(self) -> None:
-        """Random patterns over few letters, so that many fit, beside the plain definition."""
-        paths, numbers = modules(), random.Random(20261125)
-        fits = wrong = 0
-        for _ in range(20000):
-            text = b"/" + b"/".join(
-                b"".join(
-                    numbers.choices(
-                        [b"a", b"b", b"*", b"?", b"[ab]", b"[!b]"],
-                        [6, 6, 3, 1, 1, 1],
-                        k=numbers.randint(1, 5),
-                    )
-                )
-                if numbers.random() < 0.7
-                else b"**"
-                for _ in range(numbers.randint(1, 4))
-            )
-            if any(b"**" in piece and piece != b"**" for piece in text.split(b"/")):
-                continue
-            path = b"/" + b"/".join(
-                bytes(numbers.choices(b"ab", k=numbers.randint(1, 4)))
-                for _ in range(numbers.randint(1, 5))
-            )
-            got = paths.Pattern(text).matches(path[1:].split(b"/"))
-            fits, wrong = fits + got, wrong + (got != means(text, path))
-        self.holds("random patterns", fits > 1000 and wrong == 0, (fits, wrong))
+            with self.assertRaises(ValueError, msg=repr(text)):
+                Pattern(text)
 
     def test_hostile(self) -> None:
         """A hostile path costs no more than its length times that of the pattern. More would take
         years, and is ended here."""
-        done = subprocess.run(
-            [sys.executable, "-c", HOSTILE, self.path("lib")],
-            stdout=subprocess.PIPE,
-            stderr=subprocess.PIPE,
-        )
-        self.holds("hostile paths", done.returncode == 0 and done.stdout == b"False False\n", done)
+        words = [sys.executable, "-c", HOSTILE, os.path.join(HERE, "commands", "lib")]
+        done = subprocess.run(words, capture_output=True)
+        self.assertEqual((done.returncode, done.stdout), (0, b"False False\n"), done)
+
+
+class WithoutTest(CommandTest):
+    def setUp(self) -> None:
+        super().setUp()
+        for name, text in (("o.db", OLD), ("n.db", NEW), ("empty.db", HEAD + END)):
+            self.write(name, text)
+
+    def compare(self, *words: str) -> Answer:
+        """What is said of the two databases."""
+        return self.call(TOOL, *words, "o.db", "n.db")
+
+    def seen(self, text: bytes, *words: str) -> list[bytes]:
+        """The paths of a database that are added although these words leave out some."""
+        self.write("full.db", text)
+        output = self.call(TOOL, *words, "empty.db", "full.db").output
+        return re.findall(rb"(?m)^\S.{17}: (/.*)$", output)
 
     def test_left_out(self) -> None:
-        write_databases(self)
         self.write("logs", LOGS)
-        answer = self.call(TOOL, "--state", "state", "--exclude-from", "logs", "o.db", "n.db")
-        self.expect(
-            "logs are left out",
-            answer,
-            4,
-            [b"Added entries:           0", b"Changed entries:         1"],
-            [
-                b"left out of the old database: 2 entries",
-                b"2 by /var/log/** (logs, line 3)",
-                b"left out of the new database: 2 entries",
-                b"1 by /etc/*.bak (logs, line 4)",
-            ],
-        )
+        answer = self.compare("--state", "state", "--exclude-from", "logs")
+        wanted = [
+            b"left out of the old database: 2 entries",
+            b"2 by /var/log/** (logs, line 3)",
+            b"left out of the new database: 2 entries",
+            b"1 by /etc/*.bak (logs, line 4)",
+        ]
+        counts = [b"Added entries:           0", b"Changed entries:         1"]
+        self.expect("logs are left out", answer, 4, counts, wanted)
         state = self.state()
-        want = {
-            "left_out_old": "2",
-            "left_out_new": "2",
-            "changed": "1",
-            "old_sha256": sha256(OLD),
-            "new_sha256": sha256(NEW),
-        }
-        self.holds(
-            "the state has both, and the digests of the whole databases",
-            want.items() <= state.items(),
-            state,
-        )
-        answer = self.call(TOOL, "--exclude", "/var/log/x y", "--exclude=/etc/**", "o.db", "n.db")
-        self.expect(
-            "by single lines",
-            answer,
-            2,
-            [b"Removed entries:         1"],
-            [b"1 by /var/log/x y (--exclude)"],
-        )
-        answer = self.call(TOOL, "--exclude", "/etc/a", "o.db", "n.db")
-        self.expect("one entry", answer, 7, None, [b"left out of the old database: 1 entry\n"])
-        answer = self.call(TOOL, "--exclude", "/nothing", "o.db", "n.db")
-        self.expect(
-            "nothing is left out", answer, 7, None, [b"left out of the new database: 0 entries"]
-        )
-        self.assertNotIn(
-            b"left out",
-            self.call(TOOL, "o.db", "n.db").errors,
-            "without the option nothing is said",
-        )
+        want = {"left_out_old": "2", "left_out_new": "2", "changed": "1"}
+        want.update(old_sha256=sha256(OLD), new_sha256=sha256(NEW))
+        self.assertEqual({**state, **want}, state, "the digests are of the whole databases")
+
+    def test_single_lines(self) -> None:
+        for words, status, said in (
+            (["/var/log/x y", "/etc/**"], 2, b"1 by /var/log/x y (--exclude)"),
+            (["/etc/a"], 7, b"left out of the old database: 1 entry\n"),
+            (["/nothing"], 7, b"left out of the new database: 0 entries"),
+        ):
+            answer = self.compare(*("--exclude=" + word for word in words))
+            self.expect("without %s" % words, answer, status, None, said)
+        self.assertNotIn(b"left out", self.compare().errors, "without the option")
 
     def test_notes(self) -> None:
         """How many entries were left out is one line, before what was found; and after the cause, if
         nothing was compared, it is not there at all."""
-        write_databases(self)
         words = ["--exclude", "/var/log/**", "--exclude", "/srv/*"]
         answer = self.call("aide-compare", *words, "o.db", "n.db")
         notes = [line for line in answer.errors.split(b"\n") if b"left out" in line]
-        self.holds(
-            "one line of notes", len(notes) == 1 and b"left out; -v lists them" in notes[0], answer
-        )
+        self.assertEqual(len(notes), 1, answer)
+        self.assertIn(b"left out; -v lists them", notes[0])
         answer = self.call("aide-compare", *words, "o.db", "o.db")
-        good = re.fullmatch(
-            rb"no differences in [0-9]+ entr(y|ies) \([0-9]+ left out\)\n", answer.output
-        )
-        self.holds("no difference is one line", good and not answer.errors, answer)
+        form = rb"\Ano differences in [0-9]+ entr(y|ies) \([0-9]+ left out\)\n\Z"
+        self.assertRegex(answer.output, form)
+        self.assertEqual(answer.errors, b"")
         self.write("damaged.db", NEW.replace(b"@@end_db", b""))
-        answer = self.call("aide-compare", *words, "o.db", "damaged.db")
-        first = answer.errors.split(b"\n")[0]
-        self.holds("the cause is the first line", first.startswith(b"aide: new database:"), answer)
-        self.assertNotIn(b"left out", answer.errors, ("and there are no notes", answer))
+        errors = self.call("aide-compare", *words, "o.db", "damaged.db").errors
+        self.assertTrue(errors.startswith(b"aide: new database:"), errors)
+        self.assertNotIn(b"left out", errors)
 
     def test_damage(self) -> None:
         """Damage in lines that would be left out is found all the same, and lines keep their
         numbers."""
-        write_databases(self)
-        lines = NEW.split(b"\n")
-        for label, text, said in (
-            (
-                "a field too few",
-                NEW.replace(b"/var/log/x%20y 36 100644 2", b"/var/log/x%20y 36 100644"),
-                b":6: wrong number of fields",
-            ),
-            (
-                "a fault after lines that are left out",
-                NEW.replace(END, b"/z 36 x 1\n" + END),
-                b":7: bad number in column 3",
-            ),
-            ("the end is missing", b"\n".join(lines[:-2]) + b"\n", b": no @@end_db"),
+        short = NEW.replace(b"/var/log/x%20y 36 100644 2", b"/var/log/x%20y 36 100644")
+        for text, said in (
+            (short, b"new database:6: wrong number of fields"),
+            (NEW.replace(END, b"/z 36 x 1\n" + END), b"new database:7: bad number in column 3"),
+            (NEW.replace(END, b""), b": no @@end_db"),
         ):
             self.write("damaged.db", text)
             answer = self.call(TOOL, "--exclude", "/var/log/**", "o.db", "damaged.db")
-            self.expect(
-                label, answer, 24, b"", [b"new database" + (b"" if b"end" in said else said)]
-            )
-        # Lines that are no entries: none is left out, and none stops the comparison.
-        for label, line in (
-            ("an empty line", b""),
-            ("a blank line", b"   "),
-            ("a comment", b"# no entry"),
-        ):
-            self.write("lines.db", NEW.replace(END, line + b"\n" + END))
-            want = self.call("aide-compare", "--report", "o.db", "lines.db")
-            answer = self.call(TOOL, "--exclude", "/nowhere/**", "o.db", "lines.db")
-            self.holds(
-                label,
-                (answer.output, answer.status) == (want.output, want.status) and want.status < 8,
-                answer,
-            )
+            self.expect("%r" % said, answer, 24, b"", said)
+
+    def test_no_entries(self) -> None:
+        """Lines that are no entries: none is left out, and none stops the comparison."""
+        for line in (b"", b"   ", b"# no entry"):
+            self.write("n.db", NEW.replace(END, line + b"\n" + END))
+            want, answer = self.compare(), self.compare("--exclude", "/nowhere/**")
+            self.assertEqual((answer.output, answer.status), (want.output, want.status), line)
+            self.assertLess(want.status, 8, want)
         late = HEAD + b"/a 36 100644 1\n" + END + b"/var/log/late 36 100644 1\n"
         self.write("late.db", late)
         answer = self.call(TOOL, "--exclude", "/var/log/**", "late.db", "late.db")
-        self.expect(
-            "after the end nothing is an entry",
-            answer,
-            0,
-            None,
-            [b"left out of the old database: 0 entries"],
-        )
+        said = b"left out of the old database: 0 entries"
+        self.expect("after the end nothing is an entry", answer, 0, None, said)
 
     def test_names(self) -> None:
         """The column `name` is found wherever it is, names are decoded, and hostile patterns are
         escaped where they are shown."""
-        head = b"@@begin_db\n@@db_spec attr name size perm\n"
-        self.write("o2.db", head + b"36 /a%2Fb 1 100644\n36 /c%ZZ 1 100644\n" + END)
-        self.write("n2.db", head + b"36 /a%2Fb 2 100644\n36 /c%ZZ 2 100644\n" + END)
-        answer = self.call(TOOL, "--exclude", "/a/*", "--exclude", "/c%ZZ\x1b", "o2.db", "n2.db")
-        self.expect(
-            "decoded names", answer, 4, [b"Changed entries:         1"], [b"1 by /a/* (--exclude)"]
-        )
-        answer = self.call(TOOL, "--exclude", "/[c]%ZZ", "--exclude", "x\x1b[0m", "o2.db", "n2.db")
-        self.expect("an escape is not obeyed", answer, 15, b"", [b"x\\033[0m"])
+        for name, size in (("o.db", 1), ("n.db", 2)):
+            lines = b"36 /a%%2Fb %d 100644\n36 /c%%ZZ %d 100644\n" % (size, size)
+            self.write(name, b"@@begin_db\n@@db_spec attr name size perm\n" + lines + END)
+        answer = self.compare("--exclude", "/a/*", "--exclude", "/c%ZZ\x1b")
+        said = b"1 by /a/* (--exclude)"
+        self.expect("decoded names", answer, 4, b"Changed entries:         1", said)
+        answer = self.compare("--exclude", "/[c]%ZZ", "--exclude", "x\x1b[0m")
+        self.expect("an escape is not obeyed", answer, 15, b"", b"x\\033[0m")
 
     def test_rights(self) -> None:
         """What gives rights is never left out, and neither is what has no mode or comes from a
         database without modes."""
         head = b"@@begin_db\n@@db_spec name attr perm size capabilities\n"
-        self.write("empty.db", HEAD + END)
         lines = [b"/a/%02d %d %s 1 %s\n" % (number, *row[1:4]) for number, row in enumerate(RIGHTS)]
-        self.write("rights.db", head + b"".join(lines) + END)
+        text = head + b"".join(lines) + END
         self.write("marked", b"programs( a reason ) /a/**\n")
-        for column, line in ((4, ["--exclude", "/a/**"]), (5, ["--exclude-from", "marked"])):
-            answer = self.call(TOOL, *line, "empty.db", "rights.db")
+        for column, words in ((4, ["--exclude", "/a/**"]), (5, ["--exclude-from", "marked"])):
+            seen = self.seen(text, *words)
             for number, row in enumerate(RIGHTS):
-                stays = b": /a/%02d\n" % number in answer.output
-                self.assertEqual(stays, row[column], ("%s under %s" % (row[0], line[1]), answer))
-            count = sum(bool(row[column]) for row in RIGHTS)
+                self.assertEqual(b"/a/%02d" % number in seen, row[column], (row[0], words))
+            answer = self.call(TOOL, *words, "empty.db", "full.db")
             said = (
                 b"  %d more that lines name stay, each for one of these: a program, a set-ID bit, "
-                % count
             )
-            self.assertIn(said, answer.errors, ("how many stay under %s" % line[1], answer))
-        self.assertIn(
-            b"by /a/** (marked, line 1; programs too: a reason)",
-            answer.errors,
-            ("the reason of a line", answer),
-        )
-        self.write("no-modes.db", b"@@begin_db\n@@db_spec name size\n/a/x 1\n" + END)
-        answer = self.call(TOOL, "--exclude", "/a/**", "empty.db", "no-modes.db")
-        self.assertIn(b": /a/x\n", answer.output, ("a database without modes", answer))
+            self.assertIn(said % sum(bool(row[column]) for row in RIGHTS), answer.errors)
+        self.assertIn(b"by /a/** (marked, line 1; programs too: a reason)", answer.errors)
+        text = b"@@begin_db\n@@db_spec name size\n/a/x 1\n" + END
+        self.assertEqual(self.seen(text, "--exclude", "/a/**"), [b"/a/x"], "no modes")
 
     def test_run_bits(self) -> None:
         """A file that only its owner, its group or others may run is a program too, and stays."""
-        self.write("paths", b"/a/**\n")
-        for mode, status in ((0o100644, 0), (0o100744, 4), (0o100654, 4), (0o100645, 4)):
-            for name, size in (("o.db", 1), ("n.db", 2)):
-                self.write(name, HEAD + b"/a/x 36 %o %d\n" % (mode, size) + END)
-            answer = self.call("aide-compare", "--exclude-from", "paths", "o.db", "n.db")
-            self.assertEqual(answer.status, status, (oct(mode), answer))
+        for mode, seen in ((0o100644, []), *((mode, [b"/a/x"]) for mode in (0o744, 0o654, 0o645))):
+            text = HEAD + b"/a/x 36 %o 1\n" % (0o100000 | mode) + END
+            self.assertEqual(self.seen(text, "--exclude", "/a/**"), seen, oct(mode))
 
     def test_marks(self) -> None:
         """The mark needs a reason. A line that means programs too does so beside a line that does
         not, in either order."""
-        self.write(
-            "program.db",
-            HEAD.replace(b"size", b"size capabilities") + b"/a/x %d 100755 1 0\n" % CAPS + END,
-        )
-        self.write("empty.db", HEAD + END)
+        head = HEAD.replace(b"size", b"size capabilities")
+        self.write("program.db", head + b"/a/x %d 100755 1 0\n" % CAPS + END)
         for text, status in (
             (b"/a/*\nprograms(why) /a/x", 0),
             (b"programs(why)  /a/x\n/a/*", 0),
             (b"programs(why) /b\n/a/*", 1),
+            (b"programs() /a/x", 15),
+            (b"programs( ) /a/x", 15),
+            (b"programs /a/x", 15),
+            (b"programs(why)/a/x", 15),
+            (b"devices(why) /a/x", 15),
         ):
             self.write("marks", text)
             answer = self.call(TOOL, "--exclude-from", "marks", "empty.db", "program.db")
             self.expect("the lines %r" % text, answer, status)
-        for text in (
-            b"programs() /a/x",
-            b"programs( ) /a/x",
-            b"programs /a/x",
-            b"programs(why)/a/x",
-            b"devices(why) /a/x",
-        ):
-            self.write("marks", text)
-            self.expect(
-                "the line %r" % text,
-                self.call(TOOL, "--exclude-from", "marks", "empty.db", "program.db"),
-                15,
-                b"",
-            )
 
     def test_refused(self) -> None:
-        write_databases(self)
-        cases = [
-            ("missing", ["--exclude-from", "none"], 18),
-            ("a folder", ["--exclude-from", "bin"], 18),
-            ("no file", ["--exclude-from", ""], 15),
-            ("no pattern", ["--exclude", "var"], 15),
-        ]
-        for label, words, status in cases:
-            self.expect(label, self.call(TOOL, *words, "o.db", "n.db"), status, b"")
         self.write("bad", b"/a\n/b**\n")
-        self.expect(
-            "a bad line",
-            self.call(TOOL, "--exclude-from", "bad", "o.db", "n.db"),
-            15,
-            b"",
-            [b"bad, line 2: "],
-        )
-        for label, mode in (("a group", 0o664), ("everybody", 0o646)):
-            self.write("open", LOGS)
-            os.chmod(self.path("open"), mode)
-            answer = self.call(TOOL, "--exclude-from", "open", "o.db", "n.db")
-            self.expect(
-                "a file that %s can write" % label, answer, 18, b"", [b"other users can write"]
-            )
-        if os.getuid() == 0:
-            self.write("theirs", LOGS)
-            os.chown(self.path("theirs"), 65534, 65534)
-            answer = self.call(TOOL, "--exclude-from", "theirs", "o.db", "n.db")
-            self.expect("a file of another user", answer, 18, b"", [b"other users can write"])
-            os.mkdir(self.path("open-folder"))
-            os.chmod(self.path("open-folder"), 0o777)
-            self.write("open-folder/logs", LOGS)
-            answer = self.call(TOOL, "--exclude-from", "open-folder/logs", "o.db", "n.db")
-            self.expect(
-                "a folder that others can write", answer, 18, b"", [b"other users can write"]
-            )
+        for words, status, said in (
+            (["--exclude-from", "none"], 18, b"none"),
+            (["--exclude-from", "bin"], 18, b"bin"),
+            (["--exclude-from", ""], 15, b""),
+            (["--exclude", "var"], 15, b"var"),
+            (["--exclude-from", "bad"], 15, b"bad, line 2: "),
+        ):
+            self.expect("%s" % words, self.compare(*words), status, b"", [said])
+
+    def test_writable(self) -> None:
+        """A list that other users can write is refused."""
+        said = b"other users can write"
+        for name, mode, directory_mode, owner in (
+            ("of a group", 0o664, 0o755, 0),
+            ("of everybody", 0o646, 0o755, 0),
+            ("of another user", 0o644, 0o755, NOBODY),
+            ("in an open directory", 0o644, 0o777, 0),
+        ):
+            path = self.write(f"{name}/logs", LOGS, mode)
+            os.chmod(os.path.dirname(path), directory_mode)
+            if os.getuid() == 0:
+                os.chown(path, owner, owner)
+            elif owner or directory_mode == 0o777:
+                continue
+            answer = self.compare("--exclude-from", f"{name}/logs")
+            self.expect("a list " + name, answer, 18, b"", said)
 
     def test_shipped(self) -> None:
         """The shipped file is read. What programs write each night is left out, and nothing that
         anything runs or obeys."""
-        with open(os.path.join(HERE, "contrib", "aide", "debian.without"), "rb") as file:
-            self.write("debian.without", file.read())
+        shipped = os.path.join(HERE, "contrib", "aide", "debian.without")
         hidden, seen = (text.encode().split() for text in (HIDDEN, SEEN))
-        entries = [
-            path + b" 36 100644 1\n"
-            for path in sorted(hidden + seen, key=lambda path: path.split(b"/"))
-        ]
-        self.write("empty.db", HEAD + END)
-        self.write("full.db", HEAD + b"".join(entries) + END)
-        answer = self.call(TOOL, "--exclude-from", "debian.without", "empty.db", "full.db")
-        count = b"left out of the new database: %d entries" % len(hidden)
-        self.expect("the shipped file", answer, 1, [b": " + path + b"\n" for path in seen], [count])
+        paths = sorted(hidden + seen, key=lambda path: path.split(b"/"))
+        text = files(dict.fromkeys(paths, 1))
+        with open(shipped, "rb") as file:
+            self.write("list", file.read())
+        self.assertEqual(set(self.seen(text, "--exclude-from", "list")), set(seen))
 
     def test_settings(self) -> None:
         """No line leaves out what decides on what is reported: everything in /etc/aide-compare, and
         the folder itself."""
-        paths = (
-            b"/etc/aide-compare",
-            b"/etc/aide-compare/defaults",
-            b"/etc/aide-compare/x/y",
-            b"/etc/aide-comparer",
-        )
-        entries = [path + b" 36 100644 1\n" for path in paths]
-        self.write("empty.db", HEAD + END)
-        self.write("settings.db", HEAD + b"".join(entries) + END)
+        top = b"/etc/aide-compare"
+        settings, neighbour = [top, top + b"/defaults", top + b"/x/y"], top + b"r"
+        text = files(dict.fromkeys([*settings, neighbour], 1))
         for pattern in ("/etc/**", "/**", "/etc/aide-compare/*", "/etc/aide-compare*"):
-            answer = self.call(TOOL, "--exclude", pattern, "empty.db", "settings.db")
-            named = [path for path in paths[:3] if b": " + path + b"\n" in answer.output]
-            self.assertEqual(named, list(paths[:3]), ("settings under " + pattern, (named, answer)))
-        answer = self.call(TOOL, "--exclude", "/etc/**", "empty.db", "settings.db")
-        self.assertNotIn(paths[3], answer.output, ("a neighbour of the settings", answer))
+            seen = self.seen(text, "--exclude", pattern)
+            self.assertEqual(seen[:3], settings, pattern)
+            self.assertEqual(seen[3:], [neighbour] if pattern.endswith("/*") else [], pattern)
 
     def test_changed_list(self) -> None:
         """A list that is not as in the old database is reported, even if nothing differs."""
         text = b"/var/log/**\n"
         path = os.fsencode(self.write("list", text))
         said = b"is not as it was when the baseline was made"
+        rows = [(b"/elsewhere", "sha256", b"0", False), (path, "sha256", b"0", False)]
         for name in ("sha256", "sha512"):
-            right = hashlib.new(name, text)
-            wrong = hashlib.new(name, text + b"/etc/**\n")
-            for label, digest, is_said in (
-                ("the same list", base64.b64encode(right.digest()), False),
-                ("another list", base64.b64encode(wrong.digest()), True),
-                ("a list without a digest", b"0", False),
+            for other in (b"", b"/etc/**\n"):
+                digest = base64.b64encode(hashlib.new(name, text + other).digest())
+                rows.append((path, name, digest, bool(other)))
+        for listed, name, digest, is_said in rows:
+            self.write("list.db", list_database(listed, name.encode(), digest))
+            for words in (
+                ["--exclude-from", "list"],
+                ["--exclude-from", os.fsdecode(path), "--exclude", "/etc/**"],
             ):
-                self.write("list.db", list_database(path, name.encode(), digest))
-                for words in (
-                    ["--exclude-from", "list"],
-                    ["--exclude-from", os.fsdecode(path), "--exclude", "/etc/**"],
-                ):
-                    answer = self.call(TOOL, *words, "list.db", "list.db")
-                    good = answer.status == 0 and (said in answer.errors) == is_said
-                    self.holds("%s by %s and %s" % (label, name, words), good, answer)
-        self.write("list.db", list_database(b"/elsewhere", b"sha256", b"0"))
-        answer = self.call(TOOL, "--exclude-from", "list", "list.db", "list.db")
-        self.assertNotIn(said, answer.errors, ("a list that the database does not have", answer))
+                answer = self.call(TOOL, *words, "list.db", "list.db")
+                self.assertEqual((answer.status, said in answer.errors), (0, is_said), answer)
