@@ -36,7 +36,6 @@ ALWAYS = (
 )
 COMPILED = "/usr/lib/python3/dist-packages/yaml/__pycache__/loader.cpython-311.pyc"
 MARKS = {
-    "n5-idle-intruder": ("/etc/cron.d/e2scrub_all", "/var/log/syslog"),
     "n6-install-intruder": ("/usr/bin/git", COMPILED),
     "n7-upgrade-intruder": (
         "/usr/bin/openssl",
@@ -53,14 +52,11 @@ MARKS = {
     ),
     "n11-rotate-intruder": ("/var/log/auth.log.1", "/var/log/syslog.2.gz", "/var/log/auth.log"),
 }
-# He has forged dpkg's records of these, so they are told with their package.
+# He has forged dpkg's records of these, so they are told with their package: of pgrep always.
+PGREP = "/usr/bin/pgrep"
 FORGED = {
-    "n5-idle-intruder": ("/usr/bin/pgrep",),
-    "n6-install-intruder": ("/usr/bin/pgrep", "/usr/lib/python3/dist-packages/yaml/_hook.py"),
-    "n7-upgrade-intruder": ("/usr/bin/pgrep", "/usr/bin/rsync"),
-    "n8-repack-intruder": ("/usr/bin/pgrep",),
-    "n10-kernel-intruder": ("/usr/bin/pgrep",),
-    "n11-rotate-intruder": ("/usr/bin/pgrep",),
+    "n6-install-intruder": (PGREP, "/usr/lib/python3/dist-packages/yaml/_hook.py"),
+    "n7-upgrade-intruder": (PGREP, "/usr/bin/rsync"),
 }
 
 Parts = Dict[str, List[str]]
@@ -110,36 +106,29 @@ def wanted_of(parts: Parts) -> Dict[bytes, str]:
     return wanted
 
 
-def found_in(sandbox: CommandTest, name: str, parts: Parts) -> Dict[bytes, str]:
-    """What the commands say of a night, by path."""
-    for side in ("old", "new"):
-        sandbox.write(f"{side}.db", database_of(parts, side))
-    write_records(sandbox, records_of(parts))
-    answer = sandbox.call("aide-compare json", "old.db", "new.db")
-    sandbox.assertIn(answer.status, range(1, 8), (f"{name} is compared", answer))
-    return standings_of(objects_of(answer), ("standing", "package"))
-
-
-def check_marks(sandbox: CommandTest, name: str, found: Dict[bytes, str]) -> None:
-    """Each mark of the intruder is open, but for those whose records he has forged."""
-    if name not in MARKS:
-        return
-    forged = FORGED[name]
-    for path in (*ALWAYS, *MARKS[name], *forged):
-        got = found.get(path.encode(), "no change")
-        want = "recorded" if path in forged else "open"
-        label = f"{name}, a mark of the intruder: {path}"
-        sandbox.holds(label, got.startswith(want), got)
-
-
 class NightsTest(CommandTest):
     def test_nights(self) -> None:
         names = sorted(name[:-4] for name in os.listdir(DIRECTORY) if NIGHT.fullmatch(name))
-        self.assertTrue(names, "there are nights")
+        self.assertLessEqual(set(MARKS), set(names), "there are nights")
         for name in names:
             parts = read_night(name)
-            found, wanted = found_in(self, name, parts), wanted_of(parts)
-            for path in sorted(found.keys() | wanted.keys()):
-                got, want = found.get(path), wanted.get(path)
-                self.assertEqual(got, want, (f"{name}, {path!r}", (got, want)))
-            check_marks(self, name, found)
+            found = self.found_in(name, parts)
+            self.assertEqual(found, wanted_of(parts), name)
+            if name in MARKS:
+                self.check_marks(name, found)
+
+    def found_in(self, name: str, parts: Parts) -> Dict[bytes, str]:
+        """What the commands say of a night, by path."""
+        for side in ("old", "new"):
+            self.write(f"{side}.db", database_of(parts, side))
+        write_records(self, records_of(parts))
+        answer = self.call("aide-compare json", "old.db", "new.db")
+        self.assertIn(answer.status, range(1, 8), (f"{name} is compared", answer))
+        return standings_of(objects_of(answer), ("standing", "package"))
+
+    def check_marks(self, name: str, found: Dict[bytes, str]) -> None:
+        """Each mark of the intruder is open, but for those whose records he has forged."""
+        forged = FORGED.get(name, (PGREP,))
+        for path in (*ALWAYS, *MARKS[name], *forged):
+            got = found.get(path.encode(), "no change").split(" ")[0]
+            self.assertEqual(got, "recorded" if path in forged else "open", (name, path))
