@@ -2,11 +2,12 @@
 
 The definitions compute from the two databases what the lines have to say.
 """
+from __future__ import annotations
+
 import io
 import json
 import os
 import random
-import shutil
 import tempfile
 from unittest import mock
 
@@ -35,6 +36,7 @@ from aide_compare.show.page_heading import part_of
 from aide_compare.show.page_items import entries_of
 
 REFUSED, USAGE, DEVICE = 65, 15, 18
+DATABASES = ("database_in", "database_new")
 # Letters by their class, and yet nothing is seen of them: the Hangul fillers and the empty Braille
 # pattern.
 BLANKS_THAT_ARE_LETTERS = "\u115f\u1160\u2800\u3164\uffa0"
@@ -64,23 +66,11 @@ def random_settings(pick, folder=b""):
 
 def configuration_of(settings):
     """The text of a configuration with these settings."""
-    lines = [
-        b"database_in=file:" + settings["database_in"],
-        b"database_new=file:" + settings["database_new"],
-        b"report_level=" + settings["report_level"].encode(),
-    ]
-    lines += [
-        b"%s=%s" % (name.encode(), b"yes" if settings[name] else b"no") for name in BOOL_OPTIONS
-    ]
-    lines += [
-        b"%s=%s"
-        % (
-            name.encode(),
-            b"+".join(attribute.encode() for attribute in sorted(settings[name])) or b"E",
-        )
-        for name in SET_OPTIONS
-    ]
-    return b"\n".join(lines) + b"\n"
+    texts = {name: "yes" if settings[name] else "no" for name in BOOL_OPTIONS}
+    texts.update((name, "+".join(sorted(settings[name])) or "E") for name in SET_OPTIONS)
+    texts["report_level"] = settings["report_level"]
+    lines = [b"%s=file:%s\n" % (name.encode(), settings[name]) for name in DATABASES]
+    return b"".join([*lines, *(f"{name}={text}\n".encode() for name, text in texts.items())])
 
 
 def try_program(program, seed, count, tally):
@@ -98,23 +88,18 @@ def try_program(program, seed, count, tally):
                     file.write(text)
             proved = proved_lines(program, configuration_of(settings))
         status, output, errors = run([*JSON], proved)
-        databases, label = [database_of(text) for text in texts], "seed %d, session %d" % (
-            seed,
-            number,
-        )
+        databases = [database_of(text) for text in texts]
+        label, is_plain = f"seed {seed}, session {number}", number % 2 == 1
         if status or errors:
             tally.add(label, ["status %d, %r" % (status, errors)])
             continue
         objects = [json.loads(line) for line in output.splitlines()]
         faults = [fault for fields in objects for fault in validator.faults(fields)]
-        status, page_text, errors = run([*HTML] + ["--plain"] * (number % 2), output)
-        tally.add(
-            label, faults + text_faults(objects) + faults_of(objects, *databases, texts, settings)
-        )
+        faults += text_faults(objects) + faults_of(objects, *databases, texts, settings)
+        tally.add(label, faults)
+        status, page, errors = run([*HTML] + ["--plain"] * is_plain, output)
         faults = ["status %d, %r" % (status, errors)] if status or errors else []
-        tally.add(
-            label + ", page", faults or page_faults(page_text.decode(), objects, number % 2 == 1)
-        )
+        tally.add(label + ", page", faults or page_faults(page.decode(), objects, is_plain))
 
 
 def try_hostile(seed, count, tally):
@@ -128,11 +113,9 @@ def try_hostile(seed, count, tally):
             objects = objects_of(lines_of_databases(*databases, texts, settings)[0])
             faults = [fault for fields in objects for fault in validator.faults(fields)]
             faults += text_faults(objects) + faults_of(objects, *databases, texts, settings)
-            faults += (
-                page_faults(page_of(objects, number % 2 == 1), objects, number % 2 == 1)
-                if number % 4 < 2
-                else []
-            )
+            is_plain = number % 2 == 1
+            if number % 4 < 2:
+                faults += page_faults(page_of(objects, is_plain), objects, is_plain)
         except Refused as refused:
             faults = ["it is refused: %s" % refused]
         tally.add(label, faults)
@@ -206,111 +189,61 @@ def try_shown(seed, tally):
         tally.add(show.__name__, faults[:5])
 
 
-def try_commands(tally):
+def try_commands(tally: ProgramTest) -> None:
     """The command lines: statuses, error lines, and that nothing is written where something is
     wrong."""
     proved = rich_lines()
     lines = lines_of(objects_of(proved))
-    with open("/dev/full", "wb") as full, tempfile.NamedTemporaryFile() as file:
+    early = proved[: proved.rindex(b"\n", 0, -1) + 1]
+    no_summary = b'{"record":"summary","format":1}\n'
+    with tempfile.NamedTemporaryFile() as file:
         file.write(proved)
         file.flush()
-        trials = [
+        trials: list[tuple[list[str], bytes, int, bytes]] = [
             ([*JSON], proved, 0, b""),
             ([*JSON, file.name], b"", 0, b""),
             ([*JSON, "-"], proved, 0, b""),
             ([*JSON], lines, 0, b""),
             ([*JSON], b"", REFUSED, b"nothing was given: "),
             ([*JSON], b"@@begin_db\n", REFUSED, b"line 1: this is not a line of aide-compare json"),
-            (
-                [*JSON],
-                b'{"record":"summary","format":1}\n',
-                REFUSED,
-                b"line 1: the first line is the summary, of format 3",
-            ),
+            ([*JSON], no_summary, REFUSED, b"line 1: the first line is the summary, of format 3"),
             ([*JSON], proved[:-1], REFUSED, b"line %d: this is not a line" % proved.count(b"\n")),
-            (
-                [*JSON],
-                proved[: proved.rindex(b"\n", 0, -1) + 1],
-                REFUSED,
-                b"this ends too early: the last line is missing",
-            ),
-            ([*JSON, "--other"], proved, USAGE, b" --help"),
-            ([*JSON, "/nowhere"], proved, DEVICE, b"cannot open /nowhere: "),
-            ([*JSON, "/"], b"", DEVICE, b"cannot open"),
+            ([*JSON], early, REFUSED, b"this ends too early: the last line is missing"),
             ([*HTML], lines, 0, b""),
             ([*HTML, "--plain", "--title", "<b>&\u202e"], lines, 0, b""),
             ([*HTML], b"", REFUSED, b"page: nothing was given: "),
             ([*HTML], b"@@begin_db\n", REFUSED, b"line 1: "),
             ([*HTML], lines[:-1], REFUSED, b"line "),
-            ([*HTML, "--other"], lines, USAGE, b" --help"),
             ([*HTML], lines + b"\n", REFUSED, b"line "),
-            ([*HTML, "/nowhere"], b"", DEVICE, b"cannot open"),
         ]
+        for tool in (JSON, HTML):
+            trials.append(([*tool, "--other"], b"", USAGE, b" --help"))
+            trials.append(([*tool, "/nowhere"], b"", DEVICE, b"cannot open /nowhere: "))
+            trials.append(([*tool, "/"], b"", DEVICE, b"cannot open"))
         for words, text, wanted, beginning in trials:
             status, output, errors = run(words, text)
-            faults = [] if status == wanted else ["status %d, %r" % (status, errors)]
-            if (
-                beginning not in errors
-                or bool(errors) != bool(wanted)
-                or bool(output) != (not wanted)
-                or b"Traceback" in errors
-            ):
-                faults.append("%d bytes of output, and the errors %r" % (len(output), errors))
-            tally.add("%s %r" % (os.path.basename(words[0]), words[1:]), faults)
-        for words, text in (([*JSON], proved), ([*HTML], lines)):
-            status, _, errors = run(words, text, stdout=full)
-            good = status == DEVICE and b"No space left" in errors
-            tally.add("full device", [] if good else ["%d, %r" % (status, errors)])
-            status, output, _ = run(words + ["--help"])
-            tally.add(
-                "help",
-                []
-                if status == 0 and b"usage: aide-compare " in output
-                else ["%d, %r" % (status, output)],
-            )
-            for closed in (">&-", "<&-", ">&- 2>&-"):
-                status, output, errors = run(["sh", "-c", '"$0" "$1" ' + closed, *words], text)
-                tally.add(
-                    "closed " + closed,
-                    []
-                    if status == DEVICE and not output and b"Traceback" not in errors
-                    else ["%d, %r" % (status, errors)],
-                )
-        _, output, _ = run([*HTML, "--title", "<b>&\u202e"], lines)
-        tally.add(
-            "title",
-            [] if b"<h1>&lt;b&gt;&amp;\\342\\200\\256</h1>" in output else ["it is another"],
-        )
+            with tally.subTest(words=words[1:]):
+                tally.assertEqual((status, bool(errors)), (wanted, bool(wanted)), errors)
+                tally.assertEqual(bool(output), not wanted)
+                tally.assertIn(beginning, errors)
+                tally.assertNotIn(b"Traceback", errors)
+    _, output, _ = run([*HTML, "--title", "<b>&\u202e"], lines)
+    tally.assertIn(b"<h1>&lt;b&gt;&amp;\\342\\200\\256</h1>", output)
 
 
-def try_installed(tally):
-    """The commands as they are installed, with their modules in another folder, which stays as it
-    is."""
-    with tempfile.TemporaryDirectory() as prefix:
-        modules = os.path.join(prefix, "lib", "aide-compare", "python", "aide_compare")
-        shutil.copytree(
-            os.path.dirname(os.path.dirname(reader.__file__)),
-            modules,
-            ignore=shutil.ignore_patterns("__pycache__"),
-        )
-        files = os.listdir(modules)
-        shutil.copytree(os.path.dirname(JSON[0]), os.path.join(prefix, "bin"))
-        words = [[os.path.join(prefix, "bin", "aide-compare"), word] for word in ("json", "page")]
-        proved = rich_lines()
-        status, lines, errors = run(words[0], proved)
-        good = lines == run([*JSON], proved)[1] and not status and not errors
-        tally.add("installed json", [] if good else ["%r" % errors])
-        status, text, errors = run(words[1], lines)
-        good = text == run([*HTML], lines)[1] and not status and not errors
-        tally.add("installed html", [] if good else ["%r" % errors])
-        tally.add(
-            "nothing is left", [] if os.listdir(modules) == files else ["%r" % os.listdir(modules)]
-        )
-        shutil.rmtree(modules)
-        for command in words:
-            status, output, errors = run(command, proved)
-            good = status == DEVICE and not output
-            tally.add("without modules", [] if good else ["%d, %r" % (status, errors)])
+def try_streams(tally: ProgramTest) -> None:
+    """A full device and closed streams are no success, and leave nothing half said."""
+    proved = rich_lines()
+    for words, text in ((JSON, proved), (HTML, lines_of(objects_of(proved)))):
+        with open("/dev/full", "wb") as full:
+            status, _, errors = run([*words], text, stdout=full)
+        tally.assertEqual((status, b"No space left" in errors), (DEVICE, True), errors)
+        status, output, _ = run([*words, "--help"])
+        tally.assertEqual((status, b"usage: aide-compare " in output), (0, True), output)
+        for closed in (">&-", "<&-", ">&- 2>&-"):
+            status, output, errors = run(["sh", "-c", '"$0" "$1" ' + closed, *words], text)
+            found = (status, output, b"Traceback" in errors)
+            tally.assertEqual(found, (DEVICE, b"", False), (closed, errors))
 
 
 PAIRS = 20 if os.environ.get(QUICK) else 40
@@ -320,8 +253,8 @@ class ViewersTest(ProgramTest):
     def test_commands(self) -> None:
         try_commands(self)
 
-    def test_installed(self) -> None:
-        try_installed(self)
+    def test_streams(self) -> None:
+        try_streams(self)
 
     def test_styles_and_script(self) -> None:
         self.add("contrast", contrast_faults(part_of("page.css")))
