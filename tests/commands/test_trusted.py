@@ -5,7 +5,6 @@ from __future__ import annotations
 import gzip
 import json
 import os
-import re
 from typing import List, Tuple
 
 from tests.commands import test_mail as mail
@@ -26,6 +25,7 @@ WANTED = {
     b"/usr/bin/mine": "open high",
     b"/usr/bin/lost": "open high",
 }
+TOLD = b"aide-compare: 3 open (3 high) of 7 changes\n"
 COUNTS = {"same": "1", "trusted": "3", "recorded": "0", "open": "3", "open_high": "3"}
 
 
@@ -67,64 +67,55 @@ class TrustedTest(CommandTest):
         """Changes that the canary has too are silent, all others are not."""
         host, _ = put(self)
         answer, objects = host.ask(self, *PAIR)
-        self.assertEqual(answer.status, 7, ("compared beside the pair", answer))
+        self.assertEqual(answer.status, 7, answer)
         found = standings_of(objects)
-        for path, want in WANTED.items():
-            got = found.get(path, "no change")
-            self.assertEqual(got, want, (f"beside the pair: {path!r}", (got, want)))
-        self.assertFalse(self.leftovers(), "nothing is left")
+        self.assertEqual({path: found.get(path) for path in WANTED}, WANTED)
+        self.assertEqual(self.leftovers(), [])
         for side, name in zip(("trusted_old", "trusted_new"), PAIR[1:]):
-            member = objects[0].get(side, {})
             wanted = {"path": name, "sha256": sha256(self.read(name)), "skipped": []}
-            self.assertEqual(member, wanted, f"the first line has {side}")
-        _, objects = host.ask(self)
-        found = standings_of(objects)
-        are_open = all(
-            found[path].startswith("open") for path, want in WANTED.items() if want != "same"
-        )
-        self.holds("without the pair all of them are open", are_open, found)
+            self.assertEqual(objects[0].get(side), wanted, f"the first line has {side}")
+        found = standings_of(host.ask(self)[1])
+        opened = {path for path in WANTED if found[path].startswith("open")}
+        self.assertEqual(opened, WANTED.keys() - {b"/usr/bin/same"}, "without the pair")
         _, objects = host.ask(self, "--trusted", "canary-new.db", "canary-new.db")
         found = standings_of(objects)
         pair = (found[b"/usr/bin/went"], found[b"/usr/bin/upgraded"])
         self.assertEqual(pair, ("open high", "trusted"), "a pair without the removal")
 
     def test_forms(self) -> None:
-        """The pair may be packed, or come by a descriptor, like the databases beside it."""
+        """The pair may be packed, or come by a descriptor, before or after the databases. A column
+        that the program does not know changes nothing."""
         put(self)
+        new = self.read("canary-new.db")
+        self.write("odd.db", new.replace(b" selinux ", b" fstype "))
         for side in ("old", "new"):
             self.write(f"canary-{side}.db.gz", gzip.compress(self.read(f"canary-{side}.db")))
-        told = b"aide-compare: 3 open (3 high) of 7 changes\n"
-        for label, words, text in (
-            ("packed", ("canary-old.db.gz", "canary-new.db.gz"), None),
-            ("one of them packed", ("canary-old.db", "canary-new.db.gz"), None),
-            ("by standard input", ("canary-old.db", "-"), self.read("canary-new.db")),
-        ):
-            answer = self.call(TOOL, "--trusted", *words, *BOTH, text=text)
-            self.expect(f"a pair {label}", answer, 7, errors=[told])
-        answer = self.call(TOOL, *BOTH, *PAIR)
-        self.expect("a pair after the databases", answer, 7, errors=[told])
+        rows: List[Tuple[Tuple[str, ...], bytes | None]] = [
+            (("canary-old.db.gz", "canary-new.db.gz", *BOTH), None),
+            (("canary-old.db", "canary-new.db.gz", *BOTH), None),
+            (("canary-old.db", "odd.db", *BOTH), None),
+            (("canary-old.db", "-", *BOTH), new),
+        ]
+        for words, text in rows:
+            answer = self.call(TOOL, "--trusted", *words, text=text)
+            self.expect(f"a pair {words}", answer, 7, errors=[TOLD])
+        self.expect("a pair after the databases", self.call(TOOL, *BOTH, *PAIR), 7, errors=[TOLD])
+        report = self.call(TOOL, "--report", *BOTH).output
+        answer = self.call(TOOL, "--report", *PAIR, *BOTH)
+        self.expect("AIDE's report knows no pair", answer, 7, output=[report])
 
-    def test_refused(self) -> None:
+    def test_unreadable(self) -> None:
         """A pair that cannot be read ends the comparison: nothing is compared with half of what was
         asked."""
         put(self)
         sound = self.read("canary-new.db")
+        named = b"the trusted new database"
         rows: List[Tuple[str, bytes | None, int, bytes]] = [
-            (
-                "missing",
-                None,
-                18,
-                b"cannot open the trusted new database canary-new.db: No such file",
-            ),
-            ("empty", b"", 24, b"the trusted new database is canary-new.db"),
-            ("cut", sound[:-10], 24, b"the trusted new database is canary-new.db"),
+            ("missing", None, 18, b"cannot open %s canary-new.db: No such file" % named),
+            ("empty", b"", 24, named + b" is canary-new.db"),
+            ("cut", sound[:-10], 24, named + b" is canary-new.db"),
             ("of another order", b"\n".join(reversed(sound.split(b"\n"))), 24, b"canary-new.db"),
-            (
-                "cut and packed",
-                gzip.compress(sound)[:-10],
-                18,
-                b"the trusted new database canary-new.db",
-            ),
+            ("cut and packed", gzip.compress(sound)[:-10], 18, named + b" canary-new.db"),
         ]
         for label, text, status, words in rows:
             os.remove(self.path("canary-new.db"))
@@ -132,43 +123,24 @@ class TrustedTest(CommandTest):
                 self.write("canary-new.db", text)
             for tool in (TOOL, TOOL + " json", TOOL + " page"):
                 answer = self.call(tool, *PAIR, *BOTH)
-                self.expect(
-                    f"{tool}, a pair that is {label}", answer, status, output=b"", errors=[words]
-                )
+                self.expect(f"{tool}, a pair that is {label}", answer, status, b"", [words])
             self.write("canary-new.db", sound)
+        answer = self.call(TOOL, "--max-size", "500", *PAIR, *BOTH)
+        self.expect("it is too large", answer, 18, b"", [b"more than 500 bytes"])
         os.remove(self.path("canary-new.db"))
         os.symlink("/dev/zero", self.path("canary-new.db"))
-        answer = self.call(TOOL, *PAIR, *BOTH)
-        self.expect("a pair that is a device", answer, 18, output=b"")
-        os.remove(self.path("canary-new.db"))
-        self.write("canary-new.db", sound)
-        answer = self.call(TOOL, "--max-size", "500", *PAIR, *BOTH)
-        self.expect(
-            "a size that is too large", answer, 18, output=b"", errors=[b"more than 500 bytes"]
-        )
-        for label, arguments in (
-            ("half a pair", (*BOTH, "--trusted", "canary-old.db")),
-            ("two pairs", (*PAIR, *PAIR, *BOTH)),
-            ("standard input twice", ("--trusted", "-", "-", *BOTH)),
-            ("standard input for two", ("--trusted", "canary-old.db", "-", "-", "host-new.db")),
-        ):
-            answer = self.call(TOOL, *arguments)
-            self.expect(label, answer, 15, output=b"")
-        self.call(TOOL + " json", *BOTH)
-        answer = self.call(TOOL + " json", *PAIR, "lines")
-        self.expect("lines beside a pair", answer, 15, output=b"")
+        self.expect("a device", self.call(TOOL, *PAIR, *BOTH), 18, b"")
 
-    def test_columns(self) -> None:
-        """A column that the program does not know changes nothing, and AIDE's report knows no
-        pair."""
+    def test_refused(self) -> None:
         put(self)
-        text = self.read("canary-new.db").replace(b" selinux ", b" fstype ")
-        self.write("canary-new.db", text)
-        told = b"aide-compare: 3 open (3 high) of 7 changes\n"
-        self.expect("a column of the pair", self.call(TOOL, *PAIR, *BOTH), 7, errors=[told])
-        answer = self.call(TOOL, "--report", *PAIR, *BOTH)
-        report = self.call(TOOL, "--report", *BOTH).output
-        self.expect("AIDE's report beside it", answer, 7, output=[report])
+        for words in (
+            (TOOL, *BOTH, "--trusted", "canary-old.db"),
+            (TOOL, *PAIR, *PAIR, *BOTH),
+            (TOOL, "--trusted", "-", "-", *BOTH),
+            (TOOL, "--trusted", "canary-old.db", "-", "-", "host-new.db"),
+            (TOOL + " json", *PAIR, "lines"),
+        ):
+            self.expect(f"{words}", self.call(*words), 15, b"")
 
     def test_texts(self) -> None:
         """The state and standard error name the pair, escaped."""
@@ -176,74 +148,55 @@ class TrustedTest(CommandTest):
         name = "can\x1b[31mary\n.db"
         self.write(name, self.read("canary-new.db"))
         answer = self.call(TOOL, "--state", "state", "--trusted", "canary-old.db", name, *BOTH)
+        digest = sha256(self.read(name))
         line = (
             rb"aide-compare: trusted new database: can\\033\[31mary\\012\.db, written .*, SHA-256 "
         )
-        digest = sha256(self.read(name))
-        named = re.search(line + digest.encode(), answer.errors)
-        self.holds("the pair is named", answer.status == 7 and named, answer)
+        self.assertRegex(answer.errors, line + digest.encode())
         state = self.state()
         wanted = {**COUNTS, "trusted_old": "canary-old.db", "trusted_new_sha256": digest}
         wanted["trusted_new"] = r"can\033[31mary\012.db"
-        found = {key: state.get(key) for key in wanted}
-        self.assertEqual(found, wanted, "the state")
+        self.assertEqual({**state, **wanted}, state)
         answer = self.call(TOOL + " status", "--state", "state", "--format", "json")
         counts = json.loads(answer.output)
-        good = [counts.get(name) for name in ("same", "trusted", "open")] == [1, 3, 3]
-        self.holds("status reads it", good, counts)
+        self.assertEqual([counts[name] for name in ("same", "trusted", "open")], [1, 3, 3])
         answer = self.call(TOOL, *PAIR, *BOTH)
-        brief = b"4 changes are silent: 1 same, 3 trusted\n"
-        self.assertIn(brief, answer.output, ("what people read first", answer))
+        self.assertIn(b"4 changes are silent: 1 same, 3 trusted\n", answer.output)
         page = self.call(TOOL + " page", *PAIR, *BOTH)
-        self.holds(
-            "a page", page.status == 7 and b"<dt>trusted</dt><dd>3</dd>" in page.output, page
-        )
+        self.expect("a page", page, 7, b"<dt>trusted</dt><dd>3</dd>")
 
     def test_mail(self) -> None:
         """No mail goes out if all that differs is silent; another one names the pair in its
-        command."""
+        command, and so does a failure."""
         put(self, with_marks=False)
-        answer = mail.call(self, *PAIR, *BOTH)
-        self.expect("all is silent", answer, 7, output=b"")
+        self.expect("all is silent", mail.call(self, *PAIR, *BOTH), 7, b"")
         self.assertIsNone(mail.sent(self), "no mail")
-        mail.call(self, *BOTH)
-        self.assertIsNotNone(mail.sent(self), "a mail without the pair")
-        mail.call(self, "--alarm", "any", *PAIR, *BOTH)
-        self.assertIsNotNone(mail.sent(self), "a mail of any change")
+        for words in (BOTH, ("--alarm", "any", *PAIR, *BOTH)):
+            mail.call(self, *words)
+            self.assertIsNotNone(mail.sent(self), words)
         put(self)
         mail.call(self, *PAIR, *BOTH)
         message = mail.sent(self)
-        title = mail.subject(message)
-        self.holds(
-            "the subject of a mail", title and title.endswith("3 open (3 high) of 7 changes"), title
-        )
-        words = mail.words_of(mail.body(message))
-        self.assertIn(" ".join(PAIR), words, "its page has the pair")
+        self.assertRegex(mail.subject(message), r"3 open \(3 high\) of 7 changes\Z")
+        self.assertIn(" ".join(PAIR), mail.words_of(mail.body(message)), "its page has the pair")
         os.remove(self.path("canary-new.db"))
-        answer = mail.call(self, *PAIR, *BOTH)
-        body = mail.body(mail.sent(self))
-        cause = b"cannot open the trusted new database"
-        self.holds("a pair that is missing is mailed", answer.status == 18 and cause in body, body)
+        self.assertEqual(mail.call(self, *PAIR, *BOTH).status, 18)
+        self.assertIn(b"cannot open the trusted new database", mail.body(mail.sent(self)))
 
     def test_defaults(self) -> None:
         """The administrator may write the pair down once."""
         put(self)
-        told = b"aide-compare: 3 open (3 high) of 7 changes\n"
         for line, status, words in (
-            ("--trusted canary-old.db canary-new.db", 7, told),
-            ("--trusted=canary-old.db  canary-new.db", 7, told),
+            ("--trusted canary-old.db canary-new.db", 7, TOLD),
+            ("--trusted=canary-old.db  canary-new.db", 7, TOLD),
             ("--trusted canary-old.db", 15, b"--trusted needs 2 values"),
             ("--trusted a b c", 15, b"--trusted needs 2 values"),
             ("--trusted", 15, b"--trusted needs a value"),
         ):
             self.write("etc/defaults", line + "\n")
-            answer = self.call(TOOL, *BOTH)
-            self.expect(f"a default {line}", answer, status, errors=[words])
-        answer = self.call(TOOL, "--no-defaults", *BOTH)
-        self.expect(
-            "no defaults", answer, 7, errors=[b"aide-compare: 6 open (6 high) of 7 changes\n"]
-        )
-        os.remove(self.path("etc/defaults"))
+            self.expect(f"a default {line}", self.call(TOOL, *BOTH), status, errors=[words])
+        told = b"aide-compare: 6 open (6 high) of 7 changes\n"
+        self.expect("no defaults", self.call(TOOL, "--no-defaults", *BOTH), 7, errors=[told])
 
     def test_accept(self) -> None:
         """What is silent beside the pair becomes the baseline, and all else is told again."""
@@ -256,10 +209,8 @@ class TrustedTest(CommandTest):
                     os.chown(path, owner, owner)
                     os.chown(self.path("base"), owner, owner)
             done = accept(self, sha256(new), "--trusted-only", *PAIR)
-            told = b"aide-compare: 4 of 7 changes silent"
-            self.expect(
-                "what is silent", done, 0, b"stays open: added 1, removed 1, changed 1\n", told
-            )
+            stays = b"stays open: added 1, removed 1, changed 1\n"
+            self.expect("what is silent", done, 0, stays, b"aide-compare: 4 of 7 changes silent")
             merged = Night()
             for path in host.old.entries.keys() | host.new.entries.keys():
                 is_open = WANTED.get(path, "").startswith("open")
@@ -271,21 +222,15 @@ class TrustedTest(CommandTest):
     def test_show(self) -> None:
         """All four entries of a path are printed."""
         put(self)
-        answer = self.call(TOOL + " show", *PAIR, "/usr/bin/evil", *BOTH)
-        wanted = [
-            b"trusted new database: canary-new.db",
-            b"\nFile, in the trusted old database\n",
-            b"\nFile, in the trusted new database\n",
-            sha256(TWO).encode(),
-        ]
-        self.expect("show", answer, 0, output=wanted, errors=b"")
-        answer = self.call(TOOL + " show", *PAIR, "/usr/bin/mine", *BOTH)
-        wanted = [
-            b"added\n",
-            b"\nnot in the trusted old database\n",
-            b"\nnot in the trusted new database\n",
-        ]
-        self.expect("show, without an entry of the pair", answer, 0, output=wanted, errors=b"")
+        pair = [b"trusted new database: canary-new.db"]
+        pair += [b"\nFile, in the trusted %s database\n" % side for side in (b"old", b"new")]
+        none = [b"\nnot in the trusted %s database\n" % side for side in (b"old", b"new")]
+        for path, wanted in (
+            ("/usr/bin/evil", [*pair, sha256(TWO).encode()]),
+            ("/usr/bin/mine", [b"added\n", *none]),
+        ):
+            answer = self.call(TOOL + " show", *PAIR, path, *BOTH)
+            self.expect(f"show {path}", answer, 0, output=wanted, errors=b"")
 
     def test_owner(self) -> None:
         """Root opens the pair, and compares with the rights of the user in whose directory the
@@ -300,7 +245,5 @@ class TrustedTest(CommandTest):
         os.chown(self.path("his"), NOBODY, NOBODY)
         for name in PAIR[1:]:
             os.chmod(self.path(name), 0o600)
-        words = [f"his/{name}" for name in BOTH]
-        answer = self.call(TOOL, *PAIR, *words)
-        told = b"aide-compare: 3 open (3 high) of 7 changes\n"
-        self.expect("a pair that only root may read", answer, 7, errors=[told])
+        answer = self.call(TOOL, *PAIR, *(f"his/{name}" for name in BOTH))
+        self.expect("a pair that only root may read", answer, 7, errors=[TOLD])
