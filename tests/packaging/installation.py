@@ -1,26 +1,23 @@
 """A copy of what is installed from, a folder to install to, and the counts."""
+from __future__ import annotations
+
 import hashlib
 import os
 import shutil
 import stat
 import subprocess
 import unittest
+from typing import Any, Tuple
 
 from tests.lib.scratch import TOP as HERE, Scratch
 from tests.lib.programs import find_program, lines_program_of, reason_without
 
 PARTS = [
-    "commands",
-    "contrib",
-    "docs",
-    "examples/small_tree",
-    "man",
-    "README.md",
-    "CHANGELOG.md",
-    "SECURITY.md",
-    "VERSION",
-    "packaging",
+    *("commands contrib docs examples/small_tree man packaging".split()),
+    *("README.md CHANGELOG.md SECURITY.md VERSION".split()),
 ]
+# The status and both outputs of a command.
+Answer = Tuple[int, str, str]
 NOBODY = 65534
 # What the scripts may need: the base system without a compiler, git, dpkg-deb or rt.
 NEEDED = """[ awk basename cat chmod cmp comm cp cut date dirname env find grep gzip head id ln ls md5sum mkdir mktemp mv printf
@@ -48,43 +45,37 @@ class InstallTest(Scratch, unittest.TestCase):
             self.version = file.read().strip()
         self.plain_path = self.make_plain_path()
 
-    def copied_programs(self, program, folder, name):
+    def copied_programs(self, program: str, folder: str, name: str) -> str:
         """The path of a copy of the program in a new folder, with the program of lines beside
         it."""
         os.mkdir(self.path(folder))
-        shutil.copy(
-            lines_program_of(program), self.path(folder, name.replace("aide", "aide_lines"))
-        )
+        lines = name.replace("aide", "aide_lines")
+        shutil.copy(lines_program_of(program), self.path(folder, lines))
         return shutil.copy(program, self.path(folder, name))
 
-    def make_newer(self, program):
+    def make_newer(self, program: str) -> str:
         """A program beside another that stands for its build for newer processors, with the record
         of a proof."""
         with open(program, "rb") as file:
             data = file.read() + bytes(1)
         digest = hashlib.sha256(data).hexdigest()
-        self.write(program + "-v3.proved", "sha256=%s\nkit=a kit\n" % digest)
-        with open(program + "-v3", "wb") as file:
-            file.write(data)
-        os.chmod(program + "-v3", 0o755)
-        return program + "-v3"
+        self.write(program + "-v3.proved", f"sha256={digest}\nkit=a kit\n")
+        return self.write(program + "-v3", data, 0o755)
 
-    def copy(self, name):
+    def copy(self, name: str) -> str:
         """A copy of the parts of the repository that are installed or that install."""
         target = self.path(name)
         for part in PARTS:
-            source = os.path.join(HERE, part)
-            os.makedirs(os.path.dirname(os.path.join(target, part)), exist_ok=True)
+            source, copied = os.path.join(HERE, part), os.path.join(target, part)
+            os.makedirs(os.path.dirname(copied), exist_ok=True)
             if os.path.isdir(source):
-                shutil.copytree(
-                    source, os.path.join(target, part), ignore=shutil.ignore_patterns("__pycache__")
-                )
+                shutil.copytree(source, copied, ignore=shutil.ignore_patterns("__pycache__"))
             else:
-                shutil.copy2(source, os.path.join(target, part))
+                shutil.copy2(source, copied)
         subprocess.run(["chmod", "-R", "a+rX", target], check=True)
         return target
 
-    def make_plain_path(self):
+    def make_plain_path(self) -> str:
         """A folder for PATH with few programs: neither rt nor dpkg-deb is found through it."""
         folder = self.path("programs")
         os.makedirs(folder)
@@ -94,42 +85,37 @@ class InstallTest(Scratch, unittest.TestCase):
                 os.symlink(found, os.path.join(folder, name))
         return folder
 
-    def run_words(self, words, **more):
+    def run_words(self, words: list[str], **more: Any) -> Answer:
         """The status and both outputs of a command."""
-        done = subprocess.run(
-            words, stdin=subprocess.DEVNULL, stdout=subprocess.PIPE, stderr=subprocess.PIPE, **more
-        )
-        return (
-            done.returncode,
-            done.stdout.decode(errors="replace"),
-            done.stderr.decode(errors="replace"),
-        )
+        done = subprocess.run(words, stdin=subprocess.DEVNULL, capture_output=True, **more)
+        output, errors = (text.decode(errors="replace") for text in (done.stdout, done.stderr))
+        return done.returncode, output, errors
 
-    def install(self, *words, source=None, shell=("sh",), **more):
+    def install(self, *words: str, source: str = "", shell: Any = ("sh",), **more: Any) -> Answer:
         """Runs packaging/install of a copy, in a folder that is not the repository."""
         script = os.path.join(source or self.source, "packaging", "install")
         return self.run_words([*shell, script, *words], cwd=self.root, **more)
 
-    def first(self, *names):
+    def first(self, *names: str) -> str:
         """A path of what is installed below the usual prefix, which it installs if need be."""
         if not os.path.isdir(self.path("first")):
             self.installed("first")
         return self.path("first", "usr", "local", *names)
 
-    def installed(self, name, *words):
+    def installed(self, name: str, *words: str) -> dict[str, Any]:
         """Installs the program below a new folder, and gives what lies there."""
         folder = self.path(name)
         done = self.install("--destdir", folder, "--program", self.program, *words)
         self.assertEqual((done[0], done[2]), (0, ""), done)
         return tree(folder)
 
-    def plain(self):
+    def plain(self) -> dict[str, str]:
         return dict(os.environ, PATH=self.plain_path)
 
 
-def tree(folder):
+def tree(folder: str) -> dict[str, Any]:
     """Every path below a folder: its permissions, with its bytes if it is a file."""
-    found = {}
+    found: dict[str, Any] = {}
     for above, folders, files in os.walk(folder):
         for name in folders + files:
             path = os.path.join(above, name)
@@ -142,11 +128,11 @@ def tree(folder):
     return found
 
 
-def files(found):
+def files(found: dict[str, Any]) -> dict[str, Any]:
     return {path: kept for path, kept in found.items() if kept[1] is not None}
 
 
-def texts(found):
+def texts(found: dict[str, Any]) -> dict[str, str]:
     """The files that are text, as text."""
     result = {}
     for path, (_, data) in sorted(files(found).items()):
@@ -155,12 +141,12 @@ def texts(found):
     return result
 
 
-def rights():
+def rights() -> dict[str, Any]:
     """For a child process that is to have no more rights than nobody."""
     return {"preexec_fn": as_nobody} if os.getuid() == 0 else {}
 
 
-def as_nobody():
+def as_nobody() -> None:
     os.setgroups([])
     os.setgid(NOBODY)
     os.setuid(NOBODY)

@@ -1,42 +1,36 @@
 """Installing and removing: which files come where, and what is left alone."""
+from __future__ import annotations
+
 import os
 import re
 import shutil
+from typing import Any
 
 from tests.lib.program_test import slow
 from tests.lib.programs import lines_program_of
 from tests.packaging import byte_code
-from tests.packaging.installation import InstallTest, files, rights, tree
+from tests.packaging.installation import Answer, InstallTest, files, rights, tree
 
 DOCUMENTS = "share/doc/aide-compare"
 MANIFEST = "lib/aide-compare/installed"
 # What has to be there whatever the repository's folders hold.
 KNOWN = [
     "bin/aide-compare",
-    "libexec/aide-compare/aide",
-    "libexec/aide-compare/aide_lines",
-    "lib/systemd/system/aide-compare.service",
-    "lib/systemd/system/aide-compare.timer",
-    "lib/systemd/system/aide-compare-mail.service",
-    "lib/systemd/system/aide-compare-failed.service",
+    *("libexec/aide-compare/" + name for name in ("aide", "aide_lines")),
+    *("lib/systemd/system/aide-compare" + end for end in (".service", ".timer")),
+    *("lib/systemd/system/aide-compare-" + name for name in ("mail.service", "failed.service")),
+    *("share/man/man1/aide-compare-%s.1" % name for name in ("show", "archive", "sort")),
     "share/man/man8/aide-compare-program.8",
-    "share/man/man1/aide-compare-show.1",
-    "share/man/man1/aide-compare-archive.1",
-    "share/man/man1/aide-compare-sort.1",
     "share/man/man5/aide-compare.conf.5",
     "share/bash-completion/completions/aide-compare",
     "share/zsh/site-functions/_aide-compare",
     "share/fish/vendor_completions.d/aide-compare.fish",
-    DOCUMENTS + "/README.md",
-    DOCUMENTS + "/RECIPES.md",
-    DOCUMENTS + "/CHANGELOG.md",
-    DOCUMENTS + "/VERSION",
+    *(f"{DOCUMENTS}/{name}" for name in ("README.md", "RECIPES.md", "CHANGELOG.md", "VERSION")),
     DOCUMENTS + "/examples/cron/aide-compare.cron.daily",
     DOCUMENTS + "/examples/aide/debian.without",
     DOCUMENTS + "/examples/json/aide-compare-lines.schema.json",
+    *(f"{DOCUMENTS}/examples/small_tree/{name}.db" for name in ("old", "new")),
     "share/aide-compare/severity.conf",
-    DOCUMENTS + "/examples/small_tree/old.db",
-    DOCUMENTS + "/examples/small_tree/new.db",
 ]
 FOLDERS = {
     "commands/bin": "bin",
@@ -60,7 +54,7 @@ MADE = {
 FOR_USERS = ("DIFFERENCES.md", "HOSTS.md", "MONITORING.md", "PROVED.md", "RECIPES.md")
 
 
-def target_of(path):
+def target_of(path: str) -> str | None:
     """Where a file of the repository is installed, below the prefix; nothing if it is not."""
     folder, name = os.path.split(path)
     if folder == "docs" and name.endswith(".md") and name not in FOR_USERS:
@@ -78,7 +72,7 @@ def target_of(path):
     return None if "/" in path else DOCUMENTS + "/" + name
 
 
-def wanted_modes(source):
+def wanted_modes(source: str) -> dict[str, int]:
     """The permissions of each file that is to be installed, by its path below the prefix."""
     wanted = {**{path: 0o755 for path in PROGRAMS + NEWER}, MANIFEST: 0o644, **MADE}
     for path, (mode, _) in files(tree(source)).items():
@@ -89,50 +83,46 @@ def wanted_modes(source):
     return wanted
 
 
-def differing(one, other):
+def differing(one: dict[str, Any], other: dict[str, Any]) -> list[str]:
     """The paths at which two trees differ."""
     return sorted(path for path in {*one, *other} if one.get(path) != other.get(path))
 
 
-def show(mode):
-    return "none" if mode is None else "%o" % mode
-
-
 @slow
 class InstallingTest(InstallTest):
-    def test_targets(self):
+    def run_install(self, folder: str, *words: str, **more: Any) -> Answer:
+        """What packaging/install answers that installs below a folder."""
+        return self.install("--destdir", folder, "--program", self.program, *words, **more)
+
+    def removes_all(self, folder: str, **more: Any) -> None:
+        done = self.install("--destdir", folder, "--uninstall", **more)
+        self.assertEqual((done[0], done[2], tree(folder)), (0, "", {}), done)
+
+    def refuses(self, label: str, folder: str, done: Answer, *said: str) -> None:
+        """It ended with 1 and these words, and nothing was written."""
+        self.assertEqual(done[0], 1, (label, done))
+        for text in said:
+            self.assertIn(text, done[2], label)
+        self.assertFalse(os.path.exists(folder), label)
+
+    def test_targets(self) -> None:
         wanted = wanted_modes(self.source)
-        for target in KNOWN:
-            self.assertIn(target, wanted, "a file to install: " + target)
+        self.assertLessEqual(set(KNOWN), set(wanted))
         found = self.installed("first")
         prefix = "usr/local/"
         given = {path[len(prefix) :]: mode for path, (mode, _) in files(found).items()}
-        for target in sorted(set(wanted) | set(given)):
-            self.assertEqual(
-                wanted.get(target),
-                given.get(target),
-                (
-                    "installed with its mode: " + target,
-                    "wanted %s, given %s" % (show(wanted.get(target)), show(given.get(target))),
-                ),
-            )
-        for path, (mode, data) in sorted(found.items()):
-            if data is None:
-                self.assertEqual(mode, 0o755, ("the mode of the folder " + path, show(mode)))
-        for program, target in zip(
-            (self.program, lines_program_of(self.program), *self.newer), PROGRAMS + NEWER
-        ):
+        different = {path: (wanted.get(path), given.get(path)) for path in differing(wanted, given)}
+        self.assertEqual(different, {}, "wanted and given modes")
+        folders = {mode for mode, data in found.values() if data is None}
+        self.assertEqual(folders, {0o755}, "the modes of folders")
+        programs = (self.program, lines_program_of(self.program), *self.newer)
+        for program, target in zip(programs, PROGRAMS + NEWER):
             with open(program, "rb") as file:
-                self.assertEqual(
-                    found[prefix + target][1], file.read(), target + " is installed as it is"
-                )
-        for target, mode in sorted(wanted.items()):
-            if mode == 0o755 and target.startswith("bin/"):
-                self.assertTrue(
-                    target[4:].startswith("aide-compare"), "the name of the command " + target
-                )
+                self.assertEqual(found[prefix + target][1], file.read(), target)
+        commands = [target for target in wanted if target.startswith("bin/")]
+        self.assertEqual(commands, ["bin/aide-compare"])
 
-    def test_shells(self):
+    def test_shells(self) -> None:
         """Every shell installs the same files, whatever permissions the user gives to new ones."""
         self.first()
         first = tree(self.path("first"))
@@ -142,46 +132,34 @@ class InstallingTest(InstallTest):
                     self.skipTest("not installed: " + words[0])
                 folder = self.path(words[0])
                 narrow = ["sh", "-c", 'umask 077; exec "$@"', "sh", *words]
-                done = self.install("--destdir", folder, "--program", self.program, shell=narrow)
+                done = self.run_install(folder, shell=narrow)
                 self.assertEqual((done[0], done[2]), (0, ""), done)
                 self.assertEqual(differing(tree(folder), first), [])
-                done = self.install("--destdir", folder, "--uninstall", shell=words)
-                self.assertEqual((done[0], done[2], tree(folder)), (0, "", {}))
+                self.removes_all(folder, shell=words)
 
-    def test_again(self):
+    def test_again(self) -> None:
         """A second run replaces files by renaming; what the repository has no more is removed."""
-        folder = self.path("again")
-        source = self.copy("changing")
+        folder, source = self.path("again"), self.copy("changing")
         more = os.path.join(source, "contrib", "cron", "left out later")
         shutil.copy(os.path.join(source, "VERSION"), more)
         target = os.path.join(folder, "usr/local", DOCUMENTS, "examples/cron/left out later")
-        self.install("--destdir", folder, "--program", self.program, source=source)
+        self.run_install(folder, source=source)
         self.assertTrue(os.path.exists(target), "a further file of contrib is installed")
         before = tree(folder)
-        running = open(os.path.join(folder, "usr/local/libexec/aide-compare/aide"), "rb")
-        done = self.install("--destdir", folder, "--program", self.program, source=source)
-        self.assertTrue(
-            done[0] == 0 and tree(folder) == before, ("a second run changes nothing", done)
-        )
-        with running:
+        with open(os.path.join(folder, "usr/local/libexec/aide-compare/aide"), "rb") as running:
+            done = self.run_install(folder, source=source)
+            self.assertEqual((done[0], differing(tree(folder), before)), (0, []), done)
             old, new = os.fstat(running.fileno()), os.stat(running.name)
             self.assertNotEqual(old.st_ino, new.st_ino, "the program is replaced by another file")
-            self.assertTrue(
-                len(running.read()) == old.st_size > 0, "a run of the old program keeps its file"
+            self.assertEqual(
+                len(running.read()), new.st_size, "a run of the old one keeps its file"
             )
         os.remove(more)
-        done = self.install("--destdir", folder, "--program", self.program, source=source)
-        self.assertTrue(
-            done[0] == 0 and not os.path.exists(target),
-            ("what is not in the repository any more is removed", done),
-        )
-        done = self.install("--destdir", folder, "--uninstall", source=source)
-        self.assertTrue(
-            done[0] == 0 and tree(folder) == {},
-            ("nothing is left after three runs", sorted(tree(folder))),
-        )
+        done = self.run_install(folder, source=source)
+        self.assertEqual((done[0], os.path.exists(target)), (0, False), done)
+        self.removes_all(folder, source=source)
 
-    def test_uninstall(self):
+    def test_uninstall(self) -> None:
         """Exactly what was installed goes."""
         folder = self.path("shared")
         self.write("shared/usr/local/bin/another", "another's program\n", 0o755)
@@ -189,221 +167,143 @@ class InstallingTest(InstallTest):
         os.makedirs(self.path("shared/usr/local/share/man/man1"))
         before = tree(folder)
         self.installed("shared")
-        mine = self.write("shared/usr/local/%s/examples/mine" % DOCUMENTS, "an administrator's\n")
+        mine = f"usr/local/{DOCUMENTS}/examples/mine"
+        self.write("shared/" + mine, "an administrator's\n")
         outside = self.write("outside", "another's file\n")
         with open(os.path.join(folder, "usr/local", MANIFEST), "a") as file:
             file.write("file /usr/local/../../../outside\nfile /etc/kept\n")
         done = self.install("--destdir", folder, "--uninstall")
-        self.assertTrue(done[0] == 0 and done[2] == "", ("uninstall beside others", done))
+        self.assertEqual((done[0], done[2]), (0, ""), done)
         left = tree(folder)
-        self.assertTrue(os.path.exists(mine), "a stranger's file in a folder of ours is left")
         self.assertTrue(os.path.exists(outside), "a file outside the prefix is left")
-        for path, kept in before.items():
-            self.assertEqual(left.get(path), kept, "what was there before is left: " + path)
-        wanted = set(before) | {os.path.relpath(mine, folder)}
-        self.assertEqual(
-            set(files(left)),
-            set(files(before)) | {os.path.relpath(mine, folder)},
-            ("no file of ours is left", sorted(left)),
-        )
-        self.assertTrue(
-            all(any(one == path or one.startswith(path + "/") for one in wanted) for path in left),
-            ("no empty folder of ours is left", sorted(left)),
-        )
+        self.assertEqual({path: left.get(path) for path in before}, before)
+        above = {mine[:at] for at, letter in enumerate(mine) if letter == "/"}
+        self.assertEqual(left.keys() - before.keys(), {mine} | above - before.keys())
         done = self.install("--destdir", folder, "--uninstall")
-        self.assertTrue(
-            done[0] == 1 and "nothing is installed" in done[2], ("uninstall a second time", done)
-        )
+        self.assertEqual((done[0], "nothing is installed" in done[2]), (1, True), done)
 
-    def test_interrupted(self):
+    def test_interrupted(self) -> None:
         """An installation that stopped half-way can be removed."""
-        source = self.copy("damaged")
-        last = os.path.join(source, "man", "zzz.1")
-        os.symlink("/proc/self/mem", last + ".target")
-        shutil.copy(os.path.join(source, "VERSION"), last)
-        folder = self.path("half")
-        words = ["--destdir", folder, "--program", self.program]
+        source, folder = self.copy("damaged"), self.path("half")
+        shutil.copy(os.path.join(source, "VERSION"), os.path.join(source, "man", "zzz.1"))
         script = os.path.join(source, "packaging", "install")
         with open(script) as file:
             text = file.read()
         # This copy of the script stops before its last file, as if it was killed there.
+        killed = "put() {\n    case $4 in */zzz.1) kill -9 $$ ;; esac\n"
         with open(script, "w") as file:
-            file.write(
-                text.replace("put() {\n", "put() {\n    case $4 in */zzz.1) kill -9 $$ ;; esac\n")
-            )
-        done = self.install(*words, source=source)
-        self.assertTrue(
-            done[0] != 0 and len(files(tree(folder))) > 10, ("an installation that is killed", done)
-        )
-        done = self.install("--destdir", folder, "--uninstall")
-        self.assertTrue(
-            done[0] == 0 and tree(folder) == {},
-            ("it is removed all the same", sorted(tree(folder))),
-        )
+            file.write(text.replace("put() {\n", killed))
+        done = self.run_install(folder, source=source)
+        self.assertNotEqual(done[0], 0)
+        self.assertGreater(len(files(tree(folder))), 10)
+        self.removes_all(folder)
 
-    def test_refusals(self):
-        """What cannot work is refused before anything is written."""
-        shut = self.path("shut")
-        os.makedirs(os.path.join(shut, "usr"))
-        os.chmod(os.path.join(shut, "usr"), 0o555)
-        done = self.install("--destdir", shut, "--program", self.program, **rights())
-        good = done[0] == 1 and "cannot write below" in done[2] and "--prefix" in done[2]
-        self.assertTrue(
-            good and list(tree(shut)) == ["usr"], ("a prefix that cannot be written", done)
-        )
-        done = self.install("--destdir", shut, env=self.plain(), **rights())
-        self.assertTrue(
-            done[0] == 1 and "cannot write below" in done[2],
-            ("the same before the program is built", done),
-        )
-        blocked = self.path("blocked")
-        os.makedirs(os.path.join(blocked, "usr/local/bin/aide-compare"))
-        before = tree(blocked)
-        done = self.install("--destdir", blocked, "--program", self.program)
-        self.assertTrue(
-            done[0] == 1 and "is in the way" in done[2] and tree(blocked) == before,
-            ("a folder in the way", done),
-        )
-        self.write("blocked2/usr/local/share", "a file\n")
-        done = self.install("--destdir", self.path("blocked2"), "--program", self.program)
-        self.assertTrue(
-            done[0] == 1 and "is in the way" in done[2] and len(tree(self.path("blocked2"))) == 3,
-            ("a file in the place of a folder", done),
-        )
-        for words in (
-            ["--prefix", "usr"],
-            ["--prefix", "/a b"],
-            ["--prefix", "/a/../b"],
-            ["--prefix", "/a|b"],
-            ["--prefix"],
-            ["--destdir"],
-            ["--nonsense"],
-            ["more"],
-            ["--prefix="],
+    def test_unwritable(self) -> None:
+        """What cannot be written is refused before anything is, also before the program is
+        built."""
+        shut = self.path("shut/usr")
+        os.makedirs(shut)
+        os.chmod(shut, 0o555)
+        for done in (
+            self.run_install(self.path("shut"), **rights()),
+            self.install("--destdir", self.path("shut"), env=self.plain(), **rights()),
         ):
-            done = self.install(
-                "--destdir", self.path("refused"), "--program", self.program, *words
-            )
-            self.assertTrue(
-                done[0] == 2 and done[1] == "" and not os.path.exists(self.path("refused")),
-                ("refused: " + " ".join(words), done),
-            )
+            self.refuses("no rights", shut + "/local", done, "cannot write below", "--prefix")
+
+    def test_in_the_way(self) -> None:
+        for name, path in (("folder", "bin/aide-compare/x"), ("file", "share")):
+            self.write(f"{name}/usr/local/{path}", "")
+            before = tree(self.path(name))
+            done = self.run_install(self.path(name))
+            self.assertEqual((done[0], "is in the way" in done[2]), (1, True), done)
+            self.assertEqual(tree(self.path(name)), before)
+
+    def test_refusals(self) -> None:
+        """What cannot work is refused before anything is written."""
+        folder = self.path("refused")
+        prefixes = ["usr", "/a b", "/a/../b", "/a|b"]
+        words = [["--prefix", prefix] for prefix in prefixes] + [["--prefix"], ["--prefix="]]
+        for arguments in (*words, ["--destdir"], ["--nonsense"], ["more"]):
+            done = self.run_install(folder, *arguments)
+            self.assertEqual(done[:2], (2, ""), (arguments, done))
+            self.assertFalse(os.path.exists(folder), arguments)
         alone = self.write("alone/aide", "a program\n", 0o755)
         for program, missing in (
             (self.path("aide-nowhere"), self.path("aide-nowhere")),
             (alone, alone + "_lines"),
             (self.path("nowhere"), "has to begin with aide"),
         ):
-            done = self.install("--destdir", self.path("refused"), "--program", program)
-            good = done[0] == 1 and missing in done[2] and not os.path.exists(self.path("refused"))
-            self.assertTrue(good, ("a program that is not there: " + missing, done))
+            done = self.install("--destdir", folder, "--program", program)
+            self.refuses("a program that is not there", folder, done, missing)
         done = self.install("--help")
-        self.assertTrue(
-            done[0] == 0 and "--uninstall" in done[1] and "8 to 13 minutes" in done[1],
-            ("--help", done),
-        )
+        self.assertEqual((done[0], "--uninstall" in done[1]), (0, True), done)
+        self.assertIn("8 to 13 minutes", done[1])
 
-    def test_build(self):
+    def test_build(self) -> None:
         """A program that is not built, or that is old, is built first."""
-        source = self.copy("unbuilt")
-        for name in ("aide", "aide_lines"):
-            self.write("unbuilt/crates/%s/src/main.rt" % name, "//! A program.\n")
+        source, folder = self.copy("unbuilt"), self.path("built")
         built, lines_built = (
-            os.path.join(source, "crates/%s/out/%s" % (name, name))
-            for name in ("aide", "aide_lines")
+            os.path.join(source, f"crates/{name}/out/{name}") for name in ("aide", "aide_lines")
         )
+        for name in ("aide", "aide_lines"):
+            self.write(f"unbuilt/crates/{name}/src/main.rt", "//! A program.\n")
         calls, programs = self.path("calls"), os.path.dirname(self.program)
-        self.write(
-            "stubs/rt",
-            '#!/bin/sh\necho "$PWD $*" >> "%s"\nmkdir -p out && cp "%s/${PWD##*/}" out/\n'
-            % (calls, programs),
-            0o755,
-        )
-        words = ["--destdir", self.path("built")]
-        done = self.install(*words, source=source, env=self.plain())
-        good = (
-            done[0] == 1
-            and "rt" in done[2]
-            and "--program" in done[2]
-            and not os.path.exists(self.path("built"))
-        )
-        self.assertTrue(good, ("no program and no rt", done))
+        note = f'echo "$PWD $*" >> "{calls}"'
+        put = f'mkdir -p out && cp "{programs}/${{PWD##*/}}" out/'
+        self.write("stubs/rt", f"#!/bin/sh\n{note}\n{put}\n", 0o755)
+        done = self.install("--destdir", folder, source=source, env=self.plain())
+        self.refuses("no program and no rt", folder, done, "rt", "--program")
         surroundings = dict(os.environ, PATH=self.path("stubs") + ":" + self.plain_path)
-        for name, old, wanted in (
-            ("no programs", None, ["aide", "aide_lines"]),
-            ("programs that were built after their sources", None, []),
-            ("an old program", built, ["aide"]),
-            ("an old program of lines", lines_built, ["aide_lines"]),
-        ):
+        both = ["aide", "aide_lines"]
+        nothing: list[str] = []
+        for old, wanted in (("", both), ("", nothing), (built, both[:1]), (lines_built, both[1:])):
             if old:
                 os.utime(old, (1, 1))
             self.write("calls", "")
-            done = self.install(*words, source=source, env=surroundings)
+            done = self.install("--destdir", folder, source=source, env=surroundings)
             with open(calls) as file:
                 lines = [line for line in file.read().splitlines() if " run " in line]
-            called = ["%s/crates/%s run -- -D -c /dev/null" % (source, crate) for crate in wanted]
-            self.assertTrue(
-                done[0] == 0 and lines == called, ("how rt is called: " + name, (done, lines))
-            )
-            self.assertEqual(
-                "8 to 13 minutes" in done[2],
-                bool(wanted),
-                ("it says how long it takes: " + name, done),
-            )
+            called = [f"{source}/crates/{crate} run -- -D -c /dev/null" for crate in wanted]
+            self.assertEqual((done[0], lines), (0, called), done)
+            self.assertEqual("8 to 13 minutes" in done[2], bool(wanted), "it says how long")
+        found = tree(os.path.join(folder, "usr/local"))
         for program, target in zip((self.program, lines_program_of(self.program)), PROGRAMS):
-            with open(self.path("built/usr/local", target), "rb") as one, open(
-                program, "rb"
-            ) as two:
-                self.assertEqual(one.read(), two.read(), "what was built is installed: " + target)
-        done = self.run_words([self.path("built/usr/local/bin/aide-compare"), "--version"])
-        self.assertTrue(
-            done[0] == 0 and done[1].count("a proved build: yes\n") == 2,
-            ("both were proved here", done),
-        )
+            with open(program, "rb") as file:
+                self.assertEqual(found[target][1], file.read(), target)
+        done = self.run_words([folder + "/usr/local/bin/aide-compare", "--version"])
+        self.assertEqual((done[0], done[1].count("a proved build: yes\n")), (0, 2), done)
         os.remove(built)
         script = os.path.join(source, "packaging", "make_package")
-        done = self.run_words(
-            ["sh", script, "--output", self.path("unbuilt/out")], env=surroundings
-        )
-        good = done[0] == 0 and "8 to 13 minutes" in done[2] and os.path.exists(built)
-        self.assertTrue(good, ("make_package builds the program and says how long it takes", done))
+        words = ["sh", script, "--output", self.path("unbuilt/out")]
+        done = self.run_words(words, env=surroundings)
+        self.assertEqual((done[0], os.path.exists(built)), (0, True), done)
+        self.assertIn("8 to 13 minutes", done[2])
         self.write("stubs/rt", "#!/bin/sh\nexit 1\n", 0o755)
         os.remove(built)
-        done = self.install("--destdir", self.path("unproved"), source=source, env=surroundings)
-        self.assertTrue(
-            done[0] == 1 and not os.path.exists(self.path("unproved")),
-            ("a program that is not proved", done),
-        )
+        unproved = self.path("unproved")
+        done = self.install("--destdir", unproved, source=source, env=surroundings)
+        self.refuses("a program that is not proved", unproved, done)
 
-    def test_byte_code(self):
+    def test_byte_code(self) -> None:
         """packaging/install makes byte code below a prefix, keeps it in step with the modules, and
         removes it with them."""
         source, prefix = self.copy("coded"), self.path("code")
         modules = os.path.join(source, "commands/lib/aide_compare")
         # Its text is edited when it is installed.
-        self.write(
-            "coded/commands/lib/aide_compare/show/former.py",
-            "TABLE = '/usr/local/share/aide-compare/severity.conf'\n",
-        )
+        table = "TABLE = '/usr/local/share/aide-compare/severity.conf'\n"
+        self.write("coded/commands/lib/aide_compare/show/former.py", table)
         byte_code.install(self, "a first time", source, prefix)
         for change in ("nothing", "two modules"):
             if change == "two modules":
                 os.remove(os.path.join(modules, "show/former.py"))
                 self.write("coded/commands/lib/aide_compare/show/later.py", "VALUE = 1\n")
             byte_code.install(self, "again, with %s changed" % change, source, prefix)
-        tree_of = os.path.join(source, "examples/small_tree")
-        words = [tree_of + "/old.db", tree_of + "/new.db"]
-        done = self.run_words(
-            [byte_code.PYTHON, "-ISv", os.path.join(prefix, "bin/aide-compare"), *words]
-        )
+        pair = [os.path.join(source, f"examples/small_tree/{name}.db") for name in ("old", "new")]
+        command = [byte_code.PYTHON, "-ISv", os.path.join(prefix, "bin/aide-compare")]
+        done = self.run_words([*command, *pair])
         loaded = re.findall(r"^# code object from '?(\S*?)'?$", done[2], re.M)
         own = [path for path in loaded if "/aide_compare/" in path]
-        self.assertTrue(
-            len(own) > 10 and all(path.endswith(".pyc") for path in own),
-            ("the tools start from byte code", own),
-        )
+        self.assertGreater(len(own), 10, done)
+        self.assertEqual([path for path in own if not path.endswith(".pyc")], [])
         done = self.install("--prefix", prefix, "--uninstall", source=source)
-        self.assertTrue(
-            done[0] == 0 and not os.path.exists(prefix),
-            ("byte code is removed with the modules", done),
-        )
+        self.assertEqual((done[0], os.path.exists(prefix)), (0, False), done)
