@@ -219,18 +219,6 @@ try_ansible() {
     check "the playbook's cron job compares" grep -qx status=0 /var/lib/aide-compare/states/www
 }
 
-try_full_disk() {
-    mkdir -p "$folder/small"
-    mount -t tmpfs -o size=64k none "$folder/small"
-    head -c 200000 /dev/urandom > "$folder/large.db"
-    TMPDIR=$folder/small check 'a full disk' ends_with 18 aide-compare "$folder/large.db" "$folder/large.db"
-    cp /var/lib/aide-compare/hosts/www/aide.db.new "$folder/small/aide.db"
-    head -c 60000 /dev/urandom > "$folder/small/fill" 2> /dev/null
-    check 'a full disk: nothing is accepted' ends_with 18 aide-compare accept --sha256 \
-        "$(sha256sum < "$folder/large.db" | cut -c 1-64)" "$folder/large.db" "$folder/small/aide.db"
-    check 'a full disk: the baseline stays' cmp /var/lib/aide-compare/hosts/www/aide.db.new "$folder/small/aide.db"
-}
-
 if ! make_machine > "$folder.log" 2>&1; then
     echo 'skipped: this machine has no overlay for files of its own'
     cat "$folder.log"
@@ -240,5 +228,4 @@ try_days
 try_nagios
 if try_ssh; then
     try_ansible
-    try_full_disk
 fi
