@@ -12,19 +12,7 @@ BASH = "share/bash-completion/completions/aide-compare"
 ZSH = "share/zsh/site-functions/_aide-compare"
 FISH = "share/fish/vendor_completions.d/aide-compare.fish"
 REPORT_OPTIONS = ["report_level"] + BOOL_OPTIONS + SET_OPTIONS
-SUBCOMMANDS = [
-    "compare",
-    "show",
-    "json",
-    "page",
-    "mail",
-    "accept",
-    "archive",
-    "status",
-    "sort",
-    "setup",
-    "version",
-]
+SUBCOMMANDS = "compare show json page mail accept archive status sort setup version".split()
 HOSTS = ["hosts " + word for word in ("add", "fetch", "compare", "accept", "report")]
 
 # bash-completion reads the file inside of a function of its own.

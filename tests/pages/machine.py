@@ -19,25 +19,11 @@ from tests.lib.programs import find_program, lines_program_of, reason_without
 from tests.lib.scratch import TOP, Scratch
 
 # What blocks and commands name; in a test it lies below the root.
-DIRECTORIES = [
-    "/etc/aide",
-    "/etc/aide-compare",
-    "/etc/apt/apt.conf.d",
-    "/etc/cron.d",
-    "/etc/cron.daily",
-    "/etc/default",
-    "/etc/systemd/system",
-    "/root",
-    "/srv/aide",
-    "/srv/www",
-    "/usr/local",
-    "/var/lib/aide",
-    "/var/lib/aide-compare",
-    "/var/lib/dpkg",
-    "/var/lib/prometheus",
-    "/var/log/aide-compare",
-    "/var/tmp",
-]
+DIRECTORIES = (
+    "/etc/aide /etc/aide-compare /etc/apt/apt.conf.d /etc/cron.d /etc/cron.daily "
+    "/etc/default /etc/systemd/system /root /srv/aide /srv/www /usr/local /var/lib/aide "
+    "/var/lib/aide-compare /var/lib/dpkg /var/lib/prometheus /var/log/aide-compare /var/tmp"
+).split()
 NAMED = re.compile(r"(?<![\w/])(%s)(?![\w.-])" % "|".join(DIRECTORIES))
 NOBODY = 65534
 SECONDS = 600
