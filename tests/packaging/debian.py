@@ -1,10 +1,12 @@
 """The Debian package as dpkg installs, removes and purges it, and what it tells its user."""
+from __future__ import annotations
+
 import os
 import re
 import shutil
 
 from tests.packaging import byte_code
-from tests.packaging.installation import texts, tree
+from tests.packaging.installation import Answer, InstallTest, texts, tree
 
 TIMER = "aide-compare.timer"
 UNITS = ["aide-compare-failed.service", "aide-compare-mail.service", "aide-compare.service", TIMER]
@@ -23,133 +25,99 @@ NEEDED = "".join(
 )
 
 
-def try_texts(trial, folder):
+def try_texts(trial: InstallTest, folder: str) -> None:
     """What a user of the package reads first: the command of README.Debian, and whose choice the
     licence is."""
     found = texts(tree(folder))
     documents = "usr/share/doc/aide-compare/"
-    trial.assertIn(
-        "choice of their owner",
-        found.get(documents + "copyright", "").replace("\n", " "),
-        "the copyright file",
-    )
+    trial.assertIn("choice of their owner", found[documents + "copyright"].replace("\n", " "))
     # AIDE on Debian runs a file of this folder that is executable.
     mode = os.stat(os.path.join(folder, RULES)).st_mode & 0o777
-    trial.assertEqual(mode, 0o644, ("the mode of the rules for AIDE", oct(mode)))
-    readme = found.get(documents + "README.Debian", "")
-    commands = re.findall(r"^    (aide-compare /.*(?:\n {8}.*)*)", readme, re.M)
-    trial.assertEqual(len(commands), 1, ("a first answer in README.Debian", commands))
-    for command in commands:
-        here = command.replace("/usr/", folder + "/usr/").replace(
-            "aide-compare", folder + "/usr/bin/aide-compare", 1
-        )
-        done = trial.run_words(["sh", "-c", here])
-        said = re.findall(r"ends with status (\d+)", readme)
-        trial.assertTrue(
-            [str(done[0])] == said and re.match("[0-9]+ open .*of [0-9]+ changes\n", done[1]),
-            ("the first answer", done),
-        )
+    trial.assertEqual(mode, 0o644, "the mode of the rules for AIDE")
+    readme = found[documents + "README.Debian"]
+    (command,) = re.findall(r"^    (aide-compare /.*(?:\n {8}.*)*)", readme, re.M)
+    here = command.replace("/usr/", folder + "/usr/")
+    here = here.replace("aide-compare", folder + "/usr/bin/aide-compare", 1)
+    done = trial.run_words(["sh", "-c", here])
+    trial.assertEqual([str(done[0])], re.findall(r"ends with status (\d+)", readme), done)
+    trial.assertRegex(done[1], r"\A[0-9]+ open .*of [0-9]+ changes\n")
     for name in re.findall(r"/(?:usr|etc)/[\w./-]*\w", readme):
         # What the administrator or aide-compare setup makes for this machine is in no package.
         if not name.startswith(("/etc/systemd/system/", "/etc/aide-compare/defaults")):
             trial.assertTrue(os.path.exists(folder + name), "what README.Debian names: " + name)
 
 
-def try_stop(trial, folder):
+def try_stop(trial: InstallTest, folder: str) -> None:
     """Before its files go, every unit is stopped: first the timer and what it starts, and then what
-    that starts."""
+    that starts. An upgrade stops nothing."""
     machine, log = trial.path("machine"), trial.path("stopped")
     os.makedirs(machine)
-    stub = '#!/bin/sh\nprintf "%%s\\n" "$*" >> "%s"\n' % log
     for name in ("deb-systemd-invoke", "deb-systemd-helper", "systemctl"):
-        trial.write("debian-stubs/" + name, stub, 0o755)
+        trial.stub(name, f'printf "%s\\n" "$*" >> "{log}"', "debian-stubs")
     more = dict(os.environ, PATH=trial.path("debian-stubs") + ":" + os.environ["PATH"])
     more.pop("DPKG_ROOT", None)
     with open(os.path.join(folder, "DEBIAN", "prerm")) as file:
-        script = (
-            file.read()
-            .replace("/run/systemd/system", machine)
-            .replace("/usr/lib/aide-compare", machine)
-        )
-    shipped = sorted(os.listdir(os.path.join(folder, "usr/lib/systemd/system")))
-    trial.assertEqual(shipped, UNITS, "the units of the package")
-    for words in (["upgrade", "2"], ["remove"]):
-        if os.path.exists(log):
-            os.remove(log)
-        done = trial.run_words(["sh", "-c", script, "prerm", *words], env=more)
-        lines = open(log).read().splitlines() if os.path.exists(log) else []
-        trial.assertEqual(done, (0, "", ""), "prerm " + words[0])
-        stopped = [line.split()[1:] for line in lines if line.startswith("stop ")]
-        if words == ["remove"]:
-            good = sorted(sum(stopped, [])) == UNITS and sorted(stopped[0]) == [
-                "aide-compare.service",
-                TIMER,
-            ]
-            trial.assertTrue(good, ("all units are stopped, the comparison first", lines))
-        else:
-            trial.assertFalse(lines, "an upgrade stops nothing")
+        script = file.read()
+    for place in ("/run/systemd/system", "/usr/lib/aide-compare"):
+        script = script.replace(place, machine)
+    trial.assertEqual(sorted(os.listdir(os.path.join(folder, "usr/lib/systemd/system"))), UNITS)
+    done = trial.run_words(["sh", "-c", script, "prerm", "upgrade", "2"], env=more)
+    trial.assertEqual((done, os.path.exists(log)), ((0, "", ""), False))
+    done = trial.run_words(["sh", "-c", script, "prerm", "remove"], env=more)
+    trial.assertEqual(done, (0, "", ""))
+    with open(log) as file:
+        stopped = [line.split()[1:] for line in file if line.startswith("stop ")]
+    trial.assertEqual(sorted(stopped[0]), ["aide-compare.service", TIMER], "the comparison first")
+    trial.assertEqual(sorted(sum(stopped, [])), UNITS)
 
 
 class Machine:
     """A root folder of its own, into which dpkg installs. The scripts run with DPKG_ROOT, as they
     do when images are made."""
 
-    def __init__(self, trial, package):
+    def __init__(self, trial: InstallTest, package: str) -> None:
         self.trial, self.package, self.root = trial, package, trial.path("debian-root")
         for name in ("info", "updates", "triggers"):
             os.makedirs(os.path.join(self.root, "var/lib/dpkg", name))
         trial.write("debian-root/var/lib/dpkg/status", NEEDED)
         trial.write("debian-root/var/lib/dpkg/available", "")
 
-    def dpkg(self, action, what):
-        done = self.trial.run_words(
-            [
-                "dpkg",
-                "--root=" + self.root,
-                "--log=/dev/null",
-                "--force-script-chrootless",
-                "--force-confold",
-                action,
-                what,
-            ]
-        )
+    def dpkg(self, action: str, what: str) -> None:
+        forced = ["--log=/dev/null", "--force-script-chrootless", "--force-confold"]
+        done = self.trial.run_words(["dpkg", "--root=" + self.root, *forced, action, what])
         self.trial.assertEqual(done[0], 0, done)
 
-    def install(self):
+    def install(self) -> None:
         self.dpkg("--install", self.package)
 
-    def helper(self, action):
+    def helper(self, action: str) -> Answer:
         more = dict(os.environ, DPKG_ROOT=self.root, DPKG_MAINTSCRIPT_PACKAGE="aide-compare")
         return self.trial.run_words(["deb-systemd-helper", action, TIMER], env=more)
 
-    def has(self, path):
+    def has(self, path: str) -> bool:
         return os.path.lexists(os.path.join(self.root, path))
 
-    def write(self, path, text):
+    def write(self, path: str, text: str) -> None:
         self.trial.write(os.path.join("debian-root", path), text)
 
-    def enable(self, path=WANTED):
+    def enable(self, path: str = WANTED) -> None:
         """What `systemctl enable` does."""
         path = os.path.join(self.root, path)
         os.makedirs(os.path.dirname(path), exist_ok=True)
         os.symlink("/lib/systemd/system/" + TIMER, path)
 
 
-def try_life(trial, package):
+def try_life(trial: InstallTest, package: str) -> None:
     """An installation, two removals and a purge, by dpkg itself."""
     if os.geteuid() or not shutil.which("dpkg") or not shutil.which("deb-systemd-helper"):
         return
     machine = Machine(trial, package)
     machine.install()
-    trial.assertTrue(machine.has("usr/bin/aide-compare"), "dpkg installs the program")
-    trial.assertTrue(
-        machine.has("usr/share/doc/aide-compare/copyright"), "dpkg installs the documents"
-    )
+    for path in ("usr/bin/aide-compare", "usr/share/doc/aide-compare/copyright"):
+        trial.assertTrue(machine.has(path), "dpkg installs " + path)
     trial.assertFalse(machine.has(WANTED), "the timer is off after a first installation")
-    trial.assertTrue(
-        machine.has(NOTES + TIMER + ".dsh-also"),
-        "an installation notes which link an administrator may make",
-    )
+    # Which link an administrator may make.
+    trial.assertTrue(machine.has(NOTES + TIMER + ".dsh-also"), "an installation notes it")
     code(trial, machine)
     again(trial, machine)
     kept(trial, machine)
@@ -164,7 +132,7 @@ def try_life(trial, package):
     trial.assertFalse(machine.has("var/lib/aide-compare"), "a purge leaves no empty folder")
 
 
-def code(trial, machine):
+def code(trial: InstallTest, machine: Machine) -> None:
     """The package makes byte code when it is installed, upgraded, and when Python is; it leaves
     none of its own behind."""
     folder = os.path.join(machine.root, LIBRARY)
@@ -174,12 +142,9 @@ def code(trial, machine):
         if name == "upgraded":
             machine.install()
         elif name != "installed":
-            words = [
-                "dpkg-trigger",
-                "--admindir=" + os.path.join(machine.root, "var/lib/dpkg"),
-                "--by-package=python3-minimal",
-            ]
-            done = trial.run_words([*words, "/usr/bin/python3"])
+            place = "--admindir=" + os.path.join(machine.root, "var/lib/dpkg")
+            words = ["dpkg-trigger", place, "--by-package=python3-minimal", "/usr/bin/python3"]
+            done = trial.run_words(words)
             trial.assertEqual(done[0], 0, ("dpkg-trigger", done))
             machine.dpkg("--triggers-only", "aide-compare")
         else:
@@ -191,7 +156,7 @@ def code(trial, machine):
     machine.install()
 
 
-def again(trial, machine):
+def again(trial: InstallTest, machine: Machine) -> None:
     """The timer is after a removal and an installation what it was before."""
     for is_on in (False, True, False):
         if is_on:
@@ -205,9 +170,7 @@ def again(trial, machine):
         trial.assertFalse(machine.has("usr/bin/aide-compare"), "a removal removes the program")
         machine.install()
         trial.assertFalse(machine.has("etc/systemd/system/" + TIMER), "the timer is not masked")
-        trial.assertEqual(
-            machine.has(WANTED), is_on, "the timer is on again" if is_on else "the timer stays off"
-        )
+        trial.assertEqual(machine.has(WANTED), is_on, "the timer is as it was")
     # A former version was wanted by another target, and was on.
     former = "multi-user.target.wants/" + TIMER
     shutil.rmtree(os.path.join(machine.root, NOTES), ignore_errors=True)
@@ -218,7 +181,7 @@ def again(trial, machine):
     trial.assertTrue(machine.has(WANTED), "the timer stays on when another target wants it")
 
 
-def kept(trial, machine):
+def kept(trial: InstallTest, machine: Machine) -> None:
     """A removal leaves what an administrator has changed, and what a purge removes."""
     machine.write(RULES, "# mine\n")
     machine.write(DAILY, "mail\n")
@@ -228,6 +191,4 @@ def kept(trial, machine):
         trial.assertTrue(machine.has(path), "a removal leaves " + path)
     machine.install()
     with open(os.path.join(machine.root, RULES)) as file:
-        trial.assertEqual(
-            file.read(), "# mine\n", "the rules for AIDE stay as an administrator has changed them"
-        )
+        trial.assertEqual(file.read(), "# mine\n", "the administrator's rules for AIDE stay")

@@ -1,19 +1,31 @@
 """The tarball and the Debian package: the same bytes each time, and what packaging/install
 installs."""
+from __future__ import annotations
+
 import gzip
 import hashlib
 import io
 import os
 import re
 import shutil
+import subprocess
 import tarfile
+from typing import Any
 
 from tests.lib.program_test import slow
 from tests.packaging import debian, rpm
 from tests.packaging.test_install import LINK
-from tests.packaging.installation import InstallTest, files, rights, texts, tree
+from tests.packaging.installation import Answer, InstallTest, files, rights, texts, tree
 
 FIXED = 1767225600
+DOCUMENTS = "usr/share/doc/aide-compare/"
+FIELDS = {
+    "Package": "aide-compare",
+    "Architecture": "amd64",
+    "Depends": "libc6 (>= 2.34), python3:any",
+    "Suggests": "aide",
+    "Recommends": "default-mta | mail-transport-agent, gpgv",
+}
 
 # The configuration files of the Debian package, and the example that each is.
 CONFIGURATION = {
@@ -22,264 +34,192 @@ CONFIGURATION = {
 }
 
 
-def make(trial, name, **more):
+def make(trial: InstallTest, name: str, **more: Any) -> tuple[Answer, dict[str, bytes]]:
     """Runs packaging/make_package into a new folder: its status and outputs, and the files
     there."""
-    folder = trial.path(name)
     script = os.path.join(trial.source, "packaging", "make_package")
-    done = trial.run_words(
-        ["sh", script, "--program", trial.program, "--output", folder], cwd=trial.root, **more
-    )
-    return (
-        done,
-        {path: data for path, (_, data) in files(tree(folder)).items()}
-        if os.path.isdir(folder)
-        else {},
-    )
+    words = ["sh", script, "--program", trial.program, "--output", trial.path(name)]
+    done = trial.run_words(words, **{"cwd": trial.root, **more})
+    found = files(tree(trial.path(name)))
+    return done, {path: data for path, (_, data) in found.items()}
 
 
-def try_nobody(trial, first, surroundings):
-    """Nothing of it needs root, and it makes no difference who does it."""
-    os.makedirs(trial.path("nobody"))
-    os.chmod(trial.path("nobody"), 0o777)
-    surroundings = dict(surroundings, TMPDIR=trial.path("nobody"))
-    done, third = make(trial, "nobody/packages", env=surroundings, **rights())
-    trial.assertTrue(
-        done[0] == 0 and third == first, ("packages without root's rights", (done, sorted(third)))
-    )
+def owners_and_times(archive: tarfile.TarFile) -> set[tuple[int, int, int]]:
+    return {(one.uid, one.gid, int(one.mtime)) for one in archive.getmembers()}
 
 
-def try_tarball(trial, data, time):
-    """The tarball has the installed files, with no owner, no user's time and no folder."""
-    top = "aide-compare-%s-x86_64-linux/" % trial.version
+def without_manifest(trial: InstallTest) -> dict[str, Any]:
+    """What packaging/install installs, but for the list of it."""
     installed = files(tree(trial.first()))
     installed.pop("lib/aide-compare/installed")
+    return installed
+
+
+def try_tarball(trial: InstallTest, data: bytes, time: int) -> None:
+    """The tarball has the installed files, with no owner, no user's time and no folder."""
+    top = f"aide-compare-{trial.version}-x86_64-linux/"
+    given = {}
     with tarfile.open(fileobj=io.BytesIO(data)) as archive:
-        members = archive.getmembers()
-        given = {
-            one.name[len(top) :]: (one.mode, archive.extractfile(one).read())
-            for one in members
-            if not one.isdir()
-        }
-    trial.assertEqual(
-        given, installed, ("the tarball has what is installed", sorted(set(given) ^ set(installed)))
-    )
-    trial.assertTrue(
-        len(given) == len(members) and all(one.name.startswith(top) for one in members),
-        "files below one folder",
-    )
-    trial.assertTrue(
-        all((one.uid, one.gid, one.mtime) == (0, 0, time) for one in members),
-        "owner and time of the tarball",
-    )
-    trial.assertEqual(
-        [one.name for one in members], sorted(one.name for one in members), "the tarball is sorted"
-    )
+        names = archive.getnames()
+        for one in archive.getmembers():
+            content = archive.extractfile(one)
+            assert content, one
+            given[one.name[len(top) :]] = (one.mode, content.read())
+        trial.assertEqual(owners_and_times(archive), {(0, 0, time)})
+    installed = without_manifest(trial)
+    trial.assertEqual(given.keys() ^ installed.keys(), set())
+    trial.assertTrue(given == installed, "the tarball has what is installed")
+    trial.assertTrue(all(name.startswith(top) for name in names), "files below one folder")
+    trial.assertEqual(names, sorted(names), "the tarball is sorted")
     trial.assertEqual(data[4:8], b"\0\0\0\0", "gzip's own time")
 
 
-def try_unpacking(trial, tarball):
+def try_unpacking(trial: InstallTest, tarball: str) -> None:
     """What the help says of the tarball, word for word, with another folder in the place of
     /usr/local."""
-    help_text = trial.run_words(
-        ["sh", os.path.join(trial.source, "packaging", "make_package"), "--help"]
-    )[1]
+    script = os.path.join(trial.source, "packaging", "make_package")
+    help_text = trial.run_words(["sh", script, "--help"])[1]
     lines = re.findall(r"^ +(?:and to remove it: )?(tar .*)$", help_text, re.M)
-    trial.assertEqual(len(lines), 2, ("the commands for the tarball", lines))
     folder = trial.path("unpacked")
     os.makedirs(os.path.join(folder, "bin"))
     os.chmod(os.path.join(folder, "bin"), 0o2775)
-    commands = [line.replace("/usr/local", folder).replace("FILE", tarball) for line in lines]
-    done = trial.run_words(["sh", "-c", commands[0]])
-    wanted = files(tree(trial.first()))
-    wanted.pop("lib/aide-compare/installed")
-    trial.assertTrue(
-        done == (0, "", "") and files(tree(folder)) == wanted, ("the tarball is unpacked", done)
-    )
-    trial.assertEqual(
-        tree(folder)["bin"][0], 0o2775, "a folder that was there keeps its permissions"
-    )
-    done = trial.run_words(["sh", "-c", commands[1]])
-    trial.assertTrue(
-        done == (0, "", "") and files(tree(folder)) == {}, ("what was unpacked is removed", done)
-    )
+    unpack, remove = (line.replace("/usr/local", folder).replace("FILE", tarball) for line in lines)
+    trial.assertEqual(trial.run_words(["sh", "-c", unpack]), (0, "", ""))
+    trial.assertTrue(files(tree(folder)) == without_manifest(trial), "the tarball is unpacked")
+    trial.assertEqual(tree(folder)["bin"][0], 0o2775, "a folder that was there keeps its mode")
+    trial.assertEqual(trial.run_words(["sh", "-c", remove]), (0, "", ""))
+    trial.assertEqual(files(tree(folder)), {}, "what was unpacked is removed")
 
 
-def try_debian(trial, path, time):
+def name_in_package(name: str) -> str:
+    """Where the Debian package has what packaging/install installs below a prefix."""
+    name = re.sub(r"^(share/man/.*)$", r"\1.gz", name)
+    name = name.replace("zsh/site-functions", "zsh/vendor-completions")
+    return "usr/" + name.replace("aide-compare/CHANGELOG.md", "aide-compare/changelog.gz")
+
+
+def try_debian(trial: InstallTest, path: str, time: int) -> None:
     """The Debian package: its fields, its sums, its times, and nothing of /usr/local."""
     done = trial.run_words(["dpkg-deb", "-f", path])
     fields = dict(re.findall(r"^([\w-]+): (.*)$", done[1], re.M))
-    for name, wanted in (
-        ("Package", "aide-compare"),
-        ("Version", trial.version + "-1"),
-        ("Architecture", "amd64"),
-        ("Depends", "libc6 (>= 2.34), python3:any"),
-        ("Suggests", "aide"),
-        ("Recommends", "default-mta | mail-transport-agent, gpgv"),
-    ):
-        trial.assertEqual(fields.get(name), wanted, "the field " + name)
+    wanted = {**FIELDS, "Version": trial.version + "-1"}
+    trial.assertEqual({**fields, **wanted}, fields)
     folder = path + ".tree"
     done = trial.run_words(["dpkg-deb", "-R", path, folder])
-    trial.assertEqual(done[0], 0, ("dpkg-deb -R", done))
+    trial.assertEqual(done[0], 0, done)
     found = tree(folder)
-    sums = found["DEBIAN/md5sums"][1].decode().splitlines()
-    kept = {
-        name: data for name, (_, data) in files(found).items() if not name.startswith("DEBIAN/")
-    }
+    inside = {name: data for name, (_, data) in files(found).items()}
+    kept = {name: data for name, data in inside.items() if not name.startswith("DEBIAN/")}
     # dpkg itself keeps the sums of what an administrator may change.
-    conffiles = found["DEBIAN/conffiles"][1].decode() if "DEBIAN/conffiles" in found else ""
     for name, example in CONFIGURATION.items():
-        same = kept.pop(name, None) == kept["usr/share/doc/aide-compare/examples/aide/" + example]
-        trial.assertTrue(same, "a configuration file: " + name)
-    trial.assertEqual(
-        conffiles, "".join("/%s\n" % name for name in CONFIGURATION), "the configuration files"
-    )
-    trial.assertEqual(
-        sorted(sums),
-        sorted(
-            "%s  %s" % (hashlib.md5(data).hexdigest(), name)
-            for name, data in kept.items()
-            if name != "usr/" + LINK
-        ),
-        "md5sums of all but the link",
-    )
-    installed = {name[len("usr/local/") :] for name in files(tree(trial.path("first")))} - {
-        "lib/aide-compare/installed"
-    }
-    renamed = set()
-    for name in installed:
-        name = re.sub(r"^(share/man/.*)$", r"\1.gz", name).replace(
-            "zsh/site-functions", "zsh/vendor-completions"
-        )
-        renamed.add("usr/" + name.replace("aide-compare/CHANGELOG.md", "aide-compare/changelog.gz"))
-    renamed |= {
-        "usr/share/doc/aide-compare/" + name
-        for name in ("changelog.Debian.gz", "copyright", "README.Debian")
-    }
-    renamed.add("usr/share/lintian/overrides/aide-compare")
-    trial.assertEqual(
-        set(kept), renamed, ("the package has what is installed", sorted(set(kept) ^ renamed))
-    )
-    for name, text in texts(found).items():
-        # A table of severities names the administrator's own libraries, wherever the commands are.
-        named = re.findall(r"/usr/local/(?:bin/a|lib/|share/)[\w./-]*", text)
-        named = [
-            path
-            for path in named
-            if not (
-                name.endswith("/severity.conf")
-                and path in ("/usr/local/lib/", "/usr/local/share/ca-certificates/")
-            )
-        ]
-        trial.assertFalse(named, "no /usr/local in " + name)
-        trial.assertTrue(
-            not text.startswith("#!/usr/bin/env python3") or "/examples/" in name,
-            "the interpreter of " + name,
-        )
-    documents = "usr/share/doc/aide-compare/"
-    links = [
-        (name, link)
-        for name, text in texts(found).items()
-        if name.startswith(documents) and name.endswith(".md")
-        for link in re.findall(r"\]\(([^)#:]+)(?:#[^)]*)?\)", text)
+        trial.assertEqual(kept.pop(name), kept[DOCUMENTS + "examples/aide/" + example], name)
+    listed = inside["DEBIAN/conffiles"].decode()
+    trial.assertEqual(listed, "".join(f"/{name}\n" for name in CONFIGURATION))
+    sums = [
+        f"{hashlib.md5(data).hexdigest()}  {name}"
+        for name, data in kept.items()
+        if name != "usr/" + LINK
     ]
-    lost = [(name, link) for name, link in links if documents + link not in kept]
-    trial.assertTrue(
-        len(links) > 5 and not lost, ("the documents of the package link to what it has", lost)
-    )
+    listed = inside["DEBIAN/md5sums"].decode()
+    trial.assertEqual(sorted(listed.splitlines()), sorted(sums), "md5sums of all but the link")
+    own = {"changelog.Debian.gz", "copyright", "README.Debian"}
+    named = {DOCUMENTS + name for name in own} | {"usr/share/lintian/overrides/aide-compare"}
+    named |= set(map(name_in_package, without_manifest(trial)))
+    trial.assertEqual(kept.keys() ^ named, set(), "the package has what is installed")
+    try_texts(trial, texts(found), kept)
+    with tarfile.open(fileobj=io.BytesIO(whole_of(path))) as archive:
+        trial.assertEqual(owners_and_times(archive), {(0, 0, time)})
+        modes = {one.mode for one in archive.getmembers() if not one.issym()}
+    trial.assertEqual(modes, {0o755, 0o644}, "the permissions in the package")
+
+
+def whole_of(path: str) -> bytes:
+    """The files of a Debian package, as a tarball."""
+    words = ["dpkg-deb", "--fsys-tarfile", path]
+    return subprocess.run(words, stdout=subprocess.PIPE, check=True).stdout
+
+
+def try_texts(trial: InstallTest, found: dict[str, str], kept: dict[str, bytes]) -> None:
+    """No text of the Debian package names /usr/local; pages and logs have the version; documents
+    link to what it has."""
+    links = []
+    for name, text in found.items():
+        # A table of severities names the administrator's own libraries, wherever the commands are.
+        named = set(re.findall(r"/usr/local/(?:bin/a|lib/|share/)[\w./-]*", text))
+        if name.endswith("/severity.conf"):
+            named -= {"/usr/local/lib/", "/usr/local/share/ca-certificates/"}
+        trial.assertEqual(named, set(), name)
+        if "/examples/" not in name:
+            trial.assertFalse(text.startswith("#!/usr/bin/env python3"), name)
+        if name.startswith(DOCUMENTS) and name.endswith(".md"):
+            links += re.findall(r"\]\(([^)#:]+)(?:#[^)]*)?\)", text)
+    trial.assertGreater(len(links), 5)
+    trial.assertEqual([link for link in links if DOCUMENTS + link not in kept], [])
     page = gzip.decompress(kept["usr/share/man/man8/aide-compare-program.8.gz"]).decode()
-    trial.assertTrue(
-        ".Os aide-compare " + trial.version in page and "/usr/local" not in page,
-        "a page of the package",
-    )
-    log = gzip.decompress(kept["usr/share/doc/aide-compare/changelog.Debian.gz"]).decode()
-    trial.assertTrue(
-        log.startswith("aide-compare (%s-1) " % trial.version), ("changelog.Debian.gz", log)
-    )
-    whole = trial.path("whole.tar")
-    words = ["sh", "-c", 'dpkg-deb --fsys-tarfile "$1" > "$2"', "sh", path, whole]
-    data = trial.run_words(words)
-    with tarfile.open(whole) as archive:
-        members = archive.getmembers()
-    trial.assertTrue(
-        data[0] == 0 and all((one.uid, one.gid, one.mtime) == (0, 0, time) for one in members),
-        ("owner and time of the package", [(one.name, one.uid, one.mtime) for one in members][:3]),
-    )
-    trial.assertTrue(
-        all(one.mode in (0o755, 0o644) or one.issym() for one in members),
-        "the permissions in the package",
-    )
+    trial.assertIn(".Os aide-compare " + trial.version, page)
+    trial.assertNotIn("/usr/local", page)
+    log = gzip.decompress(kept[DOCUMENTS + "changelog.Debian.gz"]).decode()
+    trial.assertTrue(log.startswith(f"aide-compare ({trial.version}-1) "), log)
 
 
 @slow
 class PackagesTest(InstallTest):
-    def test_packages(self):
-        more = {key: value for key, value in os.environ.items() if key != "SOURCE_DATE_EPOCH"}
-        done, first = make(self, "packages", env=more)
-        self.assertTrue(done[0] == 0 and done[2] == "", ("make_package", done))
-        tarball = "aide-compare-%s-x86_64-linux.tar.gz" % self.version
-        package = "aide-compare_%s-1_amd64.deb" % self.version
-        has_dpkg, has_rpm = (shutil.which(name) is not None for name in ("dpkg-deb", "rpmbuild"))
-        of_rpm = "aide-compare-%s-1.x86_64.rpm" % self.version
-        wanted = (
-            {tarball, "SHA256SUMS"}
-            | ({package} if has_dpkg else set())
-            | ({of_rpm} if has_rpm else set())
-        )
-        self.assertEqual(set(first), wanted, ("the packages", sorted(first)))
-        if tarball not in first or "SHA256SUMS" not in first:
-            return
-        lines = sorted(
-            "%s  %s" % (hashlib.sha256(first[name]).hexdigest(), name)
-            for name in wanted - {"SHA256SUMS"}
-        )
-        self.assertEqual(sorted(first["SHA256SUMS"].decode().splitlines()), lines, "SHA256SUMS")
-        os.makedirs(self.path("other place"))
-        shells = ["busybox", "sh"] if shutil.which("busybox") else ["sh"]
-        script = os.path.join(self.source, "packaging", "make_package")
-        done = self.run_words(
-            [
-                *shells,
-                "-c",
-                'umask 077; exec "$@"',
-                "sh",
-                *shells,
-                script,
-                "--program",
-                self.program,
-                "--output",
-                self.path("packages2"),
-            ],
-            cwd=self.path("other place"),
-            env=dict(more, TMPDIR=self.path("other place"), LC_ALL="C.UTF-8", TZ="Asia/Tokyo"),
-        )
-        second = {path: data for path, (_, data) in files(tree(self.path("packages2"))).items()}
-        self.assertEqual(done[0], 0, ("make_package elsewhere", done))
-        for name in sorted(wanted):
-            self.assertEqual(first[name], second.get(name), "byte for byte the same twice: " + name)
-        try_nobody(self, first, more)
-        try_tarball(self, first[tarball], FIXED)
-        try_unpacking(self, self.path("packages", tarball))
-        done, dated = make(self, "dated", env=dict(more, SOURCE_DATE_EPOCH="4000000000"))
-        self.assertEqual(done[0], 0, ("make_package with a time", done))
-        try_tarball(self, dated[tarball], 4000000000)
-        done, none = make(self, "undated", env=dict(more, SOURCE_DATE_EPOCH="today"))
-        self.assertTrue(done[0] == 1 and none == {}, ("a time that is none", done))
-        if has_dpkg:
-            try_debian(self, self.path("packages", package), FIXED)
-            try_debian(self, self.path("dated", package), 4000000000)
-            debian.try_texts(self, self.path("packages", package + ".tree"))
-            debian.try_stop(self, self.path("packages", package + ".tree"))
-            debian.try_life(self, self.path("packages", package))
-        if has_rpm and os.geteuid() == 0:
-            rpm.try_life(self, self.path("packages", of_rpm))
-        done, least = make(self, "least", env=dict(more, PATH=self.plain_path))
-        good = (
-            done[0] == 0
-            and set(least) == {tarball, "SHA256SUMS"}
-            and "no Debian package" in done[1]
-        )
-        self.assertTrue(
-            good and least[tarball] == first[tarball], ("without dpkg-deb", (done, sorted(least)))
-        )
-        self.assertEqual(os.listdir(self.path("other place")), [], "no temporary file is left")
+    def setUp(self) -> None:
+        super().setUp()
+        self.tarball = f"aide-compare-{self.version}-x86_64-linux.tar.gz"
+        self.package = f"aide-compare_{self.version}-1_amd64.deb"
+        self.of_rpm = f"aide-compare-{self.version}-1.x86_64.rpm"
+        self.more = {key: os.environ[key] for key in os.environ if key != "SOURCE_DATE_EPOCH"}
+
+    def makes(self, name: str, **more: Any) -> dict[str, bytes]:
+        """The packages that are made without a fault."""
+        done, found = make(self, name, **{"env": self.more, **more})
+        self.assertEqual(done[0], 0, done)
+        return found
+
+    def test_packages(self) -> None:
+        first = self.makes("packages")
+        names = {self.tarball}
+        names |= {self.package} if shutil.which("dpkg-deb") else set()
+        names |= {self.of_rpm} if shutil.which("rpmbuild") else set()
+        self.assertEqual(set(first), names | {"SHA256SUMS"})
+        sums = sorted(f"{hashlib.sha256(first[name]).hexdigest()}  {name}" for name in names)
+        self.assertEqual(sorted(first["SHA256SUMS"].decode().splitlines()), sums)
+        self.try_elsewhere(first)
+        try_tarball(self, first[self.tarball], FIXED)
+        try_unpacking(self, self.path("packages", self.tarball))
+        dated = self.makes("dated", env={**self.more, "SOURCE_DATE_EPOCH": "4000000000"})
+        try_tarball(self, dated[self.tarball], 4000000000)
+        done, none = make(self, "undated", env={**self.more, "SOURCE_DATE_EPOCH": "today"})
+        self.assertEqual((done[0], none), (1, {}), done)
+        if self.package in names:
+            package = self.path("packages", self.package)
+            try_debian(self, package, FIXED)
+            try_debian(self, self.path("dated", self.package), 4000000000)
+            debian.try_texts(self, package + ".tree")
+            debian.try_stop(self, package + ".tree")
+            debian.try_life(self, package)
+        if self.of_rpm in names and os.geteuid() == 0:
+            rpm.try_life(self, self.path("packages", self.of_rpm))
+        done, least = make(self, "least", env={**self.more, "PATH": self.plain_path})
+        self.assertEqual((done[0], set(least)), (0, {self.tarball, "SHA256SUMS"}), done)
+        self.assertIn("no Debian package", done[1])
+        self.assertTrue(least[self.tarball] == first[self.tarball], "without dpkg-deb")
+
+    def try_elsewhere(self, first: dict[str, bytes]) -> None:
+        """Another place, umask, shell, language, time zone or user make no difference, and no
+        temporary file is left."""
+        place = self.path("other place")
+        os.makedirs(place)
+        os.chmod(place, 0o777)
+        busybox = shutil.which("busybox")
+        shell = f"{busybox} sh" if busybox else "/bin/sh"
+        self.write("narrow/sh", f'#!/bin/sh\numask 077\nexec {shell} "$@"\n', 0o755)
+        path = self.path("narrow") + ":" + self.more["PATH"]
+        odd = {"PATH": path, "TMPDIR": place, "LC_ALL": "C.UTF-8", "TZ": "Asia/Tokyo"}
+        second = self.makes("packages2", cwd=place, env={**self.more, **odd})
+        self.assertEqual(os.listdir(place), [])
+        third = self.makes("other place/nobody", env={**self.more, "TMPDIR": place}, **rights())
+        for name, data in first.items():
+            self.assertTrue(data == second.get(name) == third.get(name), name)
+        self.assertEqual(os.listdir(place), ["nobody"])
