@@ -15,8 +15,8 @@ from .sandbox import AS_NOBODY, PYTHON, CommandTest, after
 OF_MAIL = "texts statuses errors short refusals missing queue odd_queue full_queue".split()
 TESTS = (
     *("test_mail.MailTest.test_" + name for name in OF_MAIL),
-    "test_run.RunTest.test_state",
-    "test_run.RunTest.test_state_faults",
+    *("test_run.RunTest.test_" + name for name in ("state", "modes", "state_faults")),
+    "test_run.RunTest.test_failed_states",
     "test_accept.AcceptTest.test_digests",
     "test_accept.AcceptTest.test_modes",
     "test_accept_partly.AcceptPartlyTest.test_open",
