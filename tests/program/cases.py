@@ -5,8 +5,10 @@ their answers.
 A case begins with a sentence that says what it shows. Then come sections, each under a line `--
 NAME --`: `words` (the arguments, with blanks between), files of the folder in which the case is run
 (`conf`, `old`, `new`), and the right answer: `stdout` and `stderr`, which are left out where they
-are empty, and a line `-- status NUMBER --`. `/@DIR@` is replaced by the folder. A section `NAME
-(escaped)` is read as one line, with backslashes as in C. So is each argument.
+are empty, and a line `-- status NUMBER --`. Without `words` both databases are compared, beside a
+trusted pair if there is one. Without a `conf` there is one that names both databases, and then has
+the lines of a section `options`. `/@DIR@` is replaced by the folder. A section `NAME (escaped)` is
+read as one line, with backslashes as in C. So is each argument.
 """
 import glob
 import os
@@ -24,6 +26,10 @@ FOLDER = os.path.join(os.path.dirname(os.path.abspath(__file__)), "cases")
 # The cases of the program of lines, beside those of the report.
 LINES = "cases_of_lines"
 DIR = b"/@DIR@"
+# What a case without `words` and without a `conf` has.
+WORDS = "-E -c /@DIR@/conf"
+TRUSTED = " --trusted-old /@DIR@/trusted_old --trusted-new /@DIR@/trusted_new"
+DATABASES = b"database_in=file:/@DIR@/old\ndatabase_new=file:/@DIR@/new\n"
 
 Case = namedtuple("Case", "title sections")
 
@@ -82,15 +88,25 @@ def printed(case):
     return "".join(parts)
 
 
+def words_of(case):
+    if "words" in case.sections:
+        return case.sections["words"].decode()
+    return WORDS + TRUSTED if "trusted_old" in case.sections else WORDS
+
+
+def files_of(case):
+    """The files of a case by their names."""
+    others = [*ANSWERS, "words", "options"]
+    files = {name: text for name, text in case.sections.items() if name not in others}
+    return {"conf": DATABASES + case.sections.get("options", b""), **files}
+
+
 def answers_in(case, folder, answer):
     """Runs a case in a folder: `answer` is asked for its words."""
-    for name, text in case.sections.items():
-        if name not in ANSWERS + ["words"]:
-            with open(os.path.join(folder, name.encode()), "wb") as file:
-                file.write(text.replace(DIR, folder) if name == "conf" else text)
-    return answer(
-        [unescaped(word).replace(DIR, folder) for word in case.sections["words"].decode().split()]
-    )
+    for name, text in files_of(case).items():
+        with open(os.path.join(folder, name.encode()), "wb") as file:
+            file.write(text.replace(DIR, folder) if name == "conf" else text)
+    return answer([unescaped(word).replace(DIR, folder) for word in words_of(case).split()])
 
 
 def stored(case, folder):
