@@ -52,6 +52,7 @@ QUIET_TEXTS = [
     (b"@@define A y", b"@@define A @@{A}es", b"report_quiet=@@{A}"),
     (b"@@define A x", b"@@undef A\nreport_quiet=yes@@{A}", b"@@ifdef A\nno\n@@endif"),
     (b"report_quiet=yes\nreport_url=stdout@@{A}", b"@@define A x", b"report_quiet=no"),
+    (b"report_quiet=no", b"report_quiet=no", b"report_quiet=yes"),
 ]
 
 # They set the level `minimal`, and nothing else.
@@ -60,6 +61,8 @@ MINIMAL = [
     b"report_level=minimal\nreport_url=stdout\nreport_level=summary",
     b"@@define V minimal\n@@ifdef V\nreport_level=@@{V}\n@@else\nnonsense\n@@endif",
     b"@@{NOPE}report_level=minimal",
+    b"report_level=summary\nreport_level=minimal",
+    b"report_url=syslog:LOG_AUTH\nreport_level=minimal",
     b" @@define\tV \t minimal \t\nreport_level=@@{V}",
     b"@@define V _level \t= minimal\nreport@@{V}",
     b"@@define V report_level=minimal\n@@{V}",
@@ -204,6 +207,7 @@ PATHS = [
     ),
     (b"", b"database_in=file:///none/old\ndatabase_new=file:////none/new", b"old", b"/none/old"),
     (b"", b"database_new=file:////none/new", b"new", b"//none/new"),
+    (b"database=file:/none/older", b"database_in=file:/none/old", b"old", b"/none/old"),
     (b"@@define DIR /none/lib\n", b"database_in=file:@@{DIR}/old.db", b"old", b"/none/lib/old.db"),
     (b"@@define DIR /none/lib\n", b"database_new=file:@@{DIR}/new.db", b"new", b"/none/lib/new.db"),
 ]

@@ -65,6 +65,8 @@ REFUSED = [
 ]
 
 ACCEPTED = [
+    b"",
+    b"@@ifdef A\n" * 32 + b"@@endif\n" * 32,
     b"@@ifdef A\n@@endif\n" * 33,
     b"@@define A " + b"x" * 4096 + b" ",
     b"@@define A " + b"@@{NOPE}" * 1000,

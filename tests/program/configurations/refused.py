@@ -159,6 +159,7 @@ CHECKED_TEXTS = [
     ("config:4: line not understood", b"my=p", b"\n# a\n \t\nhello\np=s", b"p=s"),
     ("after:5: unknown attribute", b"my=p\n", b"your=my\n", b"/x\n!y\n=z\n-\nits=your+nope"),
     ("config:1: unknown attribute", b"", b"your=my", b"my=p"),
+    ("after:1: bad name", b"", b"", b"p=s"),
 ]
 
 # Three texts that are read for a comparison, which needs two databases.
