@@ -83,6 +83,7 @@ DIGESTS = [
 # Paths: the field, and the path.
 NAMES = [
     (b"/x%2", b"/x%2"),
+    (b"/x%252", b"/x%2"),
     (b"/x%zz", b"/x%zz"),
     (b"/x%0Ay%zz", b"/x\ny%zz"),
     (b"%2fa%2Fb", b"/a/b"),
@@ -120,6 +121,8 @@ PAIRS = [
     (b"sha256", b"AAAAAAAAAAAAAAAAAAAAAAAAAAAAAAAAAAAAAAAAAAA=", b"0", []),
     (b"lname", b"0", b"0-", ["Lname"]),
     (b"lname", b"00", b"%30", []),
+    (b"lname", b"00-", b"%30-", []),
+    (b"lname", b"0x", b"0%78", []),
     (b"lname", b"a%62", b"ab", []),
     (b"acl", b"x", b"%78", ["ACL"]),
     (b"acl", b"x", b"0", []),

@@ -9,8 +9,9 @@ refusal answers what the definitions say.
 Two kinds of calls may be refused without an effect, so that the answer is the whole one: those of
 the C library itself, and those of a command line that is not understood. There the parser looks for
 names that are close, which are never printed. The program of lines first asks a parser that knows a
-trusted pair and no --config-check. The sessions are the stored cases, the examples at each report
-level, long arguments, paths and configurations, and random ones.
+trusted pair and no --config-check. The sessions are the stored cases, databases and configurations
+that are refused, the examples at each report level, long arguments, paths and configurations, and
+random ones.
 
 The same is done with the program that writes lines of JSON, over the examples at one level, the
 long and the random sessions, and random ones of four databases, of which two are trusted. Another
@@ -29,7 +30,8 @@ from collections import Counter, namedtuple
 
 from tests.lib.program_test import ProgramTest, new_seed, slow
 from tests.lib.scratch import TOP
-from tests.program import cases
+from tests.program import cases, refusal_rows
+from tests.program.configurations import refused as refused_configurations
 from tests.oracle.session import NO_MEMORY, USAGE, Answer, refused
 from tests.lib.preload import built, run_with
 from tests.program.random_sessions import make_session, make_session_beside
@@ -138,6 +140,16 @@ def stored_sessions(top):
         yield os.path.relpath(path, cases.FOLDER), cases.answers_in(cases.read(path), folder, list)
 
 
+def refused_sessions(top):
+    """Databases and configurations that are refused."""
+    for number, (said, text) in enumerate(refusal_rows.DATABASES):
+        folder = os.path.join(top, b"database-%d" % number)
+        yield said, [b"-E", b"-c", made(folder, conf=cases.DATABASES, old=text, new=NEW)]
+    for number, (_, said, text) in enumerate(refused_configurations.ALL):
+        folder = os.path.join(top, b"configuration-%d" % number)
+        yield said, [b"-D", b"-c", made(folder, conf=text)]
+
+
 def example_sessions(levels):
     """What AIDE has written, with every attribute too, at these report levels."""
     for folder in folders_of_aide():
@@ -168,7 +180,7 @@ def definitions_of_each_length():
 
 def long_sessions(top):
     """Many definitions, and long words, configurations and paths."""
-    pair = b"database_in=file:/@DIR@/old\ndatabase_new=file:/@DIR@/new\n"
+    pair = cases.DATABASES
     conf = made(
         os.path.join(top, b"long"), conf=pair + definitions_of_each_length(), old=OLD, new=NEW
     )
@@ -213,10 +225,9 @@ def random_sessions(top, seed, count, name=b"random", make=make_session):
 
 def long_sessions_beside(top):
     """Trusted databases on long paths, and of many names."""
-    pair = b"database_in=file:/@DIR@/old\ndatabase_new=file:/@DIR@/new\n"
     folder = os.path.join(top, b"beside", FOLDER_NAME, FOLDER_NAME)
     files = {"old": OLD, "new": NEW, "trusted_old": names(3000), "trusted_new": SKIPPING}
-    conf = made(folder, conf=pair, **files)
+    conf = made(folder, conf=cases.DATABASES, **files)
     trusted = [
         b"--trusted-old",
         os.path.join(folder, b"trusted_old"),
@@ -233,6 +244,7 @@ def long_sessions_beside(top):
 def sessions(top, seed, count):
     """The labels and words of all sessions, with their files below a folder."""
     yield from stored_sessions(top)
+    yield from refused_sessions(top)
     yield from example_sessions(LEVELS)
     yield from long_sessions(top)
     yield from random_sessions(top, seed, count)

@@ -1,9 +1,8 @@
 """Tries what the built program makes of the fields of a database, by the details of its reports.
 
 The tables in field_rows.py and change_rows.py say what a field means, whether two of them differ,
-what a report makes of that, or why a field is refused. The table of attributes in
-oracle/attributes.py is tried row by row. The definitions have to say the same. The last line is 'N
-passed, M failed'.
+and what a report makes of that. The table of attributes in oracle/attributes.py is tried row by
+row. The definitions have to say the same.
 """
 import base64
 import re
@@ -12,14 +11,12 @@ from tests.lib.program_test import ProgramTest
 from tests.program import change_rows, field_rows
 from tests.oracle.attributes import ATTRIBUTES
 from tests.oracle.comparison import SLOTS
-from tests.oracle.session import Answer
 from tests.oracle.texts import printed
-from tests.program.real_files.folder import Folder
+from tests.program.real_files.folder import EMPTY, Folder, database
 from tests.lib.tally import difference, shown
 
 ALL_DETAILS = b"report_level=added_removed_entries\nreport_base16=yes\n"
 CHANGED_DETAILS = b"report_level=changed_attributes\n"
-NOTHING = b"@@begin_db\n@@db_spec name\n@@end_db\n"
 
 # A line of the details: the name of the attribute, or nothing where a value goes on, and the values
 # of both sides.
@@ -34,11 +31,6 @@ FIELDS = {
     "link": [(b"0-", b""), (b"x", b"x")],
     "opaque": [(b"POSIX,0", b"POSIX,0"), (b"0-", b"0-")],
 }
-
-
-def database(columns, fields):
-    """A database of one entry with a path and other fields."""
-    return b"@@begin_db\n@@db_spec name %s\n/a %s\n@@end_db\n" % (columns, fields)
 
 
 def details(output):
@@ -73,7 +65,7 @@ class FieldTest(ProgramTest):
 
     def added(self, column, field):
         """The values in the details of an added entry."""
-        answer = self.answer(shown(field), NOTHING, database(column, field))
+        answer = self.answer(shown(field), EMPTY, database(column, field))
         self.add(shown(field), [] if answer.status == 1 else ["status %d" % answer.status])
         return {name: new for name, (_, new) in details(answer.output).items()}
 
@@ -112,8 +104,8 @@ class FieldsTest(FieldTest):
         """The summary strings of entries of each type that were added or removed."""
         for field, _, letter in field_rows.TYPES:
             for sign, sides in (
-                ("+", (NOTHING, database(b"perm", field))),
-                ("-", (database(b"perm", field), NOTHING)),
+                ("+", (EMPTY, database(b"perm", field))),
+                ("-", (database(b"perm", field), EMPTY)),
             ):
                 self.is_value(
                     field, summaries(self.answer(shown(field), *sides).output), [letter + 17 * sign]
@@ -152,7 +144,7 @@ class FieldsTest(FieldTest):
             for length in () if each.form in FIELDS else (each.form[0] - 1, each.form[1] + 1):
                 if length:
                     other = database(each.column.encode(), base64.b64encode(bytes(length)))
-                    self.is_value(name, self.answer(shown(name), NOTHING, other).status, 24)
+                    self.is_value(name, self.answer(shown(name), EMPTY, other).status, 24)
 
     def test_changes(self) -> None:
         """What is reported of a change, what the details show of it, and its summary string."""
@@ -165,16 +157,18 @@ class FieldsTest(FieldTest):
                 row.ignored + b"report_level=added_removed_attributes",
             )
             self.is_value(row.ignored, list(details(at_all.output)), row.reported)
-            output = self.answer(
-                shown(row.options), sides[0], sides[1], row.ignored + row.options
-            ).output
-            self.is_value(row.options, list(details(output)), row.shown)
-            self.is_value(row.options, summaries(output), [row.summary] if row.summary else [])
+            answer = self.answer(shown(row.options), sides[0], sides[1], row.ignored + row.options)
+            self.is_value(row.options, list(details(answer.output)), row.shown)
+            self.is_value(
+                row.options, summaries(answer.output), [row.summary] if row.summary else []
+            )
+            for each in (at_all, answer):
+                self.is_value(row.ignored, each.status, 4 if row.reported else 0)
 
     def test_names(self) -> None:
         for field, path in field_rows.NAMES:
             text = b"@@begin_db\n@@db_spec name acl\n%s POSIX,0\n@@end_db\n" % field
-            answer = self.answer(shown(field), NOTHING, text)
+            answer = self.answer(shown(field), EMPTY, text)
             self.is_value(
                 field,
                 re.findall(rb"^\?\+{17}: (.*)$", answer.output, re.MULTILINE),
@@ -201,9 +195,3 @@ class FieldsTest(FieldTest):
         for old, new, values in field_rows.ENTRIES:
             answer = self.answer(shown(new), old, new)
             self.is_value(new, details(answer.output), values)
-
-    def test_refused(self) -> None:
-        for column, field, words in field_rows.REFUSED:
-            answer = self.answer(shown(field), NOTHING, database(column, field))
-            want = Answer(b"", b"aide: new database:3: %s in column 2\n" % words.encode(), 24)
-            self.is_value(shown(field), answer, want)

@@ -29,10 +29,10 @@ from tests.oracle.texts import printed
 from tests.program import line_rows
 from tests.program.random_texts.configurations import random_configuration
 from tests.program.random_texts.databases import random_pair
+from tests.program.real_files.folder import EMPTY, database
 
 COMPARE, CHECK = [b"-E", b"-c", b"/conf"], [b"-D", b"-c", b"/conf"]
 NAMES = b"database_in=file:/old\ndatabase_new=file:/new\n"
-EMPTY = b"@@begin_db\n@@db_spec name\n@@end_db\n"
 WIDEST = {
     "report_level": "added_removed_entries",
     "report_grouped": False,
@@ -168,16 +168,13 @@ def faults_beside(output, report, old, new):
     for entry in entries:
         path = bytes_of(entry, "path")
         names = details.pop(printed(path), [])
-        kinds = [database.entries.get(path, {}).get("ftype") for database in (new, old)]
+        kinds = [whole.entries.get(path, {}).get("ftype") for whole in (new, old)]
         titles = [title_of(kind) for kind in kinds if kind is not None] or [None]
         if entry.get("type") != titles[0]:
             faults.append("type of %r: wanted %r, given %r" % (path, titles[0], entry))
-        for side, database, lacks in (("old", old, "added"), ("new", new, "removed")):
-            want = (
-                side_of_database(database.entries[path], names)
-                if path in database.entries
-                else None
-            )
+        for side, whole, lacks in (("old", old, "added"), ("new", new, "removed")):
+            entry_there = whole.entries.get(path)
+            want = None if entry_there is None else side_of_database(entry_there, names)
             given = side_of(entry[side]) if side in entry else None
             if given != want or (entry["kind"] == lacks) != (want is None):
                 faults.append("%s of %r: wanted %r, given %r" % (side, path, want, given))
@@ -217,7 +214,7 @@ class LineDefinitionsTest(AnswerTest):
         """Each form of each attribute, at an added entry, at a removed one, and at one that is
         changed."""
         for column, field, member in line_rows.MEMBERS:
-            text = b"@@begin_db\n@@db_spec name %s\n/a %s\n@@end_db\n" % (column, field)
+            text = database(column, field)
             other = b"@@begin_db\n@@db_spec name\n/a\n@@end_db\n"
             for old, new, sides in (
                 (EMPTY, text, '"new":{%s}' % member),
@@ -241,10 +238,7 @@ class LineDefinitionsTest(AnswerTest):
         """What accounts for a change, by entries that are written by hand; turned round the answer
         is the same."""
         for columns, old, new, accounts in line_rows.ACCOUNTS:
-            sides = [
-                b"@@begin_db\n@@db_spec name %s\n/a %s\n@@end_db\n" % (columns, b" ".join(fields))
-                for fields in (old, new)
-            ]
+            sides = [database(columns, b" ".join(fields)) for fields in (old, new)]
             for turned in (sides, sides[::-1]):
                 _, *entries, last = read(answer_to(COMPARE, NAMES, *turned).output)
                 given = [entry.get("same_as") for entry in entries]

@@ -25,11 +25,10 @@ from tests.program import cases
 from tests.program.configurations import accepted, limits, names, refused
 from tests.program.random_sessions import try_sessions
 from tests.program.real_files.test_devices import NOT_WRITTEN, closed_pipe
-from tests.program.real_files.folder import NEW, OLD, SKIPPING, Folder
+from tests.program.real_files.folder import EMPTY, NEW, OLD, SKIPPING, Folder
 from tests.program.real_files.test_outside import limited
 from tests.program.test_configurations import with_all
 
-EMPTY = b"@@begin_db\n@@db_spec name\n@@end_db\n"
 OTHER_VALUES = {
     "type": b"100600",
     "perm": b"100600",

@@ -7,7 +7,13 @@ from tests.lib.tally import run, wanted
 
 OLD = b"@@begin_db\n@@db_spec name attr perm size\n/b 36 40755 4096\n/c 36 100644 10\n@@end_db\n"
 NEW = b"@@begin_db\n@@db_spec name attr perm size\n/a 36 100644 5\n/c 36 100600 7\n@@end_db\n"
+EMPTY = b"@@begin_db\n@@db_spec name\n@@end_db\n"
 SKIPPING = b"@@begin_db\n@@db_spec name size foo\n/a 1 x\n@@end_db\n"
+
+
+def database(columns, fields):
+    """A database of one entry with a path and other fields."""
+    return b"@@begin_db\n@@db_spec name %s\n/a %s\n@@end_db\n" % (columns, fields)
 
 
 def names(count):
