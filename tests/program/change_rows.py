@@ -25,7 +25,10 @@ def of_sha3(*more):
 
 
 NO_SIZE, NO_SHA3 = b"report_ignore_changed_attrs=s\n", b"report_ignore_changed_attrs=sha3_256\n"
+NO_TYPE = b"report_ignore_changed_attrs=ftype\n"
 NO_ADDED, NO_REMOVED = b"report_ignore_added_attrs=sha256\n", b"report_ignore_removed_attrs=md5\n"
+ALL_DIGESTS = b"report_ignore_changed_attrs=H\n"
+OTHER_DIGESTS = b"report_ignore_changed_attrs=H-sha3_256\n"
 FORCED, MORE = b"report_force_attrs=s\n", b"report_level=added_removed_attributes\n"
 BOTH, LINKS = ["MD5", "SHA256"], ["Linkcount"]
 CHANGES = [
@@ -57,18 +60,35 @@ CHANGES = [
         b"perm size uid",
         b"100644 1 7",
         b"120644 1 8",
-        b"report_ignore_changed_attrs=ftype\n",
+        NO_TYPE,
         b"",
         ["UID"],
         ["UID"],
         "! = .u            ",
     ),
+    Change(b"perm", b"100644", b"120644", NO_TYPE, b"", [], [], ""),
+    Change(b"perm", b"100644", b"120644", NO_TYPE, b"report_level=minimal", [], [], ""),
+    Change(b"attr size", b"0 1", b"0 2", b"", MORE, [], [], ""),
+    Change(b"attr size", b"32 1", b"0 1", b"", MORE, ["Size"], ["Size"], "? -               "),
+    # Groups of one's own, one of them in the place of a predefined name.
+    of_size(
+        b"100644 1",
+        b"100600 2",
+        b"my = p+s\nL = m\nreport_ignore_changed_attrs = my-s\n",
+        b"report_force_attrs=L\n",
+        ["Size"],
+        ["Size"],
+        "f > :             ",
+    ),
+    of_size(b"100644 1", b"100600 2", b"report_ignore_changed_attrs=p+s-s+s\n", b"", [], [], ""),
     of_digests(b"", MORE, BOTH, BOTH, "?           +     "),
     of_digests(NO_ADDED, MORE, ["MD5"], ["MD5"], "?           -     "),
     of_digests(b"", b"", BOTH, [], "?           +     "),
     of_digests(NO_ADDED + NO_REMOVED, MORE, [], [], ""),
     of_sha3(b"", b"", ["SHA3-256"], ["SHA3-256"], "?           H     "),
     of_sha3(NO_SHA3, MORE, [], [], ""),
+    of_sha3(ALL_DIGESTS, b"", [], [], ""),
+    of_sha3(OTHER_DIGESTS, b"", ["SHA3-256"], ["SHA3-256"], "?           H     "),
     Change(
         b"md5 sha3_256",
         MD5 + b" 0",
