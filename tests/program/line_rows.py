@@ -121,6 +121,10 @@ WHOLE = [
 
 ONES = {size: base64.b64encode(bytes([1]) * size) for size in (16, 32, 64)}
 FILE, DIRECTORY, LINK, FIFO = b"100644", b"40755", b"120777", b"10600"
+# The bits of the attributes that an entry has.
+ALL = b"%d" % (2**64 - 1)
+WITHOUT_OWNER = b"%d" % (2**64 - 1 - 2**3)
+WITHOUT_OWN = b"%d" % (2**64 - 1 - 2**8 - 2**9)
 
 # Columns, the old and the new fields of an entry that changed, and whether the old entry accounts
 # for the change.
@@ -137,7 +141,21 @@ ACCOUNTS = [
     (b"perm acl sha256", [FILE, b"0", ZEROS[32]], [FILE, b"POSIX,dXNlcg==,0", ZEROS[32]], False),
     (b"perm sha256", [FILE, ZEROS[32]], [b"104644", ZEROS[32]], False),
     (b"perm sha256", [FILE, ZEROS[32]], [FIFO, ZEROS[32]], False),
+    (b"perm sha256", [FILE, ZEROS[32]], [FILE, ONES[32]], False),
     (b"perm sha256", [b"644", ZEROS[32]], [b"644", ONES[32]], False),
+    # One of the two lacks an attribute: the owner, or time and inode, which are a machine's own.
+    (
+        b"attr perm uid sha256",
+        [ALL, FILE, b"0", ZEROS[32]],
+        [WITHOUT_OWNER, FILE, b"0", ZEROS[32]],
+        False,
+    ),
+    (
+        b"attr perm mtime inode sha256",
+        [ALL, FILE, b"1", b"2", ZEROS[32]],
+        [WITHOUT_OWN, FILE, b"1", b"2", ZEROS[32]],
+        True,
+    ),
     (b"perm mtime sha256", [b"644", b"1", ZEROS[32]], [b"644", b"2", ZEROS[32]], False),
     (b"perm mtime", [FILE, b"1"], [FILE, b"2"], False),
     (b"perm mtime md5", [FILE, b"1", ZEROS[16]], [FILE, b"2", ZEROS[16]], False),
@@ -154,6 +172,8 @@ ACCOUNTS = [
     (b"perm sha256 sha512", [FILE, ZEROS[32], b"0"], [FILE, b"0", ZEROS[64]], False),
     (b"perm size lcount mtime", [DIRECTORY, b"1", b"2", b"3"], [DIRECTORY, b"4", b"5", b"6"], True),
     (b"perm gid", [DIRECTORY, b"0"], [DIRECTORY, b"1"], False),
+    (b"perm", [DIRECTORY], [b"10755"], False),
+    (b"perm lcount", [b"20600", b"1"], [b"20600", b"2"], False),
     (b"perm lname mtime", [LINK, b"../a", b"1"], [LINK, b"../a", b"2"], True),
     (b"perm lname mtime", [LINK, b"../a", b"1"], [LINK, b"../b", b"1"], False),
     (b"perm lname mtime", [LINK, b"0", b"1"], [LINK, b"0", b"2"], False),

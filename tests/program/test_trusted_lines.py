@@ -19,16 +19,16 @@ import unittest
 
 from tests.commands.viewers.schema import Validator, schema_of_lines
 from tests.lib.program_test import SESSIONS, ProgramTest, new_seed, slow
-from tests.lib.tally import difference, run, side_by_side, wanted_lines
+from tests.lib.tally import difference, run, shown, side_by_side, wanted_lines
 from tests.oracle.database import LINE_LIMIT
 from tests.oracle.session import USAGE_LINE, Answer
-from tests.program import cases
+from tests.program import cases, line_rows
 from tests.program.test_failed_calls import FILES, NAMES
 from tests.program.random_sessions import make_session_beside, try_sessions
 from tests.program.real_files.test_damage import WAYS
 from tests.program.real_files.test_devices import NOT_WRITTEN, closed_pipe
 from tests.program.real_files.test_fifos import WAIT, Feeder
-from tests.program.real_files.folder import Folder, names
+from tests.program.real_files.folder import EMPTY, Folder, database, names
 from tests.program.real_files.test_replaced import ENTRIES, replace, resize, Turning
 from tests.program.test_lines import faults_of_lines
 
@@ -199,6 +199,24 @@ class TrustedTest(ProgramTest):
                     for fault in VALIDATOR.faults(json.loads(line))
                 ]
                 self.add("the schema at " + label, found)
+
+    def test_accounts(self) -> None:
+        """Whether the entry that a trusted machine has accounts for one that came; turned round the
+        answer is the same."""
+        for columns, one, other, is_same in line_rows.ACCOUNTS:
+            sides = [database(columns, b" ".join(fields)) for fields in (one, other)]
+            for came, trusted in (sides, sides[::-1]):
+                with Folder() as folder:
+                    folder_of(folder, [EMPTY, came, EMPTY, trusted])
+                    words = folder.words_beside()
+                    self.ends(shown(trusted), words, 1)
+                    output = run(self.lines_program, words).output
+                first, entry, last = (json.loads(line) for line in output.splitlines())
+                counts = (entry.get("same_as"), last["same_as_trusted"], last["others"])
+                want = ("trusted", 1, 0) if is_same else (None, 0, 1)
+                self.assertEqual(counts, want, (came, trusted))
+                for line in (first, entry, last):
+                    self.add(f"the schema at {line}", VALIDATOR.faults(line))
 
     def test_words(self) -> None:
         """Each way to name a pair, and to name less or more than one."""
