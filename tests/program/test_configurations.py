@@ -158,6 +158,9 @@ class ConfigurationsTest(ConfigurationTest):
             self.check_words(shown(text), self.words(b"-D", text), ACCEPTED)
         for text in limits.WHOLE:
             self.check(shown(text), run(self.program, self.words(b"-D", text)), ACCEPTED)
+        longer = self.words(b"-D", b"\n" * 4194305)
+        said = b"aide: the configuration is longer than 4194304 bytes\n"
+        self.check_words("a configuration that is too long", longer, Answer(b"", said, 17))
 
     def test_accepted(self) -> None:
         self.pair(OLD, NEW)

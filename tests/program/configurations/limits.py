@@ -77,6 +77,7 @@ ACCEPTED = [
     b"@@{" + b"x" * 65532 + b"}",
     b"/" + b"x" * 65535,
     b"# " + b"x" * 70000,
+    b" " * 70000 + b"/" + b"\t" * 70000,
     b"@@ifdef A\n@@ifdef B C\n@@include /x\n" + b"x" * 70000 + b"\n@@endif\n@@endif",
     b"@@ifdef A\n@@define " + b"x" * 70000 + b"\n@@endif",
     b"@@ifdef A\n@@else " + b"x" * 70000 + b"\n@@endif",

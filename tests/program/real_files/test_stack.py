@@ -4,9 +4,12 @@ import resource
 import tempfile
 
 from tests.lib.program_test import ProgramTest, slow
+from tests.oracle.session import Answer
 from tests.program import cases
+from tests.program.configurations import limits
 from tests.lib.tally import run
 
+from .folder import Folder
 from .test_examples import EXAMPLES, LEVELS, folders_of_aide, words_at
 from .test_outside import limited
 
@@ -16,8 +19,8 @@ STACK = 64 * 1024
 @slow
 class StackTest(ProgramTest):
     def test_stack(self) -> None:
-        """Every stored session, and the examples at each level, with 64 kB of stack, the arguments
-        among them."""
+        """Every stored session, configurations beyond a limit, and the examples at each level, with
+        64 kB of stack, the arguments among them."""
         settings = {"preexec_fn": limited(resource.RLIMIT_STACK, STACK), "env": {}}
         for path in cases.all_cases():
             case = cases.read(path)
@@ -30,6 +33,14 @@ class StackTest(ProgramTest):
                     "%s with little stack" % os.path.relpath(path, cases.FOLDER),
                     answer,
                     cases.stored(case, folder),
+                )
+        for line, said, text in limits.REFUSED:
+            with Folder() as files:
+                files.write("conf", text)
+                words = [b"-D", b"-c", files.at("conf")]
+                want = Answer(b"", b"aide: config:%d: %s\n" % (line, said.encode()), 17)
+                self.check(
+                    "%s with little stack" % said, run(self.program, words, **settings), want
                 )
         for examples in folders_of_aide():
             for level in LEVELS:
