@@ -1,10 +1,10 @@
 """Checks how the Python of this repository is written.
 
-- In commands/ each function is annotated; no line has more than 100 columns; a conditional
-  expression has no other one in it; and for each 1,000 lines of code there are at most 8 conditional
-  expressions and 10 assignments to several names at once.
+- In commands/ no line has more than 100 columns; a conditional expression has no other one in it;
+  and for each 1,000 lines of code there are at most 8 conditional expressions and 10 assignments to
+  several names at once.
 - `mypy --strict` finds no fault in commands/, and mypy none in tests/, tools/ and bench/.
-- pyflakes finds no fault in any of them, and black would change none.
+- pyflakes finds no fault in any of them or in packaging/, and black would change none.
 
 A checker that is not installed is said, and not counted. Prints what fails and, at the end,
 `N passed, M failed`.
@@ -24,6 +24,7 @@ from tools.lib.arguments import parser_of
 
 COMMANDS = "commands/"
 FRONT = "commands/bin/aide-compare"
+PACKED = "packaging/completions"
 OTHERS = ("tests", "tools", "bench")
 MAX_COLUMNS = 100
 # For each 1,000 lines of code.
@@ -49,7 +50,7 @@ class Source(NamedTuple):
 CHECKERS = (
     Checker(("mypy",), ("--cache-dir=/dev/null", "--strict", "commands", FRONT)),
     Checker(("mypy",), ("--cache-dir=/dev/null", *OTHERS)),
-    Checker(("pyflakes3", "pyflakes"), ("commands", FRONT, *OTHERS)),
+    Checker(("pyflakes3", "pyflakes"), ("commands", FRONT, PACKED, *OTHERS)),
     Checker(("black",), ("--check", "--quiet", "commands", FRONT, *OTHERS)),
 )
 
@@ -63,18 +64,6 @@ def sources() -> list[Source]:
                 text = file.read()
             found.append(Source(name, text.split("\n"), ast.parse(text, name)))
     return found
-
-
-def unannotated(tree: ast.Module) -> Iterator[str]:
-    """The functions of a file that do not say the types of all their arguments and of the result."""
-    for node in ast.walk(tree):
-        if not isinstance(node, ast.FunctionDef):
-            continue
-        every = node.args
-        arguments = [*every.posonlyargs, *every.args, *every.kwonlyargs, every.vararg, every.kwarg]
-        names = [one for one in arguments if one and one.arg not in ("self", "cls")]
-        if node.returns is None or any(one.annotation is None for one in names):
-            yield f"line {node.lineno}: {node.name} is not annotated"
 
 
 def nested(tree: ast.Module) -> Iterator[str]:
@@ -132,8 +121,7 @@ def main() -> None:
     tally = Tally()
     files = sources()
     for source in files:
-        faults = [*unannotated(source.tree), *nested(source.tree), *too_wide(source.lines)]
-        tally.add(source.name, faults)
+        tally.add(source.name, [*nested(source.tree), *too_wide(source.lines)])
     check_density(files, tally)
     for checker in CHECKERS:
         check_by(checker, tally)

@@ -1,8 +1,7 @@
-"""Checks each script in Python of this repository: its language, its imports, its --help, and that
-it does nothing before it has read its arguments.
+"""Checks each script in Python of this repository: its language, its --help, and that it does
+nothing before it has read its arguments.
 
 - Each file is Python 3.9: the grammar of that version reads it.
-- Each name that a file imports is used there, unless the line says `noqa`. What the file of a package imports is for others.
 - Each tool that is run prints by `--help` how it is called, as argparse says it, and all of its own text, and ends with 0.
   The repository is the same afterwards.
 - Each tool refuses an option that it does not have, with a status that is not 0, and changes nothing.
@@ -46,29 +45,12 @@ def scripts():
 
 
 def faults_of_text(name, text):
-    """Where a file is of another language, or imports what it does not use."""
+    """Where a file is of another language."""
     try:
-        module = ast.parse(text, name, feature_version=OLDEST)
+        ast.parse(text, name, feature_version=OLDEST)
     except SyntaxError as error:
         return ["line %s: %s" % (error.lineno, error.msg)]
-    return [] if name.endswith("/__init__.py") else list(unused_imports(module, text.split("\n")))
-
-
-def unused_imports(module, lines):
-    """The names that are imported and stand nowhere else."""
-    used = {node.id for node in ast.walk(module) if isinstance(node, ast.Name)}
-    for node in ast.walk(module):
-        if isinstance(node, ast.ImportFrom) and node.module == "__future__":
-            continue
-        if isinstance(node, (ast.Import, ast.ImportFrom)) and "noqa" not in "".join(
-            lines[node.lineno - 1 : node.end_lineno]
-        ):
-            names = [one.asname or one.name.split(".")[0] for one in node.names]
-            yield from (
-                "line %d: %s is imported and not used" % (node.lineno, name)
-                for name in names
-                if name not in used
-            )
+    return []
 
 
 def tree():
@@ -123,7 +105,7 @@ def main():
     tally, tools = Tally(), []
     for name, text in scripts():
         tally.add(
-            "%s is Python %d.%d, with no import too many" % ((name,) + OLDEST),
+            "%s is Python %d.%d" % ((name,) + OLDEST),
             faults_of_text(name, text),
         )
         if MAIN in text.replace("'", '"') and not name.startswith("commands/"):
