@@ -1,5 +1,5 @@
 """Libraries that are loaded into a program before the C library, built from C that includes no
-header."""
+header of it."""
 import os
 import shutil
 import subprocess

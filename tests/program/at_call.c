@@ -4,13 +4,11 @@
    for that call or for good. Only calls of the first process are counted, or with AT_CHILD only
    those of its children. AT_OLD makes the file system an old one, without files that have no name and without an
    exchange of names. AT_NOTES is a descriptor that gets the name of each call that is counted. AT_MARK is a folder that
-   is made when it happens.
-
-   It includes no header, so that a compiler without a C library builds it. */
+   is made when it happens. */
+#include "preload.h"
 
 enum way { KILLED = 1, EXCHANGED_FOR_THE_CALL, EXCHANGED_FOR_GOOD };
 
-#define NEXT ((void *)-1L)
 #define O_FOLDER 010200000 /* O_PATH and O_DIRECTORY */
 #define O_TMPFILE 020200000
 #define NOT_SUPPORTED 95
@@ -19,24 +17,14 @@ enum way { KILLED = 1, EXCHANGED_FOR_THE_CALL, EXCHANGED_FOR_GOOD };
 #define SYS_WRITE 1
 #define SYS_RENAMEAT2 316
 
-extern void *dlsym(void *, const char *);
-extern char *getenv(const char *);
-extern long atol(const char *);
 extern int getpid(void);
 extern int kill(int, int);
 extern long syscall(long, ...);
 extern int mkdir(const char *, unsigned);
 extern unsigned long strlen(const char *);
-extern int *__errno_location(void);
 
 static long chosen, way, in_child, is_old, notes, count, begun, first_process;
 static const char *one, *other, *mark;
-
-static long number(const char *name)
-{
-    const char *text = getenv(name);
-    return text ? atol(text) : 0;
-}
 
 __attribute__((constructor)) static void begin(void)
 {
@@ -87,12 +75,6 @@ static long after(int back, long result)
     return result;
 }
 
-static long refused(int error)
-{
-    *__errno_location() = error;
-    return -1;
-}
-
 #define CALL(TYPE, NAME, PARAMETERS, ARGUMENTS, REFUSED)              \
     TYPE NAME PARAMETERS                                              \
     {                                                                 \
@@ -101,7 +83,7 @@ static long refused(int error)
         if (!real)                                                    \
             *(void **)&real = dlsym(NEXT, #NAME);                     \
         back = before(#NAME);                                         \
-        return (TYPE)after(back, (REFUSED) ? refused(REFUSED) : (long)real ARGUMENTS); \
+        return (TYPE)after(back, (REFUSED) ? failed(REFUSED) : (long)real ARGUMENTS); \
     }
 
 #define BEGINS(FLAGS) (begun = begun || ((FLAGS) & O_FOLDER) == O_FOLDER, 0)

@@ -1,13 +1,12 @@
 /* Loaded before the C library (LD_PRELOAD), this refuses a program memory. From the program's start on the calls of
    malloc and its kin are counted, and those with the numbers GROWTHS_FIRST to GROWTHS_LAST answer that no memory is
    left. At its end three numbers are written to the descriptor GROWTHS_NOTES: all calls, the refused ones that the
-   program itself made, and the refused ones that came from elsewhere, as from the C library.
+   program itself made, and the refused ones that came from elsewhere, as from the C library. */
+#include "preload.h"
 
-   It includes no header, so that a compiler without a C library builds it: what it needs of 64-bit Linux stands here. */
 typedef unsigned long size_t;
 
 #define NULL ((void *)0)
-#define NEXT ((void *)-1L)
 #define NO_MEMORY 12
 #define LOADED 1
 
@@ -25,12 +24,8 @@ struct object {
     unsigned short count;
 };
 
-extern void *dlsym(void *, const char *);
 extern int dl_iterate_phdr(int (*)(struct object *, size_t, void *), void *);
-extern char *getenv(const char *);
-extern long atol(const char *);
 extern long write(int, const void *, size_t);
-extern int *__errno_location(void);
 
 static struct {
     long calls, own, others;
@@ -58,12 +53,6 @@ static int find_program(struct object *object, size_t size, void *unused)
             program.end = end;
     }
     return 1;
-}
-
-static long number(const char *name)
-{
-    const char *text = getenv(name);
-    return text == NULL ? 0 : atol(text);
 }
 
 __attribute__((constructor)) static void begin(void)
@@ -96,7 +85,6 @@ static int is_refused(const char *caller)
 }
 
 #define IS_REFUSED is_refused(__builtin_return_address(0))
-#define REAL(name) ((__typeof__(&name))dlsym(NEXT, #name))
 
 void *malloc(size_t size)
 {
