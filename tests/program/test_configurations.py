@@ -12,13 +12,13 @@ import collections
 import re
 from typing import Any
 
-from tests.lib.program_test import ProgramTest, new_seed
+from tests.lib.program_test import new_seed
 from tests.program.configurations import accepted, limits, names, refused
 from tests.program.configurations.random_blocks import random_texts
 from tests.oracle.attributes import ATTRIBUTES
 from tests.oracle.session import CONFIGURATION_WORDS, Answer
-from tests.program.real_files.folder import NEW, OLD, Folder
-from tests.lib.tally import difference, run, shown, wanted
+from tests.program.real_files.folder import NEW, OLD, FolderTest
+from tests.lib.tally import run, shown, wanted
 
 DIFFERENT = b"AIDE found differences between the two databases.\n"
 SAME = b"AIDE found NO differences between the two databases.\n"
@@ -85,26 +85,12 @@ def with_all(**more):
     return b"".join(line + b"\n" for line in lines)
 
 
-class ConfigurationTest(ProgramTest):
+class ConfigurationTest(FolderTest):
     """One configuration after another, each in the place of the last."""
-
-    def setUp(self) -> None:
-        super().setUp()
-        self.folder = Folder().__enter__()
-        self.addCleanup(self.folder.__exit__)
 
     def words(self, flag, text, before=b"", after=b""):
         self.folder.write("conf", text)
         return [flag, b"-c", self.folder.at("conf"), b"-B", before, b"-A", after]
-
-    def check_words(self, label, words, want):
-        """The program and the definitions answer what is wanted."""
-        self.check(label, run(self.program, words), want)
-        self.agree(label, words, want)
-
-    def agree(self, label, words, answer):
-        """The definitions give this answer."""
-        self.add("the definitions at " + label, difference(wanted(words), answer))
 
     def compared(self, text, before=b"", after=b""):
         """The words that compare the databases of the folder."""

@@ -7,13 +7,12 @@ row. The definitions have to say the same.
 import base64
 import re
 
-from tests.lib.program_test import ProgramTest
 from tests.program import change_rows, field_rows
 from tests.oracle.attributes import ATTRIBUTES
 from tests.oracle.comparison import SLOTS
 from tests.oracle.texts import printed
-from tests.program.real_files.folder import EMPTY, Folder, database
-from tests.lib.tally import difference, shown
+from tests.program.real_files.folder import EMPTY, FolderTest, database
+from tests.lib.tally import shown
 
 ALL_DETAILS = b"report_level=added_removed_entries\nreport_base16=yes\n"
 CHANGED_DETAILS = b"report_level=changed_attributes\n"
@@ -48,19 +47,14 @@ def summaries(output):
     return [letters.decode() for letters in re.findall(rb"^(.{18}): /a$", output, re.MULTILINE)]
 
 
-class FieldTest(ProgramTest):
+class FieldTest(FolderTest):
     """One pair of databases after another, each in the place of the last."""
-
-    def setUp(self) -> None:
-        super().setUp()
-        self.folder = Folder().__enter__()
-        self.addCleanup(self.folder.__exit__)
 
     def answer(self, label, old, new, options=ALL_DETAILS):
         """The program's answer to two databases, which the definitions have to give too."""
         self.folder.pair(old, new, options)
         answer = self.folder.run(self.program)
-        self.add("the definitions at " + label, difference(answer, self.folder.wanted()))
+        self.agree(label, self.folder.words(), answer)
         return answer
 
     def added(self, column, field):

@@ -5,24 +5,17 @@ from __future__ import annotations
 
 import os
 
-from tests.lib.program_test import ProgramTest
-from tests.lib.tally import difference, run, shown, wanted, wanted_lines
+from tests.lib.tally import difference, run, shown, wanted_lines
 from tests.oracle.session import Answer
 from tests.program import cases, field_rows, refusal_rows
-from tests.program.real_files.folder import Folder, database
+from tests.program.real_files.folder import FolderTest, database
 
 
-class RefusalsTest(ProgramTest):
-    def setUp(self) -> None:
-        super().setUp()
-        self.folder = Folder().__enter__()
-        self.addCleanup(self.folder.__exit__)
-
+class RefusalsTest(FolderTest):
     def both(self, label: str, words: list[bytes], want: Answer) -> None:
         """Both programs and the definitions of both give this answer."""
-        self.check(label, run(self.program, words), want)
+        self.check_words(label, words, want)
         self.check(label + ", by lines", run(self.lines_program, words), want)
-        self.add("the definitions at " + label, difference(wanted(words), want))
         self.add("the definitions of lines at " + label, difference(wanted_lines(words), want))
 
     def refused(self, old: bytes | None, new: bytes | None, said: str) -> None:
@@ -45,9 +38,7 @@ class RefusalsTest(ProgramTest):
         for text in refusal_rows.NOT_UNDERSTOOD:
             self.both(shown(text), self.words_of(text), Answer(b"", refusal_rows.USAGE, 15))
         for text in refusal_rows.UNDERSTOOD:
-            words = self.words_of(text)
-            self.check(shown(text), run(self.program, words), Answer(b"", b"", 0))
-            self.add("the definitions at " + shown(text), difference(wanted(words), (b"", b"", 0)))
+            self.check_words(shown(text), self.words_of(text), Answer(b"", b"", 0))
 
     def test_databases(self) -> None:
         for said, text in refusal_rows.DATABASES:

@@ -3,7 +3,8 @@ import os
 import shutil
 import tempfile
 
-from tests.lib.tally import run, wanted
+from tests.lib.program_test import ProgramTest
+from tests.lib.tally import difference, run, wanted
 
 OLD = b"@@begin_db\n@@db_spec name attr perm size\n/b 36 40755 4096\n/c 36 100644 10\n@@end_db\n"
 NEW = b"@@begin_db\n@@db_spec name attr perm size\n/a 36 100644 5\n/c 36 100600 7\n@@end_db\n"
@@ -75,3 +76,27 @@ class Folder:
 
     def run(self, program, *more, **streams):
         return run(program, self.words(*more), **streams)
+
+
+class FolderTest(ProgramTest):
+    """A test over one folder, in which each trial takes the place of the last."""
+
+    def setUp(self) -> None:
+        super().setUp()
+        self.folder = Folder().__enter__()
+        self.addCleanup(self.folder.__exit__)
+
+    def agree(self, label, words, answer):
+        """The definitions give this answer."""
+        self.add("the definitions at " + label, difference(wanted(words), answer))
+
+    def check_words(self, label, words, want):
+        """The program and the definitions answer what is wanted."""
+        self.check(label, run(self.program, words), want)
+        self.agree(label, words, want)
+
+    def check_status(self, label, words, status):
+        """The program answers as the definitions do, which end with this status."""
+        want = wanted(words)
+        self.holds("the definitions at " + label, want.status == status, want)
+        self.check(label, run(self.program, words), want)

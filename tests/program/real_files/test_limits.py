@@ -1,9 +1,8 @@
 """Databases cut at each byte, and lines of just the greatest length."""
-from tests.lib.program_test import ProgramTest, slow
+from tests.lib.program_test import slow
 from tests.oracle.database import LINE_LIMIT
-from tests.lib.tally import difference
 
-from .folder import OLD, Folder
+from .folder import OLD, FolderTest
 
 # The first fault of the old database cut after so many bytes: the last length with this fault, its
 # line, its words.
@@ -28,43 +27,30 @@ def database(line, tail=b"@@end_db\n"):
 
 
 @slow
-class LimitsTest(ProgramTest):
+class LimitsTest(FolderTest):
     def test_cuts(self) -> None:
         """The old database cut at each byte."""
-        with Folder() as folder:
-            for length in range(len(OLD) + 1):
-                folder.pair(OLD[:length])
-                want = folder.wanted()
-                told = [(line, words) for last, line, words in CUTS if length <= last][:1]
-                if told:
-                    want = (b"", b"aide: old database:%d: %s\n" % told[0], 24)
-                self.check("cut after %d bytes" % length, folder.run(self.program), want)
-                self.add(
-                    "the definitions after %d bytes" % length, difference(folder.wanted(), want)
-                )
+        for length in range(len(OLD) + 1):
+            self.folder.pair(OLD[:length])
+            want = self.folder.wanted()
+            told = [(line, words) for last, line, words in CUTS if length <= last][:1]
+            if told:
+                want = (b"", b"aide: old database:%d: %s\n" % told[0], 24)
+            self.check_words("a cut after %d bytes" % length, self.folder.words(), want)
 
     def test_long_lines(self) -> None:
         """Lines of a database of just the greatest length, and one byte longer."""
-        with Folder() as folder:
-            for more, statuses in ((0, (3, 1, 0)), (1, (24, 24, 24))):
-                entry, comment = b"/" + b"a" * (LINE_LIMIT - 3 + more) + b" 1", b"#" * (
-                    LINE_LIMIT + more
-                )
-                end = b"@@end_db" + b" " * (LINE_LIMIT - 8 + more)
-                texts = [database(entry), database(comment), database(b"/a 1", end)]
-                for label, status, text in zip(
-                    ("an entry", "a comment", "an end line"), statuses, texts
-                ):
-                    folder.pair(text, database(b"/a 1"), b"report_level=list_entries\n")
-                    want = folder.wanted()
-                    self.add(
-                        "the definitions at " + label,
-                        [] if want.status == status else ["status %d" % want.status],
-                    )
-                    self.check(
-                        "%s of %d bytes" % (label, LINE_LIMIT + more),
-                        folder.run(self.program),
-                        want,
-                    )
-            folder.pair(database(b"/a 1", b"@@end_db\n" + b"x" * 3 * LINE_LIMIT), database(b"/a 1"))
-            self.check("a long line behind the end", folder.run(self.program), folder.wanted())
+        for more, statuses in ((0, (3, 1, 0)), (1, (24, 24, 24))):
+            entry = b"/" + b"a" * (LINE_LIMIT - 3 + more) + b" 1"
+            comment = b"#" * (LINE_LIMIT + more)
+            end = b"@@end_db" + b" " * (LINE_LIMIT - 8 + more)
+            texts = [database(entry), database(comment), database(b"/a 1", end)]
+            for label, status, text in zip(
+                ("an entry", "a comment", "an end line"), statuses, texts
+            ):
+                self.folder.pair(text, database(b"/a 1"), b"report_level=list_entries\n")
+                label = "%s of %d bytes" % (label, LINE_LIMIT + more)
+                self.check_status(label, self.folder.words(), status)
+        behind = b"@@end_db\n" + b"x" * 3 * LINE_LIMIT
+        self.folder.pair(database(b"/a 1", behind), database(b"/a 1"))
+        self.check_status("a long line behind the end", self.folder.words(), 0)

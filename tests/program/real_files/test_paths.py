@@ -3,11 +3,10 @@ great lengths; and files that are almost the ones that were named."""
 import gzip
 import os
 
-from tests.lib.program_test import ProgramTest
 from tests.oracle.session import Answer, answer_of
 from tests.lib.tally import file_at, run, wanted
 
-from .folder import NEW, OLD, Folder
+from .folder import NEW, OLD, Folder, FolderTest
 
 HERE = b"/proc/self/cwd/"
 LONG = 1500
@@ -153,37 +152,23 @@ def command_lines(conf):
     return lines
 
 
-class PathsTest(ProgramTest):
+class PathsTest(FolderTest):
     def test_folders(self) -> None:
         for label, name, is_nameable in SHAPES:
             with Folder() as top:
                 check_folder(self.program, self, label, os.path.join(top.path, name), is_nameable)
 
     def test_almost_named(self) -> None:
-        with Folder() as folder:
-            folder.pair()
-            for name in ("conf", "old", "new"):
-                with open(folder.at(name), "rb") as plain, open(
-                    folder.at(name) + b"_packed.gz", "wb"
-                ) as packed:
-                    packed.write(gzip.compress(plain.read()))
-            for label, words in almost_named(folder.at):
-                want = wanted(words)
-                self.add(
-                    "the definitions at " + label,
-                    [] if want.status == 18 else ["status %d" % want.status],
-                )
-                self.check(label, run(self.program, words), want)
+        self.folder.pair()
+        for name in ("conf", "old", "new"):
+            with open(self.folder.at(name), "rb") as plain:
+                self.folder.write(name + "_packed.gz", gzip.compress(plain.read()))
+        for label, words in almost_named(self.folder.at):
+            self.check_status(label, words, 18)
 
     def test_arguments(self) -> None:
-        with Folder() as folder:
-            folder.pair()
-            for label, words, status in command_lines(folder.at("conf")):
-                want = wanted(words)
-                self.add(
-                    "the definitions at " + label,
-                    [] if want.status == status else ["status %d" % want.status],
-                )
-                self.check(label, run(self.program, words), want)
-            twice = run(self.program, folder.words(b"-A", b"#", b"-A", b"#"))
-            self.check("an option twice", twice, Answer(b"", wanted([]).errors, 15))
+        self.folder.pair()
+        for label, words, status in command_lines(self.folder.at("conf")):
+            self.check_status(label, words, status)
+        twice = run(self.program, self.folder.words(b"-A", b"#", b"-A", b"#"))
+        self.check("an option twice", twice, Answer(b"", wanted([]).errors, 15))
