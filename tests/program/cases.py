@@ -101,12 +101,12 @@ def files_of(case):
     return {"conf": DATABASES + case.sections.get("options", b""), **files}
 
 
-def answers_in(case, folder, answer):
-    """Runs a case in a folder: `answer` is asked for its words."""
+def put(case, folder):
+    """Writes the files of a case into a folder, and gives its words."""
     for name, text in files_of(case).items():
         with open(os.path.join(folder, name.encode()), "wb") as file:
             file.write(text.replace(DIR, folder) if name == "conf" else text)
-    return answer([unescaped(word).replace(DIR, folder) for word in words_of(case).split()])
+    return [unescaped(word).replace(DIR, folder) for word in words_of(case).split()]
 
 
 def stored(case, folder):
@@ -125,7 +125,8 @@ def write(path):
     with tempfile.TemporaryDirectory() as folder:
         folder = folder.encode()
         is_of_lines = os.path.basename(os.path.dirname(os.path.abspath(path))) == LINES
-        answer = answers_in(case, folder, wanted_lines if is_of_lines else wanted)
+        words = put(case, folder)
+        answer = wanted_lines(words) if is_of_lines else wanted(words)
         sections = {name: text for name, text in case.sections.items() if name not in ANSWERS}
         texts = [answer.output, answer.errors, b"%d" % answer.status]
         sections.update(
@@ -138,6 +139,18 @@ def write(path):
 
 def all_cases():
     return sorted(glob.glob(os.path.join(FOLDER, "*", "*.case")))
+
+
+def in_turn(paths):
+    """The label, the words and the answer of each case, with its files in a folder for so long."""
+    if not paths:
+        raise ValueError("there is no case in " + FOLDER)
+    for path in paths:
+        case = read(path)
+        with tempfile.TemporaryDirectory() as name:
+            folder = name.encode()
+            words = put(case, folder)
+            yield os.path.relpath(path, FOLDER), words, stored(case, folder)
 
 
 def main():

@@ -137,7 +137,7 @@ def stored_sessions(top):
     for number, path in enumerate(cases.all_cases()):
         folder = os.path.join(top, b"case-%d" % number)
         os.mkdir(folder)
-        yield os.path.relpath(path, cases.FOLDER), cases.answers_in(cases.read(path), folder, list)
+        yield os.path.relpath(path, cases.FOLDER), cases.put(cases.read(path), folder)
 
 
 def refused_sessions(top):

@@ -12,21 +12,18 @@ import base64
 import gzip
 import json
 import os
-import resource
-import tempfile
 import unittest
 
 from tests.lib.program_test import SESSIONS, ProgramTest, new_seed, slow
 from tests.lib.tally import difference, run, shown, wanted_lines
 from tests.oracle.attributes import ATTRIBUTES
 from tests.oracle.database import LINE_LIMIT
-from tests.oracle.session import Answer
 from tests.program import cases
 from tests.program.configurations import accepted, limits, names, refused
 from tests.program.random_sessions import try_sessions
-from tests.program.real_files.test_devices import NOT_WRITTEN, closed_pipe
+from tests.program.real_files.test_devices import check_outputs
 from tests.program.real_files.folder import EMPTY, NEW, OLD, SKIPPING, Folder
-from tests.program.real_files.test_outside import limited
+from tests.program.real_files.test_outside import check_file_sizes
 from tests.program.test_configurations import with_all
 
 OTHER_VALUES = {
@@ -115,17 +112,12 @@ class LinesTest(LinesProgramTest):
     def test_cases(self) -> None:
         """The stored cases: the program of lines ends as the report does, with the same lines on
         standard error."""
-        for path in cases.all_cases():
-            case, label = cases.read(path), os.path.relpath(path, cases.FOLDER)
-            with tempfile.TemporaryDirectory() as folder:
-                stored = cases.stored(case, folder.encode())
-                words = cases.answers_in(case, folder.encode(), list)
-                answer, want = run(self.lines_program, words), wanted_lines(words)
-                self.check(label, answer, want)
-                ends = Answer(answer.output, stored.errors, stored.status)
-                self.add(
-                    label + ", its end", difference(answer, ends) + faults_of_lines(answer.output)
-                )
+        for label, words, stored in cases.in_turn(cases.all_cases()):
+            answer = run(self.lines_program, words)
+            self.check(label, answer, wanted_lines(words))
+            ends = stored._replace(output=answer.output)
+            faults = difference(answer, ends) + faults_of_lines(answer.output)
+            self.add(label + ", its end", faults)
 
     def test_refused(self) -> None:
         for _, _, text in refused.ALL + limits.REFUSED:
@@ -238,25 +230,10 @@ class LinesTest(LinesProgramTest):
             self.compared("another %s, ignored" % each.name, with_all(), one, 0, 4, options=ignored)
 
     def test_outputs(self) -> None:
-        """An output that fails ends with 18."""
         with Folder() as folder:
             folder.pair(OLD, NEW)
             for label, words in both_jobs(folder):
-                with open("/dev/full", "wb") as full:
-                    self.check(
-                        label + " to a full device",
-                        run(self.lines_program, words, stdout=full),
-                        (None, NOT_WRITTEN, 18),
-                    )
-                writing = closed_pipe()
-                self.check(
-                    label + " to a closed pipe",
-                    run(self.lines_program, words, stdout=writing),
-                    (None, NOT_WRITTEN, 18),
-                )
-                os.close(writing)
-                answer = run(self.lines_program, words, preexec_fn=lambda: os.close(1))
-                self.check(label + " without standard output", answer, (b"", NOT_WRITTEN, 18))
+                check_outputs(self, label, self.lines_program, words)
 
     @slow
     def test_long_lines(self) -> None:
@@ -276,33 +253,10 @@ class LinesTest(LinesProgramTest):
 
     @slow
     def test_sizes(self) -> None:
-        """An output that may not grow over so many bytes has the front of the right answer."""
         with Folder() as folder:
             folder.pair(OLD, NEW)
             for label, words in both_jobs(folder):
-                want = wanted_lines(words)
-                for most in [
-                    *range(0, len(want.output), 7),
-                    len(want.output) - 1,
-                    len(want.output),
-                ]:
-                    before = limited(resource.RLIMIT_FSIZE, most)
-                    with open(folder.at("out"), "wb") as out:
-                        answer = run(
-                            self.lines_program,
-                            words,
-                            stdout=out,
-                            restore_signals=False,
-                            preexec_fn=before,
-                        )
-                    with open(folder.at("out"), "rb") as out:
-                        given = Answer(out.read(), answer.errors, answer.status)
-                    wanted = (
-                        want
-                        if most == len(want.output)
-                        else Answer(want.output[:most], NOT_WRITTEN, 18)
-                    )
-                    self.check("%s to a file of %d bytes" % (label, most), given, wanted)
+                check_file_sizes(self, label, self.lines_program, words, wanted_lines(words), 7)
 
     def test_random_sessions(self) -> None:
         try_sessions(self.beside, new_seed(), range(SESSIONS), 2, self)

@@ -14,11 +14,10 @@ import glob
 import gzip
 import json
 import os
-import tempfile
 import unittest
 
 from tests.commands.viewers.schema import Validator, schema_of_lines
-from tests.lib.program_test import SESSIONS, ProgramTest, new_seed, slow
+from tests.lib.program_test import SESSIONS, new_seed, slow
 from tests.lib.tally import difference, run, shown, side_by_side, wanted_lines
 from tests.oracle.database import LINE_LIMIT
 from tests.oracle.session import USAGE_LINE, Answer
@@ -26,13 +25,13 @@ from tests.program import cases, line_rows
 from tests.program.test_failed_calls import FILES, NAMES
 from tests.program.random_sessions import make_session_beside, try_sessions
 from tests.program.real_files.test_damage import WAYS
-from tests.program.real_files.test_devices import NOT_WRITTEN, closed_pipe
-from tests.program.real_files.test_fifos import WAIT, Feeder
+from tests.program.real_files.test_devices import check_outputs
+from tests.program.real_files.test_fifos import fed
 from tests.program.real_files.folder import EMPTY, Folder, database, names
 from tests.program.real_files.test_replaced import ENTRIES, replace, resize, Turning
-from tests.program.test_lines import faults_of_lines
+from tests.program.test_lines import LinesProgramTest, faults_of_lines
 
-CASES = os.path.join(os.path.dirname(cases.FOLDER), cases.LINES)
+CASES = os.path.join(os.path.dirname(cases.FOLDER), cases.LINES, "*.case")
 NIGHTS = os.path.join(os.path.dirname(os.path.abspath(__file__)), "nights_beside_twin.txt")
 # The database before each of the nights.
 BEFORE = {
@@ -68,17 +67,10 @@ def folder_of(folder, four):
     folder.trusted(*four[2:])
 
 
-def fed(test, folder, texts):
+def fed_four(test, folder, texts):
     """The answer, and how often each database was opened; `texts` has a list of texts for each."""
-    feeders = [Feeder(folder.at(name), each) for name, each in zip(FILES, texts)]
-    for feeder in feeders:
-        feeder.__enter__()
-    try:
-        answer = run("timeout", [WAIT, test.lines_program] + folder.words_beside())
-        return answer, [feeder.openings for feeder in feeders]
-    finally:
-        for feeder in feeders:
-            feeder.__exit__()
+    by_path = {folder.at(name): each for name, each in zip(FILES, texts)}
+    return fed(test.lines_program, folder.words_beside(), by_path)
 
 
 def many(name, digest):
@@ -160,8 +152,8 @@ def listed_nights():
     return nights
 
 
-class TrustedTest(ProgramTest):
-    """The program of lines beside the definitions."""
+class TrustedTest(LinesProgramTest):
+    """The program of lines over a trusted pair, beside the definitions."""
 
     def setUp(self) -> None:
         super().setUp()
@@ -174,31 +166,13 @@ class TrustedTest(ProgramTest):
             self.accounts[account] += want.output.count(account)
         return want.status, difference(answer, want) + faults_of_lines(answer.output)
 
-    def ends(self, label, words, *statuses):
-        """A session, which has to end with one of these statuses if there are any."""
-        status, faults = self.beside(words)
-        if statuses and status not in statuses:
-            faults = [*faults, f"status {status} is wanted"]
-        self.add(label, faults)
-
     def test_stored(self) -> None:
         """The stored cases, of which the program and the definitions give the answers."""
-        paths = sorted(glob.glob(os.path.join(CASES, "*.case")))
-        self.add("the stored cases", [] if paths else ["there is none in " + CASES])
-        for path in paths:
-            case, label = cases.read(path), os.path.basename(path)
-            with tempfile.TemporaryDirectory() as directory:
-                folder = os.fsencode(directory)
-                want = cases.stored(case, folder)
-                words = cases.answers_in(case, folder, list)
-                self.check(label, run(self.lines_program, words), want)
-                self.add("the definitions at " + label, difference(wanted_lines(words), want))
-                found = [
-                    fault
-                    for line in want.output.splitlines()
-                    for fault in VALIDATOR.faults(json.loads(line))
-                ]
-                self.add("the schema at " + label, found)
+        for label, words, want in cases.in_turn(sorted(glob.glob(CASES))):
+            self.check(label, run(self.lines_program, words), want)
+            self.add("the definitions at " + label, difference(wanted_lines(words), want))
+            for line in want.output.splitlines():
+                self.add("the schema at " + label, VALIDATOR.faults(json.loads(line)))
 
     def test_accounts(self) -> None:
         """Whether the entry that a trusted machine has accounts for one that came; turned round the
@@ -325,7 +299,7 @@ class TrustedTest(ProgramTest):
             ):
                 folder_of(folder, four)
                 whole = wanted_lines(folder.words_beside())
-                answer, openings = fed(self, folder, [[text] for text in four])
+                answer, openings = fed_four(self, folder, [[text] for text in four])
                 self.check(label + " through FIFOs", answer, whole)
                 self.holds(label + ", openings", openings == [2, 2, 2, 2], openings)
                 for at, name in enumerate(NAMES):
@@ -340,7 +314,7 @@ class TrustedTest(ProgramTest):
                     ):
                         texts = [[each] for each in four]
                         texts[at] = [text, other]
-                        answer, _ = fed(self, folder, texts)
+                        answer, _ = fed_four(self, folder, texts)
                         line = b"aide: the %s database changed while it was read\n" % name
                         is_told = (answer.errors, answer.status) == (line, 18)
                         is_cut = whole.output.startswith(answer.output) and len(
@@ -382,25 +356,9 @@ class TrustedTest(ProgramTest):
                     )
 
     def test_outputs(self) -> None:
-        """An output that fails ends with 18."""
         with Folder() as folder:
             folder_of(folder, FOUR)
-            words = folder.words_beside()
-            with open("/dev/full", "wb") as full:
-                self.check(
-                    "a full device",
-                    run(self.lines_program, words, stdout=full),
-                    (None, NOT_WRITTEN, 18),
-                )
-            writing = closed_pipe()
-            self.check(
-                "a closed pipe",
-                run(self.lines_program, words, stdout=writing),
-                (None, NOT_WRITTEN, 18),
-            )
-            os.close(writing)
-            answer = run(self.lines_program, words, preexec_fn=lambda: os.close(1))
-            self.check("no standard output", answer, (b"", NOT_WRITTEN, 18))
+            check_outputs(self, "lines", self.lines_program, folder.words_beside())
 
     def test_random_sessions(self) -> None:
         """Random sessions, in which both accounts have to come often."""

@@ -6,6 +6,7 @@ import subprocess
 import threading
 
 from tests.lib.program_test import ProgramTest, slow
+from tests.lib.tally import run
 from tests.oracle.session import Answer
 
 from .folder import NEW, OLD, SKIPPING, Folder, names
@@ -20,6 +21,18 @@ def closed_pipe():
     reading, writing = os.pipe()
     os.close(reading)
     return writing
+
+
+def check_outputs(test, label, program, words):
+    """An output that fails ends with 18, however it fails."""
+    lost = (None, NOT_WRITTEN, 18)
+    with open("/dev/full", "wb") as full:
+        test.check(label + " to a full device", run(program, words, stdout=full), lost)
+    writing = closed_pipe()
+    test.check(label + " to a closed pipe", run(program, words, stdout=writing), lost)
+    os.close(writing)
+    answer = run(program, words, preexec_fn=lambda: os.close(1))
+    test.check(label + " without standard output", answer, (b"", NOT_WRITTEN, 18))
 
 
 def written(folder, program, stream):
@@ -49,21 +62,10 @@ def become_nobody():
 @slow
 class DevicesTest(ProgramTest):
     def test_standard_output(self) -> None:
-        """A report that is not written ends with 18, however it fails; a quiet run without
-        differences writes nothing."""
+        """A report that is not written; a quiet run without differences writes nothing."""
         with Folder() as folder:
             folder.pair(SKIPPING, SKIPPING)
-            with open("/dev/full", "wb") as full:
-                self.check(
-                    "a full device", folder.run(self.program, stdout=full), (None, NOT_WRITTEN, 18)
-                )
-            writing = closed_pipe()
-            self.check(
-                "a closed pipe", folder.run(self.program, stdout=writing), (None, NOT_WRITTEN, 18)
-            )
-            os.close(writing)
-            answer = folder.run(self.program, preexec_fn=lambda: os.close(1))
-            self.check("no standard output", answer, (b"", NOT_WRITTEN, 18))
+            check_outputs(self, "a report", self.program, folder.words())
             quiet = folder.run(self.program, b"-B", b"report_quiet=yes", stdout=subprocess.DEVNULL)
             self.check("quiet", quiet, (None, folder.wanted().errors, 0))
             with open("/dev/full", "wb") as full:

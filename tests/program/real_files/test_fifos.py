@@ -1,5 +1,6 @@
 """Databases that come through FIFOs: each opening can be given a text of its own, and the openings
 are counted."""
+import contextlib
 import os
 import threading
 
@@ -77,11 +78,18 @@ class Feeder:
         os.unlink(self.path)
 
 
-def fed(program, folder, old_texts, new_texts):
-    """The answer of the program, and how often it opened both databases."""
-    with Feeder(folder.at("old"), old_texts) as old, Feeder(folder.at("new"), new_texts) as new:
-        answer = run("timeout", [WAIT, program] + folder.words())
-        return answer, (old.openings, new.openings)
+def fed(program, words, texts):
+    """The answer of the program, and how often it opened each database; `texts` has the texts of
+    each by its path."""
+    with contextlib.ExitStack() as stack:
+        feeders = [stack.enter_context(Feeder(path, each)) for path, each in texts.items()]
+        answer = run("timeout", [WAIT, program] + words)
+        return answer, [feeder.openings for feeder in feeders]
+
+
+def fed_pair(program, folder, old_texts, new_texts):
+    texts = {folder.at("old"): old_texts, folder.at("new"): new_texts}
+    return fed(program, folder.words(), texts)
 
 
 def beginning(report):
@@ -105,13 +113,13 @@ class FifosTest(ProgramTest):
             for options, old, new, *wanted in OPENINGS:
                 folder.pair(old, new, options)
                 want = folder.wanted()
-                answer, openings = fed(self.program, folder, [old], [new])
+                answer, openings = fed_pair(self.program, folder, [old], [new])
                 self.check("databases through FIFOs", answer, want)
                 label = "openings of databases"
                 self.add(
                     label,
                     []
-                    if openings == tuple(wanted)
+                    if openings == wanted
                     else ["%r: wanted %r, are %r" % (options, wanted, openings)],
                 )
 
@@ -133,7 +141,7 @@ class FifosTest(ProgramTest):
                     for number in range(2, 7):
                         texts = [text] * (number - 1) + [other]
                         pair = (texts, [NEW]) if side == b"old" else ([OLD], texts)
-                        answer, _ = fed(self.program, folder, *pair)
+                        answer, _ = fed_pair(self.program, folder, *pair)
                         self.add(
                             "a database changed from an opening on",
                             change_faults(answer, side, number, report),
@@ -147,7 +155,8 @@ class FifosTest(ProgramTest):
             folder.pair(OLD, new)
             report = folder.wanted().output
             for number in (3, 4):
-                answer, _ = fed(self.program, folder, [OLD], [new] * (number - 1) + [new + b"#"])
+                texts = [new] * (number - 1) + [new + b"#"]
+                answer, _ = fed_pair(self.program, folder, [OLD], texts)
                 faults = change_faults(answer, b"new", number, report)
                 faults += [] if answer.output else ["opening %d wrote nothing" % number]
                 self.add("a change after some pages", faults)

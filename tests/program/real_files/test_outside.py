@@ -77,28 +77,20 @@ def kinds_by_limit(program, limits):
     return {most: kind for part in parts for most, kind in part.items()}
 
 
-def check_file_sizes(program, test, step=1):
-    """A report that goes to a file which may not grow over so many bytes: the last write before is
+def check_file_sizes(test, label, program, words, want, step):
+    """An output that goes to a file which may not grow over so many bytes: the last write before is
     cut short."""
+    size = len(want.output)
     with Folder() as folder:
-        folder.pair()
-        want = folder.wanted()
-        for most in [*range(0, len(want.output), step), len(want.output)]:
+        for most in [*range(0, size, step), size - 1, size]:
+            streams = {"restore_signals": False, "preexec_fn": limited(resource.RLIMIT_FSIZE, most)}
             with open(folder.at("out"), "wb") as out:
-                answer = folder.run(
-                    program,
-                    stdout=out,
-                    restore_signals=False,
-                    preexec_fn=limited(resource.RLIMIT_FSIZE, most),
-                )
+                answer = run(program, words, stdout=out, **streams)
             with open(folder.at("out"), "rb") as out:
                 given = Answer(out.read(), answer.errors, answer.status)
-            whole = most == len(want.output)
-            test.check(
-                "a file of little room",
-                given,
-                want if whole else Answer(want.output[:most], NOT_WRITTEN, 18),
-            )
+            cut = Answer(want.output[:most], NOT_WRITTEN, 18)
+            fits = most == size
+            test.check("%s to a file of %d bytes" % (label, most), given, want if fits else cut)
 
 
 def sparse(folder, name, front, size):
@@ -109,12 +101,18 @@ def sparse(folder, name, front, size):
 
 @slow
 class OutsideTest(ProgramTest):
+    def sizes(self, step):
+        with Folder() as folder:
+            folder.pair()
+            want = folder.wanted()
+            check_file_sizes(self, "a report", self.program, folder.words(), want, step)
+
     def test_file_sizes(self) -> None:
-        check_file_sizes(self.program, self, 31)
+        self.sizes(31)
 
     @thorough
     def test_all_file_sizes(self) -> None:
-        check_file_sizes(self.program, self, 1)
+        self.sizes(1)
 
     def test_memory(self) -> None:
         """Less and less memory, a page at a time between no start and the right answer: nothing

@@ -1,7 +1,6 @@
 """Whole sessions with little stack."""
 import os
 import resource
-import tempfile
 
 from tests.lib.program_test import ProgramTest, slow
 from tests.oracle.session import Answer
@@ -22,22 +21,12 @@ class StackTest(ProgramTest):
         """Every stored session, configurations beyond a limit, and the examples at each level, with
         64 kB of stack, the arguments among them."""
         settings = {"preexec_fn": limited(resource.RLIMIT_STACK, STACK), "env": {}}
-        for path in cases.all_cases():
-            case = cases.read(path)
-            with tempfile.TemporaryDirectory() as made:
-                folder = os.fsencode(made)
-                answer = cases.answers_in(
-                    case, folder, lambda words: run(self.program, words, **settings)
-                )
-                self.check(
-                    "%s with little stack" % os.path.relpath(path, cases.FOLDER),
-                    answer,
-                    cases.stored(case, folder),
-                )
+        for label, words, want in cases.in_turn(cases.all_cases()):
+            self.check(label + " with little stack", run(self.program, words, **settings), want)
         for line, said, text in limits.REFUSED:
-            with Folder() as files:
-                files.write("conf", text)
-                words = [b"-D", b"-c", files.at("conf")]
+            with Folder() as folder:
+                folder.write("conf", text)
+                words = [b"-D", b"-c", folder.at("conf")]
                 want = Answer(b"", b"aide: config:%d: %s\n" % (line, said.encode()), 17)
                 self.check(
                     "%s with little stack" % said, run(self.program, words, **settings), want
