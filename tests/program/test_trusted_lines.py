@@ -188,7 +188,7 @@ class TrustedTest(LinesProgramTest):
                 first, entry, last = (json.loads(line) for line in output.splitlines())
                 counts = (entry.get("same_as"), last["same_as_trusted"], last["others"])
                 want = ("trusted", 1, 0) if is_same else (None, 0, 1)
-                self.assertEqual(counts, want, (came, trusted))
+                self.holds(shown((came, trusted)), counts == want, counts)
                 for line in (first, entry, last):
                     self.add(f"the schema at {line}", VALIDATOR.faults(line))
 

@@ -2,6 +2,8 @@
 import random
 import re
 
+from tests.program.configurations import refused
+
 # Lines in which `$` stands for one of the names.
 LINES = [
     b"@@define $",
@@ -42,45 +44,19 @@ LINES = [
 ]
 
 # Lines that are mostly refused.
-HOSTILE = [
-    b"@@",
-    b"@@ define $ x",
-    b"@@@{$}",
-    b"@@nope",
-    b"@@if defined $",
+HOSTILE = [re.sub(rb"\bA\b", b"$", line) for line in refused.LINES] + [
     b"@@if not defined $",
-    b"@@if not $",
-    b"@@if defined $ $",
-    b"@@iffoo",
-    b"@@ifhost h",
-    b"@@ifnhost h",
-    b"@@include /x",
-    b"@@x_include /x",
-    b"@@define",
-    b"@@define $=x",
-    b"@@define @@{$} x",
-    b"@@undef",
-    b"@@undef $ $",
-    b"@@ifdef $ $",
-    b"@@ifndef",
-    b"@@elsewhere",
-    b"@@else",
     b"@@endif $",
     b"@@{$}@@endif",
-    b"hello",
-    b"p=s",
-    b"grouped=no",
     b"report_url=@@{$}",
     b"report_quiet=@@{$}",
     b"report_level=@@{$}",
     b"my=p@@{$}",
     b"my=my-s+@@{$}",
     b"@@{$}}",
-    b"report_quiet=",
     b"database_in=file:/@@{$}/",
     b"database_in=@@{$}",
     b"my=@@{$}+",
-    b"@@endif",
 ]
 
 
