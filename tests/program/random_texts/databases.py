@@ -4,6 +4,7 @@ import base64
 
 from tests.oracle.attributes import ATTRIBUTES
 from tests.oracle.database import order_of
+from tests.program.field_rows import REFUSED
 
 PIECES = [
     b"",
@@ -91,43 +92,12 @@ OPAQUE = [
     b"POSIX,dXNlcg==,0",
 ]
 UNKNOWN = [b"foo", b"caps", b"ftype", b"Size", b"linkcount", b"foo", b"l", b"%6eame"]
+# Fields that are refused by what is said of them, and those of modes.
 BAD_FIELDS = {
-    "number": [
-        b"18446744073709551616",
-        b"-9223372036854775809",
-        b"+1",
-        b"-",
-        b"x",
-        b"1x",
-        b"1.0",
-        b"--1",
-        b"0x1",
-    ],
-    "mode": [b"40000000000", b"8", b"-1", b"0o7", b"x", b"100648"],
-    "time": [
-        b"x!",
-        b"MTA",
-        b"MTA==",
-        b"MTB=",
-        b"1x",
-        b"-",
-        b"18446744073709551616",
-        b"TVRBPQ==",
-        b"=",
-        b"MDAwMDAwMDAwMDAwMDAwMDAwMDAwMDAwMDAwMDAwMDAwMDE=",
-    ],
-    "digest": [
-        b"1",
-        b"00",
-        b"AAA",
-        b"AAAA!",
-        b"AAB=",
-        b"====",
-        b"QQ",
-        b"A" * 43 + b"=A",
-        b"A" * 92,
-    ],
+    said: [field for column, field, other in REFUSED if other == said and column != b"perm"]
+    for said in ("bad number", "bad time", "bad digest")
 }
+BAD_MODES = [field for column, field, _ in REFUSED if column == b"perm"]
 BREAKS = [
     "cut",
     "byte",
@@ -315,12 +285,15 @@ def bad_field(pick, columns, lines):
     ]
     place, column = pick.choice(whole or [0]), pick.randrange(len(columns))
     fields, form = lines[place].split(), columns[column][1]
+    bad = BAD_FIELDS["bad number"]
     if form in ("type", "perm"):
-        form = "mode"
+        bad = BAD_MODES
+    elif form == "time":
+        bad = BAD_FIELDS["bad time"]
     elif isinstance(form, tuple):
-        form = "digest"
+        bad = BAD_FIELDS["bad digest"]
     if len(fields) == len(columns):
-        fields[column] = pick.choice(BAD_FIELDS.get(form, BAD_FIELDS["number"]))
+        fields[column] = pick.choice(bad)
         lines[place] = b" ".join(fields)
 
 
