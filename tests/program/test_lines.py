@@ -25,6 +25,7 @@ from tests.program.real_files.test_devices import check_outputs
 from tests.program.real_files.folder import EMPTY, NEW, OLD, SKIPPING, Folder
 from tests.program.real_files.test_outside import check_file_sizes
 from tests.program.test_configurations import with_all
+from tests.program.test_line_definitions import pairs
 
 OTHER_VALUES = {
     "type": b"100600",
@@ -36,12 +37,6 @@ OTHER_VALUES = {
 # Of names with each byte: alone, behind a letter, and behind the first byte of a character of two,
 # three or four.
 FRONTS = [b"", b"x", b"\xc3", b"\xe2\x80", b"\xf0\x9f\x98"]
-
-
-def pairs(members):
-    if len({name for name, _ in members}) < len(members):
-        raise ValueError("a name stands twice")
-    return dict(members)
 
 
 def faults_of_lines(output):

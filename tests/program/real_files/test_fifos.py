@@ -8,11 +8,10 @@ from tests.lib.program_test import ProgramTest
 from tests.oracle.session import Answer
 from tests.lib.tally import run
 
-from .folder import NEW, OLD, Folder, names
+from .folder import EMPTY, NEW, OLD, Folder, names
 
 OTHER = OLD.replace(b" 10\n", b" 11\n")
 DIGESTS = b"47DEQpj8HBSa+/TImW+5JCeuQeRkm5NMpJWZG3hSuFU=", b"1B2M2Y8AsgTpgAmY7PhCfg=="
-EMPTY = b"@@begin_db\n@@db_spec name size\n@@end_db\n"
 OLD_DIGESTS = b"@@begin_db\n@@db_spec name md5 sha256\n/a %s 0\n@@end_db\n" % DIGESTS[1]
 NEW_DIGESTS = b"@@begin_db\n@@db_spec name md5 sha256\n/a 0 %s\n@@end_db\n" % DIGESTS[0]
 UNSORTED = b"@@begin_db\n@@db_spec name\n/b\n/a\n@@end_db\n"
