@@ -15,6 +15,11 @@ def of_size(old, new, *more):
     return Change(b"perm size", old, new, *more)
 
 
+def of_bits(old, new, *more):
+    """Whether each entry has a size is what its bits say."""
+    return Change(b"attr size", old, new, *more)
+
+
 def of_digests(*more):
     """The digest of the old entry is MD5, and that of the new one SHA-256."""
     return Change(b"md5 sha256", MD5 + b" 0", b"0 " + SHA256, *more)
@@ -29,8 +34,9 @@ NO_TYPE = b"report_ignore_changed_attrs=ftype\n"
 NO_ADDED, NO_REMOVED = b"report_ignore_added_attrs=sha256\n", b"report_ignore_removed_attrs=md5\n"
 ALL_DIGESTS = b"report_ignore_changed_attrs=H\n"
 OTHER_DIGESTS = b"report_ignore_changed_attrs=H-sha3_256\n"
+NO_NEW_SIZE, NO_OLD_SIZE = b"report_ignore_added_attrs=s\n", b"report_ignore_removed_attrs=s\n"
 FORCED, MORE = b"report_force_attrs=s\n", b"report_level=added_removed_attributes\n"
-BOTH, LINKS = ["MD5", "SHA256"], ["Linkcount"]
+BOTH, LINKS, SIZE = ["MD5", "SHA256"], ["Linkcount"], ["Size"]
 CHANGES = [
     of_size(b"100644 1", b"100644 2", b"", b"", ["Size"], ["Size"], "f > .             "),
     of_size(b"100644 1", b"100644 2", NO_SIZE, b"", [], [], ""),
@@ -56,6 +62,10 @@ CHANGES = [
         ["Type", "Size"],
         "f < .             ",
     ),
+    # An option that leaves out one kind of difference leaves out no other.
+    of_bits(b"32 1", b"32 2", NO_NEW_SIZE + NO_OLD_SIZE, b"", SIZE, SIZE, "? >               "),
+    of_bits(b"32 1", b"0 2", NO_NEW_SIZE + NO_SIZE, MORE, SIZE, SIZE, "? -               "),
+    of_bits(b"0 1", b"32 2", NO_OLD_SIZE + NO_SIZE, MORE, SIZE, SIZE, "? +               "),
     Change(
         b"perm size uid",
         b"100644 1 7",

@@ -8,23 +8,18 @@ use std::alloc::{Allocator, Global};
 use std::process::Abort;
 
 mod beside;
-mod counts;
-mod details;
-mod digests;
 mod growths;
 mod large;
 mod levels;
 mod lines;
-mod lists;
+mod paces;
 mod pair;
 mod pieces;
 mod refused;
 mod reported;
 mod room;
-mod rows;
 mod stumbling;
 mod trial;
-mod values;
 mod written;
 
 const DIFFERENT: &[u8] = b"AIDE found differences between the two databases.\n";

@@ -1,8 +1,8 @@
 //! Runs beside a trusted pair. The lines are those of the plain program in `tests/oracle`.
 use aide_conf::{Options, Task};
-use aide_db::{Desk, Limits, Side};
+use aide_db::{Desk, Limits};
 use aide_faults::{Pace, PlannedSources, SidePlan};
-use aide_report::{MemorySink, Outcome, RunFault};
+use aide_report::{MemorySink, Outcome};
 use aide_trusted::{PairFault, run_lines_beside};
 use std::alloc::Global;
 
@@ -50,13 +50,8 @@ fn sources_of<'a>(old: &'a [u8], new: &'a [u8]) -> PlannedSources<'a> {
     PlannedSources::new(SidePlan::plain(old), SidePlan::plain(new), Pace::new(4096))
 }
 
-/// The run over the databases above beside this trusted pair. Returns its answer, and leaves what was written.
-fn run_beside(
-    alloc: Global,
-    trusted_old: &[u8],
-    trusted_new: &[u8],
-    out: &mut MemorySink<Global>,
-) -> Result<Outcome, PairFault> {
+/// The run over the databases above. Returns its answer, and leaves what was written.
+fn run_beside(alloc: Global, out: &mut MemorySink<Global>) -> Result<Outcome, PairFault> {
     let task = Task {
         old_path: "/old",
         new_path: "/new",
@@ -74,7 +69,7 @@ fn run_beside(
     let mut desk = Desk::new(alloc);
     let mut trusted_desk = Desk::new(alloc);
     let mut sources = sources_of(BEFORE, AFTER);
-    let mut trusted = sources_of(trusted_old, trusted_new);
+    let mut trusted = sources_of(TRUSTED_BEFORE, TRUSTED_AFTER);
     run_lines_beside(
         &task,
         &trusted_task,
@@ -90,21 +85,8 @@ fn run_beside(
 #[test]
 fn lines_beside_a_trusted_pair(rt: HostRuntime) {
     let mut out = MemorySink::new(rt.alloc());
-    let answer = run_beside(rt.alloc(), TRUSTED_BEFORE, TRUSTED_AFTER, &mut out);
+    let answer = run_beside(rt.alloc(), &mut out);
     assert!(&rt; answer.is_ok(), "{answer:?}");
     let lines = out.bytes();
     assert!(&rt; lines == LINES, "{lines:?}");
-}
-
-#[test]
-fn fault_of_a_trusted_database(rt: HostRuntime) {
-    let mut out = MemorySink::new(rt.alloc());
-    let answer = run_beside(rt.alloc(), TRUSTED_BEFORE, b"no database", &mut out);
-    let named = match answer {
-        Err(PairFault::Trusted(RunFault::Database(fault))) => fault.side == Side::New
-            && fault.line == 1,
-        _ => false,
-    };
-    assert!(&rt; named, "{answer:?}");
-    assert!(&rt; out.bytes().is_empty());
 }

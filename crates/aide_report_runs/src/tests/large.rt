@@ -38,22 +38,6 @@ fn database(alloc: Global, rest: u32, size: u8) -> Result<Vec<u8>, AllocError> {
     Ok(text)
 }
 
-const FRONT: &[u8] = b"AIDE found differences between the two databases.
-
-Summary:
-  Total number of entries: 200000
-  Added entries:           200
-  Removed entries:         200
-  Changed entries:         200
-
----------------------------------------------------
-Added entries:
----------------------------------------------------
-
-?+++++++++++++++++: /directory/of/files/000003/f
-?+++++++++++++++++: /directory/of/files/001004/f
-";
-
 #[test]
 fn as_many_entries_as_a_system_has(rt: HostRuntime) -> Result<(), Fail> {
     let old = database(rt.alloc(), 3, b'1')?;
@@ -82,10 +66,6 @@ fn as_many_entries_as_a_system_has(rt: HostRuntime) -> Result<(), Fail> {
     assert_answer(&rt, answer, Ok(wanted));
     assert!(rt; desk.peak() == 90 && wanted.status() == 7);
     assert!(rt; sources.openings(Side::Old) == 6 && sources.openings(Side::New) == 6);
-    // The head and the summary have seven lines, and the databases have eleven. Each list has five lines, and one
-    // for each entry. The details have four lines, and three for each entry.
-    let lines = out.bytes().iter().filter(|byte| **byte == b'\n').count();
-    assert!(rt; out.bytes().starts_with(FRONT) && lines == 7 + 3 * (5 + 200) + 4 + 600 + 11);
     Ok(())
 }
 

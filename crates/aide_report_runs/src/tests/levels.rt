@@ -1,6 +1,6 @@
 //! At each level everything fails in turn, in a run over databases with every form of field.
+use super::paces::assert_written;
 use super::refused::{break_readings, cut_and_damage, refuse_openings};
-use super::rows::assert_written;
 use super::trial::Trial;
 use super::written::{cut_once, cut_report};
 use super::{Call, options_of, pair};

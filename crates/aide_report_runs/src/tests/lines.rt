@@ -1,7 +1,7 @@
 //! Runs that write lines of JSON. The lines are those of the plain program in `tests/oracle`.
 use super::growths::{refuse_all, refuse_each_of_the_sink};
+use super::paces::assert_written;
 use super::refused::{break_readings, cut_and_damage, refuse_openings, replace_databases};
-use super::rows::assert_written;
 use super::stumbling::stumble_at_each_byte;
 use super::trial::Trial;
 use super::written::{cut_once, cut_report};
