@@ -96,9 +96,8 @@ def try_two(kept, tally):
     done = subprocess.run(
         [kept.command, "page", "--plain", kept.old, kept.new], check=False, capture_output=True
     )
-    good = (
-        done.returncode == 7 and kept.old.encode() in done.stdout and b"-rw-r--r--" in done.stdout
-    )
+    wanted = (kept.old, "-rw-r--r--", "Open, severity ", "<h1>File changes on ")
+    good = done.returncode == 7 and all(text.encode() in done.stdout for text in wanted)
     tally.add("a page of two databases", [] if good else ["%d %r" % (done.returncode, done.stderr)])
 
 

@@ -121,6 +121,8 @@ def shown_path(path: bytes) -> str:
 def shown_note(text: str, limit: int = 200) -> str:
     """A text for people that a command of ours has written, such as a reason, in which names are
     escaped already."""
+    if len(text) <= limit and PLAIN.fullmatch(text):
+        return text
     note = _seen(guarded(text[: limit + 1]))
     if len(note) > limit:
         return note[:limit] + "..."

@@ -134,9 +134,9 @@ def page_of(comparison: Comparison, judged: Optional[Judged], max_mail: int) -> 
 
 
 def page_parts(comparison: Comparison, judged: Judged) -> Iterable[bytes]:
-    from aide_compare.show.added import written
-    from aide_compare.show.judgement import judged_lines
+    from aide_compare.show.added import full_summary
     from aide_compare.show.page import page
 
-    lines = written(judged_lines(judged, comparison))
-    return page(reader_over(lines), f"File changes on {host_name()}", is_plain=True)
+    reader = reader_over(comparison.known_lines().fd)
+    reader.summary = full_summary(reader.summary, comparison)
+    return page(reader, f"File changes on {host_name()}", True, judged)

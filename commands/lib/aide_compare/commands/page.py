@@ -31,15 +31,12 @@ class PageForm(NamedTuple):
         self, reader: Reader, comparison: Optional[Comparison], judged: Optional[Judged]
     ) -> Iterator[bytes]:
         """The page of changes."""
-        from aide_compare.lines.reader import reader_over
-        from aide_compare.show.added import added_lines, full_members, written
+        from aide_compare.show.added import full_summary
         from aide_compare.show.page import page
 
         if comparison:
-            members = full_members(reader.summary, comparison)
-            lines = added_lines(reader, comparison, members, judged=judged)
-            reader = reader_over(written(lines))
-        return page(reader, self.title, self.is_plain)
+            reader.summary = full_summary(reader.summary, comparison)
+        return page(reader, self.title, self.is_plain, judged)
 
 
 def main(arguments: Sequence[str]) -> int:

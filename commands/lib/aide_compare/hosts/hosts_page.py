@@ -12,7 +12,7 @@ from aide_compare.hosts.hosts_text import names_of
 from aide_compare.hosts.shares import Selection
 from aide_compare.lines.change import Fields, change_of
 from aide_compare.show.page_heading import Beginning, CountRow, counts_line, number
-from aide_compare.show.page_items import entry_of, head_of, item, table
+from aide_compare.show.page_items import encoded, entry_of, head_of, item, table
 
 # Of a page, and of each of its lists of hosts.
 MAX_PAGE = 20000000
@@ -36,7 +36,7 @@ def host_list(title: str, lines: Sequence[str]) -> str:
     room = MAX_LIST
     for line in lines:
         text = f"<li>{escape(shown_note(line, MAX_CAUSE))}\n"
-        room -= len(text.encode("utf-8", "backslashreplace"))
+        room -= len(encoded(text))
         if room < 0:
             items.append(f"<li>and {number(len(lines) - len(items))} more\n")
             break
@@ -78,8 +78,7 @@ def item_of(fields: Fields, hosts: int) -> bytes:
     inner = table(entry)
     if fields.get("per_host"):
         inner += f'<p class="hint">Of each host: {escape(", ".join(fields["per_host"]))}</p>'
-    text: str = item(head_of(entry, where), inner)
-    return text.encode("utf-8", "backslashreplace")
+    return item(encoded(head_of(entry, where)), encoded(inner))
 
 
 def page(report: Report, limit: int = 0) -> Iterator[bytes]:

@@ -4,13 +4,12 @@ from __future__ import annotations
 
 import os
 import time
-from typing import TYPE_CHECKING, Dict, Iterable, Iterator, Optional, Tuple
+from typing import TYPE_CHECKING, Dict, Iterator, Optional, Tuple
 
-from aide_compare.base.files import nameless
 from aide_compare.base.words import SIDES, date_of
-from aide_compare.lines.change import Change, Fields
+from aide_compare.lines.change import Change, Fields, Standing
 from aide_compare.lines.decoded import texts_of
-from aide_compare.lines.reader import BLOCK, ENCODE, Reader, with_members
+from aide_compare.lines.reader import ENCODE, Reader, with_members
 
 if TYPE_CHECKING:
     from aide_compare.changes.judged import Judged
@@ -69,6 +68,25 @@ def full_members(summary: Fields, comparison: Optional[Comparison]) -> Fields:
     return members
 
 
+def full_summary(summary: Fields, comparison: Comparison) -> Fields:
+    """The first line as --full has it."""
+    return {**full_members(summary, comparison), **summary_of(summary, comparison)}
+
+
+def judged_changes(reader: Reader, judged: Optional[Judged]) -> Iterator[Tuple[bytes, Change]]:
+    """Yields the lines of a Reader and their changes, with the standings that these were judged to
+    have, if they were."""
+    if judged is None:
+        yield from reader
+        return
+    for line, change, members in judged.members(reader):
+        yield line, change._replace(
+            standing=Standing(members["standing"]),
+            severity=members.get("severity", ""),
+            package=members.get("package", ""),
+        )
+
+
 def marked_by_lines(reader: Reader) -> Iterator[MarkedLine]:
     """The changes of a Reader with the standings that their lines say."""
     for line, change in reader:
@@ -108,11 +126,3 @@ def text_members(change: Change, has_names: bool) -> Fields:
     if texts.new:
         members["new_text"] = texts.new
     return members
-
-
-def written(parts: Iterable[bytes]) -> int:
-    """A descriptor of a private file that has these parts."""
-    target: int = nameless()
-    with os.fdopen(os.dup(target), "wb", BLOCK) as file:
-        file.writelines(parts)
-    return target

@@ -1,7 +1,7 @@
 """The changes of a comparison, judged and written for people and for programs."""
 from __future__ import annotations
 
-from typing import Iterator, NamedTuple, Optional
+from typing import NamedTuple, Optional
 
 from aide_compare.base import progress
 from aide_compare.base.ending import why_of
@@ -9,7 +9,6 @@ from aide_compare.changes.judged import Judged
 from aide_compare.changes.packages import records_of_host
 from aide_compare.compare.comparison import Comparison
 from aide_compare.lines.reader import Refused, reader_over
-from aide_compare.show.added import added_lines, full_members
 from aide_compare.show.brief import brief
 
 
@@ -57,13 +56,6 @@ def _grouped(judged: Judged, comparison: Comparison) -> Comparison:
     except Exception as error:
         return comparison.doubtful(f"no package groups the changes: {why_of(error)}")
     return comparison
-
-
-def judged_lines(judged: Judged, comparison: Comparison) -> Iterator[bytes]:
-    """All lines, as aide-compare json --full writes them, with the standings."""
-    reader = reader_over(comparison.known_lines().fd)
-    members = full_members(reader.summary, comparison)
-    return added_lines(reader, comparison, members, judged=judged)
 
 
 def brief_of(judged: Optional[Judged]) -> bytes:

@@ -7,23 +7,28 @@ import os
 from array import array
 from collections import Counter
 from html import escape
-from typing import Dict, Iterable, Iterator, List, NamedTuple, Set, Tuple
+from typing import TYPE_CHECKING, Dict, Iterator, List, NamedTuple, Optional, Set, Tuple
 
 from aide_compare.base.escapes import shown_note
+from aide_compare.base.files import BLOCK
 from aide_compare.base.spool import Spool
 from aide_compare.base.words import KINDS, SEVERITIES
-from aide_compare.lines.change import Counts, Standing
+from aide_compare.lines.change import Change, Counts, Standing
 from aide_compare.lines.reader import Reader
 from aide_compare.show.page_heading import entries, head, number, part_of
 from aide_compare.show.page_items import (
     NAMES,
     STANDINGS,
     PageEntry,
+    encoded,
     entries_of,
     head_of,
     item,
-    table,
+    table_of,
 )
+
+if TYPE_CHECKING:
+    from aide_compare.changes.judged import Judged
 
 SCRIPTS = ("page_logic.js", "page_tree.js", "page.js")
 # The words of the filters of a page, in their order.
@@ -47,22 +52,13 @@ TITLES = {
 # Packages after so many different ones are counted together.
 MAX_PACKAGES = 1000
 OTHERS = "other packages"
-LEFT_OUT = b"\0"
+# In the private file, between the head of an entry and the line of its values, if that is there.
+VALUES = b"\0"
+# A line says the path too, and has a member of each value for people.
+MAX_LINES = 2 * MAX_BYTES
 # What is beside the head of an item, and beside its values.
-ITEM = len(item("", ""))
-OPENING = len(item("", "-"))
-
-
-class Key(NamedTuple):
-    """What entries are grouped by: a standing, and a severity or a package."""
-
-    standing: Standing
-    name: str
-
-
-def encoded(text: str) -> bytes:
-    """The bytes of a text. Half a character, which a line may have, is written as its number."""
-    return text.encode("utf-8", "backslashreplace")
+ITEM = len(item(b"", b""))
+OPENING = len(item(b"", b"-"))
 
 
 def script_of() -> str:
@@ -92,128 +88,154 @@ class Rooms(NamedTuple):
     """The room for the heads of entries, and that for their values."""
 
     heads: Room
-    tables: Room
+    values: Room
+
+
+class Group:
+    """The entries below one heading: a standing, with a severity or a package. `places` are those
+    in the private file."""
+
+    def __init__(self, standing: Standing, name: str) -> None:
+        self.standing = standing
+        self.name = name
+        self.count = 0
+        self.places = array("Q")
+
+    def order(self) -> Tuple[int, int, str]:
+        place = STANDINGS.index(self.standing)
+        if self.standing is not Standing.OPEN:
+            return place, -self.count, self.name
+        if self.name:
+            return place, SEVERITIES.index(self.name), ""
+        return place, len(SEVERITIES), ""
+
+    def heading(self) -> bytes:
+        """The beginning of a group, which has its number of entries. Only what is open is
+        opened."""
+        attributes = f'class="group" data-standing="{self.standing.value}"'
+        title = TITLES[self.standing]
+        if self.standing is Standing.OPEN:
+            attributes += " open"
+            if self.name:
+                title = f"Open, severity {self.name}"
+        elif self.standing is Standing.RECORDED and self.name:
+            title = shown_note(self.name)
+        text = f"<span>{escape(title)}</span>: {entries(self.count)}"
+        return encoded(f"<details {attributes}><summary><h2>{text}</h2></summary>\n<ul>\n")
 
 
 class Groups:
     """The entries of a report by their standing: first what is open, the severe of it at the front,
-    then what is recorded, package by package, then what is silent. A file has the head and the
-    table of each entry; of each group no more than a page has."""
+    then what is recorded, package by package, then what is silent. A file has the head of each
+    entry, and the line that says its values, of which a table is made if there is room; of each
+    standing and severity no more than a page has."""
 
     def __init__(self) -> None:
         self.spool = Spool()
-        self.size = 0
+        self.end = 0  # Of what is written there.
+        self.size = 0  # Of all heads.
         self.packages: Set[str] = set()
-        # By key: how many entries there are, and where they are in the file.
-        self.counts: Counter[Key] = Counter()
-        self.places: Dict[Key, array[int]] = {}
+        # By the word of the standing, since members of an enumeration are slow keys.
+        self.groups: Dict[Tuple[str, str], Group] = {}
         # By standing and severity: the room for them, and how many there are.
-        self.rooms: Dict[Tuple[Standing, str], Rooms] = {}
-        self.standings: Counter[Tuple[Standing, str]] = Counter()
+        self.rooms: Dict[Tuple[str, str], Rooms] = {}
+        self.standings: Counter[Tuple[str, str]] = Counter()
         # How many entries are listed, and how many of them with all their values.
         self.listed = 0
         self.valued = 0
 
-    def add(self, entry: PageEntry) -> None:
-        key = self._key_of(entry)
+    def add(self, line: bytes, entry: PageEntry) -> None:
         text = encoded(head_of(entry))
-        self.counts[key] += 1
+        group = self._group_of(entry.change)
+        group.count += 1
         self.size += len(text) + ITEM
-        part = (key.standing, entry.change.severity)
+        part = (entry.change.standing.value, entry.change.severity)
         self.standings[part] += 1
-        if part not in self.rooms:
-            self.rooms[part] = Rooms(Room(MAX_BYTES), Room(MAX_BYTES))
-        rooms = self.rooms[part]
+        rooms = self.rooms.get(part)
+        if rooms is None:
+            rooms = Rooms(Room(MAX_BYTES), Room(MAX_LINES))
+            self.rooms[part] = rooms
         if not rooms.heads.reserve(len(text)):
             return
-        self.places.setdefault(key, array("Q")).append(self.spool.tell())
-        inner = LEFT_OUT
-        if rooms.tables.is_open:
-            values = encoded(table(entry))
-            if rooms.tables.reserve(len(values)):
-                inner = values
-        self.spool.write(b"%s\n%s\n" % (text, inner))
+        group.places.append(self.end)
+        if rooms.values.reserve(len(line)):
+            text += VALUES + line
+        else:
+            text += b"\n"
+        self.spool.write(text)
+        self.end += len(text)
 
-    def _key_of(self, entry: PageEntry) -> Key:
-        """The standing of an entry, with its package, or else its severity."""
-        change = entry.change
+    def _group_of(self, change: Change) -> Group:
+        """The group of a change, by its standing and its package, or else its severity."""
         name = change.package or change.severity
-        if change.standing is Standing.RECORDED:
-            if len(self.packages) >= MAX_PACKAGES and name not in self.packages:
+        if change.standing is Standing.RECORDED and name not in self.packages:
+            if len(self.packages) >= MAX_PACKAGES:
                 name = OTHERS
             self.packages.add(name)
-        return Key(change.standing, name)
+        key = (change.standing.value, name)
+        group = self.groups.get(key)
+        if group is None:
+            group = Group(change.standing, name)
+            self.groups[key] = group
+        return group
 
     def total(self) -> Counts:
         """The Counts of all entries. An entry without a severity, which nobody has judged, has
         none."""
         numbers = dict.fromkeys(Counts._fields, 0)
         for (standing, severity), count in self.standings.items():
-            numbers[standing.value] += count
-            if severity and not standing.is_silent:
-                numbers[f"{standing.value}_{severity}"] += count
+            numbers[standing] += count
+            if severity and not Standing(standing).is_silent:
+                numbers[f"{standing}_{severity}"] += count
         return Counts(**numbers)
-
-    def order(self, key: Key) -> Tuple[int, int, str]:
-        place = STANDINGS.index(key.standing)
-        if key.standing is not Standing.OPEN:
-            return place, -self.counts[key], key.name
-        if key.name:
-            return place, SEVERITIES.index(key.name), ""
-        return place, len(SEVERITIES), ""
-
-    def heading(self, key: Key) -> bytes:
-        """The beginning of a group, which has its number of entries. Only what is open is
-        opened."""
-        attributes = f'class="group" data-standing="{key.standing.value}"'
-        title = TITLES[key.standing]
-        if key.standing is Standing.OPEN:
-            attributes += " open"
-            if key.name:
-                title = f"Open, severity {key.name}"
-        elif key.standing is Standing.RECORDED and key.name:
-            title = shown_note(key.name)
-        text = f"<span>{escape(title)}</span>: {entries(self.counts[key])}"
-        return encoded(f"<details {attributes}><summary><h2>{text}</h2></summary>\n<ul>\n")
 
     def write(self, file: Spool, limit: int) -> None:
         """Writes the groups, as far as there is room for them."""
-        keys = sorted(self.counts, key=self.order)
-        headings = [self.heading(key) for key in keys]
-        limit -= sum(map(len, headings)) + len(keys) * BESIDE_GROUP
+        groups = sorted(self.groups.values(), key=Group.order)
+        headings = [group.heading() for group in groups]
+        limit -= sum(map(len, headings)) + len(groups) * BESIDE_GROUP
         is_large = self.size > limit // 2
         for_tables = limit // 8 if is_large else limit - self.size
         rooms = Rooms(Room(limit - for_tables), Room(for_tables))
-        for key, heading in zip(keys, headings):
+        for group, heading in zip(groups, headings):
             file.write(heading)
-            before = self.listed
-            self._write_items(file, self.places.get(key, ()), rooms)
-            left_out = self.counts[key] - (self.listed - before)
+            first = self.listed
+            file.writelines(self._items(group, rooms))
             file.write(b"</ul>")
+            left_out = group.count - (self.listed - first)
             if left_out:
                 text = f"<p>{number(left_out)} more that this page has no room for</p>"
                 file.write(encoded(text))
             file.write(b"</details>\n")
 
-    def _write_items(self, file: Spool, places: Iterable[int], rooms: Rooms) -> None:
-        """Writes entries with their values, or without them, by the room that there is."""
-        for place in places:
-            self.spool.seek(place)
-            text = self.spool.readline()[:-1]
-            inner = self.spool.readline()[:-1]
-            if not rooms.heads.reserve(len(text) + ITEM):
+    def _items(self, group: Group, rooms: Rooms) -> Iterator[bytes]:
+        """Yields items with their values, or without them, by the room that there is."""
+        here = -1
+        for place in group.places:
+            if place != here:
+                self.spool.seek(place)
+            text = self.spool.readline()
+            here = place + len(text)
+            head, _, line = text[:-1].partition(VALUES)
+            if not rooms.heads.reserve(len(head) + ITEM):
                 return
-            if inner != LEFT_OUT and rooms.tables.reserve(len(inner) + OPENING):
-                self.valued += 1
-            else:
-                inner = b""
-            file.write(encoded(item(text.decode(), inner.decode())))
             self.listed += 1
+            yield item(head, self._values_of(line, rooms.values))
+
+    def _values_of(self, line: bytes, room: Room) -> bytes:
+        """The values that a line says, b"" if there is no room for them."""
+        if not (line and room.is_open):
+            return b""
+        values = table_of(line)
+        if not room.reserve(len(values) + OPENING):
+            return b""
+        self.valued += 1
+        return values
 
     def notes(self) -> List[str]:
         """What the lists leave out."""
         notes: List[str] = []
-        total = sum(self.counts.values())
+        total = sum(self.standings.values())
         if self.listed < total:
             first = f"This page has room for {entries(self.listed)} of {number(total)}."
             notes.append(f"{first} The counts are those of all.")
@@ -223,13 +245,15 @@ class Groups:
         return notes
 
 
-def page(reader: Reader, title: str, is_plain: bool) -> Iterator[bytes]:
+def page(
+    reader: Reader, title: str, is_plain: bool, judged: Optional[Judged] = None
+) -> Iterator[bytes]:
     """Yields the page of the lines of a Reader, when all of them have been read and are good."""
     groups = Groups()
     lists = Spool()
     name = os.fsencode(title)
-    for entry in entries_of(reader):
-        groups.add(entry)
+    for line, entry in entries_of(reader, judged):
+        groups.add(line, entry)
     counts = groups.total()
     has_script = bool(groups.size) and not is_plain
     script = script_of() if has_script else ""
@@ -240,5 +264,6 @@ def page(reader: Reader, title: str, is_plain: bool) -> Iterator[bytes]:
     yield head(reader, counts, name, script, groups.notes())
     yield encoded(controls)
     lists.seek(0)
-    yield from lists
+    while block := lists.read(BLOCK):
+        yield block
     yield b"</div>\n</main>\n</body>\n</html>\n"

@@ -2,17 +2,30 @@
 that opens."""
 from __future__ import annotations
 
+import json
 import re
 from functools import lru_cache
 from html import escape
-from typing import FrozenSet, Iterable, Iterator, List, NamedTuple, Optional
+from typing import (
+    TYPE_CHECKING,
+    FrozenSet,
+    Iterable,
+    Iterator,
+    NamedTuple,
+    Optional,
+    Tuple,
+)
 
 from aide_compare.base.escapes import PLAIN, shown_note, shown_path, shown_value
 from aide_compare.base.words import counted
 from aide_compare.lines.attributes import FORMS, STRENGTH
-from aide_compare.lines.change import Change, Standing, Texts, Value, Values
+from aide_compare.lines.change import Change, Standing, Texts, Value, Values, change_of
 from aide_compare.lines.decoded import NOTED, SideTexts, exact_bytes, texts_of
 from aide_compare.lines.reader import Reader, Refused
+from aide_compare.show.added import judged_changes
+
+if TYPE_CHECKING:
+    from aide_compare.changes.judged import Judged
 
 # The attributes in their order on a page: the digests at the end, the strongest first. The name of
 # each digest is the same.
@@ -43,16 +56,41 @@ class PageEntry(NamedTuple):
     new: Values
 
 
-def check(holds: bool, words: str) -> None:
-    """Refuses an object of which something does not hold."""
-    if not holds:
-        raise Refused(0, words)
+class Layout(NamedTuple):
+    """What the attributes of an entry are called, and their labels in the order of a table."""
+
+    names: str
+    others: Tuple[str, ...]
+    digests: Tuple[str, ...]
+
+
+@lru_cache(maxsize=1 << 10)
+def _layout_of(labels: FrozenSet[str]) -> Layout:
+    """The Layout of a set of labels. Most entries of a report share theirs."""
+    present = [label for label in LABELS if label in labels]
+    return Layout(
+        names=" ".join(dict.fromkeys(NAMES[label] for label in present)),
+        others=tuple(label for label in present if label not in STRENGTH),
+        digests=tuple(label for label in present if label in STRENGTH),
+    )
+
+
+def layout_of(entry: PageEntry) -> Layout:
+    return _layout_of(frozenset((*entry.old, *entry.new)))
+
+
+def encoded(text: str) -> bytes:
+    """The bytes of a text. Half a character, which a line may have, is written as its number."""
+    return text.encode("utf-8", "backslashreplace")
 
 
 def check_values(values: Values) -> None:
-    check(values.keys() <= FORMS.keys(), "an attribute is unknown")
-    permissions = str(values.get("Perm") or "0000")
-    check(PERMISSIONS.fullmatch(permissions) is not None, "permissions are four digits")
+    """Refuses values that no line of a comparison has."""
+    if not values.keys() <= FORMS.keys():
+        raise Refused(0, "an attribute is unknown")
+    permissions = values.get("Perm")
+    if permissions and not PERMISSIONS.fullmatch(str(permissions)):
+        raise Refused(0, "permissions are four digits")
 
 
 def entry_of(change: Change, various: Iterable[str] = ()) -> PageEntry:
@@ -61,17 +99,22 @@ def entry_of(change: Change, various: Iterable[str] = ()) -> PageEntry:
     room."""
     check_values(change.old)
     check_values(change.new)
-    old: Values = {**change.old, **dict.fromkeys(various, VARIOUS)}
+    old = change.old
+    if various:
+        old = {**old, **dict.fromkeys(various, VARIOUS)}
     return PageEntry(change, shown_path(change.path), old, change.new)
 
 
-def entries_of(reader: Reader) -> Iterator[PageEntry]:
-    """Yields the PageEntry of each change of a Reader."""
-    for _, change in reader:
+def entries_of(
+    reader: Reader, judged: Optional[Judged] = None
+) -> Iterator[Tuple[bytes, PageEntry]]:
+    """Yields each line of a change, and its PageEntry, with the standings of Judged if there is
+    one."""
+    for line, change in judged_changes(reader, judged):
         try:
-            has_letters = LETTERS.fullmatch(change.letters) is not None
-            check(has_letters, "a summary string has 18 letters")
-            yield entry_of(change)
+            if not LETTERS.fullmatch(change.letters):
+                raise Refused(0, "a summary string has 18 letters")
+            yield line, entry_of(change)
         except Refused as refused:
             raise Refused(reader.number, refused) from None
 
@@ -105,6 +148,8 @@ def cell(value: Value, note: Optional[str] = None) -> str:
         return f'<td class="none">{VARIOUS}'
     if value is None:
         return '<td class="none">none'
+    if note is None and isinstance(value, str) and value.isascii() and value.isalnum():
+        return f"<td>{value}"  # A digest, as most values are.
     text = value_text(value)
     if not note or note == text:
         return f"<td>{escape(text)}"
@@ -114,21 +159,12 @@ def cell(value: Value, note: Optional[str] = None) -> str:
 def table(entry: PageEntry) -> str:
     """The values of an entry, "" without any. Of its digests the strongest one is seen; the others
     open on demand."""
-    notes = notes_of(entry)
-    rows: List[str] = []
-    digests: List[str] = []
-    for label in LABELS:
-        if label not in entry.old and label not in entry.new:
-            continue
-        old = cell(entry.old.get(label), notes.old.get(label))
-        new = cell(entry.new.get(label), notes.new.get(label))
-        row = f'<tr><th scope="row">{label}{old}{new}'
-        if label in STRENGTH:
-            digests.append(row)
-        else:
-            rows.append(row)
-    if not rows and not digests:
+    layout = layout_of(entry)
+    if not layout.names:
         return ""
+    notes = notes_of(entry)
+    rows = [_row(entry, notes, label) for label in layout.others]
+    digests = [_row(entry, notes, label) for label in layout.digests]
     text = f"{COLUMNS}{''.join(rows + digests[:1])}</table>"
     if len(digests) > 1:
         others = counted(len(digests) - 1, "other digest")
@@ -137,10 +173,15 @@ def table(entry: PageEntry) -> str:
     return text
 
 
-@lru_cache(maxsize=1 << 10)
-def names_of(labels: FrozenSet[str]) -> str:
-    """The names of attributes as a text."""
-    return " ".join(dict.fromkeys(name for label, name in NAMES.items() if label in labels))
+def table_of(line: bytes) -> bytes:
+    """The values of the change that a line says."""
+    return encoded(table(entry_of(change_of(json.loads(line)))))
+
+
+def _row(entry: PageEntry, notes: SideTexts, label: str) -> str:
+    old = cell(entry.old.get(label), notes.old.get(label))
+    new = cell(entry.new.get(label), notes.new.get(label))
+    return f'<tr><th scope="row">{label}{old}{new}'
 
 
 def facts_of(entry: PageEntry) -> str:
@@ -179,7 +220,7 @@ def head_of(entry: PageEntry, note: str = "") -> str:
     """What is seen of an entry while it is closed: kind, severity, path, a note, and the facts, or
     else the names of the attributes. The script reads there what filters and orders need. Blanks
     are in elements: of 100,000 entries a browser would keep those between them too."""
-    names = names_of(frozenset((*entry.old, *entry.new)))
+    names = layout_of(entry).names
     facts = facts_of(entry)
     words = entry.change.kind
     mark = entry.change.kind
@@ -198,8 +239,8 @@ def head_of(entry: PageEntry, note: str = "") -> str:
     return text
 
 
-def item(head: str, inner: str) -> str:
+def item(head: bytes, inner: bytes) -> bytes:
     """An item of a list, which opens if there is something in it."""
     if not inner:
-        return f"<li>{head}\n"
-    return f"<li><details><summary>{head}</summary>{inner}</details>\n"
+        return b"<li>%s\n" % head
+    return b"<li><details><summary>%s</summary>%s</details>\n" % (head, inner)
