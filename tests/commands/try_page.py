@@ -21,6 +21,7 @@ from tests.commands.viewers.in_browser import (
     try_keyboard,
     try_policy,
     try_printing,
+    try_same,
     try_views,
     try_without_script,
 )
@@ -31,6 +32,7 @@ from tests.commands.viewers.samples import (
     hostile_lines,
     lines_of,
     page_of,
+    split_page_of,
 )
 from tests.lib.tally import Tally
 
@@ -60,18 +62,23 @@ def main():
         )
         plain = write(os.path.join(folder, "plain.html"), page_of(demo_lines(), "--plain"))
         hostile = write(os.path.join(folder, "hostile.html"), page_of(hostile_lines()))
+        split = write(os.path.join(folder, "split.html"), split_page_of(demo_lines()))
+        odd = write(os.path.join(folder, "odd.html"), split_page_of(hostile_lines()))
         try_views(browser, tally)
-        for path in (demo, simple):
+        for path in (demo, simple, split):
             try_filters(browser, path, tally)
-        for path in (demo, simple, hostile):
+        for path in (demo, simple, hostile, split, odd):
             try_folders(browser, path, tally)
-        try_entries(browser, demo, given.pictures, tally)
+        try_same(browser, (hostile, odd), tally)
+        for path in (split, demo):
+            try_entries(browser, path, given.pictures, tally)
         try_address(browser, demo, tally)
         try_keyboard(browser, demo, tally)
         try_printing(browser, demo, tally)
-        try_hostile(browser, hostile, given.pictures, tally)
+        for path in (hostile, odd):
+            try_hostile(browser, path, given.pictures, tally)
         try_policy(browser, demo, write, tally)
-        try_without_script(browser, (demo, plain), given.pictures, tally)
+        try_without_script(browser, (demo, plain, split), given.pictures, tally)
         if given.large:
             try_large(browser, given.large, folder, tally)
     browser.close()

@@ -381,6 +381,20 @@ def try_hostile(browser, path, pictures, tally):
     tally.add("no fault of hostile entries", browser.faults)
 
 
+def try_same(browser, paths, tally):
+    """Entries that are text on a page are the same as those that are elements."""
+    shown = []
+    for path in paths:
+        opened(browser, path, "#order=path&values=shown")
+        browser.value("window.dispatchEvent(new Event('beforeprint'))")
+        shown.append(browser.value("document.getElementById('list').outerHTML"))
+    same = shown[0] == shown[1] and len(shown[0]) > 30000
+    tally.add(
+        "entries that are text",
+        [] if same else ["%d and %d letters" % (len(shown[0]), len(shown[1]))],
+    )
+
+
 def try_policy(browser, path, write, tally):
     """A script or a style that somebody added does not run."""
     with open(path, "rb") as file:
@@ -403,7 +417,7 @@ def try_policy(browser, path, write, tally):
 
 
 def try_without_script(browser, paths, pictures, tally):
-    for name, path, off in (("without scripts", paths[0], True), ("plain", paths[1], False)):
+    for name, path, off in zip(("without scripts", "plain", "split"), paths, (True, False, True)):
         browser.ask("Emulation.setScriptExecutionDisabled", value=off)
         browser.open(path)
         given, entries = browser.count_of(

@@ -1,6 +1,7 @@
 """What a page says of standings, severities, hosts and times."""
 import random
 import re
+from unittest import mock
 
 from tests.commands.viewers.hostile import NAMES
 from tests.commands.viewers.lines import (
@@ -61,13 +62,16 @@ def try_standings(seed, tally):
     for number in range(STREAMS):
         pick = random.Random("standings %d %d" % (seed, number))
         is_plain = number % 2 == 1
+        elements = pick.choice((1, 4, 1000))
         objects = with_standings(objects_of(rich_lines()), pick)
-        try:
-            text = page_of(objects, is_plain)
-        except Refused as refused:
-            tally.add("standings %d" % number, ["it is refused: %s" % refused])
-            continue
-        faults = page_faults(text, objects, is_plain) + count_faults(text, objects[-1]["standings"])
+        with mock.patch("aide_compare.show.page.MAX_ELEMENTS", elements):
+            try:
+                text = page_of(objects, is_plain)
+            except Refused as refused:
+                tally.add("standings %d" % number, ["it is refused: %s" % refused])
+                continue
+        faults = page_faults(text, objects, is_plain, elements)
+        faults += count_faults(text, objects[-1]["standings"])
         tally.add("standings %d" % number, faults)
 
 

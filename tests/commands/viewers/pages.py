@@ -10,7 +10,7 @@ from tests.oracle.attributes import ATTRIBUTES as KNOWN
 
 TAGS = set(
     """html head meta title style body header main h1 h2 p dl dt dd div details summary code small section label
-    input nav ul ol li button span b i a select table tr th td script""".split()
+    input nav ul ol li button span b i a select table tr th td script noscript""".split()
 )
 ATTRIBUTES = set(
     """lang charset http-equiv content name class id for type placeholder autocomplete spellcheck role
@@ -33,8 +33,8 @@ DIRECTIONS = re.compile(
 # The parts of a list as they have to be. A name that became markup would not fit them.
 GROUP = re.compile(
     '<details class="group" data-standing="([a-z_]+)"( open)?><summary><h2><span>([^<]*)</span>: ([0-9,]+) entr(?:y|ies)</h2>'
-    "</summary>\n<ul>\n(.*?)</ul></details>\n",
-    re.DOTALL,
+    "</summary>\n(?:<ul>\n((?:<li>[^\n]*\n)*)</ul>(?:<p>The others, if scripts are off in this browser:</p>\n)?)?"
+    "(?:<noscript><ul>\n((?:<li>[^\n]*\n)+)</ul></noscript>)?</details>\n"
 )
 HEAD = (
     '<b class="(added|removed|changed)(?P<mark> high)?">\\1 (?:(?P<severity>(?(mark)high|(?:medium|low))) )?</b><code>([^<]*)</code>'
@@ -219,8 +219,9 @@ def wanted_item(fields):
     return (*told, growth_of(fields), names, values)
 
 
-def list_faults(text, objects):
-    """What is wrong with the list of a page that has room for all."""
+def list_faults(text, objects, elements):
+    """What is wrong with the list of a page that has room for all, of which so many are elements if
+    a script runs."""
     entries = [fields for fields in objects if "kind" in fields]
     wanted, faults, given = groups_of(entries), [], GROUP.findall(text)
     content = text.partition('<div id="content"')[2].partition(">\n")[2]
@@ -228,13 +229,16 @@ def list_faults(text, objects):
         faults.append("there is more beside the list: %r" % GROUP.sub("", content)[:300])
     if len(given) != len(wanted):
         return faults + ["there are %d groups, and not %d" % (len(given), len(wanted))]
-    for (standing, is_open, title, count, items), (standing_, title_, entries_) in zip(
+    parts = ["".join(group[place] for group in given).count("\n") for place in (4, 5)]
+    if parts != [min(len(entries), elements), max(len(entries) - elements, 0)]:
+        faults.append("%r entries are elements and text" % parts)
+    for (standing, is_open, title, count, *items), (standing_, title_, entries_) in zip(
         given, wanted
     ):
         told = (standing, bytes_shown(unescape(title)), int(count.replace(",", "")), bool(is_open))
         if told != (standing_, title_, len(entries_), standing_ == "open"):
             faults.append("a group is %r, and not %r" % (told, (standing_, title_, len(entries_))))
-        found, more = listed(items)
+        found, more = listed("".join(items))
         faults += more
         faults += [
             "%r is listed, and not %r" % pair
@@ -244,9 +248,10 @@ def list_faults(text, objects):
     return faults[:5]
 
 
-def page_faults(text, objects, is_plain):
+def page_faults(text, objects, is_plain, elements=1000):
     """What is wrong with the page of a report, if it has room for all."""
-    page, faults = Page(text), list_faults(text, objects)
+    page = Page(text)
+    faults = list_faults(text, objects, len(objects) if is_plain else elements)
     has_script = any("kind" in fields for fields in objects) and not is_plain
     policy = "default-src 'none'; base-uri 'none'; form-action 'none'; style-src " + hashed(
         "".join(page.styles)

@@ -1,13 +1,18 @@
 """Changes to look at in a browser: such as an upgrade makes, with standings; and with hostile
 names."""
+import io
 import json
 import random
 import subprocess
+from unittest import mock
 
 from tests.commands.viewers import HTML, JSON, hostile
 from tests.commands.viewers.lines import changes_of, stand, with_counts
 from tests.oracle.configuration import DEFAULTS
 from tests.oracle.lines import lines_of as proved_lines_of
+
+from aide_compare.lines.reader import Reader
+from aide_compare.show.page import page
 
 HOST = {
     "host": "www.example.org",
@@ -136,3 +141,9 @@ def lines_of(lines):
 
 def page_of(lines, *words):
     return subprocess.run([*HTML, *words], input=lines, stdout=subprocess.PIPE, check=True).stdout
+
+
+def split_page_of(lines):
+    """A page of which nine entries are elements, and all others are text."""
+    with mock.patch("aide_compare.show.page.MAX_ELEMENTS", 9):
+        return b"".join(page(Reader(io.BytesIO(lines)), "", False))

@@ -2,7 +2,7 @@
 const PAGE = 100, FEW = 3, PACKAGES = 4;
 const ORDERS = { importance: 'what matters most', size: 'change of size' };
 const find = (id) => document.getElementById(id), on = (target, event, act) => target.addEventListener(event, act);
-const number = (count) => count.toLocaleString('en');
+const number = new Intl.NumberFormat('en').format;
 const entriesOf = (count) => count === 1 ? '1 entry' : number(count) + ' entries';
 // All entries in the order of paths, in each order that was asked for, and those that are shown.
 const entries = [], inOrder = new Map();
@@ -16,18 +16,36 @@ function make(tag, attributes, ...inner) {
   return element;
 }
 
-// An entry: its item, and what filters and orders need of it. `section` is the heading of its group.
-function entryOf(item, standing, section, place) {
+// What the head of an item says: its kind and severity, its path, and the names of its attributes or other facts. The first items
+// of a page are elements. The others are text, which is read as fast as it is loaded: in it no name has one of the letters < > & " '.
+const HEAD = /<b class="[^"]*">([^<]*)<\/b><code>([^<]*)<\/code>(?:<i(?: title="([^"]*)")?>([^<]*))?/;
+const LETTERS = { '&amp;': '&', '&lt;': '<', '&gt;': '>', '&quot;': '"', '&#x27;': "'" };
+
+function headOfItem(item) {
   const opening = item.firstElementChild, head = opening.tagName === 'DETAILS' ? opening.firstElementChild : item;
-  const mark = head.firstElementChild, code = mark.nextElementSibling, next = code.nextElementSibling;
-  const why = next && next.tagName === 'SPAN' ? next : null, names = why ? why.nextElementSibling : next;
-  const [kind, severity] = mark.textContent.split(' '), path = code.textContent, about = names ? names.textContent : '';
-  return {
-    item, standing, section, place, kind, severity, path, about,
-    attribute: names && names.title || about.replace(/ [+-]\d+/, ''),
+  const [mark, code, names] = head.children;
+  return [mark.textContent, code.textContent, ...names ? [names.title, names.textContent] : []];
+}
+
+const headOfText = (text) => HEAD.exec(text).slice(1)
+  .map((part) => part && part.includes('&') ? part.replace(/&[^;]+;/g, (letter) => LETTERS[letter]) : part);
+
+// An entry: its item or the text of it, and what filters and orders need of it. `section` is the heading of its group.
+function addEntry({ standing, section }, item, text, [words, path, title, about = '']) {
+  const [kind, severity] = words.split(' ');
+  entries.push({
+    item, text, standing, section, place: entries.length, kind, severity, path, about,
+    attribute: title || about.replace(/ [+-]\d+/, ''),
     package: standing === 'recorded' ? section : '',
     folded: path.toLowerCase(), key: path.replaceAll('/', '\0'), node: null, told: null,
-  };
+  });
+}
+
+// Makes the items of entries that are text. It is the page's own, and is read as it is without this script.
+function makeItems(entries) {
+  const waiting = entries.filter(({ item }) => !item), text = waiting.map((entry) => entry.text + '\n').join('');
+  const made = new DOMParser().parseFromString('<ul>' + text + '</ul>', 'text/html').querySelectorAll('body > ul > li');
+  waiting.forEach((entry, place) => { entry.item = made[place]; });
 }
 
 // Finds what fits, and counts it directory by directory; what is in the chosen one is shown, in the chosen order.
@@ -68,9 +86,11 @@ function itemOf(entry) {
 function showItems(from, count) {
   const sizes = new Map(), list = find('list');
   if (shownOrder === 'importance') for (const { section } of matching) sizes.set(section, (sizes.get(section) || 0) + 1);
+  const shown = matching.slice(from, from + count);
   let last = null;
+  makeItems(shown);
   list.replaceChildren();
-  for (const entry of matching.slice(from, from + count)) {
+  for (const entry of shown) {
     const { section, standing } = entry;
     if (sizes.size && section !== last) {
       const heading = make('h2', {}, section + ': ' + entriesOf(sizes.get(section)));
@@ -217,10 +237,10 @@ function listen() {
 function begin() {
   firstOrder = find('content').dataset.order;
   for (const group of document.querySelectorAll('#content > .group')) {
-    const section = group.querySelector('h2 span').textContent;
-    for (let item = group.querySelector('ul').firstElementChild; item; item = item.nextElementSibling) {
-      entries.push(entryOf(item, group.dataset.standing, section, entries.length));
-    }
+    const part = { standing: group.dataset.standing, section: group.querySelector('h2 span').textContent };
+    const rest = group.querySelector('noscript'), lines = rest ? rest.textContent.split('\n') : [];
+    for (const item of group.querySelectorAll('li')) addEntry(part, item, '', headOfItem(item));
+    for (const text of lines) if (text.startsWith('<li>')) addEntry(part, null, text, headOfText(text));
   }
   inOrder.set('importance', [...entries]);
   entries.sort((one, two) => one.key < two.key ? -1 : 1);

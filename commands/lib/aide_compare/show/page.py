@@ -7,6 +7,7 @@ import os
 from array import array
 from collections import Counter
 from html import escape
+from itertools import islice
 from typing import TYPE_CHECKING, Dict, Iterator, List, NamedTuple, Optional, Set, Tuple
 
 from aide_compare.base.escapes import shown_note
@@ -42,7 +43,11 @@ CHOICES = {
 # that a browser has enough to do with their heads.
 MAX_BYTES = 20000000
 RESERVE = 8000
-BESIDE_GROUP = 100
+BESIDE_GROUP = 200
+# So many entries are elements of a page with a script, also where the script does not run. A
+# browser that runs it gets the others as text, of which it makes elements when it shows them.
+MAX_ELEMENTS = 1000
+REST = b"<p>The others, if scripts are off in this browser:</p>\n"
 TITLES = {
     Standing.OPEN: "Open",
     Standing.RECORDED: "Recorded",
@@ -121,7 +126,7 @@ class Group:
         elif self.standing is Standing.RECORDED and self.name:
             title = shown_note(self.name)
         text = f"<span>{escape(title)}</span>: {entries(self.count)}"
-        return encoded(f"<details {attributes}><summary><h2>{text}</h2></summary>\n<ul>\n")
+        return encoded(f"<details {attributes}><summary><h2>{text}</h2></summary>\n")
 
 
 class Groups:
@@ -189,7 +194,7 @@ class Groups:
                 numbers[f"{standing}_{severity}"] += count
         return Counts(**numbers)
 
-    def write(self, file: Spool, limit: int) -> None:
+    def write(self, file: Spool, limit: int, max_elements: int) -> None:
         """Writes the groups, as far as there is room for them."""
         groups = sorted(self.groups.values(), key=Group.order)
         headings = [group.heading() for group in groups]
@@ -199,14 +204,29 @@ class Groups:
         rooms = Rooms(Room(limit - for_tables), Room(for_tables))
         for group, heading in zip(groups, headings):
             file.write(heading)
-            first = self.listed
-            file.writelines(self._items(group, rooms))
-            file.write(b"</ul>")
-            left_out = group.count - (self.listed - first)
-            if left_out:
-                text = f"<p>{number(left_out)} more that this page has no room for</p>"
-                file.write(encoded(text))
+            self._write_list(file, group, rooms, max_elements)
             file.write(b"</details>\n")
+
+    def _write_list(self, file: Spool, group: Group, rooms: Rooms, max_elements: int) -> None:
+        """Writes the entries of a group. Those after so many of a page are in an element that a
+        browser with scripts reads as text."""
+        first = self.listed
+        items = self._items(group, rooms)
+        if first < max_elements:
+            file.write(b"<ul>\n")
+            file.writelines(islice(items, max_elements - first))
+            file.write(b"</ul>")
+        following = next(items, b"")
+        if following:
+            if first < max_elements:
+                file.write(REST)
+            file.write(b"<noscript><ul>\n" + following)
+            file.writelines(items)
+            file.write(b"</ul></noscript>")
+        left_out = group.count - (self.listed - first)
+        if left_out:
+            text = f"<p>{number(left_out)} more that this page has no room for</p>"
+            file.write(encoded(text))
 
     def _items(self, group: Group, rooms: Rooms) -> Iterator[bytes]:
         """Yields items with their values, or without them, by the room that there is."""
@@ -260,7 +280,8 @@ def page(
     controls = part_of("controls.html") if has_script else ""
     controls += '<div id="content" tabindex="-1" data-order="importance">\n'
     beginning = head(reader, counts, name, script, [])
-    groups.write(lists, MAX_BYTES - RESERVE - len(beginning) - len(controls))
+    limit = MAX_BYTES - RESERVE - len(beginning) - len(controls)
+    groups.write(lists, limit, MAX_ELEMENTS if has_script else MAX_BYTES)
     yield head(reader, counts, name, script, groups.notes())
     yield encoded(controls)
     lists.seek(0)

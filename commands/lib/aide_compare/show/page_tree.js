@@ -22,9 +22,12 @@ function placeEntries(entries) {
   for (const entry of entries) {
     const cut = entry.path.lastIndexOf('/'), folder = entry.path.slice(0, cut);
     if (folder !== node.path) node = folder.split('/').slice(1).reduce(childOf, root);
-    Object.assign(entry, { node, name: entry.path.slice(cut + 1) });
+    entry.node = node;
   }
-  for (const entry of entries) entry.node = entry.node.children.get(entry.name) || entry.node;
+  for (const entry of entries) {
+    const { node, path } = entry;
+    if (node.children.size) entry.node = node.children.get(path.slice(path.lastIndexOf('/') + 1)) || node;
+  }
 }
 
 // Counts some entries, directory by directory.
