@@ -275,6 +275,7 @@ class ViewersTest(ProgramTest):
     def test_looks(self) -> None:
         looks.try_blank_ends(self)
         looks.try_heading(self)
+        looks.try_nothing(self)
         looks.try_standings(new_seed(), self)
 
     def test_cuts(self) -> None:

@@ -93,6 +93,23 @@ def try_blank_ends(tally):
         tally.holds("%r is shown as %s" % (value, want), want in text, text[-1500:])
 
 
+def try_nothing(tally):
+    """A page without a change says so, names both databases, and has nothing else to look at."""
+    head, *_, end = objects_of(rich_lines())
+    zero = dict.fromkeys(("added", "removed", "changed", "same_as_old", "others", "status"), 0)
+    for is_plain in (False, True):
+        text = page_of([{**head, "host": "www"}, {**end, **zero}], is_plain)
+        for part in (
+            "<title>File changes on www: no differences<",
+            ">No differences between",
+            ">/var/old.db<",
+            ">/var/new.db<",
+        ):
+            tally.holds("a page without a change has " + part, part in text, text[-1500:])
+        for part in ("<dt>Host", "<dl class=", "<details", "<h2", "<input", 'class="skip"'):
+            tally.holds("a page without a change has no " + part, part not in text, text[-1500:])
+
+
 def try_heading(tally):
     """The host, the times, further members, and what was left out: each is there if the summary has
     it, and is text."""
@@ -107,7 +124,6 @@ def try_heading(tally):
     text = page_of([{**objects[0], **more}] + objects[1:])
     for part in (
         "<h1>File changes on www&lt;b&gt;</h1>",
-        "<dd>www&lt;b&gt;</dd>",
         "<dd>2026-11-25 05:23:11 UTC</dd>",
         "<span>of 2026-11-24 05:20:00 UTC</span>",
         "<dt>&lt;i&gt;</dt><dd>a\\342\\200\\256b</dd>",

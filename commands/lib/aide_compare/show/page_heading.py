@@ -22,6 +22,7 @@ KNOWN = frozenset(
     " old_digest new_digest".split()
 )
 DATE = re.compile("[0-9]{4}-[0-9]{2}-[0-9]{2}T[0-9]{2}:[0-9]{2}:[0-9]{2}Z")
+SKIP = '<a class="skip" href="#content">Skip to the entries</a>\n'
 MAX_MEMBERS = 20
 MAX_LETTERS = 5000
 HINT = (
@@ -56,6 +57,7 @@ class Beginning(NamedTuple):
     facts: str = ""
     about: str = ""
     script: str = ""
+    skip: str = SKIP
 
     def encoded(self) -> bytes:
         """Its bytes. The policy knows style and script."""
@@ -71,6 +73,7 @@ class Beginning(NamedTuple):
             "style": style,
             "policy": policy,
             "script": script,
+            "skip": self.skip,
             "outcome": self.outcome,
             "counts": self.counts,
             "remarks": self.remarks,
@@ -106,10 +109,14 @@ def member(summary: Fields, name: str) -> str:
     return shown_note(value)
 
 
-def facts_of(summary: Fields) -> str:
-    """The host, the time, and what else the caller has written into the summary."""
+def facts_of(summary: Fields, title: str) -> str:
+    """The host, unless the title names it, the time, and what else the caller has written into the
+    summary."""
     others = [name for name in summary if name not in KNOWN and isinstance(summary[name], str)]
-    rows = [("Host", member(summary, "host")), ("Compared", member(summary, "@timestamp"))]
+    rows = [("Compared", member(summary, "@timestamp"))]
+    host = member(summary, "host")
+    if host not in title:
+        rows.insert(0, ("Host", host))
     rows += [(shown_note(name), member(summary, name)) for name in others[:MAX_MEMBERS]]
     text = ""
     for name, value in rows:
@@ -130,10 +137,13 @@ def database_text(summary: Fields, side: str) -> str:
     return f"{text}<small>SHA-256 <code>{summary[side]['sha256']}</code></small></dd>"
 
 
-def about_of(summary: Fields, total: int) -> str:
-    """The databases with the time of each, how many entries there are, and what the words mean."""
+def about_of(summary: Fields, end: EndCounts) -> str:
+    """The databases with the time of each, how many entries there are, and what the words mean.
+    Without a change that is all that there is to see, and no word needs a meaning."""
     lines = "".join(database_text(summary, side) for side in SIDES)
-    text = f"<dl>{lines}</dl>\n<p>{entries(total)} in the new database.</p>\n"
+    text = f"<dl>{lines}</dl>\n<p>{entries(end.total)} in the new database.</p>\n"
+    if not end.changes:
+        return f'<div class="about">{text}</div>\n'
     text += f'<p class="hint">{escape(HINT)}</p>'
     title = "<summary>Databases, and what the words mean</summary>"
     return f'<details class="about">{title}{text}</details>\n'
@@ -189,18 +199,23 @@ def head(reader: Reader, counts: Counts, title: bytes, script: str, notes: List[
     what is missing."""
     summary = reader.summary
     text = title_of(summary, title)
-    kinds = [f"{number(count)} {kind}" for kind, count in zip(KINDS, reader.counts.kinds)]
+    kinds = ", ".join(f"{number(count)} {kind}" for kind, count in zip(KINDS, reader.counts.kinds))
     remarks = [*left_out_remark(summary), *column_remarks(summary), *notes]
     outcome = '<p class="outcome">No differences between the two databases</p>\n'
-    if reader.counts.status:
+    numbers = ""
+    skip = ""
+    if reader.counts.changes:
         outcome = ""
+        skip = SKIP
+        numbers = counts_of(reader.counts, counts)
     return Beginning(
         title=text,
-        heading=escape(f"{text}: {', '.join(kinds)}"),
+        heading=escape(f"{text}: {kinds if numbers else 'no differences'}"),
         outcome=outcome,
-        facts=facts_of(summary),
-        counts=counts_of(reader.counts, counts),
-        about=about_of(summary, reader.counts.total),
+        facts=facts_of(summary, text),
+        counts=numbers,
+        about=about_of(summary, reader.counts),
         remarks="".join(f'<p class="remark">{escape(remark)}</p>\n' for remark in remarks),
         script=script,
+        skip=skip,
     ).encoded()
