@@ -16,6 +16,7 @@ from tests.commands.viewers.in_browser import (
     try_address,
     try_entries,
     try_filters,
+    try_first_screen,
     try_folders,
     try_hostile,
     try_keyboard,
@@ -72,6 +73,8 @@ def main():
         try_same(browser, (hostile, odd), tally)
         for path in (split, demo):
             try_entries(browser, path, given.pictures, tally)
+        for path in (demo, simple):
+            try_first_screen(browser, path, tally)
         try_address(browser, demo, tally)
         try_keyboard(browser, demo, tally)
         try_printing(browser, demo, tally)

@@ -41,6 +41,8 @@ LISTED = (
 )
 NARROW = """Math.min(...[...document.querySelectorAll('#tree > li > .folder code')].map(
   (one) => one.clientWidth || one.offsetWidth))"""
+CUT_OFF = """[...document.querySelectorAll('body, nav, .numbers')].filter(
+  (one) => one.scrollWidth > one.clientWidth).length"""
 ORDER = """{ const order = document.getElementById('order'); order.value = 'size'; order.dispatchEvent(new Event('change')); }"""
 
 
@@ -245,6 +247,28 @@ def try_entries(browser, path, pictures, tally):
     )
 
 
+def try_first_screen(browser, path, tally):
+    """The first five entries are on the first screen of a desk and of a hand, and nothing is cut
+    off."""
+    opened(browser, path)
+    for width, height in ((1280, 900), (400, 800)):
+        browser.ask(
+            "Emulation.setDeviceMetricsOverride",
+            width=width,
+            height=height,
+            deviceScaleFactor=1,
+            mobile=False,
+        )
+        fifth = browser.value(
+            "document.querySelectorAll('%s')[4].getBoundingClientRect().bottom" % ENTRY
+        )
+        tally.add(
+            "five entries at %d" % width,
+            [] if fifth <= height else ["the fifth ends at %d" % fifth],
+        )
+        tally.add("nothing is cut at %d" % width, wait_for(browser, CUT_OFF, 0))
+
+
 def try_address(browser, path, tally):
     """The address has what was asked for, and a page that is opened with it shows that."""
     opened(browser, path)
@@ -340,6 +364,12 @@ def try_printing(browser, path, tally):
             "Only entries with: kind changed.",
         ),
     )
+    tally.add("the databases too", wait_for(browser, "document.querySelector('.about').open", True))
+    dark = [{"name": "prefers-color-scheme", "value": "dark"}]
+    browser.ask("Emulation.setEmulatedMedia", media="print", features=dark)
+    colour = "getComputedStyle(document.body).color"
+    tally.add("in dark ink", wait_for(browser, colour, "rgb(28, 33, 40)"))
+    browser.ask("Emulation.setEmulatedMedia", media="", features=[])
     browser.value("window.dispatchEvent(new Event('afterprint'))")
     tally.add("then a page again", wait_for(browser, SHOWN, 100))
     pages = browser.ask("Page.printToPDF", transferMode="ReturnAsBase64")["data"]

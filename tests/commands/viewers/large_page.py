@@ -5,6 +5,7 @@ import random
 import time
 
 from tests.commands.viewers import HTML
+from tests.commands.viewers.in_browser import try_first_screen
 from tests.commands.viewers.large import measured, paths_of
 from tests.commands.viewers.lines import stand
 
@@ -125,4 +126,5 @@ def try_large(browser, count, folder, tally):
     )
     tally.add("it is shown soon", [] if work < MOST_SECONDS else ["%.1f s" % work])
     tally.add("a search answers soon", [] if max(answers) < MOST_ANSWER else ["%r s" % answers])
+    try_first_screen(browser, path, tally)
     tally.add("no fault of a large page", browser.faults)

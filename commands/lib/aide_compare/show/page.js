@@ -230,7 +230,10 @@ function listen() {
     const text = location.hash.slice(1);
     if (text !== 'content' && text !== written) showView(text);
   });
-  on(window, 'beforeprint', () => showItems(0, matching.length));
+  on(window, 'beforeprint', () => {
+    document.querySelector('.about').open = true;
+    showItems(0, matching.length);
+  });
   on(window, 'afterprint', showList);
 }
 
