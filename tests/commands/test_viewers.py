@@ -298,4 +298,4 @@ class ViewersTest(ProgramTest):
 
     @thorough
     def test_large(self) -> None:
-        try_large(self.program, 100000, self)
+        try_large(100000, self)

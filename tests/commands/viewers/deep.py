@@ -90,15 +90,17 @@ def try_memory(tally):
             ("pages", pages_of(lines_of(lines)), len(lines_of(lines))),
         ):
             held, most = bytes_held(work), copies * length + 3000000
-            tally.add(
+            tally.holds(
                 "memory for %s of the byte %r" % (label, byte),
-                [] if held < most else ["%d of %d bytes" % (held, most)],
+                held < most,
+                "%d of %d bytes" % (held, most),
             )
     for label, given_of in (("pages", pages_over(many)), ("lines", additions_over(many))):
         few, more = bytes_held(given_of(300)[0]), bytes_held(given_of(3000)[0])
-        tally.add(
+        tally.holds(
             "memory for %s of many entries" % label,
-            [] if more < few + 1500000 else ["%d, then %d bytes" % (few, more)],
+            more < few + 1500000,
+            "%d, then %d bytes" % (few, more),
         )
 
 
@@ -144,14 +146,14 @@ def try_sizes(tally):
                 words, input=lines, stdout=subprocess.PIPE, stderr=subprocess.PIPE
             )
             good = not done.returncode and 1000 < len(done.stdout) <= MOST_BYTES
-            tally.add(
+            tally.holds(
                 "size for %s %s" % (label, words[1:]),
-                [] if good else ["status %d, %d bytes" % (done.returncode, len(done.stdout))],
+                good,
+                "status %d, %d bytes" % (done.returncode, len(done.stdout)),
             )
             says = bool(CUT.search(done.stdout))
-            tally.add(
-                "%s %s is said to be cut" % (label, words[1:]),
-                [] if says == is_cut else ["it is %s" % says],
+            tally.holds(
+                "%s %s is said to be cut" % (label, words[1:]), says == is_cut, "it is %s" % says
             )
 
 
@@ -176,9 +178,8 @@ def try_script(script, tally):
         "the script fills folders in a loop",
         ["it calls itself in: %s" % line.strip() for line in calls],
     )
-    tally.add(
-        "few folders are open at first",
-        [] if "opened.size < DEEP" in script else ["there is no bound"],
+    tally.holds(
+        "few folders are open at first", "opened.size < DEEP" in script, "there is no bound"
     )
     for word in (
         "innerHTML",
@@ -190,17 +191,14 @@ def try_script(script, tally):
         ".href",
         ".src",
     ):
-        tally.add("the script has no " + word, [] if word not in script else ["it has"])
+        tally.holds("the script has no " + word, word not in script, "it has")
 
 
 def try_times(tally):
     """What stands in place of a time is text, also if it is markup."""
     from aide_compare.show.page_items import cell
 
-    tally.add(
-        "a note is text",
-        [] if "<b>" not in cell("1", "<b>") + cell("<b>", "1") else ["it is markup"],
-    )
+    tally.holds("a note is text", "<b>" not in cell("1", "<b>") + cell("<b>", "1"), "it is markup")
     lines = [json.loads(line) for line in lines_of(rich_lines()).splitlines()]
     entry = next(fields for fields in lines if "Mtime" in fields.get("new", ()))
     for value in ("</noscript><meta http-equiv=refresh>", "2026-11-25T12:00:00Z<b>", "soon", 7):
@@ -214,4 +212,4 @@ def try_times(tally):
             if value != 7
             else done.returncode == 65
         )
-        tally.add("a time %r" % value, [] if good else ["status %d" % done.returncode])
+        tally.holds("a time %r" % value, good, "status %d" % done.returncode)

@@ -101,11 +101,9 @@ def try_views(browser, tally):
     for case in table["cases"]:
         words = (choices, part_of("page_logic.js"), json.dumps(entries), json.dumps(case["view"]))
         found, text = browser.value(VIEWED % words)
-        tally.add(
-            "view %s" % case["view"], [] if found == case["found"] else ["it finds %r" % found]
-        )
+        tally.holds("view %s" % case["view"], found == case["found"], "it finds %r" % found)
         wanted = case.get("text", case["view"])
-        tally.add("text of %s" % case["view"], [] if text == wanted else ["it is %r" % text])
+        tally.holds("text of %s" % case["view"], text == wanted, "it is %r" % text)
 
 
 def try_folders(browser, path, tally):
@@ -122,11 +120,10 @@ def try_folders(browser, path, tally):
         [label.split(", ")[0], list(map(int, re.findall(r", ([0-9]+) ", label)))]
         for label in browser.value(LABELS)
     ]
-    tally.add(
+    tally.holds(
         "directories",
-        []
-        if sorted(given) == sorted(wanted) and given
-        else ["%r, and not %r" % (given[:9], wanted[:9])],
+        sorted(given) == sorted(wanted) and given,
+        "%r, and not %r" % (given[:9], wanted[:9]),
     )
     browser.value("window.dispatchEvent(new Event('afterprint'))")
 
@@ -237,7 +234,7 @@ def try_entries(browser, path, pictures, tally):
         wait_for(browser, "document.documentElement.scrollWidth <= 320", True),
     )
     width = browser.value(NARROW)
-    tally.add("folder names have room at 320", [] if width >= 150 else ["%r" % width])
+    tally.holds("folder names have room at 320", width >= 150, width)
     browser.ask(
         "Emulation.setDeviceMetricsOverride",
         width=1280,
@@ -262,10 +259,7 @@ def try_first_screen(browser, path, tally):
         fifth = browser.value(
             "document.querySelectorAll('%s')[4].getBoundingClientRect().bottom" % ENTRY
         )
-        tally.add(
-            "five entries at %d" % width,
-            [] if fifth <= height else ["the fifth ends at %d" % fifth],
-        )
+        tally.holds("five entries at %d" % width, fifth <= height, "the fifth ends at %d" % fifth)
         tally.add("nothing is cut at %d" % width, wait_for(browser, CUT_OFF, 0))
 
 
@@ -327,12 +321,10 @@ def try_keyboard(browser, path, tally):
     ):
         browser.press("Tab", 9)
         stops += 1
-    tally.add("few stops before the tree", [] if 0 < stops <= 6 else ["%d" % stops])
+    tally.holds("few stops before the tree", 0 < stops <= 6, "%d" % stops)
     was = browser.value(FOCUS + ".node.path")
     browser.press("ArrowDown", 40)
-    tally.add(
-        "the next folder", [] if browser.value(FOCUS + ".node.path") != was else ["it is the same"]
-    )
+    tally.holds("the next folder", browser.value(FOCUS + ".node.path") != was, "it is the same")
     browser.press("Home", 36)
     browser.press("Enter", 13)
     tally.add(
@@ -373,7 +365,7 @@ def try_printing(browser, path, tally):
     browser.value("window.dispatchEvent(new Event('afterprint'))")
     tally.add("then a page again", wait_for(browser, SHOWN, 100))
     pages = browser.ask("Page.printToPDF", transferMode="ReturnAsBase64")["data"]
-    tally.add("a file to print", [] if len(pages) > 100000 else ["%d letters" % len(pages)])
+    tally.holds("a file to print", len(pages) > 100000, "%d letters" % len(pages))
 
 
 def try_hostile(browser, path, pictures, tally):
@@ -419,10 +411,7 @@ def try_same(browser, paths, tally):
         browser.value("window.dispatchEvent(new Event('beforeprint'))")
         shown.append(browser.value("document.getElementById('list').outerHTML"))
     same = shown[0] == shown[1] and len(shown[0]) > 30000
-    tally.add(
-        "entries that are text",
-        [] if same else ["%d and %d letters" % (len(shown[0]), len(shown[1]))],
-    )
+    tally.holds("entries that are text", same, "%d and %d letters" % (len(shown[0]), len(shown[1])))
 
 
 def try_policy(browser, path, write, tally):
@@ -442,7 +431,7 @@ def try_policy(browser, path, write, tally):
     red = "getComputedStyle(document.getElementById('loud')).color === 'rgb(255, 0, 0)'"
     tally.add("another style", wait_for(browser, red, False))
     breaches = len([fault for fault in browser.faults if "Content Security Policy" in fault])
-    tally.add("breaches are told", [] if breaches >= 3 else ["%d" % breaches])
+    tally.holds("breaches are told", breaches >= 3, "%d" % breaches)
     browser.faults.clear()
 
 
@@ -453,10 +442,7 @@ def try_without_script(browser, paths, pictures, tally):
         given, entries = browser.count_of(
             ".group li > details > table:first-of-type"
         ), browser.count_of(".group b")
-        tally.add(
-            name,
-            [] if entries > 200 and given > 200 else ["%d entries, %d tables" % (entries, given)],
-        )
+        tally.holds(name, entries > 200 and given > 200, "%d entries, %d tables" % (entries, given))
         if pictures:
             browser.picture(os.path.join(pictures, name.replace(" ", "_") + ".png"), 1280, 900)
     browser.ask("Emulation.setScriptExecutionDisabled", value=False)

@@ -1,5 +1,5 @@
 """Time and memory of the commands for many changes; tried by hand."""
-import base64
+import json
 import os
 import random
 import subprocess
@@ -7,25 +7,24 @@ import sys
 import tempfile
 import time
 
-from tests.lib.tally import lines_program_of
-
 from . import HTML, JSON
+from .lines import stand
 
 SECONDS, MEGABYTES = 30, 300
-# The digests that Debian's AIDE takes of each file (its group H), with their bytes.
-DIGESTS = {
-    "md5": 16,
-    "sha1": 20,
-    "sha256": 32,
-    "sha512": 64,
-    "rmd160": 20,
-    "tiger": 24,
-    "crc32": 4,
-    "crc32b": 4,
-    "haval": 32,
-    "whirlpool": 64,
-    "gost": 32,
-}
+FIRST = 1700000000
+DIGESTS = (
+    ("MD5", 16),
+    ("SHA1", 20),
+    ("SHA256", 32),
+    ("SHA512", 64),
+    ("RMD160", 20),
+    ("TIGER", 24),
+    ("CRC32", 4),
+    ("HAVAL", 32),
+    ("GOST", 32),
+    ("WHIRLPOOL", 64),
+    ("STRIBOG512", 64),
+)
 # The memory of a command that a large process starts would be counted with that of the large one.
 MEASURE = """import resource, subprocess, sys
 status = subprocess.call(sys.argv[1:])
@@ -56,33 +55,48 @@ def paths_of(count):
     return sorted(paths, key=lambda path: path.split("/"))
 
 
-def write_databases(folder, count):
-    """Two databases with so many changes: nine of ten are changed, the others added or removed."""
-    pick = random.Random(1)
-    names = ["old", "new"]
-    files = [open(os.path.join(folder, name), "w") for name in names]
-    for file in files:
+def entry_of(pick, number, path):
+    """A change with eleven digests, as stock Debian's configuration asks for."""
+    kind = {0: "added", 1: "removed"}.get(number % 20, "changed")
+    fields = {"kind": kind, "path": path, "summary": "f                 "}
+    sides = {"added": ("new",), "removed": ("old",)}.get(kind, ("old", "new"))
+    for later, side in enumerate(sides):
+        fields[side] = {"Inode": number + 100 * later}
+        if kind == "changed":
+            moment = FIRST + number + 86400 * later
+            digests = {
+                name: "%0*x" % (2 * size, pick.getrandbits(8 * size)) for name, size in DIGESTS
+            }
+            fields[side].update(
+                {"Size": (4096 + number) << later, "Mtime": moment, "Ctime": moment, **digests}
+            )
+    package = "package-%04d 1.%d-1" % (number // 200, number % 3)
+    stand(
+        fields,
+        "recorded" if number % 50 else "open",
+        "high" if number % 1000 == 2 else "medium",
+        package,
+    )
+    return fields
+
+
+def write_lines(path, count):
+    """Lines of so many changes, with standings."""
+    pick, encode = random.Random(1), json.JSONEncoder(separators=(",", ":")).encode
+    kinds = [{0: "added", 1: "removed"}.get(number % 20, "changed") for number in range(count)]
+    counts = {
+        "total": count,
+        **{kind: kinds.count(kind) for kind in ("added", "removed", "changed")},
+    }
+    database = {"path": "/a", "sha256": "00" * 32, "skipped": []}
+    summary = {"format": 3, "old": database, "new": database}
+    with open(path, "w") as file:
+        file.write(encode(summary) + "\n")
+        for number, name in enumerate(paths_of(count)):
+            file.write(encode(entry_of(pick, number, name)) + "\n")
         file.write(
-            "@@begin_db\n@@db_spec name perm uid gid size mtime ctime inode lcount %s\n"
-            % " ".join(DIGESTS)
+            encode({"end": True, **counts, "same_as_old": 0, "others": count, "status": 7}) + "\n"
         )
-    for number, path in enumerate(paths_of(count)):
-        for side, file in enumerate(files):
-            if number % 20 == side:
-                continue
-            digests = " ".join(
-                base64.b64encode(pick.getrandbits(8 * length).to_bytes(length, "big")).decode()
-                for length in DIGESTS.values()
-            )
-            mode, size = ["644", "755"][side * (number % 7 == 0)], 4096 + number * (side + 1)
-            mtime, ctime = (1700000000 + number + later * side for later in (86400, 90000))
-            file.write(
-                "%s 100%s 0 0 %d %d %d %d 1 %s\n"
-                % (path, mode, size, mtime, ctime, number, digests)
-            )
-    for file in files:
-        file.write("@@end_db\n")
-        file.close()
 
 
 def measured(words, source, target):
@@ -99,41 +113,24 @@ def measured(words, source, target):
     return done.returncode, time.time() - began, float(seconds), int(kilobytes) / 1024
 
 
-def try_large(program, count, tally):
-    """Measures the way from two databases to a page. The time of the processor counts: other work
-    may share it."""
+def try_large(count, tally):
+    """Measures what becomes of very many lines. The time of the processor counts: other work may
+    share it."""
     with tempfile.TemporaryDirectory() as folder:
-
-        def path_in(name):
-            return os.path.join(folder, name)
-
-        write_databases(folder, count)
-        with open(path_in("conf"), "w") as file:
-            file.write(
-                "database_in=file:%s\ndatabase_new=file:%s\n" % (path_in("old"), path_in("new"))
-            )
-        for label, words, source, target in (
-            (
-                "aide_lines",
-                [lines_program_of(program), "-E", "-c", path_in("conf")],
-                "conf",
-                "proved",
-            ),
-            ("aide-compare json --full", [*JSON, "--full"], "proved", "lines"),
-            ("aide-compare json", [*JSON], "proved", "lines"),
-            ("aide-compare page", [*HTML], "lines", "page"),
-            ("aide-compare page --plain", [*HTML, "--plain"], "lines", "plain"),
+        proved, lines, target = (os.path.join(folder, name) for name in ("proved", "lines", "page"))
+        write_lines(proved, count)
+        for words, source, target in (
+            ([*JSON, "--full"], proved, lines),
+            ([*JSON], proved, lines),
+            ([*HTML], lines, target),
+            ([*HTML, "--plain"], lines, target),
         ):
-            status, clock, seconds, megabytes = measured(words, path_in(source), path_in(target))
-            size = os.path.getsize(path_in(target)) / 1e6
-            print(
-                "%s: %.1f s by the clock, %.1f s of the processor, at most %.0f MB of memory, %.1f MB written"
-                % (label, clock, seconds, megabytes, size),
-                flush=True,
+            status, clock, seconds, megabytes = measured(words, source, target)
+            figures = "%.1f s by the clock, %.1f s of the processor, %.0f MB" % (
+                clock,
+                seconds,
+                megabytes,
             )
-            tally.add(
-                label,
-                ["status %d, %.1f s, %.0f MB" % (status, seconds, megabytes)]
-                if label != "aide_lines" and (status or seconds > SECONDS or megabytes > MEGABYTES)
-                else [],
-            )
+            print("%s: %s" % (" ".join(words[1:]), figures), flush=True)
+            good = not status and seconds < SECONDS and megabytes < MEGABYTES
+            tally.holds(" ".join(words[1:]), good, "status %d, %s" % (status, figures))

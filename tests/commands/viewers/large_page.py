@@ -1,29 +1,12 @@
-"""Lines of very many changes, and how fast the page of them is in a browser; tried by hand."""
-import json
+"""How fast the page of very many changes is in a browser; tried by hand."""
 import os
-import random
 import time
 
 from tests.commands.viewers import HTML
 from tests.commands.viewers.in_browser import try_first_screen
-from tests.commands.viewers.large import measured, paths_of
-from tests.commands.viewers.lines import stand
+from tests.commands.viewers.large import measured, write_lines
 
-DIGESTS = (
-    ("MD5", 16),
-    ("SHA1", 20),
-    ("SHA256", 32),
-    ("SHA512", 64),
-    ("RMD160", 20),
-    ("TIGER", 24),
-    ("CRC32", 4),
-    ("HAVAL", 32),
-    ("GOST", 32),
-    ("WHIRLPOOL", 64),
-    ("STRIBOG512", 64),
-)
 MOST_BYTES, MOST_SECONDS, MOST_ANSWER = 20000000, 3, 0.2
-FIRST = 1700000000
 SEARCHES = ("package-00", "zzz", "file-07.so")
 SEARCH = """(async () => {
   const field = document.getElementById('search'), before = document.getElementById('found').textContent;
@@ -31,50 +14,6 @@ SEARCH = """(async () => {
   while (document.getElementById('found').textContent === before) await new Promise((done) => setTimeout(done, 20));
   document.body.offsetHeight;
 })()"""
-
-
-def entry_of(pick, number, path):
-    """A change with eleven digests, as stock Debian's configuration asks for."""
-    kind = {0: "added", 1: "removed"}.get(number % 20, "changed")
-    fields = {"kind": kind, "path": path, "summary": "f                 "}
-    sides = {"added": ("new",), "removed": ("old",)}.get(kind, ("old", "new"))
-    for later, side in enumerate(sides):
-        fields[side] = {"Inode": number + 100 * later}
-        if kind == "changed":
-            moment = FIRST + number + 86400 * later
-            digests = {
-                name: "%0*x" % (2 * size, pick.getrandbits(8 * size)) for name, size in DIGESTS
-            }
-            fields[side].update(
-                {"Size": (4096 + number) << later, "Mtime": moment, "Ctime": moment, **digests}
-            )
-    package = "package-%04d 1.%d-1" % (number // 200, number % 3)
-    stand(
-        fields,
-        "recorded" if number % 50 else "open",
-        "high" if number % 1000 == 2 else "medium",
-        package,
-    )
-    return fields
-
-
-def write_lines(path, count):
-    """Lines of so many changes, with standings."""
-    pick, encode = random.Random(1), json.JSONEncoder(separators=(",", ":")).encode
-    kinds = [{0: "added", 1: "removed"}.get(number % 20, "changed") for number in range(count)]
-    counts = {
-        "total": count,
-        **{kind: kinds.count(kind) for kind in ("added", "removed", "changed")},
-    }
-    database = {"path": "/a", "sha256": "00" * 32, "skipped": []}
-    summary = {"format": 3, "old": database, "new": database}
-    with open(path, "w") as file:
-        file.write(encode(summary) + "\n")
-        for number, name in enumerate(paths_of(count)):
-            file.write(encode(entry_of(pick, number, name)) + "\n")
-        file.write(
-            encode({"end": True, **counts, "same_as_old": 0, "others": count, "status": 7}) + "\n"
-        )
 
 
 def made(source, target, *words):
@@ -96,9 +35,7 @@ def try_large(browser, count, folder, tally):
             flush=True,
         )
         good = not status and size <= MOST_BYTES
-        tally.add(
-            "a large page %s" % words, [] if good else ["status %d, %d bytes" % (status, size)]
-        )
+        tally.holds("a large page %s" % words, good, "status %d, %d bytes" % (status, size))
     browser.open("/proc/version")
     began, worked = time.time(), browser.worked()
     browser.open(path)
@@ -124,7 +61,7 @@ def try_large(browser, count, folder, tally):
             1000 * answers[-1],
         )
     )
-    tally.add("it is shown soon", [] if work < MOST_SECONDS else ["%.1f s" % work])
-    tally.add("a search answers soon", [] if max(answers) < MOST_ANSWER else ["%r s" % answers])
+    tally.holds("it is shown soon", work < MOST_SECONDS, "%.1f s" % work)
+    tally.holds("a search answers soon", max(answers) < MOST_ANSWER, "%r s" % answers)
     try_first_screen(browser, path, tally)
     tally.add("no fault of a large page", browser.faults)

@@ -130,25 +130,22 @@ def try_heading(tally):
         '<p class="remark">The comparison left out 1 entry of the old database and 2,300 entries of the new '
         "database, by the rules of --exclude-from.</p>",
     ):
-        tally.add(
-            "the heading has " + part,
-            [] if part in text.partition("</header>")[0] else ["it has not"],
-        )
+        tally.holds("the heading has " + part, part in text.partition("</header>")[0], "it has not")
     plain = page_of(objects, True)
     for part in ('class="facts"', "left out", "<span>of ", "<script"):
-        tally.add("an ordinary page has no " + part, ["it has"] if part in plain else [])
+        tally.holds("an ordinary page has no " + part, part not in plain, "it has")
     entry = next(fields for fields in objects if fields.get("kind") == "added")
     entry["new"] = {"Size": 18344, "Perm": "4755", "UID": 0, "GID": 50, "ACL": "POSIX,dXNl"}
     entry["new_text"] = {"Perm": "-rwsr-xr-x", "ACL": "user::rw-<"}
     for is_plain in (False, True):
         text = page_of(objects, is_plain)
-        tally.add(
+        tally.holds(
             "a new file",
-            []
-            if "> -rwsr-xr-x  0:50  18344 bytes</i>" in text
-            else ["its mode and owner are not there"],
+            "> -rwsr-xr-x  0:50  18344 bytes</i>" in text,
+            "its mode and owner are not there",
         )
-        tally.add(
+        tally.holds(
             "a decoded value",
-            [] if "<summary>user::rw-&lt;</summary>POSIX,dXNl<" in text else ["it is not there"],
+            "<summary>user::rw-&lt;</summary>POSIX,dXNl<" in text,
+            "it is not there",
         )

@@ -75,11 +75,11 @@ def try_two(kept, tally):
     levels = [change.pop("severity", "none") for change in given[1:-1]]
     counts = given[-1].pop("standings", {})
     judged = set(levels) <= {"high", "medium", "low"} and counts.get("open") == len(levels) == 7
-    tally.add("two databases are judged", [] if judged else ["%r %r" % (levels, counts)])
+    tally.holds("two databases are judged", judged, "%r %r" % (levels, counts))
     for side, name in (("old", kept.old), ("new", kept.new)):
         objects[0][side]["path"] = name
     good = (status, given) == (7, objects) and not errors
-    tally.add("two databases", [] if good else ["%d %r" % (status, errors or given[:2])])
+    tally.holds("two databases", good, "%d %r" % (status, errors or given[:2]))
     for words, status, said in (
         (["-c", "/dev/null", kept.old], USAGE, b"name two databases"),
         ([kept.old, kept.new, kept.old], USAGE, b"name two databases"),
@@ -90,30 +90,26 @@ def try_two(kept, tally):
         for name in ("json", "page"):
             done = subprocess.run([kept.command, name, *words], check=False, capture_output=True)
             good = done.returncode == status and said in done.stderr and not done.stdout
-            tally.add(
-                "%s %r" % (name, words), [] if good else ["%d %r" % (done.returncode, done.stderr)]
-            )
+            tally.holds("%s %r" % (name, words), good, "%d %r" % (done.returncode, done.stderr))
     done = subprocess.run(
         [kept.command, "page", "--plain", kept.old, kept.new], check=False, capture_output=True
     )
     wanted = (kept.old, "-rw-r--r--", "Open, severity ", "<h1>File changes on ")
     good = done.returncode == 7 and all(text.encode() in done.stdout for text in wanted)
-    tally.add("a page of two databases", [] if good else ["%d %r" % (done.returncode, done.stderr)])
+    tally.holds("a page of two databases", good, "%d %r" % (done.returncode, done.stderr))
 
 
 def try_full(kept, tally):
     status, objects, errors = kept.compared(
         "--full", "--with", "site=berlin", "--with", "a.b=\u00e9"
     )
-    tally.add("full", [] if status == 7 and objects else ["%d %r" % (status, errors)])
+    tally.holds("full", status == 7 and objects, "%d %r" % (status, errors))
     with open(kept.old, "rb") as old:
         words = [kept.command, "json", "--full", "-", kept.new]
         done = subprocess.run(words, input=old.read(), capture_output=True)
     first = json.loads(done.stdout.split(b"\n")[0]) if done.stdout else {}
     good = done.returncode == 7 and first.get("old_time", "") is None and first.get("new_time")
-    tally.add(
-        "full, of a pipe, whose time nobody knows", [] if good else ["%r %r" % (first, done.stderr)]
-    )
+    tally.holds("full, of a pipe, whose time nobody knows", good, "%r %r" % (first, done.stderr))
     values = kept.values
     wanted = {
         "host": socket.gethostname(),
@@ -126,16 +122,15 @@ def try_full(kept, tally):
     for fields in objects:
         given = {name: fields.get(name) for name in wanted}
         dates = [DATE.fullmatch(fields.get(name) or "") for name in times]
-        tally.add(
-            "full, %s" % fields.get("path", "summary"),
-            [] if given == wanted and all(dates) else ["%r" % given],
+        tally.holds(
+            "full, %s" % fields.get("path", "summary"), given == wanted and all(dates), given
         )
     plain = kept.compared()[1]
     bare = [
         {name: value for name, value in fields.items() if name not in (*wanted, *times)}
         for fields in objects
     ]
-    tally.add("nothing else is other", [] if bare == plain else ["%r" % bare])
+    tally.holds("nothing else is other", bare == plain, bare)
     status, objects, _ = lines(kept.lines, "--full", "--with", "host=www")
     good = status == 0 and all(
         fields["host"] == "www"
@@ -143,7 +138,7 @@ def try_full(kept, tally):
         and DATE.fullmatch(fields["@timestamp"])
         for fields in objects
     )
-    tally.add("full, of lines", [] if good else ["%r" % objects[:1]])
+    tally.holds("full, of lines", good, objects[:1])
 
 
 def try_names(kept, tally):
@@ -165,7 +160,7 @@ def try_names(kept, tally):
         and given[1].get("path_hex") == odd.hex()
         and "path" not in given[1]
     )
-    tally.add("names of databases", [] if good else ["%r" % given])
+    tally.holds("names of databases", good, given)
     for words, wanted in (
         (
             ["--names"],
@@ -175,8 +170,8 @@ def try_names(kept, tally):
     ):
         _, objects, _ = lines(text, *words)
         given = objects[1]["old"], objects[1]["new"], objects[1].get("old_text")
-        tally.add("users %r" % words, [] if given == wanted else ["%r" % given])
-    tally.add("texts", [] if "_text" in json.dumps(lines(kept.lines)[1]) else ["there are none"])
+        tally.holds("users %r" % words, given == wanted, given)
+    tally.holds("texts", "_text" in json.dumps(lines(kept.lines)[1]), "there are none")
 
 
 def try_one_text(kept, tally):
@@ -194,7 +189,7 @@ def try_one_text(kept, tally):
         and "new_text" not in objects[1]
         and "old_text" not in objects[1]
     )
-    tally.add("one text for two values", [] if good else ["%r" % objects[1]])
+    tally.holds("one text for two values", good, objects[1])
 
 
 def try_types(kept, tally):
@@ -215,7 +210,7 @@ def try_types(kept, tally):
             _, objects, _ = lines(lines_over(kept.program, pair, more=more))
             fields = next(fields for fields in objects if fields.get("path") == "/a")
             given = tuple(fields[side + "_text"]["Perm"] for side in ("old", "new"))
-            tally.add("types %r" % more, [] if given == wanted else ["%r" % (given,)])
+            tally.holds("types %r" % more, given == wanted, given)
 
 
 def try_left_out(kept, tally):
@@ -227,7 +222,7 @@ def try_left_out(kept, tally):
         and min(counts.values()) > 0
         and not any("left_out" in fields for fields in objects[1:])
     )
-    tally.add("left out", [] if good else ["%r" % objects[:1]])
+    tally.holds("left out", good, objects[:1])
 
 
 def try_members(kept, tally):
@@ -246,9 +241,10 @@ def try_members(kept, tally):
         ["--format", "xml"],
     ):
         status, objects, errors = lines(kept.lines, *words)
-        tally.add(
+        tally.holds(
             "%r" % words[-1][:40],
-            [] if status == USAGE and not objects and errors else ["%d %r" % (status, errors)],
+            status == USAGE and not objects and errors,
+            "%d %r" % (status, errors),
         )
 
 
@@ -304,13 +300,12 @@ def try_schema(kept, tally):
         changed(end, status=...),
     ]
     for number, fields in enumerate(bad):
-        tally.add(
-            "bad line %d" % number, [] if validator.faults(fields) else ["%r fits" % (fields,)]
-        )
+        tally.holds("bad line %d" % number, validator.faults(fields), "%r fits" % (fields,))
     known = Validator({"type": "string", "minLength": 3})
-    tally.add(
+    tally.holds(
         "unknown keyword",
-        [] if any("minLength" in fault for fault in known.faults("x")) else ["it is passed over"],
+        any("minLength" in fault for fault in known.faults("x")),
+        "it is passed over",
     )
 
 

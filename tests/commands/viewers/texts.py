@@ -178,17 +178,15 @@ def try_table(tally):
     """The table, and values of hostile sizes."""
     for label, value, text in TABLE:
         given = text_of(label, value)
-        tally.add(
-            "%s %r" % (label, value),
-            [] if given == text else ["it is %r, and not %r" % (given, text)],
-        )
+        tally.holds("%s %r" % (label, value), given == text, "it is %r, and not %r" % (given, text))
     for label, value in LONG:
         with bounded():
             text = text_of(label, value) or ""
         good = len(text) <= MOST_CHARACTERS and text.isprintable()
-        tally.add(
+        tally.holds(
             "%s of %d bytes" % (label, len(value)),
-            [] if good else ["%d characters, %.100r" % (len(text), text)],
+            good,
+            "%d characters, %.100r" % (len(text), text),
         )
 
 
