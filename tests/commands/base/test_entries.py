@@ -9,7 +9,7 @@ from tests.commands.base.calls import ModuleTest
 
 from aide_compare.base.files import in_memory
 from aide_compare.base.paths import key_of_path
-from aide_compare.changes.entries import OrderedDatabase
+from aide_compare.changes.ordered import OrderedDatabase
 from aide_compare.compare.exclusions import Exclusions, LeftOut, exclusion
 
 HEAD = b"# made\n@@begin_db\n\n@@db_spec name perm lname\n"

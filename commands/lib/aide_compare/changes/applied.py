@@ -16,7 +16,8 @@ from typing import IO
 from aide_compare.base.escapes import shown
 from aide_compare.base.files import nameless
 from aide_compare.base.paths import escaped, key_of_path, path_of
-from aide_compare.changes.entries import ABSENT, OrderedDatabase, usr_of
+from aide_compare.changes.entries import ABSENT
+from aide_compare.changes.ordered import OrderedDatabase, usr_of
 from aide_compare.changes.signed import Signed, open_package, tar_of
 from aide_compare.compare.kept_open import NEW, OLD, EntryReader, SidedEntry, key_of_entry
 from aide_compare.compare.unpack import Copy

@@ -11,7 +11,9 @@ from typing import Iterator, List, Tuple
 from aide_compare.base.ending import Fault, Status
 from aide_compare.base.escapes import shown
 from aide_compare.base.paths import key_of_path
-from aide_compare.changes.entries import Finding, OrderedDatabase, Sides, owner_of, usr_of
+from aide_compare.changes.entries import Sides, owner_of
+from aide_compare.changes.finding import Finding
+from aide_compare.changes.ordered import OrderedDatabase, usr_of
 from aide_compare.changes.packages import Dpkg, Named, Rpm
 from aide_compare.changes.recorded import Matcher
 from aide_compare.changes.severity import Severity

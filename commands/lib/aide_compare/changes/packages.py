@@ -16,7 +16,7 @@ from aide_compare.base.escapes import shown
 from aide_compare.base.files import open_regular, read_whole
 from aide_compare.base.directories import LISTING, closed_after, open_directory
 from aide_compare.base.processes import run
-from aide_compare.changes.entries import Finding
+from aide_compare.changes.finding import Finding
 
 DPKG = "/var/lib/dpkg"
 DPKG_LOG = "/var/log/dpkg.log"

@@ -14,11 +14,11 @@ from aide_compare.changes.entries import (
     CONTENT,
     OTHER_TARGET,
     Entry,
-    Finding,
+    Sides,
     differences,
     has_strong,
-    Sides,
 )
+from aide_compare.changes.finding import Finding
 from aide_compare.changes.packages import Dpkg, Member, Members, Rpm
 from aide_compare.lines.attributes import DIGEST_COLUMNS
 from aide_compare.lines.change import Standing

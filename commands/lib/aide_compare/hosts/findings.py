@@ -16,7 +16,7 @@ from aide_compare.base.ending import Fault, Status, write_blocks
 from aide_compare.base.escapes import shown
 from aide_compare.base.paths import key_of_path
 from aide_compare.base.words import SEVERITIES
-from aide_compare.changes.entries import OrderedDatabase
+from aide_compare.changes.ordered import OrderedDatabase
 from aide_compare.changes.severity import Severity
 from aide_compare.compare.comparison import Comparison
 from aide_compare.lines.change import Change, Counts, Fields, Standing, change_of

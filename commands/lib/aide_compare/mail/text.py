@@ -15,7 +15,7 @@ from typing import NamedTuple
 
 from aide_compare.base.escapes import guarded, shown
 from aide_compare.base.words import KINDS, SEVERITIES, counted, most_frequent
-from aide_compare.changes.entries import Finding
+from aide_compare.changes.finding import Finding
 from aide_compare.changes.judged import Judged
 from aide_compare.compare.state import State
 from aide_compare.lines.change import Change, Counts, Standing

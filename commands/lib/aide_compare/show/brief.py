@@ -18,7 +18,8 @@ from typing import Callable, Dict, Iterable, Iterator, List, Optional, Tuple
 from aide_compare.base.escapes import guarded, shown
 from aide_compare.base.files import file_kind
 from aide_compare.base.words import SEVERITIES, counted, date_of, minute_of, most_frequent
-from aide_compare.changes.entries import Entry, Finding, differences
+from aide_compare.changes.entries import Entry, differences
+from aide_compare.changes.finding import Finding
 from aide_compare.changes.judged import Judged
 from aide_compare.lines.attributes import DIGEST_COLUMNS
 from aide_compare.lines.change import Counts, Standing
