@@ -15,7 +15,7 @@ import fnmatch
 import re
 from collections.abc import Callable, Iterable, Iterator
 from functools import lru_cache
-from operator import itemgetter
+from operator import itemgetter, methodcaller
 from typing import Generic, Protocol, TypeVar
 
 from aide_compare.base.ending import Fault, Status
@@ -79,15 +79,24 @@ def _token(match: re.Match[bytes]) -> bytes:
 
 def _test(piece: bytes) -> Callable[[bytes], object]:
     """A test of one piece of a path. What fnmatch makes of it looks for each text between stars
-    once, from left to right."""
+    once, from left to right; most pieces have a star at one end only, and need no expression."""
     if not WILD.search(piece):
         return piece.__eq__
+    before, _, after = piece.partition(b"*")
+    if not after and not WILD.search(before):
+        return methodcaller("startswith", before)
+    if not before and not WILD.search(after):
+        return methodcaller("endswith", after)
     text = TOKEN.sub(_token, piece)
     return re.compile(fnmatch.translate(text.decode("latin-1")).encode("latin-1")).match
 
 
 def _never(_piece: bytes) -> bool:
     return False
+
+
+def _always(_piece: bytes) -> bool:
+    return True
 
 
 class Pattern:
@@ -108,6 +117,18 @@ class Pattern:
         # For a quick no: a path has at least so many pieces, and these among them.
         self.min_pieces = len(pieces) - self.tests.count(None)
         self.named = {piece for piece in pieces[wild:] if not WILD.search(piece)}
+
+    def names_in(self, pieces: list[bytes]) -> Callable[[bytes], object] | None:
+        """A test of the names in a directory, given by its pieces, that the pattern means; None if
+        it means none there, whatever its name."""
+        above = self.text.rpartition(b"/")[0]
+        last = self.tests[-1]
+        if last is None:
+            return _always if self.matches([*pieces, b""]) else None
+        if above.endswith(b"/**"):  # Before a name it may also take no piece.
+            pieces = [*pieces, b""]
+        is_there = Pattern(above).matches(pieces) if above else not pieces
+        return last if is_there else None
 
     def matches(self, pieces: list[bytes]) -> bool:
         """Whether the pattern means the pieces of a path. `**` takes as few as will do, and one
@@ -162,8 +183,12 @@ class Table(Generic[RowType]):
 
     def __init__(self, rows: Iterable[RowType]) -> None:
         self.by_start: dict[tuple[bytes, ...], list[tuple[int, RowType]]] = {}
+        # The same by the pieces of the directories in which their patterns may mean names.
+        self.by_directory: dict[tuple[bytes, ...], list[tuple[int, RowType]]] = {}
         for place, row in enumerate(rows):
-            self.by_start.setdefault(row.pattern.fixed, []).append((place, row))
+            pattern = row.pattern
+            self.by_start.setdefault(pattern.fixed, []).append((place, row))
+            self.by_directory.setdefault(pattern.fixed[: len(pattern.tests) - 1], []).append((place, row))
         self.longest = max(map(len, self.by_start), default=0)
 
     @lru_cache(maxsize=1024)
@@ -172,6 +197,13 @@ class Table(Generic[RowType]):
         found = []
         for size in range(len(start) + 1):
             found += self.by_start.get(start[:size], [])
+        return [row for _, row in sorted(found, key=itemgetter(0))]
+
+    def rows_in(self, pieces: list[bytes]) -> list[RowType]:
+        """The rows that may mean a name in a directory, given by its pieces, in their order."""
+        found = []
+        for size in range(min(len(pieces), self.longest) + 1):
+            found += self.by_directory.get(tuple(pieces[:size]), [])
         return [row for _, row in sorted(found, key=itemgetter(0))]
 
     def rows(self, path: bytes, test: Callable[[RowType], bool] | None = None) -> Iterator[RowType]:

@@ -6,12 +6,12 @@ import binascii
 import os
 import stat
 from collections.abc import Callable, Iterator
-from typing import NamedTuple, Optional
+from typing import NamedTuple, Optional, Tuple
 
 from aide_compare.base.ending import Fault, Status
 from aide_compare.base.escapes import shown
 from aide_compare.base.files import lines_of
-from aide_compare.base.paths import Pattern, Table, pattern_of
+from aide_compare.base.paths import MAX_PATH, Pattern, Table, pattern_of
 from aide_compare.base.words import SEVERITIES
 from aide_compare.changes.entries import ABSENT, Entry
 
@@ -214,20 +214,33 @@ class Weight(NamedTuple):
     rank: int
 
 
+class Rights(NamedTuple):
+    """What the rights of an entry on both sides mean: the bits of the tests that hold, and whether
+    somebody has other rights on the programs in it, a directory."""
+
+    held: int
+    opens_programs: bool
+
+
+# A weight, and a test of the names in a directory that have it.
+Names = Tuple[Weight, Callable[[bytes], object]]
+
+
 # The bit of each test in a number that says which hold.
 BITS = {word: 1 << place for place, word in enumerate(TESTS)}
 TESTED = ("attr", *RIGHTS)
 MAX_REMEMBERED = 1 << 12
+MAX_DIRECTORIES = 1 << 8
+OTHER_WEIGHT = Weight(OTHERWISE, SEVERITIES.index(OTHERWISE) * RANKS)
 
 
 class Row(NamedTuple):
-    """One pattern of a line: the level, the bits of the tests, which all have to hold, and the
-    line's place in the table."""
+    """One pattern of a line: the weight, by the level and the line's place in the table, and the
+    bits of the tests, which all have to hold."""
 
-    level: str
+    weight: Weight
     tests: int
     pattern: Pattern
-    place: int
 
 
 class Severity:
@@ -241,8 +254,9 @@ class Severity:
         lines = lines_of(path, "the table of severities")
         rows = [self._rows(number, *line) for number, line in enumerate(lines)]
         self.table = Table([row for each in rows for row in each])
-        # What holds of entries with these rights.
-        self.known: dict[object, int] = {}
+        # What is known of entries with these rights, and of names in these directories.
+        self.known: dict[object, Rights] = {}
+        self.names: dict[tuple[bytes, int], list[Names]] = {}
 
     @staticmethod
     def _rows(number: int, line: bytes, place: str) -> Iterator[Row]:
@@ -257,34 +271,61 @@ class Severity:
                 raise Fault(Status.USAGE, f"{place}: unknown test: {shown(word, 100)}")
         tests = sum(BITS[word] for word in set(words))
         for part in parts[1:]:
-            yield Row(level, tests, pattern_of(part, place), number)
+            weight = Weight(level, SEVERITIES.index(level) * RANKS + number)
+            yield Row(weight, tests, pattern_of(part, place))
 
     def of(self, path: bytes, old: Side, new: Side) -> Weight:
-        """How much a change of the entry with this path matters.
+        """How much a change of the entry with this path matters."""
+        return self.weight(path, self.rights(old, new))
+
+    def rights(self, old: Side, new: Side) -> Rights:
+        """What the rights of an entry on both sides mean for its severity. Most entries have those
+        of many others."""
+        fields = (fields_of_tests(old), fields_of_tests(new))
+        rights = self.known.get(fields)
+        if rights is None:
+            held = sum(BITS[word] for word, test in TESTS.items() if test(old, new))
+            is_directory = type_of(old, new) == stat.S_IFDIR
+            opens = is_directory and old is not None and new is not None
+            rights = Rights(held, opens and not has_same_rights(old, new))
+            if len(self.known) < MAX_REMEMBERED:
+                self.known[fields] = rights
+        return rights
+
+    def weight(self, path: bytes, rights: Rights) -> Weight:
+        """The same by what the rights mean.
 
         Who has other rights on a directory than before has them on the programs in it, so the
         greater of both counts.
         """
-        weight = self._first(path, old, new)
-        is_directory = type_of(old, new) == stat.S_IFDIR and old is not None and new is not None
-        if is_directory and not has_same_rights(old, new):
-            inside = self._first(path + b"/*", PROGRAM, PROGRAM)
-            return min(weight, inside, key=lambda each: each.rank)
-        return weight
+        weight = self._first(path, rights.held)
+        if not rights.opens_programs:
+            return weight
+        inside = self._first(path + b"/*", self.rights(PROGRAM, PROGRAM).held)
+        return min(weight, inside, key=lambda each: each.rank)
 
-    def _held(self, old: Side, new: Side) -> int:
-        """The bits of the tests that hold. Most entries have the rights of many others."""
-        rights = (fields_of_tests(old), fields_of_tests(new))
-        held = self.known.get(rights)
-        if held is None:
-            held = sum(BITS[word] for word, test in TESTS.items() if test(old, new))
-            if len(self.known) < MAX_REMEMBERED:
-                self.known[rights] = held
-        return held
+    def _first(self, path: bytes, held: int) -> Weight:
+        if len(path) > MAX_PATH:
+            return OTHER_WEIGHT
+        directory, _, name = path.rpartition(b"/")
+        for weight, test in self._names_in(directory, held):
+            if test(name):
+                return weight
+        return OTHER_WEIGHT
 
-    def _first(self, path: bytes, old: Side, new: Side) -> Weight:
-        held = self._held(old, new)
-        row = next(self.table.rows(path, lambda row: not row.tests & ~held), None)
-        if row is None:
-            return Weight(OTHERWISE, SEVERITIES.index(OTHERWISE) * RANKS)
-        return Weight(row.level, SEVERITIES.index(row.level) * RANKS + row.place)
+    def _names_in(self, directory: bytes, held: int) -> list[Names]:
+        """The weights of names in a directory if these tests hold, the first line first. Most
+        entries are in the directory of many others."""
+        key = (directory, held)
+        names = self.names.get(key)
+        if names is None:
+            pieces = directory[1:].split(b"/") if directory else []
+            names = []
+            for row in self.table.rows_in(pieces):
+                test = None if row.tests & ~held else row.pattern.names_in(pieces)
+                if test is not None:
+                    names.append((row.weight, test))
+            if len(self.names) >= MAX_DIRECTORIES:
+                self.names.clear()
+            self.names[key] = names
+        return names
