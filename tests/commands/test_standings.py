@@ -218,7 +218,7 @@ class StandingsTest(CommandTest):
         standings, and every change is an alarm."""
         host = silent()
         host.write(self)
-        name = "lib/aide_compare/changes/judged.py"
+        name = "lib/aide_compare/changes/sides.py"
         text = self.read(name)
         line = b"        self.severity = Severity()\n"
         for fault, said in (

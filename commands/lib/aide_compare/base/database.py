@@ -29,7 +29,9 @@ class Kind(Enum):
 
 def fields_in(line: bytes) -> list[bytes]:
     """The fields of a line."""
-    return FIELDS.findall(line)
+    if b"\r" in line or b"\v" in line or b"\f" in line:  # Blanks for Python only.
+        return FIELDS.findall(line)
+    return line.split()
 
 
 class Layout:

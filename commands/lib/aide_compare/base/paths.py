@@ -188,7 +188,9 @@ class Table(Generic[RowType]):
         for place, row in enumerate(rows):
             pattern = row.pattern
             self.by_start.setdefault(pattern.fixed, []).append((place, row))
-            self.by_directory.setdefault(pattern.fixed[: len(pattern.tests) - 1], []).append((place, row))
+            self.by_directory.setdefault(pattern.fixed[: len(pattern.tests) - 1], []).append(
+                (place, row)
+            )
         self.longest = max(map(len, self.by_start), default=0)
 
     @lru_cache(maxsize=1024)

@@ -2,12 +2,6 @@
 from __future__ import annotations
 
 import time
-from collections.abc import Mapping
-from operator import itemgetter
-from typing import TypeVar
-
-# What is counted: all of one kind, which has an order.
-Thing = TypeVar("Thing")
 
 # In the order in which states, lines and pages have them.
 SIDES = ("old", "new")
@@ -54,15 +48,6 @@ def counted(number: int, word: str, form: str = "d") -> str:
     if word.endswith("y") and word[-2] not in "aeiou":
         return f"{number:{form}} {word[:-1]}ies"
     return f"{number:{form}} {word}s"
-
-
-def most_frequent(
-    counts: Mapping[Thing, int], limit: int
-) -> tuple[list[tuple[Thing, int]], list[tuple[Thing, int]]]:
-    """The greatest of some counts, so many of them, and the others: each with its count."""
-    pairs = sorted(counts.items(), key=itemgetter(0))
-    pairs.sort(key=itemgetter(1), reverse=True)
-    return pairs[:limit], pairs[limit:]
 
 
 def status_of(counts: tuple[int, int, int]) -> int:

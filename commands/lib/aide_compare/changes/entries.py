@@ -12,6 +12,7 @@ from aide_compare.lines.attributes import DIGEST_COLUMNS as DIGESTS
 
 ABSENT = b"0"
 OTHERS_WRITE = 0o022
+SET_ID = 0o6000
 # Bits of the column `attr`: that the rule of an entry asked for its user, and for its group too.
 USER = 1 << 3
 OWNER = 1 << 3 | 1 << 4

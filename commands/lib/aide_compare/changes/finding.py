@@ -1,10 +1,48 @@
-"""A change that somebody has to read, kept small: there may be 200,000 in memory."""
+"""The changes of a comparison that are not silent, in private files: only a few bytes of each are
+in memory, however long its path is."""
 from __future__ import annotations
 
-import stat
-from typing import NamedTuple, Optional
+import struct
+from array import array
+from typing import Dict, Iterable, Iterator, List, NamedTuple, Optional, Set, Tuple
 
-from aide_compare.lines.change import Standing
+from aide_compare.base.paths import key_of_path, path_of
+from aide_compare.base.spool import Spool
+from aide_compare.base.words import KINDS, SEVERITIES
+from aide_compare.changes.sides import Weighed
+from aide_compare.lines.change import Counts, Standing
+
+BLOCK = 1 << 16
+SLASH = b"\1"  # In a key.
+
+
+class Record(NamedTuple):
+    """What is kept of a finding beside its path, as numbers."""
+
+    path_at: int
+    old_at: int  # NOWHERE if there is no entry.
+    new_at: int
+    owner: int
+    directory: int
+    package: int  # 0 for none.
+    rank: int
+    kind: int
+    level: int  # Its severity.
+    bits: int
+
+
+FORM = struct.Struct("=QQQQIIHBBH")
+NOWHERE = (1 << 64) - 1
+# The bits of a record.
+IS_RECORDED = 1 << 0
+IS_MADE = 1 << 1
+IS_FILE = 1 << 2
+IS_LINK = 1 << 3
+HAS_OWNER = 1 << 4
+IS_CONTENT = 1 << 5
+STANDINGS = (Standing.OPEN, Standing.RECORDED)
+# The numbers of kinds and severities in a record.
+PLACES = {word: place for words in (KINDS, SEVERITIES) for place, word in enumerate(words)}
 
 
 class Finding(NamedTuple):
@@ -21,21 +59,201 @@ class Finding(NamedTuple):
     is_made: bool  # Open, and made by a package's scripts at a path of its own: told by directory.
     old_at: Optional[int]
     new_at: Optional[int]
-    mode: int  # Of the new entry, or of the one that went.
+    is_file: bool
+    is_link: bool
     owner: Optional[int]
 
     @property
     def directory(self) -> bytes:
         """The path of the directory in which it is; none for the root."""
-        above = self.path.rpartition(b"/")[0]
-        if above or self.path == b"/":
-            return above
-        return b"/"
+        return directory_of(self.path)
 
-    @property
-    def is_file(self) -> bool:
-        return stat.S_ISREG(self.mode)
 
-    @property
-    def is_link(self) -> bool:
-        return stat.S_ISLNK(self.mode)
+def directory_of(path: bytes) -> bytes:
+    """The path of the directory in which an entry is; none for the root."""
+    above = path.rpartition(b"/")[0]
+    if above or path == b"/":
+        return above
+    return b"/"
+
+
+class Directories:
+    """The directories of paths that come in order, each by a number: whoever has left one does not
+    come back, so only the last path is in memory, and where the directories above it end there."""
+
+    def __init__(self) -> None:
+        self.count = 0
+        self.last = b""
+        self.above: List[Tuple[int, int]] = []
+
+    def number_of(self, key: bytes) -> int:
+        """The number of the directory in which the entry with this key is."""
+        start = key[: key.rindex(SLASH) + 1] if key != SLASH else b""
+        if start != self.last or not self.above:
+            while self.above and not start.startswith(self.last[: self.above[-1][0]]):
+                self.above.pop()
+            if not self.above or self.above[-1][0] != len(start):
+                self.above.append((len(start), self.count))
+                self.count += 1
+            self.last = start
+        return self.above[-1][1]
+
+
+class Findings:
+    """Takes findings in the order of paths, and gives each by its place in this order."""
+
+    def __init__(self) -> None:
+        self.records = Spool()
+        self.keys = Spool()
+        self.size = 0
+        self.count = 0
+        self.packages = [""]
+        self.numbers: Dict[str, int] = {"": 0}
+        self.directories = Directories()
+        self.samples = array("I")  # A finding in each directory.
+        self.new_records = bytearray()
+        self.new_keys = bytearray()
+        # By severity, in the order of these.
+        self.opened = [0] * len(SEVERITIES)
+        self.recorded = [0] * len(SEVERITIES)
+
+    def __len__(self) -> int:
+        return self.count
+
+    def add(self, weighed: Weighed) -> None:
+        kind, key, old_at, new_at, weight, known, is_content = weighed
+        directory = self.directories.number_of(key)
+        if directory == len(self.samples):
+            self.samples.append(self.count)
+        bits = IS_FILE * known.is_file | IS_LINK * known.is_link | IS_CONTENT * is_content
+        if known.owner is not None:
+            bits |= HAS_OWNER
+        self.new_records += FORM.pack(
+            self.size,
+            NOWHERE if old_at is None else old_at,
+            NOWHERE if new_at is None else new_at,
+            min(known.owner or 0, NOWHERE),
+            directory,
+            0,
+            weight.rank,
+            PLACES[kind],
+            PLACES[weight.level],
+            bits,
+        )
+        self.new_keys += key
+        self.new_keys += b"\n"
+        self.size += len(key) + 1
+        self.count += 1
+        self.opened[PLACES[weight.level]] += 1
+        if len(self.new_keys) > BLOCK:
+            self.end()
+
+    def end(self) -> None:
+        """Puts those that were taken into their files. None can be read before."""
+        self.records.write(self.new_records)
+        self.keys.write(self.new_keys)
+        self.new_records.clear()
+        self.new_keys.clear()
+
+    def rows(self, first: int = 0) -> Iterator[Record]:
+        """The records of all from this place on, in their order."""
+        at = first * FORM.size
+        while block := self._read(at, FORM.size * 1024):
+            at += len(block)
+            yield from map(Record._make, FORM.iter_unpack(block))
+
+    def _read(self, at: int, size: int) -> bytes:
+        self.records.seek(at)
+        return self.records.read(size)
+
+    def keys_from(self, at: int = 0) -> Iterator[bytes]:
+        """The keys of the paths of all from this byte on, each with a newline, in their order."""
+        while True:
+            self.keys.seek(at)
+            lines = self.keys.readlines(BLOCK)
+            if not lines:
+                return
+            at += sum(map(len, lines))
+            yield from lines
+
+    def among(self, paths: Iterable[bytes]) -> Set[bytes]:
+        """Those of some paths that findings have."""
+        keys = {key_of_path(path) + b"\n" for path in paths}
+        if not keys:
+            return set()
+        return {path_of(key[:-1]) for key in keys.intersection(self.keys_from())}
+
+    def below(self, directory: bytes) -> Iterator[Tuple[bytes, str]]:
+        """The paths and the kinds of the findings in a tree."""
+        start = key_of_path(directory + b"/")
+        for record, key in zip(self.rows(), self.keys_from()):
+            if key.startswith(start):
+                yield path_of(key[:-1]), KINDS[record.kind]
+
+    def record(self, place: int) -> Record:
+        return Record._make(FORM.unpack(self._read(place * FORM.size, FORM.size)))
+
+    def path(self, record: Record) -> bytes:
+        self.keys.seek(record.path_at)
+        return path_of(self.keys.readline()[:-1])
+
+    def finding(self, place: int) -> Finding:
+        """The finding at a place."""
+        record = self.record(place)
+        return self.finding_of(record, self.path(record))
+
+    def finding_of(self, record: Record, path: bytes) -> Finding:
+        return Finding(
+            path=path,
+            kind=KINDS[record.kind],
+            standing=STANDINGS[record.bits & IS_RECORDED],
+            severity=SEVERITIES[record.level],
+            rank=record.rank,
+            package=self.packages[record.package],
+            is_made=bool(record.bits & IS_MADE),
+            old_at=None if record.old_at == NOWHERE else record.old_at,
+            new_at=None if record.new_at == NOWHERE else record.new_at,
+            is_file=bool(record.bits & IS_FILE),
+            is_link=bool(record.bits & IS_LINK),
+            owner=record.owner if record.bits & HAS_OWNER else None,
+        )
+
+    def directory(self, number: int) -> bytes:
+        """The path of the directory with this number."""
+        return directory_of(self.path(self.record(self.samples[number])))
+
+    def note(self, place: int, finding: Finding) -> None:
+        """Notes what records say of a finding: its package, or that it was made."""
+        record = self.record(place)
+        bits = record.bits
+        if finding.is_made:
+            bits |= IS_MADE
+        if finding.standing is Standing.RECORDED:
+            bits |= IS_RECORDED
+            self.opened[record.level] -= 1
+            self.recorded[record.level] += 1
+        if finding.package not in self.numbers:
+            self.numbers[finding.package] = len(self.packages)
+            self.packages.append(finding.package)
+        self._put(place, record._replace(bits=bits, package=self.numbers[finding.package]))
+
+    def _put(self, place: int, record: Record) -> None:
+        self.records.seek(place * FORM.size)
+        self.records.write(FORM.pack(*record))
+
+    def forget_records(self) -> None:
+        """Leaves each finding open."""
+        for place, record in enumerate(self.rows()):
+            if record.bits & (IS_RECORDED | IS_MADE):
+                bits = record.bits & ~(IS_RECORDED | IS_MADE)
+                self._put(place, record._replace(bits=bits, package=0))
+        self.opened = [sum(each) for each in zip(self.opened, self.recorded)]
+        self.recorded = [0] * len(SEVERITIES)
+
+    def standings(self) -> Counts:
+        """The Counts of all."""
+        numbers = {"open": sum(self.opened), "recorded": sum(self.recorded)}
+        for standing, counts in (("open", self.opened), ("recorded", self.recorded)):
+            for severity, count in zip(SEVERITIES, counts):
+                numbers[f"{standing}_{severity}"] = count
+        return Counts(**numbers)

@@ -14,17 +14,20 @@ READ_AT_ONCE = 1 << 18
 READ_FOR_ONE = 1 << 12
 NEAR = 16  # So many entries are looked at one after another before halves are.
 END_WORD = b"@@end_db"
+# What may be written in another way as a field than in a path, or ends a field.
+UNUSUAL = re.compile(rb"[^!-$&-~]")
 # The folders that may be links to the same name in /usr.
 MERGED = (b"/bin", b"/lib", b"/lib32", b"/lib64", b"/libx32", b"/sbin")
 IN_MERGED = re.compile(rb"\A(?:%s)(?=/|\Z)" % b"|".join(MERGED))
 
 
 class Place(NamedTuple):
-    """The line of an entry: the key of its path, and where in the file it begins and ends."""
+    """An entry: the key of its path, its line, and where in the file that begins and ends."""
 
     key: bytes
     at: int
     end: int
+    line: bytes
 
 
 class OrderedDatabase:
@@ -38,6 +41,8 @@ class OrderedDatabase:
         self.layout = Layout()
         self.file = open(reopened(descriptor, os.O_RDONLY), "rb", READ_FOR_ONE)
         self.start = self._read_columns()
+        self.position = self.start
+        self.has_path_first = self.columns.get("name") == 0
         self.end = self._find_end()
         self.next = self._first_from(self.start)
 
@@ -61,8 +66,7 @@ class OrderedDatabase:
                 continue
             at += found
             begin = self._line_begin(at)
-            self.file.seek(begin)
-            if Layout().kind_of(self.file.readline()) is Kind.END:
+            if Layout().kind_of(self._line_at(begin)) is Kind.END:
                 return begin
             at += len(END_WORD)
         return at
@@ -79,12 +83,11 @@ class OrderedDatabase:
     def _first_from(self, at: int) -> Optional[Place]:
         """The first entry whose line begins here or later, where a line begins."""
         while at < self.end:
-            self.file.seek(at)
-            line = self.file.readline()
+            line = self._line_at(at)
             if self.layout.kind_of(line) is Kind.ENTRY:
                 key = self.layout.key_of(line)
                 if key is not None:
-                    return Place(key, at, at + len(line))
+                    return Place(key, at, at + len(line), line)
             at += len(line)
             if line == b"\n":
                 at = self._after_blank_lines(at)
@@ -103,11 +106,33 @@ class OrderedDatabase:
 
     def _first_after(self, at: int) -> Optional[Place]:
         """The first entry whose line begins behind this byte, which is in a line."""
-        self.file.seek(at)
-        return self._first_from(at + len(self.file.readline()))
+        return self._first_from(at + len(self._line_at(at)))
+
+    def _line_at(self, at: int) -> bytes:
+        """The line that begins here, or the rest of one. Most are asked for in their order."""
+        if at != self.position:
+            self.file.seek(at)
+        line = self.file.readline()
+        self.position = at + len(line)
+        return line
 
     def find(self, key: bytes) -> Optional[int]:
         """Where the entry begins that has this key, or None. The keys are asked for in order."""
+        place = self.entry_of(b"", key)
+        return None if place is None else place.at
+
+    def entry_of(self, path: bytes, key: bytes) -> Optional[Place]:
+        """The entry that has this path and its key, or None. They are asked for in order: if all
+        entries are, the next line begins with the path as it is."""
+        place = self.next
+        if self.has_path_first and place is not None and place.end < self.end and place.key < key:
+            line = self._line_at(place.end)
+            if path and line.startswith(path + b" ") and not UNUSUAL.search(path):
+                self.next = Place(key, place.end, self.position, line)
+                return self.next
+        return self._entry_of(key)
+
+    def _entry_of(self, key: bytes) -> Optional[Place]:
         place = self.next
         steps = 0
         while place is not None and place.key < key:
@@ -119,7 +144,7 @@ class OrderedDatabase:
         self.next = place
         if place is None or place.key != key:
             return None
-        return place.at
+        return place
 
     def _far_from(self, low: Place, key: bytes) -> Optional[Place]:
         """The first entry that does not come before a key, of those after one that does."""
@@ -144,8 +169,7 @@ class OrderedDatabase:
 
     def at(self, place: int) -> Entry:
         """The entry at a place."""
-        self.file.seek(place)
-        return Entry(fields_in(self.file.readline()), self.columns)
+        return Entry(fields_in(self._line_at(place)), self.columns)
 
     def entry_at(self, place: Optional[int]) -> Optional[Entry]:
         """The entry at a place, if there is one."""

@@ -4,19 +4,21 @@ they group what people read, and packages that came, went or fell to an older ve
 first."""
 from __future__ import annotations
 
+import io
 import os
 import re
 import stat
 import time
 from contextlib import suppress
-from typing import Callable, Dict, Iterable, List, NamedTuple, Optional, Set, Tuple
+from os.path import commonprefix
+from typing import Callable, Dict, Iterable, Iterator, List, NamedTuple, Optional, Set, Tuple
 
 from aide_compare.base.ending import Fault, Status, failing
 from aide_compare.base.escapes import shown
-from aide_compare.base.files import open_regular, read_whole
+from aide_compare.base.files import open_regular
 from aide_compare.base.directories import LISTING, closed_after, open_directory
 from aide_compare.base.processes import run
-from aide_compare.changes.finding import Finding
+from aide_compare.changes.finding import Findings
 
 DPKG = "/var/lib/dpkg"
 DPKG_LOG = "/var/log/dpkg.log"
@@ -33,13 +35,18 @@ MAX_ALL = 256 << 20
 MAX_LOG = 4 << 20
 MAX_FILES = 200000
 MAX_COMPARED = 500
+MAX_STARTS = 8
+PIECE = 1 << 16
 MAX_SECONDS = 120
 READ_ONLY = os.O_RDONLY | os.O_NOFOLLOW | os.O_NONBLOCK | os.O_CLOEXEC
 PARAGRAPH = re.compile(
     rb"^(Package|Status|Architecture|Version|Conffiles):[ \t]*(.*(?:\n[ \t].*)*)", re.M
 )
+NAME = re.compile(rb"^Package:(.*)", re.M)
+INSTALLED = b"\nStatus: install ok installed\n"
 CONFFILE = re.compile(rb"^ ?(/.*?) ([0-9a-f]{32})(?: [a-z-]+)*$", re.M)
 SUM = re.compile(rb"([0-9a-f]{32})  ?(.+)")
+INFO_DIRECTORY = b"/var/lib/dpkg/info"
 INFO = re.compile(rb"/var/lib/dpkg/info/([A-Za-z0-9][A-Za-z0-9+.-]*)(:[a-z0-9-]+)?\.list")
 UPGRADE = re.compile(
     rb"^[-0-9]+ [:0-9]+ upgrade ([^: \n]+)(?::[^ \n]*)? ([^ \n]+) ([^ \n]+)$", re.M
@@ -58,6 +65,10 @@ class Member(NamedTuple):
 
 Members = Dict[bytes, List[Member]]
 Wanted = Set[bytes]
+# Of a paragraph of dpkg's status.
+Fields = Dict[bytes, bytes]
+# The kinds of the recorded changes of each package.
+Kinds = Dict[str, Set[str]]
 
 
 class Named:
@@ -81,41 +92,66 @@ class Dpkg:
             if directory.others:
                 raise Fault(Status.DEVICE, f"other users can write {self.words}")
             self.fd = os.open(".", LISTING, dir_fd=directory.fd)
-        self.versions: Dict[bytes, bytes] = {}
-        self.conffiles: List[Tuple[str, bytes, bytes]] = []
+        # The paragraphs of packages that are there, by their names; what they say is read when it is
+        # asked for.
+        self.paragraphs: Dict[bytes, List[bytes]] = {}
+        self.conffiles: List[bytes] = []  # Those that name files.
         for paragraph in self._read("status").split(b"\n\n"):
-            self._take_package(dict(PARAGRAPH.findall(paragraph)))
+            match = NAME.search(paragraph)
+            if match and (INSTALLED in paragraph or is_there(fields_of(paragraph))):
+                self.paragraphs.setdefault(match.group(1).strip(), []).append(paragraph)
+                if b"Conffiles:" in paragraph:
+                    self.conffiles.append(paragraph)
 
     def _read(self, name: str) -> bytes:
         """The bytes of a file; none if it is not there."""
+        return b"".join(self._pieces(name))
+
+    def _pieces(self, name: str) -> Iterator[bytes]:
+        """The bytes of a file in pieces of whole lines; none if it is not there."""
         with failing(f"cannot read {self.words}: {shown(name)}"):
             try:
                 file = os.open(name, READ_ONLY, dir_fd=self.fd)
             except FileNotFoundError:
-                return b""
+                return
             with closed_after(file):
-                status = os.fstat(file)
-                is_own = status.st_uid in (0, os.geteuid()) and not status.st_mode & 0o022
-                if not stat.S_ISREG(status.st_mode) or not is_own:
-                    raise Fault(Status.DEVICE, f"other users can write {self.words}: {shown(name)}")
-                text = read_whole(file, min(MAX_FILE, self.remaining), self.words)
-        self.remaining -= len(text)
-        return text
+                size = self._size_of(file, name)
+                limit = min(MAX_FILE, self.remaining)
+                remaining = self.remaining - limit
+                rest = b""
+                while size > 0 and (block := os.read(file, PIECE)):
+                    size -= len(block)
+                    self.remaining -= len(block)
+                    if self.remaining < remaining:
+                        raise Fault(Status.DEVICE, f"{self.words} has more than {limit} bytes")
+                    whole, newline, end = block.rpartition(b"\n")
+                    if newline:
+                        yield rest + whole + newline
+                        rest = b""
+                    rest += end
+                yield rest
 
-    def _take_package(self, fields: Dict[bytes, bytes]) -> None:
-        """Notes a package that is there, by its name and by its name with its architecture."""
-        name = fields.get(b"Package", b"").strip()
-        version = fields.get(b"Version", b"").strip()
-        if not name or fields.get(b"Status", b"").endswith((b"not-installed", b"config-files")):
-            return
-        self.versions[name] = version
-        self.versions[name + b":" + fields.get(b"Architecture", b"").strip()] = version
-        package = words_of(name, version)
-        for path, digest in CONFFILE.findall(fields.get(b"Conffiles", b"")):
-            self.conffiles.append((package, path, digest))
+    def _size_of(self, file: int, name: str) -> int:
+        status = os.fstat(file)
+        is_own = status.st_uid in (0, os.geteuid()) and not status.st_mode & 0o022
+        if not stat.S_ISREG(status.st_mode) or not is_own:
+            raise Fault(Status.DEVICE, f"other users can write {self.words}: {shown(name)}")
+        return status.st_size
+
+    def _version_of(self, base: bytes) -> Optional[bytes]:
+        """The version of a package, by its name, or by that with its architecture; None if it is
+        not there."""
+        name, _, architecture = base.partition(b":")
+        version: Optional[bytes] = None
+        for paragraph in self.paragraphs.get(name, ()):
+            fields = fields_of(paragraph)
+            if architecture in (b"", fields.get(b"Architecture", b"").strip()):
+                version = fields.get(b"Version", b"").strip()
+        return version
 
     def members(self, wanted: Wanted, usr: Callable[[bytes], bytes]) -> Members:
         """What the records say of the wanted paths. A diversion moves a file of another package."""
+        self.remaining = MAX_ALL
         lines = self._read("diversions").split(b"\n")
         diverted = {usr(path): usr(to) for path, to in zip(lines[::3], lines[1::3])}
         members: Members = {}
@@ -126,22 +162,59 @@ class Dpkg:
                 members.setdefault(place, []).append(member)
 
         asked = _spellings({*wanted, *(old for old, to in diverted.items() if to in wanted)})
-        tails = {path[1:] for path in asked}
-        for base in self._bases():
-            listed = asked.intersection(self._lines(base, "list"))
-            if not listed:
-                continue  # Its digests are of no other paths.
-            package = words_of(base.partition(b":")[0], self.versions[base])
+        for base, listed in self._lists_with(asked):
+            version = self._version_of(base)
+            if version is None:
+                continue
+            package = words_of(base.partition(b":")[0], version)
             for path in listed:
                 take(path, Member(package))
-            for line in self._lines(base, "md5sums"):
-                match = SUM.fullmatch(line)
-                if match and match.group(2) in tails:
-                    digest = bytes.fromhex(match.group(1).decode())
-                    take(b"/" + match.group(2), Member(package, "md5", digest))
-        for package, path, digits in self.conffiles:
+            for path, digits in self._sums_of(base, listed):
+                take(path, Member(package, "md5", bytes.fromhex(digits.decode())))
+        for package, path, digits in self._conffiles_with(asked):
             take(path, Member(package, "md5", bytes.fromhex(digits.decode())))
         return members
+
+    def known_paths(self) -> Iterator[Iterable[bytes]]:
+        """All paths of which the records say something, some at once."""
+        self.remaining = MAX_ALL
+        yield self._read("diversions").split(b"\n")
+        for base in self._bases():
+            for piece in self._pieces(f"info/{os.fsdecode(base)}.list"):
+                yield piece.split(b"\n")
+        for paragraph in self.conffiles:
+            yield [path for path, _ in CONFFILE.findall(paragraph)]
+
+    def _lists_with(self, asked: Wanted) -> Iterator[Tuple[bytes, Wanted]]:
+        """The beginnings of the names of the lists that have paths that are asked for, each with
+        these. There are some hundred thousand lines on a machine."""
+        starts = _starts_of(asked)
+        for base in self._bases():
+            listed: Wanted = set()
+            for piece in self._pieces(f"info/{os.fsdecode(base)}.list"):
+                text = b"\n" + piece
+                if any(map(text.__contains__, starts)):
+                    listed |= asked.intersection(text.split(b"\n"))
+            if listed:
+                yield base, listed
+
+    def _sums_of(self, base: bytes, paths: Wanted) -> Iterator[Tuple[bytes, bytes]]:
+        """The digests of some paths, each with its path before it."""
+        for piece in self._pieces(f"info/{os.fsdecode(base)}.md5sums"):
+            for line in piece.split(b"\n"):
+                match = SUM.fullmatch(line)
+                if match and b"/" + match.group(2) in paths:
+                    yield b"/" + match.group(2), match.group(1)
+
+    def _conffiles_with(self, asked: Wanted) -> Iterator[Tuple[str, bytes, bytes]]:
+        """The configuration files among some paths, each with its package before it and its digest
+        after it."""
+        for paragraph in self.conffiles:
+            if any(path in asked for path, _ in CONFFILE.findall(paragraph)):
+                fields = fields_of(paragraph)
+                package = words_of(name_in(fields), fields.get(b"Version", b"").strip())
+                for path, digits in CONFFILE.findall(fields.get(b"Conffiles", b"")):
+                    yield package, path, digits
 
     def _bases(self) -> List[bytes]:
         """The beginnings of the names of lists, of the packages that are there."""
@@ -149,25 +222,21 @@ class Dpkg:
             with closed_after(os.open("info", READ_ONLY | os.O_DIRECTORY, dir_fd=self.fd)) as info:
                 names = sorted(os.listdir(info))[:MAX_FILES]
         bases = [os.fsencode(name[: -len(".list")]) for name in names if name.endswith(".list")]
-        return [base for base in bases if base in self.versions]
+        return [base for base in bases if base.partition(b":")[0] in self.paragraphs]
 
-    def _lines(self, base: bytes, kind: str) -> List[bytes]:
-        """The lines of a list, or of digests. There are some hundred thousand on a machine."""
-        return self._read(f"info/{os.fsdecode(base)}.{kind}").split(b"\n")
-
-    def named(self, findings: Iterable[Finding]) -> Named:
+    def named(self, findings: Findings, _kinds: Kinds) -> Named:
         """The packages whose list came or went, and those of which dpkg's log says that their last
         change was to an older version."""
         named = Named()
         before = self._versions_before()
         count = 0
-        for finding in findings:
-            match = INFO.fullmatch(finding.path)
+        for path, kind in findings.below(INFO_DIRECTORY):
+            match = INFO.fullmatch(path)
             name = match.group(1) if match else b""
-            version = self.versions.get(name, b"")
-            if match and finding.kind == "added":
+            version = self._version_of(name) or b""
+            if match and kind == "added":
                 named.came.append(words_of(name, version))
-            elif match and finding.kind == "removed":
+            elif match and kind == "removed":
                 named.removed.append(shown(name, 100))
             elif name in before and count < MAX_COMPARED:
                 count += 1
@@ -186,6 +255,30 @@ class Dpkg:
                 for name, version, _ in UPGRADE.findall(os.pread(log, MAX_LOG, start)):
                     versions[name] = version
         return versions
+
+
+def fields_of(paragraph: bytes) -> Fields:
+    """The fields of a paragraph of dpkg's status that somebody asks for."""
+    return dict(PARAGRAPH.findall(paragraph))
+
+
+def name_in(fields: Fields) -> bytes:
+    return fields.get(b"Package", b"").strip()
+
+
+def is_there(fields: Fields) -> bool:
+    """Whether a package is there, and not only its configuration."""
+    is_gone = fields.get(b"Status", b"").endswith((b"not-installed", b"config-files"))
+    return bool(name_in(fields)) and not is_gone
+
+
+def _starts_of(paths: Wanted) -> List[bytes]:
+    """What a list has if it has one of some paths: a newline, and the beginning of some of them. A
+    few are looked for, however many paths there are."""
+    directories = sorted({path[: path.rfind(b"/") + 1] for path in paths})
+    size = -(-len(directories) // MAX_STARTS)
+    groups = [directories[at : at + size] for at in range(0, len(directories), max(size, 1))]
+    return [b"\n" + os.fsencode(commonprefix([group[0], group[-1]])) for group in groups]
 
 
 def _spellings(paths: Wanted) -> Wanted:
@@ -240,7 +333,7 @@ class Rpm:
         members: Members = {}
         package = ""
         column = ""
-        for line in bytes(self.text).split(b"\n"):
+        for line in self._lines():
             fields = line.split(b"\t")
             if fields[0] == b"P" and len(fields) == 4:
                 package = words_of(fields[1], fields[2])
@@ -252,14 +345,20 @@ class Rpm:
                 members.setdefault(usr(fields[1]), []).append(member)
         return members
 
-    def named(self, findings: Iterable[Finding]) -> Named:
+    def known_paths(self) -> Iterator[Iterable[bytes]]:
+        """All paths of which rpm has said something."""
+        yield (line.split(b"\t")[1] for line in self._lines() if line.startswith(b"F\t"))
+
+    def _lines(self) -> Iterator[bytes]:
+        """The lines that rpm has written."""
+        for line in io.BytesIO(self.text):
+            yield line.rstrip(b"\n")
+
+    def named(self, _findings: Findings, kinds: Kinds) -> Named:
         """The packages of which each recorded path came. rpm keeps nothing of those that went."""
         named = Named()
-        kinds: Dict[str, Set[str]] = {}
-        for finding in findings:
-            if finding.package:
-                kinds.setdefault(finding.package, set()).add(finding.kind)
-        named.came += sorted(name for name, found in kinds.items() if found == {"added"})
+        for name in sorted(name for name, found in kinds.items() if found == {"added"}):
+            named.came.append(name)
         return named
 
 

@@ -6,32 +6,40 @@ import hashlib
 import os
 import re
 from contextlib import suppress
-from typing import Callable, Iterable, Iterator, List, Optional, Set
+from typing import Callable, Dict, Iterable, Iterator, List, NamedTuple, Optional, Set
 
 from aide_compare.base.ending import Fault
 from aide_compare.base.files import open_regular
-from aide_compare.changes.entries import (
-    CONTENT,
-    OTHER_TARGET,
-    Entry,
-    Sides,
-    differences,
-    has_strong,
-)
-from aide_compare.changes.finding import Finding
+from aide_compare.base.paths import path_of
+from aide_compare.changes.entries import Entry, Sides, has_strong
+from aide_compare.changes.finding import IS_CONTENT, IS_LINK, Finding, Findings
 from aide_compare.changes.packages import Dpkg, Member, Members, Rpm
 from aide_compare.lines.attributes import DIGEST_COLUMNS
 from aide_compare.lines.change import Standing
 
 MAX_CONTENT = 2 << 30
 BLOCK = 1 << 18
-SET_ID = 0o6000
+# So many findings, and so many bytes of their paths, are asked for at once.
+MAX_ASKED = 5000
+MAX_BYTES = 1 << 21
+SIEVE_BYTES = 1 << 20
 # Those that every Python computes, by the same name.
 COMPUTED = DIGEST_COLUMNS & hashlib.algorithms_guaranteed
 COMPILED = re.compile(rb"(/.*)/__pycache__/([^/]+)\.cpython-[0-9]+(?:\.opt-[12])?\.pyc")
 
 # What gives both entries of a finding.
 Read = Callable[[Finding], Sides]
+
+
+class AskedPlace(NamedTuple):
+    """Where a finding is."""
+
+    number: int
+    is_link: bool
+
+
+# By their paths.
+Asked = Dict[bytes, AskedPlace]
 
 
 class Contents:
@@ -86,9 +94,47 @@ def target_of(path: bytes, entry: Optional[Entry]) -> Optional[bytes]:
     return b"/" + joined.lstrip(b"/")
 
 
+class Sieve:
+    """Which paths may be among many, in a megabyte: of a hundred others it takes two for one of
+    them if these are as many as a machine has files of packages."""
+
+    def __init__(self, batches: Iterable[Iterable[bytes]]) -> None:
+        self.bits = bytearray(SIEVE_BYTES)
+        for batch in batches:
+            for mark in map(hash, batch):
+                self.bits[mark >> 3 & SIEVE_BYTES - 1] |= 1 << (mark & 7)
+
+    def _has(self, path: bytes) -> int:
+        mark = hash(path)
+        return self.bits[mark >> 3 & SIEVE_BYTES - 1] >> (mark & 7) & 1
+
+    def may_have(self, path: bytes) -> bool:
+        """Whether records may have a path, which they may write without /usr."""
+        if self._has(path) or source_of(path) is not None:
+            return True
+        return path.startswith(b"/usr/") and bool(self._has(path[len(b"/usr") :]))
+
+
+def _asked(findings: Findings, may_have: Optional[Callable[[bytes], bool]]) -> Iterator[Asked]:
+    """The findings that may be recorded, some thousand at once."""
+    asked: Asked = {}
+    size = 0
+    for number, (record, key) in enumerate(zip(findings.rows(), findings.keys_from())):
+        path = path_of(key[:-1])
+        if record.bits & IS_CONTENT and (may_have is None or may_have(path)):
+            asked[path] = AskedPlace(number, bool(record.bits & IS_LINK))
+            size += len(key)
+        if len(asked) >= MAX_ASKED or size > MAX_BYTES:
+            yield asked
+            asked = {}
+            size = 0
+    if asked:
+        yield asked
+
+
 class Matcher:
-    """Finds out which changes are as records have them. `usr` gives a path as the database has
-    it."""
+    """Finds out which changes are as records have them: some thousand at once, so that what records
+    have of them is in memory only for these. `usr` gives a path as the database has it."""
 
     def __init__(self, records: Dpkg | Rpm, usr: Callable[[bytes], bytes], read: Read) -> None:
         self.records = records
@@ -96,39 +142,49 @@ class Matcher:
         self.read = read
         self.contents = Contents()
         self.members: Members = {}
-        self.paths: Set[bytes] = set()
+        self.changed: Set[bytes] = set()
+        # Of each package with a recorded change: the kinds of these.
+        self.kinds: Dict[str, Set[str]] = {}
 
-    def match(self, findings: List[Finding]) -> List[Finding]:
-        """The same changes, those that are recorded with their package."""
-        self.paths = {finding.path for finding in findings}
-        self.members = self.records.members(self._wanted(findings), self.usr)
-        return [self._matched(finding) for finding in findings]
+    def match(self, findings: Findings) -> None:
+        """Notes the findings that are recorded, with their package, and those that were made."""
+        may_have = None
+        if len(findings) > MAX_ASKED:
+            may_have = Sieve(self.records.known_paths()).may_have
+        for asked in _asked(findings, may_have):
+            self._match(findings, asked)
 
-    def _wanted(self, findings: Iterable[Finding]) -> Set[bytes]:
-        """The paths of the changes, of sources that were compiled, and of what links point to."""
-        wanted: Set[bytes] = set()
-        for finding in findings:
-            wanted.add(finding.path)
-            source = source_of(finding.path)
-            if source is not None:
-                wanted.add(self.usr(source))
-            if finding.is_link:  # Only then the entry has to be read.
-                target = target_of(finding.path, self.read(finding).new)
+    def _match(self, findings: Findings, asked: Asked) -> None:
+        sources = {path: source for path in asked if (source := source_of(path)) is not None}
+        wanted = {*asked, *map(self.usr, sources.values())}
+        for path, place in asked.items():
+            if place.is_link:
+                target = target_of(path, self.read(findings.finding(place.number)).new)
                 if target is not None:
                     wanted.add(self.usr(target))
-        return wanted
+        self.members = self.records.members(wanted, self.usr)
+        self.changed = findings.among(sources.values())
+        for path, place in asked.items():
+            if path in self.members or path in sources:
+                finding = findings.finding(place.number)
+                matched = self._matched(finding)
+                if matched != finding:
+                    self._note(findings, place.number, matched)
+
+    def _note(self, findings: Findings, place: int, finding: Finding) -> None:
+        findings.note(place, finding)
+        if finding.package:
+            self.kinds.setdefault(finding.package, set()).add(finding.kind)
 
     def _matched(self, finding: Finding) -> Finding:
-        if finding.path not in self.members and source_of(finding.path) is None:
-            return finding  # Nothing is known of it.
+        """The same finding with its package if it is recorded, or as one that was made."""
         sides = self.read(finding)
-        old = sides.old
         new = sides.new
-        if new is None or not _is_content(old, new):
+        if new is None:
             return finding
         members = self.members.get(finding.path, [])
         for member in members:
-            if self._has(finding.path, old, new, member):
+            if self._has(finding.path, sides.old, new, member):
                 return finding._replace(standing=Standing.RECORDED, package=member.package)
         return finding._replace(is_made=new.is_file and self._is_made(finding.path, members))
 
@@ -136,7 +192,7 @@ class Matcher:
         """Whether scripts of packages make a file: records know its path and no content, or its
         source, which is another one now too."""
         source = source_of(path)
-        if source is not None and source in self.paths and self.usr(source) in self.members:
+        if source in self.changed and self.usr(source or b"") in self.members:
             return True
         return bool(members) and not any(member.digest for member in members)
 
@@ -151,12 +207,3 @@ class Matcher:
             target = self.usr(target_of(path, new) or b"/")
             return any(other.package == member.package for other in self.members.get(target, ()))
         return new.is_directory and old is None
-
-
-def _is_content(old: Optional[Entry], new: Entry) -> bool:
-    """Whether nothing but a content came or changed, of which records could say something: a new
-    entry is root's alone, and gives nobody a right."""
-    if old is None:
-        return new.is_plain and (new.is_directory or not new.mode & SET_ID)
-    expected = OTHER_TARGET if new.is_link else CONTENT
-    return differences(old, new) <= expected

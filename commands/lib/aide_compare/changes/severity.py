@@ -13,13 +13,12 @@ from aide_compare.base.escapes import shown
 from aide_compare.base.files import lines_of
 from aide_compare.base.paths import MAX_PATH, Pattern, Table, pattern_of
 from aide_compare.base.words import SEVERITIES
-from aide_compare.changes.entries import ABSENT, Entry
+from aide_compare.changes.entries import ABSENT, SET_ID, Entry
 
 ROOT = 0
 ALL_WRITE = 0o002
 GROUP_WRITE = 0o020
 RUN_BITS = 0o111
-SET_ID = 0o6000
 # Bits of the column `attr`: the rule of an entry asked for its user, or for its group.
 HAS_USER = 1 << 3
 HAS_GROUP = 1 << 4

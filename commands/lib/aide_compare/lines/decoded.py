@@ -18,8 +18,9 @@ from typing import Dict, Iterator, List, NamedTuple, Optional, Sequence, Tuple
 from urllib.parse import unquote_to_bytes
 
 from aide_compare.base.escapes import shown
+from aide_compare.base.words import SIDES
 from aide_compare.lines.capabilities import file_capabilities
-from aide_compare.lines.change import Change, Texts, Value, Values
+from aide_compare.lines.change import Change, Fields, Texts, Value, Values, values_of
 
 # A text for people has at most so many characters; a longer one is cut, and ends with "...".
 MAX_TEXT = 4000
@@ -63,6 +64,8 @@ TIMES = ("Atime", "Mtime", "Ctime")
 ENCODED = ("ACL", "XAttrs", "SELinux", "E2FSAttrs", "Caps")
 # The attributes that may have texts for people.
 NOTED = frozenset((*ENCODED, *TIMES, "Perm", "UID", "GID"))
+# The members of a line with such values, and with the type, which they depend on.
+NOTED_NAMES = frozenset(("Type", *NOTED, *(f"{label}_hex" for label in NOTED)))
 
 
 class SideTexts(NamedTuple):
@@ -287,12 +290,33 @@ def _side_texts(values: Values, kind: Optional[str], has_names: bool) -> Iterato
 
 def texts_of(change: Change, has_names: bool = False) -> SideTexts:
     """The texts of the values of both sides, with `has_names` also the names that users and groups
-    have on this host. If two values have one text, which would hide the change, neither has it."""
+    have on this host."""
     old_kind, new_kind = kinds_of(change)
     old: Dict[str, str] = dict(_side_texts(change.old, old_kind, has_names))
     new: Dict[str, str] = dict(_side_texts(change.new, new_kind, has_names))
-    for label in list(old):
-        if old[label] == new.get(label) and change.old[label] != change.new[label]:
-            del old[label]
-            del new[label]
-    return SideTexts(old, new)
+    return _that_differ(SideTexts(old, new), change.sides)
+
+
+def texts_of_line(fields: Fields, has_names: bool = False) -> SideTexts:
+    """The same of the object of a line of aide_lines, in which only the values that may have texts
+    are looked at."""
+    kind = None if fields["summary"].startswith("!") else fields.get("type", "Entry")
+    sides = []
+    texts: List[Texts] = []
+    for side in SIDES:
+        noted = {name: value for name, value in fields.get(side, {}).items() if name in NOTED_NAMES}
+        values = values_of({side: noted}, side)
+        own = values.get("Type", kind)
+        texts.append(dict(_side_texts(values, own if isinstance(own, str) else None, has_names)))
+        sides.append(values)
+    return _that_differ(SideTexts(*texts), sides)
+
+
+def _that_differ(texts: SideTexts, sides: Sequence[Values]) -> SideTexts:
+    """If two values have one text, which would hide the change, neither has it."""
+    old, new = sides
+    for label in list(texts.old):
+        if texts.old[label] == texts.new.get(label) and old[label] != new[label]:
+            del texts.old[label]
+            del texts.new[label]
+    return texts

@@ -5,12 +5,13 @@ from __future__ import annotations
 
 import json
 import os
-from collections import Counter
+import re
 from contextlib import suppress
-from typing import Any, BinaryIO, Iterator, List, NamedTuple, Tuple
+from typing import Any, BinaryIO, Dict, Iterator, NamedTuple, Optional, Tuple
 
+from aide_compare.base.paths import key_of_path
 from aide_compare.base.words import KINDS, SIDES, status_of
-from aide_compare.lines.change import Change, Fields, bytes_of, change_of
+from aide_compare.lines.change import BY_PROOF, Change, Fields, bytes_of, change_of
 
 FORMAT = 3
 BLOCK = 1 << 18
@@ -21,6 +22,14 @@ DIGEST_BYTES = 32
 # What a member of another type, or one that is missing, raises.
 ODD = (ValueError, KeyError, TypeError, AttributeError)
 ENCODE = json.JSONEncoder(separators=(",", ":")).encode
+# The beginning of a line of aide_lines whose path is written as it is.
+OUTLINE = re.compile(
+    rb'\{"kind":"(added|removed|changed)","path":"(/[^"\\\x00-\x1f]*)","summary":"[^"\\]*"'
+    rb'(?:,"same_as":"(old|trusted)")?[,}]'
+)
+WORDS: Dict[object, str] = {word.encode(): word for word in (*KINDS, *BY_PROOF)}
+# The counts of the end that are those of the lines.
+COUNTED = {**{kind: kind for kind in KINDS}, "old": "same_as_old", "trusted": "same_as_trusted"}
 
 
 class Refused(Exception):
@@ -31,6 +40,16 @@ class Refused(Exception):
             super().__init__(f"line {number}: {words}")
         else:
             super().__init__(str(words))
+
+
+class Outline(NamedTuple):
+    """What the beginning of a line says of a change."""
+
+    kind: str
+    path: bytes
+    proof: Optional[str]  # What accounts for it: a key of BY_PROOF.
+    key: bytes  # Of the path.
+    line: bytes
 
 
 class EndCounts(NamedTuple):
@@ -97,38 +116,63 @@ class Reader:
     def __init__(self, file: BinaryIO) -> None:
         self.file = file
         self.number = 0
-        self._counts: Counter[str] = Counter()
-        self.summary, _ = self._next("nothing was given: was nothing compared?")
+        # By the kind, and by what a proof accounts for the change with.
+        self._counts: Dict[Tuple[str, Optional[str]], int] = {}
+        self.summary = self._object_of(self._line("nothing was given: was nothing compared?"))
         if self.summary.get("format") != FORMAT:
             raise Refused(self.number, f"the first line is the summary, of format {FORMAT}")
         if not _is_summary(self.summary):
             raise Refused(self.number, "the summary has other values")
 
     def __iter__(self) -> Iterator[Tuple[bytes, Change]]:
-        last: List[bytes] = []
+        last = b""
         while True:
-            fields, line = self._next("this ends too early: the last line is missing")
+            line = self._line()
+            fields = self._object_of(line)
             if "end" in fields:
                 self._read_end(fields, line)
                 return
-            try:
-                change = change_of(fields)
-            except ODD:
-                raise Refused(self.number, "this is no change") from None
-            names = change.path.split(b"/")
-            if not last < names:
-                raise Refused(self.number, "the entry is not in the order of paths")
-            last = names
-            self._counts.update((change.kind, f"same_as_{fields.get('same_as')}"))
+            change = self._change_of(fields)
+            last = self._key_after(last, change.path)
+            self._count(change.kind, fields.get("same_as"))
             yield line, change
+
+    def outlines(self) -> Iterator[Outline]:
+        """The changes in place of iteration, of lines that the proved program has just written:
+        most are known by their beginnings. Their values are not looked at."""
+        last = b""
+        while True:
+            line = self._line()
+            match = OUTLINE.match(line)
+            if match is not None and line.endswith(b"}\n"):
+                kind = WORDS[match.group(1)]
+                path = match.group(2)
+                proof = WORDS.get(match.group(3))
+            else:
+                fields = self._object_of(line)
+                if "end" in fields:
+                    self._read_end(fields, line)
+                    return
+                change = self._change_of(fields)
+                kind = change.kind
+                path = change.path
+                proof = fields.get("same_as")
+            last = self._key_after(last, path)
+            self._count(kind, proof)
+            yield Outline(kind, path, proof, last, line)
+
+    def _count(self, kind: str, proof: Optional[str]) -> None:
+        self._counts[kind, proof] = self._counts.get((kind, proof), 0) + 1
 
     def _read_end(self, fields: Fields, line: bytes) -> None:
         """Takes the last line, of which all counts are those of the lines before it."""
         try:
             self.counts = end_of(fields)
-            names = (*KINDS, "same_as_old", "same_as_trusted")
-            if any(self._counts[name] != getattr(self.counts, name) for name in names):
-                raise ValueError
+            for names, place in ((KINDS, 0), (BY_PROOF, 1)):
+                for name in names:
+                    count = sum(n for key, n in self._counts.items() if key[place] == name)
+                    if count != getattr(self.counts, COUNTED[name]):
+                        raise ValueError
         except ODD:
             text = "the end does not fit the lines before it"
             raise Refused(self.number, text) from None
@@ -137,18 +181,33 @@ class Reader:
         self.end_line = line
         self.end = fields
 
-    def _next(self, missing: str) -> Tuple[Fields, bytes]:
-        """The object of the next line, and the line."""
+    def _line(self, missing: str = "this ends too early: the last line is missing") -> bytes:
         line = self.file.readline(LINE_LIMIT)
         if not line:
             raise Refused(self.number, missing)
         self.number += 1
+        return line
+
+    def _object_of(self, line: bytes) -> Fields:
         fields: Any = None
         with suppress(ValueError, RecursionError):
             fields = json.loads(line)
         if not line.endswith(b"\n") or not isinstance(fields, dict):
             raise Refused(self.number, "this is not a line of aide-compare json")
-        return fields, line
+        return fields
+
+    def _change_of(self, fields: Fields) -> Change:
+        try:
+            return change_of(fields)
+        except ODD:
+            raise Refused(self.number, "this is no change") from None
+
+    def _key_after(self, last: bytes, path: bytes) -> bytes:
+        """The key of a path, which has to come after that of the last one."""
+        key = key_of_path(path)
+        if key <= last:
+            raise Refused(self.number, "the entry is not in the order of paths")
+        return key
 
 
 def with_members(line: bytes, members: Fields) -> bytes:

@@ -8,27 +8,25 @@ from __future__ import annotations
 
 import os
 import shlex
-from collections import Counter
 from collections.abc import Iterable, Iterator, Sequence
 from textwrap import wrap
 from typing import NamedTuple
 
 from aide_compare.base.escapes import guarded, shown
-from aide_compare.base.words import KINDS, SEVERITIES, counted, most_frequent
+from aide_compare.base.words import KINDS, SEVERITIES, counted
 from aide_compare.changes.finding import Finding
 from aide_compare.changes.judged import Judged
 from aide_compare.compare.state import State
-from aide_compare.lines.change import Change, Counts, Standing
-from aide_compare.show.brief import Read, entry_words, group_of_owner
+from aide_compare.lines.change import Change, Counts
+from aide_compare.show.brief import Read, entry_words
 from aide_compare.show.changes import Limits, Shares
+from aide_compare.show.listing import Listing, most_of
 
 WIDTH = 80
 MAX_LINES = 80
 MAX_NOTES = 6
 MAX_GROUPS = 6
 MAX_MADE = 2
-# Of each directory so many come before what all directories have more.
-FIRST_FEW = 5
 # How many lines the open changes of a severity have at least: those of root, of services, and of
 # all others.
 SHARES = {"high": (24, 4, 4), "medium": (6, 2, 2), "low": (1, 1, 1)}
@@ -41,47 +39,35 @@ TREE_SHARE = 15
 
 
 class Part(NamedTuple):
-    """Open changes of one severity and one group of owners, in the order in which people read
-    them."""
+    """Open changes of one severity and one group of owners: how many there are."""
 
-    severity: str
+    level: int
     owners: int
-    findings: list[Finding]
+    size: int
+
+    @property
+    def severity(self) -> str:
+        return SEVERITIES[self.level]
 
     @property
     def share(self) -> int:
         return SHARES[self.severity][self.owners]
 
 
-def in_order(findings: Iterable[Finding]) -> list[Finding]:
-    """By rank, what was removed or changed before what was added; and first the first few of each
-    directory."""
-    ordered = sorted(findings, key=lambda each: (each.rank, each.kind == "added", each.path))
-    before: Counter[bytes] = Counter()
-    first: list[Finding] = []
-    later: list[Finding] = []
-    for finding in ordered:
-        (first if before[finding.directory] < FIRST_FEW else later).append(finding)
-        before[finding.directory] += 1
-    return first + later
-
-
-def parts_of(findings: Iterable[Finding]) -> list[Part]:
+def parts_of(listing: Listing) -> list[Part]:
     """The parts that are not empty, the most severe first, and root's first in each severity."""
-    groups: dict[tuple[str, int], list[Finding]] = {}
-    for finding in findings:
-        groups.setdefault((finding.severity, group_of_owner(finding.owner)), []).append(finding)
     parts = []
-    for severity in SEVERITIES:
+    for level, severity in enumerate(SEVERITIES):
         for owners in range(len(SHARES[severity])):
-            if (severity, owners) in groups:
-                parts.append(Part(severity, owners, in_order(groups[severity, owners])))
+            size = listing.size(level, owners)
+            if size:
+                parts.append(Part(level, owners, size))
     return parts
 
 
 def rooms_of(parts: Sequence[Part], limit: int) -> list[int]:
     """How many lines each part has: its share, and then what the others leave, in their order."""
-    sizes = [len(part.findings) for part in parts]
+    sizes = [part.size for part in parts]
     rooms = [min(size, part.share) for size, part in zip(sizes, parts)]
     remaining = limit - sum(rooms)
     for place, size in enumerate(sizes):
@@ -114,31 +100,36 @@ def finding_line(finding: Finding, read: Read) -> str:
     return line
 
 
-def rest_line(findings: Sequence[Finding]) -> str:
+def rest_line(listing: Listing, part: Part, listed: Sequence[int]) -> str:
     """How many are not listed, and where most of them are."""
-    directories = Counter(finding.directory for finding in findings)
-    directory, count = most_frequent(directories, 1)[0][0]
-    line = f"  and {len(findings):,} more"
-    if count == len(findings):
+    counts = listing.counts(1)
+    for is_added in (False, True):
+        for place in listing.places(part.level, part.owners, is_added):
+            counts[listing.directories[place]] += 1
+    for place in listed:
+        counts[listing.directories[place]] -= 1
+    number, count = most_of(counts, 1, 1, listing.findings.directory).first[0]
+    line = f"  and {part.size - len(listed):,} more"
+    if count == part.size - len(listed):
         line += " in "
     else:
         line += f", {count:,} of them in "
-    return line + shortened_path(directory, WIDTH - len(line))
+    return line + shortened_path(listing.findings.directory(number), WIDTH - len(line))
 
 
-def part_lines(part: Part, room: int, read: Read) -> Iterator[str]:
+def part_lines(listing: Listing, part: Part, room: int, read: Read) -> Iterator[str]:
     """So many lines for a part; the last one counts what is not listed."""
-    listed = part.findings if len(part.findings) <= room else part.findings[: room - 1]
-    for finding in listed:
-        yield finding_line(finding, read)
-    rest = part.findings[len(listed) :]
-    if rest:
-        yield rest_line(rest)
+    is_whole = part.size <= room
+    listed = listing.by_rank(part.level, part.owners, room if is_whole else room - 1)
+    for place in listed:
+        yield finding_line(listing.findings.finding(place), read)
+    if not is_whole:
+        yield rest_line(listing, part, listed)
 
 
-def open_lines(findings: Iterable[Finding], read: Read, limit: int) -> Iterator[str]:
+def open_lines(listing: Listing, read: Read, limit: int) -> Iterator[str]:
     """At most so many lines for open changes, each severity under its title."""
-    parts = parts_of(findings)
+    parts = parts_of(listing)
     titles = {part.severity for part in parts}
     rooms = rooms_of(parts, limit - len(titles))
     last = ""
@@ -146,7 +137,7 @@ def open_lines(findings: Iterable[Finding], read: Read, limit: int) -> Iterator[
         if part.severity != last:
             yield f"Open, severity {part.severity}:"
         last = part.severity
-        yield from part_lines(part, room, read)
+        yield from part_lines(listing, part, room, read)
 
 
 def wrapped(text: str) -> list[str]:
@@ -166,21 +157,16 @@ def names_line(title: str, names: Sequence[str]) -> str:
     return line
 
 
-def package_lines(findings: Iterable[Finding]) -> Iterator[str]:
+def package_lines(listing: Listing) -> Iterator[str]:
     """A line for each package, those with most of severity high first, as in "openssl 3.0.17-1: 41
     files"."""
-    counts: Counter[str] = Counter()
-    highs: Counter[str] = Counter()
-    for finding in findings:
-        counts[finding.package] += 1
-        highs[finding.package] += finding.severity == SEVERITIES[0]
-    order = sorted(counts, key=lambda package: (-highs[package], -counts[package], package))
-    for package in order[:MAX_GROUPS]:
-        yield f"  {guarded(package)[:40]}: {files_of(counts[package], highs[package])}"
-    rest = order[MAX_GROUPS:]
+    recorded = listing.recorded_packages()
+    for package, count, high in recorded[:MAX_GROUPS]:
+        yield f"  {guarded(package)[:40]}: {files_of(count, high)}"
+    rest = recorded[MAX_GROUPS:]
     if rest:
-        total = sum(counts[package] for package in rest)
-        high = sum(highs[package] for package in rest)
+        total = sum(each.files for each in rest)
+        high = sum(each.high for each in rest)
         yield f"  and {counted(len(rest), 'package')} more: {files_of(total, high)}"
 
 
@@ -189,21 +175,22 @@ def files_of(count: int, high: int) -> str:
     return f"{files}, {high:,} of severity high" if high else files
 
 
-def made_lines(findings: Iterable[Finding]) -> Iterator[str]:
+def made_lines(listing: Listing) -> Iterator[str]:
     """A line for each directory in which scripts of packages made files."""
-    counts = Counter(finding.directory for finding in findings)
-    first, others = most_frequent(counts, MAX_MADE)
-    for directory, count in first:
+    counts = listing.counts(1)
+    for place, count in enumerate(listing.made):
+        counts[place // len(SEVERITIES)] += count
+    most = most_of(counts, 1, MAX_MADE, listing.findings.directory)
+    for number, count in most.first:
         end = f": {counted(count, 'file', ',')} made by packages"
+        directory = listing.findings.directory(number)
         yield "  " + shortened_path(directory, WIDTH - len(end) - 2) + end
-    if others:
-        total = sum(count for _, count in others)
-        yield f"  and {counted(total, 'file', ',')} made by packages elsewhere"
+    if most.others:
+        yield f"  and {counted(most.total, 'file', ',')} made by packages elsewhere"
 
 
-def group_lines(judged: Judged, made: Sequence[Finding]) -> list[str]:
+def group_lines(judged: Judged, listing: Listing) -> list[str]:
     """What packages' records of the host have; packages that came, went or fell are named first."""
-    recorded = [each for each in judged.findings if each.standing is Standing.RECORDED]
     lines = []
     for title, names in (
         ("Downgraded packages", judged.named.downgraded),
@@ -212,8 +199,8 @@ def group_lines(judged: Judged, made: Sequence[Finding]) -> list[str]:
     ):
         if names:
             lines.append(names_line(title, names))
-    lines += package_lines(recorded)
-    lines += made_lines(made)
+    lines += package_lines(listing)
+    lines += made_lines(listing)
     return [f"Recorded, as {judged.by} on this host says:", *lines, ""] if lines else []
 
 
@@ -284,14 +271,12 @@ class Mail(NamedTuple):
 
 def text_of_changes(mail: Mail, judged: Judged) -> list[str]:
     """The lines of a mail about changes."""
-    opened = [each for each in judged.findings if each.standing is Standing.OPEN]
-    made = [each for each in opened if each.is_made and each.severity != SEVERITIES[0]]
-    listed = [each for each in opened if not each.is_made or each.severity == SEVERITIES[0]]
+    listing = Listing(judged.findings)
     head = [*sentence(judged.counts), *note_lines(mail.warnings), ""]
-    groups = group_lines(judged, made)
+    groups = group_lines(judged, listing)
     end = end_lines(mail)
     limit = MAX_LINES - len(head) - len(groups) - len(end) - 1
-    lines = list(open_lines(listed, judged.read, limit))
+    lines = list(open_lines(listing, judged.read, limit))
     return [*head, *lines, *([""] if lines else []), *groups, *end]
 
 

@@ -2,13 +2,15 @@
 its standing, texts for people, and where, when and of which databases."""
 from __future__ import annotations
 
+import json
 import os
+import re
 import time
 from typing import TYPE_CHECKING, Dict, Iterator, Optional, Tuple
 
 from aide_compare.base.words import SIDES, date_of
-from aide_compare.lines.change import Change, Fields, Standing
-from aide_compare.lines.decoded import texts_of
+from aide_compare.lines.change import Change, Fields, Standing, change_of
+from aide_compare.lines.decoded import SideTexts, texts_of, texts_of_line, time_text
 from aide_compare.lines.reader import ENCODE, Reader, with_members
 
 if TYPE_CHECKING:
@@ -17,7 +19,13 @@ if TYPE_CHECKING:
     from aide_compare.compare.unpack import Copy
 
 DIGITS = 16
-MarkedLine = Tuple[bytes, Change, Fields]
+MAX_KNOWN = 1 << 12
+# Values that may have a text and are no times, or times that are no plain numbers.
+OTHER_TEXTS = re.compile(
+    rb'"(?:Type|Perm|ACL|XAttrs|SELinux|E2FSAttrs|Caps)(?:_hex)?":|"[ACM]time":(?!-?[0-9]+[,}])'
+)
+TIME = re.compile(rb'"([ACM]time)":(-?[0-9]+)')
+MarkedLine = Tuple[bytes, Fields]
 
 
 def name_members(path: bytes) -> Fields:
@@ -79,21 +87,66 @@ def judged_changes(reader: Reader, judged: Optional[Judged]) -> Iterator[Tuple[b
     if judged is None:
         yield from reader
         return
-    for line, change, members in judged.members(reader):
-        yield line, change._replace(
-            standing=Standing(members["standing"]),
-            severity=members.get("severity", ""),
-            package=members.get("package", ""),
+    for line, standing, severity, package in judged.lines(reader):
+        yield line, change_of(json.loads(line))._replace(
+            standing=Standing(standing), severity=severity, package=package
         )
 
 
-def marked_by_lines(reader: Reader) -> Iterator[MarkedLine]:
-    """The changes of a Reader with the standings that their lines say."""
+def marked_by_lines(reader: Reader, has_names: bool) -> Iterator[MarkedLine]:
+    """The lines of a Reader with their texts, and the standings that they say."""
     for line, change in reader:
         members: Fields = {}
+        if not (change.old_texts or change.new_texts):
+            members.update(text_members(texts_of(change, has_names)))
         if not change.says_standing:
             members["standing"] = change.standing.value
-        yield line, change, members
+        yield line, members
+
+
+def by_judgement(judged: Judged, reader: Reader, each: Fields, has_names: bool) -> Iterator[bytes]:
+    """The lines that were judged, with their texts, their standings and severities, and `each`."""
+    known: Dict[Tuple[str, str, str], bytes] = {}  # What lines get that stand alike.
+    for line, *marks in judged.lines(reader):
+        key = (marks[0], marks[1], marks[2])
+        end = known.get(key)
+        if end is None:
+            named = zip(("standing", "severity", "package"), key)
+            members = {name: mark for name, mark in named if mark}
+            if len(known) >= MAX_KNOWN:
+                known.clear()
+            end = known[key] = members_text({**members, **each}) + b"}\n"
+        texts = None if has_names else time_texts(line)
+        if texts is None:
+            texts = members_text(text_members(texts_of_line(json.loads(line), has_names)))
+        separator = b"," if texts else b""
+        yield line[: line.rindex(b"}")] + b"," + texts + separator + end
+
+
+def members_text(members: Fields) -> bytes:
+    """Members as they are in an object."""
+    return ENCODE(members)[1:-1].encode()
+
+
+def time_texts(line: bytes) -> Optional[bytes]:
+    """The texts of a line of which only times have some, as their members in the object; None if
+    other values may have one too. A quote in a text has a backslash before it, so that none looks
+    like the name of a member."""
+    if OTHER_TEXTS.search(line):
+        return None
+    before, _, after = line.partition(b'"new":{')
+    old = {label: time_text(int(seconds)) for label, seconds in TIME.findall(before)}
+    new = {label: time_text(int(seconds)) for label, seconds in TIME.findall(after)}
+    if any(text is None or text == new.get(label) for label, text in old.items()):
+        return None
+    if None in new.values():
+        return None
+    sides = []
+    for name, texts in (("old_text", old), ("new_text", new)):
+        parts = ",".join(f'"{label.decode()}":"{text}"' for label, text in texts.items())
+        if parts:
+            sides.append(f'"{name}":{{{parts}}}')
+    return ",".join(sides).encode()
 
 
 def added_lines(
@@ -107,19 +160,18 @@ def added_lines(
     the names of users and groups of this host."""
     each = {name: value for name, value in each.items() if name not in reader.summary}
     yield ENCODE({**summary_of(reader.summary, comparison), **each}).encode() + b"\n"
-    marked = judged.members(reader) if judged else marked_by_lines(reader)
-    for line, change, members in marked:
-        yield with_members(line, {**text_members(change, has_names), **members, **each})
-    counts: Dict[str, int] = judged.counts._asdict() if judged else {}
-    standings: Fields = {"standings": counts} if judged else {}
+    standings: Fields = {}
+    if judged is not None:
+        yield from by_judgement(judged, reader, each, has_names)
+        standings["standings"] = judged.counts._asdict()
+    else:
+        for line, members in marked_by_lines(reader, has_names):
+            yield with_members(line, {**members, **each})
     yield with_members(reader.end_line, {**standings, **each})
 
 
-def text_members(change: Change, has_names: bool) -> Fields:
-    """The texts of a change for people; none if its line has them already."""
-    if change.old_texts or change.new_texts:
-        return {}
-    texts = texts_of(change, has_names)
+def text_members(texts: SideTexts) -> Fields:
+    """The texts of a change for people as members."""
     members: Fields = {}
     if texts.old:
         members["old_text"] = texts.old

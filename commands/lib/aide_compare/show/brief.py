@@ -11,33 +11,39 @@ directory.
 from __future__ import annotations
 
 import stat
-from collections import Counter
 from textwrap import wrap
-from typing import Callable, Dict, Iterable, Iterator, List, Optional, Tuple
+from typing import Callable, Iterator, List, Optional, Tuple
 
 from aide_compare.base.escapes import guarded, shown
 from aide_compare.base.files import file_kind
-from aide_compare.base.words import SEVERITIES, counted, date_of, minute_of, most_frequent
+from aide_compare.base.words import KINDS, SEVERITIES, counted, date_of, minute_of
 from aide_compare.changes.entries import Entry, differences
 from aide_compare.changes.finding import Finding
 from aide_compare.changes.judged import Judged
 from aide_compare.lines.attributes import DIGEST_COLUMNS
 from aide_compare.lines.change import Counts, Standing
 from aide_compare.show.changes import Limits, Shares
+from aide_compare.show.listing import (
+    FORMS,
+    GROUP_OF_OWNERS,
+    HIGH,
+    OF_ROOT,
+    ROOT,
+    Listing,
+    group_of_owner,
+    most_of,
+)
 
 # Lines of one severity for root's changes, for those of system users, and for those of all others.
 ROOMS = (200, 100, 100)
 DIRECTORY_SHARE = 20
 OWNER_SHARE = 50
 MAX_DIRECTORIES = 10
-# Of each directory so many come before what all directories have more.
-FIRST_FEW = 5
 MAX_ROOTS = 2000
 MAX_PATHS = (1000, 300, 300)
-FIRST_USER = 1000  # The first number of a user who is no service, as in login.defs(5).
-ROOT = 0
 MAX_GROUPS = 40
 MAX_NAMED = 1000
+WORDS = ("more entry", "more file")
 WIDTH = 100
 
 TIMES_IN_ORDER = ("mtime", "ctime", "atime")
@@ -146,15 +152,6 @@ def entry_words(old: Optional[Entry], new: Optional[Entry]) -> str:
     return ""
 
 
-def group_of_owner(owner: Optional[int]) -> int:
-    """0 for root and for an owner that is not known, 1 for a service, 2 for all others."""
-    if owner is None or owner == ROOT:
-        return 0
-    if owner < FIRST_USER:
-        return 1
-    return 2
-
-
 def limits_of(finding: Finding) -> Limits:
     """The shares of its severity that a finding takes, each with its limit: by owner, by directory,
     and by the group of owners."""
@@ -168,17 +165,6 @@ def limits_of(finding: Finding) -> Limits:
     return limits
 
 
-def _in_order(findings: Iterable[Finding]) -> List[Finding]:
-    """The findings of one severity and one group of owners, which come by path, in the order in
-    which people read them."""
-    before: Counter[bytes] = Counter()
-    keys: Dict[Finding, bool] = {}
-    for finding in sorted(findings, key=lambda finding: finding.kind == "added"):
-        keys[finding] = before[finding.directory] >= FIRST_FEW
-        before[finding.directory] += 1
-    return sorted(keys, key=lambda finding: keys[finding])
-
-
 def _finding_line(finding: Finding, read: Read) -> str:
     """As in "changed  /usr/bin/ls: content, mode -rwxr-xr-x -> -rwsr-xr-x"."""
     line = f"{finding.kind:<7}  {shown(finding.path, MAX_PATHS[group_of_owner(finding.owner)])}"
@@ -188,48 +174,65 @@ def _finding_line(finding: Finding, read: Read) -> str:
     return line
 
 
-def _group_lines(findings: List[Finding], read: Read, shares: Shares) -> Iterator[str]:
+def _taken(listing: Listing, place: int, level: int, shares: Shares) -> Optional[Finding]:
+    """The finding at a place, if there is room for it."""
+    owner = listing.owner(place)
+    group = GROUP_OF_OWNERS[owner]
+    room: Limits = [(("group", group), ROOMS[group])]
+    if level == HIGH and owner == OF_ROOT:
+        room = [("roots", MAX_ROOTS)]
+    if not shares.has_room(room):  # Most of many have none, and need not be read.
+        return None
+    finding = listing.findings.finding(place)
+    return finding if shares.takes(limits_of(finding)) else None
+
+
+def _group_lines(
+    listing: Listing, level: int, group: int, read: Read, shares: Shares
+) -> Iterator[str]:
     """The lines for findings of one severity and one group of owners that there is room for, and
     for the other directories."""
-    rest: Counter[Tuple[bytes, str, str]] = Counter()
-    for finding in _in_order(findings):
-        if shares.takes(limits_of(finding)):
+    rest = listing.counts(FORMS)
+    for place in listing.in_order(level, group):
+        finding = _taken(listing, place, level, shares)
+        if finding is not None:
             yield _finding_line(finding, read)
         else:
-            word = "more file" if finding.is_file else "more entry"
-            rest[finding.directory, finding.kind, word] += 1
-    first, others = most_frequent(rest, MAX_DIRECTORIES)
-    for (directory, kind, word), count in first:
+            rest[listing.directories[place] * FORMS + listing.form(place)] += 1
+
+    def name(place: int) -> Tuple[bytes, str, str]:
+        form = place % FORMS
+        return listing.findings.directory(place // FORMS), KINDS[form >> 1], WORDS[form & 1]
+
+    most = most_of(rest, FORMS, MAX_DIRECTORIES, name)
+    for place, count in most.first:
+        directory, kind, word = name(place)
         yield f"{kind:<7}  {shown(directory, MAX_PATHS[1])}: {counted(count, word)}"
-    if others:
-        directories = {directory for (directory, *_), _ in others}
-        total = sum(count for _, count in others)
-        yield f"and {total} more in {len(directories)} more directories"
+    if most.others:
+        yield f"and {most.total} more in {most.rows} more directories"
 
 
-def open_lines(findings: Iterable[Finding], read: Read) -> Iterator[str]:
+def open_lines(listing: Listing, read: Read) -> Iterator[str]:
     """The lines for open findings, by severity and by the groups of owners. What scripts of
     packages make has a line for each directory, unless its severity is high."""
-    groups: Dict[Tuple[str, int], List[Finding]] = {}
-    made: Counter[Tuple[str, bytes]] = Counter()
-    for finding in findings:
-        if finding.is_made and finding.severity != SEVERITIES[0]:
-            made[finding.severity, finding.directory] += 1
-        else:
-            key = (finding.severity, group_of_owner(finding.owner))
-            groups.setdefault(key, []).append(finding)
-    for severity in SEVERITIES:
+    for level, severity in enumerate(SEVERITIES):
         shares = Shares()
-        for owners in range(len(ROOMS)):
-            for line in _group_lines(groups.get((severity, owners), []), read, shares):
+        for group in range(len(ROOMS)):
+            for line in _group_lines(listing, level, group, read, shares):
                 yield f"  {severity:<6}  {line}"
-    first, others = most_frequent(made, MAX_GROUPS)
-    for (severity, directory), count in first:
+
+    def name(place: int) -> Tuple[str, bytes]:
+        directory = listing.findings.directory(place // len(SEVERITIES))
+        return SEVERITIES[place % len(SEVERITIES)], directory
+
+    most = most_of(listing.made, len(SEVERITIES), MAX_GROUPS, name)
+    for place, count in most.first:
+        severity, directory = name(place)
         files = counted(count, "file")
         yield f"  {severity:<6}  made     {shown(directory, MAX_PATHS[1])}: {files}, by packages"
-    if others:
-        total = sum(count for _, count in others)
-        yield f"  and {counted(total, 'file')} made by packages in {len(others)} more directories"
+    if most.others:
+        files = counted(most.total, "file")
+        yield f"  and {files} made by packages in {most.others} more directories"
 
 
 def _high_words(count: int) -> str:
@@ -238,22 +241,17 @@ def _high_words(count: int) -> str:
     return f", {count} of severity high"
 
 
-def recorded_lines(findings: Iterable[Finding], by: str) -> Iterator[str]:
+def recorded_lines(listing: Listing, by: str) -> Iterator[str]:
     """A line for each package, as in "openssl 3.0.17-1: 41 files, as dpkg's records have them"."""
-    counts: Counter[str] = Counter()
-    highs: Counter[str] = Counter()
-    for finding in findings:
-        counts[finding.package] += 1
-        highs[finding.package] += finding.severity == SEVERITIES[0]
-    order = sorted(counts, key=lambda package: (-highs[package], -counts[package], package))
-    for package in order[:MAX_GROUPS]:
-        files = counted(counts[package], "file")
-        high = _high_words(highs[package])
-        yield f"  {guarded(package)}: {files}, as {by}'s records have them{high}"
-    rest = order[MAX_GROUPS:]
+    recorded = listing.recorded_packages()
+    for each in recorded[:MAX_GROUPS]:
+        files = counted(each.files, "file")
+        high = _high_words(each.high)
+        yield f"  {guarded(each.package)}: {files}, as {by}'s records have them{high}"
+    rest = recorded[MAX_GROUPS:]
     if rest:
-        files = counted(sum(counts[package] for package in rest), "file")
-        high = _high_words(sum(highs[package] for package in rest))
+        files = counted(sum(each.files for each in rest), "file")
+        high = _high_words(sum(each.high for each in rest))
         yield f"  and {counted(len(rest), 'package')} more: {files}{high}"
 
 
@@ -285,14 +283,14 @@ def package_lines(judged: Judged) -> Iterator[str]:
 
 def brief(judged: Judged) -> str:
     """The text."""
-    opened = [each for each in judged.findings if each.standing is Standing.OPEN]
-    recorded = [each for each in judged.findings if each.standing is Standing.RECORDED]
-    lines = [judged.counts.words(), *package_lines(judged)]
-    if opened:
-        lines += ["", "Open:", *open_lines(opened, judged.read)]
-    if recorded:
-        lines += ["", "Recorded:", *recorded_lines(recorded, judged.by)]
-    silent = silent_words(judged.counts)
+    counts = judged.counts
+    listing = Listing(judged.findings)
+    lines = [counts.words(), *package_lines(judged)]
+    if counts.open:
+        lines += ["", "Open:", *open_lines(listing, judged.read)]
+    if counts.recorded:
+        lines += ["", "Recorded:", *recorded_lines(listing, judged.by)]
+    silent = silent_words(counts)
     if silent:
         lines += ["", silent]
     return "\n".join(lines) + "\n\n"

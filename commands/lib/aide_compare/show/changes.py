@@ -76,7 +76,11 @@ class Shares:
 
     def takes(self, limits: Limits) -> bool:
         """Whether there is room for something by its keys and their limits, which then is taken."""
-        if any(self.listed[key] >= limit for key, limit in limits):
+        if not self.has_room(limits):
             return False
         self.listed.update(key for key, _ in limits)
         return True
+
+    def has_room(self, limits: Limits) -> bool:
+        """Whether there is room for something by its keys and their limits."""
+        return all(self.listed[key] < limit for key, limit in limits)

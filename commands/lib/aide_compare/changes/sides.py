@@ -1,0 +1,156 @@
+"""Both databases of a comparison, read in step with its lines, and what they say of a change."""
+from __future__ import annotations
+
+from operator import itemgetter, ne
+from typing import Callable, Dict, List, NamedTuple, Optional, Tuple
+
+from aide_compare.base.database import fields_in
+from aide_compare.base.ending import Fault, Status
+from aide_compare.base.escapes import shown
+from aide_compare.changes.entries import (
+    CONTENT,
+    OTHER_TARGET,
+    SET_ID,
+    Entry,
+    Sides,
+    differences,
+    owner_of,
+)
+from aide_compare.changes.ordered import OrderedDatabase
+from aide_compare.changes.severity import TESTED, Rights, Severity, Weight
+
+PRESENT = {"added": (False, True), "removed": (True, False), "changed": (True, True)}
+MAX_REMEMBERED = 1 << 12
+# The columns that are no difference of two entries by themselves.
+BESIDE = frozenset(("name", "attr"))
+
+Fields = List[bytes]
+FieldsOfRights = Callable[[Fields], Tuple[bytes, ...]]
+
+
+def is_content(old: Optional[Entry], new: Optional[Entry]) -> bool:
+    """Whether nothing but a content came or changed, of which records could say something: a new
+    entry is root's alone, and gives nobody a right."""
+    if new is None:
+        return False
+    if old is None:
+        return new.is_plain and (new.is_directory or not new.mode & SET_ID)
+    expected = OTHER_TARGET if new.is_link else CONTENT
+    return differences(old, new) <= expected
+
+
+class Known(NamedTuple):
+    """What is the same of all changes of entries with the same rights on both sides."""
+
+    rights: Rights
+    owner: Optional[int]  # See owner_of.
+    is_file: bool  # The new entry, or the one that went.
+    is_link: bool
+    has_content: bool  # Whether records could say something, by the rights alone.
+
+
+class Weighed(NamedTuple):
+    """What both databases say of a change: where the entries are, None if there is none, and how
+    much it matters."""
+
+    kind: str
+    key: bytes
+    old_at: Optional[int]
+    new_at: Optional[int]
+    weight: Weight
+    known: Known
+    is_content: bool
+
+
+def fields_of_rights(columns: Dict[str, int]) -> FieldsOfRights:
+    """A function that takes what severities are about from the fields of an entry."""
+    places = [columns[column] for column in TESTED if column in columns]
+    if len(places) > 1:
+        return itemgetter(*places)
+    return lambda fields: tuple([fields[place] for place in places])
+
+
+class BothDatabases:
+    """The entries of both databases. The changes are asked for in the order of paths."""
+
+    def __init__(self, old_fd: int, new_fd: int) -> None:
+        self.old = OrderedDatabase(old_fd, "old")
+        self.new = OrderedDatabase(new_fd, "new")
+        self.severity = Severity()
+        self.rights = (fields_of_rights(self.old.columns), fields_of_rights(self.new.columns))
+        self.has_same_columns = self.old.columns == self.new.columns
+        self.known: Dict[object, Known] = {}
+        # Whether records could have a content if these columns differ: of a file, and of a link.
+        self.contents: Dict[Tuple[bool, ...], Tuple[bool, bool]] = {}
+
+    def weighed(self, kind: str, path: bytes, key: bytes) -> Weighed:
+        """A change of the entry with this path and its key, looked up in both databases."""
+        old_place = self.old.entry_of(path, key)
+        new_place = self.new.entry_of(path, key)
+        if (old_place is not None, new_place is not None) != PRESENT[kind]:
+            text = (
+                f"the databases are not those of the lines: {shown(path, 300)} is not {kind} there"
+            )
+            raise Fault(Status.DATABASE, text)
+        old = fields_in(old_place.line) if old_place else None
+        new = fields_in(new_place.line) if new_place else None
+        known = self._known(old, new)
+        return Weighed(
+            kind,
+            key,
+            old_place.at if old_place else None,
+            new_place.at if new_place else None,
+            self.severity.weight(path, known.rights),
+            known,
+            known.has_content and self._is_content(known, old, new),
+        )
+
+    def _known(self, old: Optional[Fields], new: Optional[Fields]) -> Known:
+        of_old, of_new = self.rights
+        fields = (old and of_old(old), new and of_new(new))
+        known = self.known.get(fields)
+        if known is None:
+            known = self._new_known(self._entries(old, new))
+            if len(self.known) < MAX_REMEMBERED:
+                self.known[fields] = known
+        return known
+
+    def _entries(self, old: Optional[Fields], new: Optional[Fields]) -> Sides:
+        return Sides(
+            Entry(old, self.old.columns) if old else None,
+            Entry(new, self.new.columns) if new else None,
+        )
+
+    def _new_known(self, sides: Sides) -> Known:
+        old, new = sides
+        entry = new or old
+        if old and new:
+            has_content = not differences(old, new) & {"type", "attributes"}
+        else:
+            has_content = is_content(old, new)
+        return Known(
+            rights=self.severity.rights(old, new),
+            owner=owner_of(old, new),
+            is_file=bool(entry and entry.is_file),
+            is_link=bool(entry and entry.is_link),
+            has_content=has_content,
+        )
+
+    def _is_content(self, known: Known, old: Optional[Fields], new: Optional[Fields]) -> bool:
+        """Whether nothing but a content came or changed, if it can be by the rights."""
+        if old is None or new is None:
+            return True
+        if not self.has_same_columns:
+            return is_content(*self._entries(old, new))
+        differ = tuple(map(ne, old, new))
+        fits = self.contents.get(differ)
+        if fits is None:
+            columns = {name for name, place in self.old.columns.items() if differ[place]} - BESIDE
+            fits = (columns <= CONTENT, columns <= OTHER_TARGET)
+            if len(self.contents) < MAX_REMEMBERED:
+                self.contents[differ] = fits
+        return fits[known.is_link]
+
+    def read(self, old_at: Optional[int], new_at: Optional[int]) -> Sides:
+        """The entries at these places."""
+        return Sides(self.old.entry_at(old_at), self.new.entry_at(new_at))
