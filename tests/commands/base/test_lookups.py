@@ -1,0 +1,109 @@
+"""Short ways to what a slower one says: names in a directory, directories by number, beginnings of
+lines, and texts of times."""
+from __future__ import annotations
+
+import io
+import json
+import random
+from typing import Any, Dict, List
+
+from tests.commands.base.calls import ModuleTest
+
+from aide_compare.base.paths import Pattern, key_of_path, path_of
+from aide_compare.changes.finding import Directories, directory_of
+from aide_compare.lines.decoded import texts_of, texts_of_line
+from aide_compare.lines.reader import ENCODE, Reader
+from aide_compare.show.added import members_text, text_members, time_texts
+
+PIECES = (b"a", b"b", b"a.so", b"", b".ssh", b"x-y", b"[", b"a\n")
+PATTERNS = (
+    *(b"/**", b"/a", b"/*", b"/a/**", b"/**/a", b"/**/.ssh/**", b"/a/*.so", b"/a/b*", b"/*/b"),
+    *(b"/a/**/**/b", b"/**/*-*/?.so", b"/a/[ab]", b"/a/x*y", b"/**/a/**/b", b"/a*/**"),
+)
+SUMMARY = b'{"format":3,"old":{"path":"o","sha256":"%s","skipped":[]},"new":{"path":"n",%s}}\n'
+HEAD = SUMMARY % (b"0" * 64, b'"sha256":"' + b"1" * 64 + b'","skipped":[]')
+# What looks like members in a path.
+ODD_PATHS = ("/a", '/a"Ctime":5', '/"new":{"Ctime":1}', "/\u00e4", '/","same_as":"old', "/\\")
+VALUES: Dict[str, List[Any]] = {
+    "Ctime": [0, 1764310000, -5, 1 << 52, "9007199254740993", None],
+    "Mtime": [1764310000, 1764310001],
+    "Size": [1, 2],
+    "SHA256": ["ab" * 32],
+    "Lname": ['"Ctime":7', "b"],
+    "Perm": ["0644", "4755"],
+    "ACL": ["POSIX,0,0"],
+}
+
+
+def random_path(draw: random.Random) -> bytes:
+    return b"/a/" + b"/".join(draw.choice(PIECES) for _ in range(draw.randint(1, 5)))
+
+
+def random_line(draw: random.Random, path: str) -> bytes:
+    """A line of a change as aide_lines writes it."""
+    fields: Dict[str, Any] = {"kind": "changed", "path": path, "summary": "f  ...C..."}
+    if draw.random() < 0.3:
+        fields["same_as"] = draw.choice(("old", "trusted"))
+    fields["type"] = "File"
+    labels = draw.sample(sorted(VALUES), draw.randint(1, 4))
+    for side in ("old", "new"):
+        fields[side] = {label: draw.choice(VALUES[label]) for label in labels}
+    return ENCODE(fields).encode() + b"\n"
+
+
+class LookupsTest(ModuleTest):
+    def setUp(self) -> None:
+        super().setUp()
+        self.draw = random.Random(20261128)
+
+    def test_names_in(self) -> None:
+        """The names that a pattern means in a directory are those whose paths it means."""
+        for _ in range(4000):
+            path = random_path(self.draw)[self.draw.choice((0, 2)) :]
+            pieces = path[1:].split(b"/")
+            for text in PATTERNS:
+                pattern = Pattern(text)
+                test = pattern.names_in(pieces[:-1])
+                got = test is not None and bool(test(pieces[-1]))
+                if got != pattern.matches(pieces):
+                    self.fail(f"{text!r} and {path!r}: {got}")
+
+    def test_directories(self) -> None:
+        """Each directory has one number, and no other has it."""
+        keys = {key_of_path(random_path(self.draw)): b"" for _ in range(3000)}
+        for key in [*keys]:
+            keys[key] = directory_of(path_of(key))
+        directories = Directories()
+        numbers = {directories.number_of(key): keys[key] for key in sorted(keys)}
+        self.expect("directories", sorted(numbers.values()), sorted(set(keys.values())))
+        self.expect("their numbers", sorted(numbers), list(range(directories.count)))
+
+    def test_beginnings(self) -> None:
+        """The beginning of a line says what its object says."""
+        for path in ODD_PATHS:
+            for _ in range(20):
+                text = HEAD + random_line(self.draw, path)
+                lines = Reader(io.BytesIO(text)).outlines()
+                outline = next(lines)
+                change = next(iter(Reader(io.BytesIO(text))))[1]
+                got = (outline.kind, outline.path, outline.proof is not None)
+                want = (change.kind, change.path, change.standing.is_silent)
+                self.expect(f"{path!r}", got, want)
+
+    def test_times(self) -> None:
+        """The texts of a line are those of its object, and those of its change."""
+        quick = 0
+        for path in ODD_PATHS:
+            for _ in range(200):
+                line = random_line(self.draw, path)
+                fields = json.loads(line)
+                change = next(iter(Reader(io.BytesIO(HEAD + line))))[1]
+                want = members_text(text_members(texts_of(change)))
+                self.expect(
+                    "of its object", members_text(text_members(texts_of_line(fields))), want
+                )
+                got = time_texts(line)
+                if got is not None:
+                    quick += 1
+                    self.expect("of the line", got, want)
+        self.assertGreater(quick, 100)
