@@ -238,7 +238,7 @@ class RecordedTest(CommandTest):
         """What rpm says of its packages, by a program in rpm's place."""
         os.makedirs(self.path("rpmdb"), exist_ok=True)
         self.set_names(
-            "changes.packages", RPM=self.path("stubs/rpm"), RPM_DATABASES=(self.path("rpmdb"),)
+            "changes.rpm", RPM=self.path("stubs/rpm"), RPM_DATABASES=(self.path("rpmdb"),)
         )
         host = upgraded(TWO)
         host.packages = []
@@ -261,7 +261,7 @@ class RecordedTest(CommandTest):
         self.check("rpm's records", host, wanted)
         line = "  tool 1:2-3: 2 files, as rpm's records have them"
         self.assertIn(line, host.brief(self), "their line")
-        self.set_names("changes.packages", MAX_ALL=1 << 20)
+        self.set_names("changes.rpm", MAX_ALL=1 << 20)
         for stub, said in (
             ("exit 1", b"rpm did not say which packages there are"),
             ("exec cat /dev/zero", b"rpm has said more than 1048576 bytes"),

@@ -123,12 +123,16 @@ class Pattern:
         it means none there, whatever its name."""
         above = self.text.rpartition(b"/")[0]
         last = self.tests[-1]
-        if last is None:
-            return _always if self.matches([*pieces, b""]) else None
+        if last is None and self.matches([*pieces, b""]):
+            return _always
         if above.endswith(b"/**"):  # Before a name it may also take no piece.
             pieces = [*pieces, b""]
-        is_there = Pattern(above).matches(pieces) if above else not pieces
-        return last if is_there else None
+        is_there = not pieces
+        if above:
+            is_there = Pattern(above).matches(pieces)
+        if is_there:
+            return last
+        return None
 
     def matches(self, pieces: list[bytes]) -> bool:
         """Whether the pattern means the pieces of a path. `**` takes as few as will do, and one

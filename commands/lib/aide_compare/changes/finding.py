@@ -9,7 +9,7 @@ from typing import Dict, Iterable, Iterator, List, NamedTuple, Optional, Set, Tu
 from aide_compare.base.paths import key_of_path, path_of
 from aide_compare.base.spool import Spool
 from aide_compare.base.words import KINDS, SEVERITIES
-from aide_compare.changes.sides import Weighed
+from aide_compare.changes.sides import NOWHERE, Weighed
 from aide_compare.lines.change import Counts, Standing
 
 BLOCK = 1 << 16
@@ -32,7 +32,6 @@ class Record(NamedTuple):
 
 
 FORM = struct.Struct("=QQQQIIHBBH")
-NOWHERE = (1 << 64) - 1
 # The bits of a record.
 IS_RECORDED = 1 << 0
 IS_MADE = 1 << 1
@@ -46,7 +45,7 @@ PLACES = {word: place for words in (KINDS, SEVERITIES) for place, word in enumer
 
 
 class Finding(NamedTuple):
-    """A change that is not silent, as the databases have it. A place is None where there is no
+    """A change that is not silent, as the databases have it. A place is NOWHERE if there is no
     entry. `owner` is the number of its user: root if root's entry is among the two, None if it was
     not measured."""
 
@@ -57,8 +56,8 @@ class Finding(NamedTuple):
     rank: int  # Within its severity: a smaller one is read first.
     package: str  # The name and the version of a recorded one's package.
     is_made: bool  # Open, and made by a package's scripts at a path of its own: told by directory.
-    old_at: Optional[int]
-    new_at: Optional[int]
+    old_at: int
+    new_at: int
     is_file: bool
     is_link: bool
     owner: Optional[int]
@@ -88,7 +87,9 @@ class Directories:
 
     def number_of(self, key: bytes) -> int:
         """The number of the directory in which the entry with this key is."""
-        start = key[: key.rindex(SLASH) + 1] if key != SLASH else b""
+        start = b""
+        if key != SLASH:
+            start = key[: key.rindex(SLASH) + 1]
         if start != self.last or not self.above:
             while self.above and not start.startswith(self.last[: self.above[-1][0]]):
                 self.above.pop()
@@ -130,8 +131,8 @@ class Findings:
             bits |= HAS_OWNER
         self.new_records += FORM.pack(
             self.size,
-            NOWHERE if old_at is None else old_at,
-            NOWHERE if new_at is None else new_at,
+            old_at,
+            new_at,
             min(known.owner or 0, NOWHERE),
             directory,
             0,
@@ -211,8 +212,8 @@ class Findings:
             rank=record.rank,
             package=self.packages[record.package],
             is_made=bool(record.bits & IS_MADE),
-            old_at=None if record.old_at == NOWHERE else record.old_at,
-            new_at=None if record.new_at == NOWHERE else record.new_at,
+            old_at=record.old_at,
+            new_at=record.new_at,
             is_file=bool(record.bits & IS_FILE),
             is_link=bool(record.bits & IS_LINK),
             owner=record.owner if record.bits & HAS_OWNER else None,

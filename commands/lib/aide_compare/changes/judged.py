@@ -12,8 +12,9 @@ from aide_compare.base.words import SEVERITIES
 from aide_compare.changes.entries import Sides
 from aide_compare.changes.finding import IS_RECORDED, STANDINGS, Finding, Findings
 from aide_compare.changes.ordered import usr_of
-from aide_compare.changes.packages import Dpkg, Named, Rpm
+from aide_compare.changes.packages import Dpkg, Named
 from aide_compare.changes.recorded import Matcher
+from aide_compare.changes.rpm import Rpm
 from aide_compare.changes.sides import BothDatabases
 from aide_compare.lines.change import BY_PROOF, Counts
 from aide_compare.lines.reader import Reader, Refused

@@ -4,11 +4,9 @@ they group what people read, and packages that came, went or fell to an older ve
 first."""
 from __future__ import annotations
 
-import io
 import os
 import re
 import stat
-import time
 from contextlib import suppress
 from os.path import commonprefix
 from typing import Callable, Dict, Iterable, Iterator, List, NamedTuple, Optional, Set, Tuple
@@ -22,14 +20,6 @@ from aide_compare.changes.finding import Findings
 
 DPKG = "/var/lib/dpkg"
 DPKG_LOG = "/var/log/dpkg.log"
-RPM = "/usr/bin/rpm"
-RPM_DATABASES = ("/usr/lib/sysimage/rpm", "/var/lib/rpm")
-QUERY = (
-    "P\\t%{NAME}\\t%|EPOCH?{%{EPOCH}:}|%{VERSION}-%{RELEASE}\\t%{FILEDIGESTALGO}\\n"
-    "[F\\t%{FILENAMES}\\t%{FILEDIGESTS}\\t%{FILELINKTOS}\\t%{FILESTATES}\\n]"
-)
-# The numbers that rpm gives to digests. A package that says none has MD5.
-ALGORITHMS = {b"1": "md5", b"(none)": "md5", b"2": "sha1", b"8": "sha256", b"10": "sha512"}
 MAX_FILE = 64 << 20
 MAX_ALL = 256 << 20
 MAX_LOG = 4 << 20
@@ -37,7 +27,6 @@ MAX_FILES = 200000
 MAX_COMPARED = 500
 MAX_STARTS = 8
 PIECE = 1 << 16
-MAX_SECONDS = 120
 READ_ONLY = os.O_RDONLY | os.O_NOFOLLOW | os.O_NONBLOCK | os.O_CLOEXEC
 PARAGRAPH = re.compile(
     rb"^(Package|Status|Architecture|Version|Conffiles):[ \t]*(.*(?:\n[ \t].*)*)", re.M
@@ -92,8 +81,7 @@ class Dpkg:
             if directory.others:
                 raise Fault(Status.DEVICE, f"other users can write {self.words}")
             self.fd = os.open(".", LISTING, dir_fd=directory.fd)
-        # The paragraphs of packages that are there, by their names; what they say is read when it is
-        # asked for.
+        # The paragraphs of packages that are there, by their names. What they say is read later.
         self.paragraphs: Dict[bytes, List[bytes]] = {}
         self.conffiles: List[bytes] = []  # Those that name files.
         for paragraph in self._read("status").split(b"\n\n"):
@@ -296,76 +284,3 @@ def is_less(version: bytes | str, other: bytes | str) -> bool:
     """Whether a version of a package is older than another one, as dpkg says."""
     words = ["/usr/bin/dpkg", "--compare-versions", os.fsdecode(version), "lt", os.fsdecode(other)]
     return run(words, {}) == 0
-
-
-def digest_in(field: bytes) -> bytes:
-    """The digest in base 16 that rpm says of a file; none if there is none."""
-    try:
-        return bytes.fromhex(field.decode("ascii", "replace"))
-    except ValueError:
-        return b""
-
-
-class Rpm:
-    """What rpm says of the packages of this machine."""
-
-    by = "rpm"
-
-    def __init__(self) -> None:
-        self.text = bytearray()
-        directory = next(path for path in RPM_DATABASES if os.path.isdir(path))
-        words = [RPM, "-qa", "--dbpath", directory, "--qf", QUERY]
-        environment = {"LC_ALL": "C", "PATH": "/usr/bin:/bin", "HOME": "/"}
-        end = time.monotonic() + MAX_SECONDS
-        with failing("cannot run rpm"):
-            status = run(words, {1: self._take}, environment=environment, deadline=end)
-        if status != 0:
-            raise Fault(Status.DEVICE, f"rpm did not say which packages there are: {status}")
-
-    def _take(self, block: bytes) -> None:
-        self.text += block
-        if len(self.text) > MAX_ALL:
-            raise Fault(Status.DEVICE, f"rpm has said more than {MAX_ALL} bytes")
-
-    def members(self, wanted: Wanted, usr: Callable[[bytes], bytes]) -> Members:
-        """What rpm says of the wanted paths. Of a file that it did not write itself it says the
-        path."""
-        members: Members = {}
-        package = ""
-        column = ""
-        for line in self._lines():
-            fields = line.split(b"\t")
-            if fields[0] == b"P" and len(fields) == 4:
-                package = words_of(fields[1], fields[2])
-                column = ALGORITHMS.get(fields[3], "")
-            elif fields[0] == b"F" and len(fields) == 5 and usr(fields[1]) in wanted:
-                member = Member(package)
-                if fields[4] == b"0":  # rpm has written it.
-                    member = Member(package, column, digest_in(fields[2]), fields[3])
-                members.setdefault(usr(fields[1]), []).append(member)
-        return members
-
-    def known_paths(self) -> Iterator[Iterable[bytes]]:
-        """All paths of which rpm has said something."""
-        yield (line.split(b"\t")[1] for line in self._lines() if line.startswith(b"F\t"))
-
-    def _lines(self) -> Iterator[bytes]:
-        """The lines that rpm has written."""
-        for line in io.BytesIO(self.text):
-            yield line.rstrip(b"\n")
-
-    def named(self, _findings: Findings, kinds: Kinds) -> Named:
-        """The packages of which each recorded path came. rpm keeps nothing of those that went."""
-        named = Named()
-        for name in sorted(name for name, found in kinds.items() if found == {"added"}):
-            named.came.append(name)
-        return named
-
-
-def records_of_host() -> Optional[Dpkg | Rpm]:
-    """The records of this machine; None if it has neither dpkg's nor rpm's."""
-    if os.path.lexists(DPKG + "/status"):
-        return Dpkg()
-    if os.path.isfile(RPM) and any(os.path.isdir(path) for path in RPM_DATABASES):
-        return Rpm()
-    return None

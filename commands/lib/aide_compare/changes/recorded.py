@@ -13,7 +13,8 @@ from aide_compare.base.files import open_regular
 from aide_compare.base.paths import path_of
 from aide_compare.changes.entries import Entry, Sides, has_strong
 from aide_compare.changes.finding import IS_CONTENT, IS_LINK, Finding, Findings
-from aide_compare.changes.packages import Dpkg, Member, Members, Rpm
+from aide_compare.changes.packages import Dpkg, Member, Members
+from aide_compare.changes.rpm import Rpm
 from aide_compare.lines.attributes import DIGEST_COLUMNS
 from aide_compare.lines.change import Standing
 

@@ -21,6 +21,7 @@ from aide_compare.changes.severity import TESTED, Rights, Severity, Weight
 
 PRESENT = {"added": (False, True), "removed": (True, False), "changed": (True, True)}
 MAX_REMEMBERED = 1 << 12
+NOWHERE = (1 << 64) - 1
 # The columns that are no difference of two entries by themselves.
 BESIDE = frozenset(("name", "attr"))
 
@@ -50,13 +51,13 @@ class Known(NamedTuple):
 
 
 class Weighed(NamedTuple):
-    """What both databases say of a change: where the entries are, None if there is none, and how
+    """What both databases say of a change: where the entries are, NOWHERE if there is none, and how
     much it matters."""
 
     kind: str
     key: bytes
-    old_at: Optional[int]
-    new_at: Optional[int]
+    old_at: int
+    new_at: int
     weight: Weight
     known: Known
     is_content: bool
@@ -92,14 +93,22 @@ class BothDatabases:
                 f"the databases are not those of the lines: {shown(path, 300)} is not {kind} there"
             )
             raise Fault(Status.DATABASE, text)
-        old = fields_in(old_place.line) if old_place else None
-        new = fields_in(new_place.line) if new_place else None
+        old: Optional[Fields] = None
+        new: Optional[Fields] = None
+        old_at = NOWHERE
+        new_at = NOWHERE
+        if old_place is not None:
+            old = fields_in(old_place.line)
+            old_at = old_place.at
+        if new_place is not None:
+            new = fields_in(new_place.line)
+            new_at = new_place.at
         known = self._known(old, new)
         return Weighed(
             kind,
             key,
-            old_place.at if old_place else None,
-            new_place.at if new_place else None,
+            old_at,
+            new_at,
             self.severity.weight(path, known.rights),
             known,
             known.has_content and self._is_content(known, old, new),
@@ -151,6 +160,12 @@ class BothDatabases:
                 self.contents[differ] = fits
         return fits[known.is_link]
 
-    def read(self, old_at: Optional[int], new_at: Optional[int]) -> Sides:
-        """The entries at these places."""
-        return Sides(self.old.entry_at(old_at), self.new.entry_at(new_at))
+    def read(self, old_at: int, new_at: int) -> Sides:
+        """The entries at these places, None for NOWHERE."""
+        old: Optional[Entry] = None
+        new: Optional[Entry] = None
+        if old_at != NOWHERE:
+            old = self.old.at(old_at)
+        if new_at != NOWHERE:
+            new = self.new.at(new_at)
+        return Sides(old, new)

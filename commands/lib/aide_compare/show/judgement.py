@@ -6,7 +6,7 @@ from typing import NamedTuple, Optional
 from aide_compare.base import progress
 from aide_compare.base.ending import why_of
 from aide_compare.changes.judged import Judged
-from aide_compare.changes.packages import records_of_host
+from aide_compare.changes.rpm import records_of_host
 from aide_compare.compare.comparison import Comparison
 from aide_compare.lines.reader import Refused, reader_over
 from aide_compare.show.brief import brief

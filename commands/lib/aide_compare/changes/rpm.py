@@ -1,0 +1,97 @@
+"""What rpm says of the packages of this machine, in the place of dpkg's records."""
+from __future__ import annotations
+
+import io
+import os
+import time
+from typing import Callable, Iterable, Iterator, Optional
+
+from aide_compare.base.ending import Fault, Status, failing
+from aide_compare.base.processes import run
+from aide_compare.changes import packages
+from aide_compare.changes.finding import Findings
+from aide_compare.changes.packages import Dpkg, Kinds, Member, Members, Named, Wanted, words_of
+
+RPM = "/usr/bin/rpm"
+RPM_DATABASES = ("/usr/lib/sysimage/rpm", "/var/lib/rpm")
+QUERY = (
+    "P\\t%{NAME}\\t%|EPOCH?{%{EPOCH}:}|%{VERSION}-%{RELEASE}\\t%{FILEDIGESTALGO}\\n"
+    "[F\\t%{FILENAMES}\\t%{FILEDIGESTS}\\t%{FILELINKTOS}\\t%{FILESTATES}\\n]"
+)
+# The numbers that rpm gives to digests. A package that says none has MD5.
+ALGORITHMS = {b"1": "md5", b"(none)": "md5", b"2": "sha1", b"8": "sha256", b"10": "sha512"}
+MAX_ALL = 256 << 20
+MAX_SECONDS = 120
+
+
+def digest_in(field: bytes) -> bytes:
+    """The digest in base 16 that rpm says of a file; none if there is none."""
+    try:
+        return bytes.fromhex(field.decode("ascii", "replace"))
+    except ValueError:
+        return b""
+
+
+class Rpm:
+    """What rpm says of the packages of this machine."""
+
+    by = "rpm"
+
+    def __init__(self) -> None:
+        self.text = bytearray()
+        directory = next(path for path in RPM_DATABASES if os.path.isdir(path))
+        words = [RPM, "-qa", "--dbpath", directory, "--qf", QUERY]
+        environment = {"LC_ALL": "C", "PATH": "/usr/bin:/bin", "HOME": "/"}
+        end = time.monotonic() + MAX_SECONDS
+        with failing("cannot run rpm"):
+            status = run(words, {1: self._take}, environment=environment, deadline=end)
+        if status != 0:
+            raise Fault(Status.DEVICE, f"rpm did not say which packages there are: {status}")
+
+    def _take(self, block: bytes) -> None:
+        self.text += block
+        if len(self.text) > MAX_ALL:
+            raise Fault(Status.DEVICE, f"rpm has said more than {MAX_ALL} bytes")
+
+    def members(self, wanted: Wanted, usr: Callable[[bytes], bytes]) -> Members:
+        """What rpm says of the wanted paths. Of a file that it did not write itself it says the
+        path."""
+        members: Members = {}
+        package = ""
+        column = ""
+        for line in self._lines():
+            fields = line.split(b"\t")
+            if fields[0] == b"P" and len(fields) == 4:
+                package = words_of(fields[1], fields[2])
+                column = ALGORITHMS.get(fields[3], "")
+            elif fields[0] == b"F" and len(fields) == 5 and usr(fields[1]) in wanted:
+                member = Member(package)
+                if fields[4] == b"0":  # rpm has written it.
+                    member = Member(package, column, digest_in(fields[2]), fields[3])
+                members.setdefault(usr(fields[1]), []).append(member)
+        return members
+
+    def known_paths(self) -> Iterator[Iterable[bytes]]:
+        """All paths of which rpm has said something."""
+        yield (line.split(b"\t")[1] for line in self._lines() if line.startswith(b"F\t"))
+
+    def _lines(self) -> Iterator[bytes]:
+        """The lines that rpm has written."""
+        for line in io.BytesIO(self.text):
+            yield line.rstrip(b"\n")
+
+    def named(self, _findings: Findings, kinds: Kinds) -> Named:
+        """The packages of which each recorded path came. rpm keeps nothing of those that went."""
+        named = Named()
+        for name in sorted(name for name, found in kinds.items() if found == {"added"}):
+            named.came.append(name)
+        return named
+
+
+def records_of_host() -> Optional[Dpkg | Rpm]:
+    """The records of this machine; None if it has neither dpkg's nor rpm's."""
+    if os.path.lexists(packages.DPKG + "/status"):
+        return Dpkg()
+    if os.path.isfile(RPM) and any(os.path.isdir(path) for path in RPM_DATABASES):
+        return Rpm()
+    return None
