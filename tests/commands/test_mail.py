@@ -536,8 +536,8 @@ class MailTest(CommandTest):
             ("the unit's", [*unit, "-c", "conf"], (7, 3, 5)),
             ("of a short report", short, (7, 2, 4)),
             ("by sendmail", ["old.db", "new.db"], (7, 3, 3)),
-            ("a large one of the unit", [*unit, "-c", "large"], (4, 3, 5)),
-            ("without some paths", [*unit, "-c", "large", "--exclude", "/y"], (4, 3, 7)),
+            ("a large one of the unit", [*unit, "-c", "large"], (4, 3, 6)),
+            ("without some paths", [*unit, "-c", "large", "--exclude", "/y"], (4, 3, 8)),
         ):
             self.assertEqual(self.weight_of(*words), wanted, "processes and files: " + label)
 

@@ -4,6 +4,7 @@ from __future__ import annotations
 
 import struct
 from array import array
+from bisect import bisect_right
 from typing import Dict, Iterable, Iterator, List, NamedTuple, Optional, Set, Tuple
 
 from aide_compare.base.paths import key_of_path, path_of
@@ -19,7 +20,7 @@ SLASH = b"\1"  # In a key.
 class Record(NamedTuple):
     """What is kept of a finding beside its path, as numbers."""
 
-    path_at: int
+    path_at: int  # In its block, behind the records of this.
     old_at: int  # NOWHERE if there is no entry.
     new_at: int
     owner: int
@@ -104,8 +105,11 @@ class Findings:
     """Takes findings in the order of paths, and gives each by its place in this order."""
 
     def __init__(self) -> None:
-        self.records = Spool()
-        self.keys = Spool()
+        # Blocks of records with the keys of their paths behind them: where each begins, and which
+        # finding is the first in it.
+        self.file = Spool()
+        self.starts = array("Q")
+        self.firsts = array("I")
         self.size = 0
         self.count = 0
         self.packages = [""]
@@ -130,7 +134,7 @@ class Findings:
         if known.owner is not None:
             bits |= HAS_OWNER
         self.new_records += FORM.pack(
-            self.size,
+            len(self.new_keys),
             old_at,
             new_at,
             min(known.owner or 0, NOWHERE),
@@ -143,65 +147,75 @@ class Findings:
         )
         self.new_keys += key
         self.new_keys += b"\n"
-        self.size += len(key) + 1
         self.count += 1
         self.opened[PLACES[weight.level]] += 1
         if len(self.new_keys) > BLOCK:
             self.end()
 
     def end(self) -> None:
-        """Puts those that were taken into their files. None can be read before."""
-        self.records.write(self.new_records)
-        self.keys.write(self.new_keys)
+        """Ends a block with those that were taken. None of them can be read before."""
+        self.starts.append(self.size)
+        self.firsts.append(self.count - len(self.new_records) // FORM.size)
+        self.file.write(self.new_records)
+        self.file.write(self.new_keys)
+        self.size += len(self.new_records) + len(self.new_keys)
         self.new_records.clear()
         self.new_keys.clear()
 
-    def rows(self, first: int = 0) -> Iterator[Record]:
-        """The records of all from this place on, in their order."""
-        at = first * FORM.size
-        while block := self._read(at, FORM.size * 1024):
-            at += len(block)
-            yield from map(Record._make, FORM.iter_unpack(block))
-
     def _read(self, at: int, size: int) -> bytes:
-        self.records.seek(at)
-        return self.records.read(size)
+        self.file.seek(at)
+        return self.file.read(size)
 
-    def keys_from(self, at: int = 0) -> Iterator[bytes]:
-        """The keys of the paths of all from this byte on, each with a newline, in their order."""
-        while True:
-            self.keys.seek(at)
-            lines = self.keys.readlines(BLOCK)
-            if not lines:
-                return
-            at += sum(map(len, lines))
-            yield from lines
+    def _blocks(self) -> Iterator[Tuple[int, int, int]]:
+        """Where each block begins, where the keys in it do, and where it ends."""
+        ends = [*self.starts[1:], self.size]
+        counts = [*self.firsts[1:], self.count]
+        for start, first, end, count in zip(self.starts, self.firsts, ends, counts):
+            yield start, start + (count - first) * FORM.size, end
+
+    def rows(self) -> Iterator[Record]:
+        """The records of all, in their order."""
+        for start, middle, _ in self._blocks():
+            yield from map(Record._make, FORM.iter_unpack(self._read(start, middle - start)))
+
+    def keys(self) -> Iterator[bytes]:
+        """The keys of the paths of all, in their order."""
+        for _, middle, end in self._blocks():
+            yield from self._read(middle, end - middle).split(b"\n")[:-1]
+
+    def _at(self, place: int) -> int:
+        """Where the record of a finding begins."""
+        block = bisect_right(self.firsts, place) - 1
+        return self.starts[block] + (place - self.firsts[block]) * FORM.size
 
     def among(self, paths: Iterable[bytes]) -> Set[bytes]:
         """Those of some paths that findings have."""
-        keys = {key_of_path(path) + b"\n" for path in paths}
+        keys = set(map(key_of_path, paths))
         if not keys:
             return set()
-        return {path_of(key[:-1]) for key in keys.intersection(self.keys_from())}
+        return set(map(path_of, keys.intersection(self.keys())))
 
     def below(self, directory: bytes) -> Iterator[Tuple[bytes, str]]:
         """The paths and the kinds of the findings in a tree."""
         start = key_of_path(directory + b"/")
-        for record, key in zip(self.rows(), self.keys_from()):
+        for record, key in zip(self.rows(), self.keys()):
             if key.startswith(start):
-                yield path_of(key[:-1]), KINDS[record.kind]
+                yield path_of(key), KINDS[record.kind]
 
     def record(self, place: int) -> Record:
-        return Record._make(FORM.unpack(self._read(place * FORM.size, FORM.size)))
+        return Record._make(FORM.unpack(self._read(self._at(place), FORM.size)))
 
-    def path(self, record: Record) -> bytes:
-        self.keys.seek(record.path_at)
-        return path_of(self.keys.readline()[:-1])
+    def path(self, place: int) -> bytes:
+        block = bisect_right(self.firsts, place)
+        after = self.firsts[block] if block < len(self.firsts) else self.count
+        behind = self._at(after - 1) + FORM.size
+        path_at = self.record(place).path_at
+        self.file.seek(behind + path_at)
+        return path_of(self.file.readline()[:-1])
 
     def finding(self, place: int) -> Finding:
         """The finding at a place."""
-        record = self.record(place)
-        return self.finding_of(record, self.path(record))
+        return self.finding_of(self.record(place), self.path(place))
 
     def finding_of(self, record: Record, path: bytes) -> Finding:
         return Finding(
@@ -221,7 +235,7 @@ class Findings:
 
     def directory(self, number: int) -> bytes:
         """The path of the directory with this number."""
-        return directory_of(self.path(self.record(self.samples[number])))
+        return directory_of(self.path(self.samples[number]))
 
     def note(self, place: int, finding: Finding) -> None:
         """Notes what records say of a finding: its package, or that it was made."""
@@ -239,8 +253,8 @@ class Findings:
         self._put(place, record._replace(bits=bits, package=self.numbers[finding.package]))
 
     def _put(self, place: int, record: Record) -> None:
-        self.records.seek(place * FORM.size)
-        self.records.write(FORM.pack(*record))
+        self.file.seek(self._at(place))
+        self.file.write(FORM.pack(*record))
 
     def forget_records(self) -> None:
         """Leaves each finding open."""

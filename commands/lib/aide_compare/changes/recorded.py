@@ -120,8 +120,8 @@ def _asked(findings: Findings, may_have: Optional[Callable[[bytes], bool]]) -> I
     """The findings that may be recorded, some thousand at once."""
     asked: Asked = {}
     size = 0
-    for number, (record, key) in enumerate(zip(findings.rows(), findings.keys_from())):
-        path = path_of(key[:-1])
+    for number, (record, key) in enumerate(zip(findings.rows(), findings.keys())):
+        path = path_of(key)
         if record.bits & IS_CONTENT and (may_have is None or may_have(path)):
             asked[path] = AskedPlace(number, bool(record.bits & IS_LINK))
             size += len(key)

@@ -200,11 +200,8 @@ class Listing:
                     few.append(place)
                 else:
                     more.append(place)
-            first += nsmallest(limit - len(first), few, key=self._path)
+            first += nsmallest(limit - len(first), few, key=self.findings.path)
             later.append(more)
         for places in later:
-            first += nsmallest(limit - len(first), places, key=self._path)
+            first += nsmallest(limit - len(first), places, key=self.findings.path)
         return first
-
-    def _path(self, place: int) -> bytes:
-        return self.findings.path(self.findings.record(place))
