@@ -89,9 +89,9 @@ class CanaryTest(CommandTest):
         self.assertTrue(text.startswith("aide on 4 hosts: 4 differ"), "no note without a canary")
 
     def check_failed(self, hosts: Hosts, cause: str, *words: str) -> None:
-        """The canary was not compared: the others were, nothing is silent, and the report says so
+        """The canary was not used: the others were compared, nothing is silent, and the report says so
         first."""
-        note = f"canary www1 was not compared, so the others were compared without it: {cause}"
+        note = f"canary www1 was not used, so the others were compared without it: {cause}"
         lines = self.compared(hosts, *words, "--canary", "www1")
         self.assertTrue(lines[1].startswith(note), lines)
         text = hosts.report().output
@@ -132,6 +132,19 @@ class CanaryTest(CommandTest):
         cause = "aide.db.new is not the database that was compared"
         self.assertTrue(lines[1].endswith(cause), lines)
         self.assertIn(f"www2 {SAME}2 open (2 high) of 5 changes", lines, "nothing is silent then")
+
+    def test_whole(self) -> None:
+        """Whatever floods the canary, each of its changes is listed, or it is not used."""
+        for name, limit, is_used in (("MAX_KEPT", 600, True), ("MAX_JUDGED", 1000, False)):
+            hosts = self.fleet("www1", "www2")
+            hosts.set_limit("host_comparison", name, limit)
+            lines = self.compared(hosts, "--canary", "www1")
+            note = "canary www1 was not used, so the others were compared without it: only 2 of"
+            self.assertEqual(lines[1].startswith(note), not is_used, (name, lines))
+            told = {each["path"] for each in hosts.objects()[2]}
+            self.assertTrue({"/usr/bin/a", MARK.decode()} <= told or not is_used, (name, told))
+            is_silent = "\nopen=0\n" in hosts.state("www2")
+            self.assertEqual(is_silent, is_used, (name, hosts.state("www2")))
 
     def test_one(self) -> None:
         """One host beside the canary, and the canary alone."""

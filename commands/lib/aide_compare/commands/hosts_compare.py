@@ -24,7 +24,7 @@ from aide_compare.compare.state import State, is_alarm
 from aide_compare.compare.unpack import Copy
 from aide_compare.hosts.canary import failed_note, keep_note, trusted_pair, used_note
 from aide_compare.hosts.fetching import fetch
-from aide_compare.hosts.host_comparison import Settings, compare
+from aide_compare.hosts.host_comparison import MAX_JUDGED, MAX_KEPT, Settings, compare
 from aide_compare.hosts.hosts_read import differs, hosts_of, read_host
 from aide_compare.hosts.hosts_text import WHY, not_listed
 from aide_compare.hosts.store import (
@@ -170,7 +170,7 @@ def results(hosts: Sequence[str], settings: Settings) -> Iterator[HostResult]:
 def results_beside(canary: str, hosts: Sequence[str], settings: Settings) -> Iterator[HostResult]:
     """The results of all hosts beside the canary, whose own result comes first. Without its pair
     the others are compared all the same, and that is said before them."""
-    (first,) = results([canary], settings)
+    (first,) = results([canary], settings._replace(max_kept=MAX_JUDGED))
     yield first
     pair: dict[str, Copy] = {}
     note = used_note(canary)
@@ -286,6 +286,7 @@ def request_of(arguments: Sequence[str]) -> CompareRequest:
         same_for=args.same_for,
         fetches=not args.no_fetch,
         trusted={},
+        max_kept=MAX_KEPT,
     )
     canary = args.canary or ""
     return CompareRequest(args.file, args.one, args.share, settings, canary, args.quiet, args.color)

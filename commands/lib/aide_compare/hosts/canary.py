@@ -12,9 +12,10 @@ from aide_compare.base.escapes import guarded
 from aide_compare.base.files import read_file
 from aide_compare.base.replacement import replace
 from aide_compare.base.words import TRUSTED_SIDES
-from aide_compare.compare.state import read_state
+from aide_compare.compare.state import State, read_state
 from aide_compare.compare.unpack import Copy, copy_database
-from aide_compare.hosts.store import BASELINE, NEW, HostDirectory
+from aide_compare.hosts.hosts_read import WHOLE, changes_of, differs, host_of
+from aide_compare.hosts.store import BASELINE, LINES, NEW, HostDirectory
 
 # A line in the store for the reports that follow.
 NOTE = "canary"
@@ -22,11 +23,23 @@ MAX_NOTE = 5000
 MAX_DATABASE = 4 << 30
 
 
+def refuse_cut(directory: HostDirectory, state: State) -> None:
+    """A Fault if not all changes of the canary are kept: what is missing there would be told
+    nowhere."""
+    host = host_of(directory.host, state.status, state.error, state)
+    if not differs(host):
+        return
+    listed = sum(1 for _ in changes_of(host, directory.file(LINES)))
+    if host["report"] != WHOLE:
+        raise directory.fault(f"only {listed} of its changes are listed, so it says too little")
+
+
 def trusted_pair(store: str, host: str, seconds: float) -> dict[str, Copy]:
     """Private copies of both databases of a host, as its last comparison has read them."""
     directory = HostDirectory(store, host, seconds, fcntl.LOCK_SH)
     with closing(directory):
         state = read_state(directory.state_path)
+        refuse_cut(directory, state)
         digests = (state.old_sha256, state.new_sha256)
         pair = {}
         for side, name, digest in zip(TRUSTED_SIDES, (BASELINE, NEW), digests):
@@ -41,7 +54,7 @@ def used_note(host: str) -> str:
 
 
 def failed_note(host: str, why: str) -> str:
-    return f"canary {host} was not compared, so the others were compared without it: {why}"
+    return f"canary {host} was not used, so the others were compared without it: {why}"
 
 
 def keep_note(store: str, note: str) -> None:

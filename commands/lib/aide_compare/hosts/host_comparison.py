@@ -25,7 +25,8 @@ MAX_BASELINE = 4 << 30
 # baseline.
 MIN_SIZE = 64 << 20
 GROWTH = 4
-# So many bytes of the lines of all changes are judged, and so many of the lines of a host are kept.
+# So many bytes of the lines of all changes are judged, and so many of the lines of a host are kept;
+# of the canary all, since each of its changes may be silent on the others.
 MAX_JUDGED = 256 << 20
 MAX_KEPT = 4 << 20
 MAX_AHEAD = 600
@@ -47,6 +48,7 @@ class Settings(NamedTuple):
     same_for: int  # A host may send the same bytes for so many seconds; 0: without end.
     fetches: bool
     trusted: Mapping[str, Copy]  # The pair of the canary, if there is one.
+    max_kept: int  # Of the lines of a host.
 
 
 def run_comparison(directory: HostDirectory, settings: Settings, part: NewFile) -> Comparison:
@@ -75,7 +77,7 @@ def keep_findings(
 ) -> Comparison:
     """Keeps the changes that are not silent. Returns the comparison with their standings."""
     with closing(NewFile(directory.fd)) as part:
-        limit = min(MAX_KEPT, directory.room(settings.jobs))
+        limit = min(settings.max_kept, directory.room(settings.jobs))
         standings = write_findings(part.fd, comparison, limit)
         if standings is None:
             return comparison.doubtful("the changes are too many to be judged")
