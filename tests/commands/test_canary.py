@@ -115,12 +115,9 @@ class CanaryTest(CommandTest):
         self.check_failed(hosts, late, "--same-for", "8h")
 
     def test_no_host(self) -> None:
-        """A canary that is in no list is one more host; what is no name is refused."""
+        """A canary that is not in the list is refused, and what is no name."""
         hosts = self.fleet()
-        lines = self.compared(hosts, "--canary", "nobody")
-        self.assertTrue(lines[0].startswith("nobody 18 "), lines)
-        self.assertTrue(lines[-1].startswith("5 hosts: "), lines)
-        for name in ("-x", "../www1", "a b", ""):
+        for name in ("nobody", "-x", "../www1", "a b", ""):
             said = hosts.compare(f"--canary={name}", self.path("hosts"))
             self.assertEqual((said.status, said.output), (15, ""), name)
 

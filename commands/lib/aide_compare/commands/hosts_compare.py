@@ -34,6 +34,7 @@ from aide_compare.hosts.store import (
     HostDirectory,
     add_store_options,
     check_name,
+    share_of,
 )
 from aide_compare.lines.change import Fields, change_of
 from aide_compare.show.changes import change_lines
@@ -292,15 +293,25 @@ def request_of(arguments: Sequence[str]) -> CompareRequest:
     return CompareRequest(args.file, args.one, args.share, settings, canary, args.quiet, args.color)
 
 
+def hosts_to_compare(request: CompareRequest) -> list[str]:
+    """The hosts of the file that are in the share. The canary has to be in the file: otherwise no
+    report would list what is silent beside it."""
+    names = hosts_of(request.hosts_file)
+    if not request.canary:
+        keep_note(request.settings.store, "")
+    elif request.canary not in names:
+        raise Fault(Status.USAGE, f"the canary {request.canary} is not in the file of hosts")
+    part, parts = request.share
+    return [name for name in names if share_of(name, parts) == part]
+
+
 def main(arguments: Sequence[str]) -> int:
     request = request_of(arguments)
     settings = request.settings
     if request.is_one:
         hosts = [request.hosts_file]
     else:
-        hosts = hosts_of(request.hosts_file, request.share)
-        if not request.canary:
-            keep_note(settings.store, "")
+        hosts = hosts_to_compare(request)
     status = compare_all(request, hosts)
     if request.is_one and status <= 7 and not request.is_quiet:
         print_changes(request.hosts_file, settings.store, settings.seconds)

@@ -17,7 +17,7 @@ from aide_compare.base.directories import closed_after
 from aide_compare.base.words import KINDS, SEVERITIES, age_in_words, date_of
 from aide_compare.compare.state import State, read_state
 from aide_compare.hosts.findings import Findings
-from aide_compare.hosts.store import LINES, HostDirectory, check_name, share_of
+from aide_compare.hosts.store import LINES, HostDirectory, check_name
 from aide_compare.lines.change import Fields
 from aide_compare.lines.reader import Refused
 
@@ -31,8 +31,8 @@ UNREADABLE = "unreadable"
 DAMAGED = (errno.EIO, errno.EBADMSG, errno.EUCLEAN, errno.ESTALE)
 
 
-def hosts_of(path: str, share: tuple[int, int] = (1, 1)) -> list[str]:
-    """The names in a file, each once, and of these the part that is asked for."""
+def hosts_of(path: str) -> list[str]:
+    """The names in a file, each once."""
     what = "the file of hosts "
     if path == "-":
         data = read_whole(0, MAX_LIST, what)
@@ -42,7 +42,7 @@ def hosts_of(path: str, share: tuple[int, int] = (1, 1)) -> list[str]:
     names = list(dict.fromkeys(line for line in lines if line and not line.startswith("#")))
     if not names:
         raise Fault(Status.DEVICE, f"there is no host in the file {shown(path)}")
-    return [name for name in names if share_of(name, share[1]) == share[0]]
+    return names
 
 
 def host_of(name: str, status: int, error: str, state: State | None = None) -> Fields:
