@@ -44,10 +44,11 @@ class Asked(NamedTuple):
     text: str
 
 
-def add(sandbox: CommandTest, host: str, answer: str, *words: str) -> Asked:
+def add(sandbox: CommandTest, host: str, answer: str, *words: str, early: bytes = b"") -> Asked:
     """Runs the command on a terminal, and answers its question once it is asked."""
     options = ("--store", sandbox.path("store"), "--hosts-file", sandbox.path("etc-hosts"))
     terminal = Terminal(sandbox, "aide-compare hosts add", *options, *words, host)
+    terminal.type(early)
     terminal.read(PROMPT)
     if PROMPT in terminal.text:
         terminal.type(answer.encode())
@@ -192,6 +193,8 @@ class HostsAddTest(CommandTest):
             asked = add(self, "www", answer)
             self.assertEqual((asked.status, files(self)), (24, {}), asked)
             self.assertIn("nothing was added", asked.text)
+        asked = add(self, "www", "no\n", early=b"yes\n")
+        self.assertEqual((asked.status, files(self)), (24, {}), "typed before the question")
         command = "aide-compare hosts add"
         said = self.fleet.call(command, "www")
         self.assertEqual((said.status, files(self)), (15, {}), said)

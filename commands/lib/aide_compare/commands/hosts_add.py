@@ -3,6 +3,7 @@ host from then on."""
 from __future__ import annotations
 
 import os
+import termios
 from contextlib import closing
 from typing import NamedTuple, Sequence
 
@@ -78,6 +79,8 @@ def way_in(fault: Fault, settings: adding.SshSettings) -> list[str]:
 
 
 def answer_is_yes(host: str) -> bool:
+    """What was typed before the question does not count."""
+    termios.tcflush(0, termios.TCIFLUSH)
     write_all(1, f"Is it the same? Then {host} is watched from now on. yes or no: ".encode())
     answer = os.read(0, MAX_ANSWER)
     return answer.strip().lower() == b"yes"
