@@ -195,6 +195,11 @@ class HostsAddTest(CommandTest):
             self.assertIn("nothing was added", asked.text)
         asked = add(self, "www", "no\n", early=b"yes\n")
         self.assertEqual((asked.status, files(self)), (24, {}), "typed before the question")
+        stub = SSH.replace("ROOT/known_hosts ROOT/more", "none").replace("ROOT", self.root)
+        self.stub("ssh", stub.replace("KEY", KEY))
+        asked = add(self, "www", "yes\n")
+        self.assertEqual((asked.status, files(self)), (18, {}), "ssh keeps no keys")
+        self.assertFalse(os.path.exists(self.path("none")))
         command = "aide-compare hosts add"
         said = self.fleet.call(command, "www")
         self.assertEqual((said.status, files(self)), (15, {}), said)

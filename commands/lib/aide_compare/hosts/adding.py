@@ -25,6 +25,7 @@ NEW_KEY = "known_hosts.new"
 MAX_ANSWER = 1 << 16
 MAX_KEY = 1 << 16
 MAX_HOSTS_FILE = 16 << 20
+NO_FILE = "none"  # What ssh says if its configuration says so.
 # A line of known_hosts as ssh writes it: whose key it is, its kind, and the key.
 KEY_LINE = re.compile(r"([!-~]+) ([a-z0-9@.-]+) ([A-Za-z0-9+/]+=*)")
 APPEND = os.O_RDWR | os.O_CREAT | os.O_APPEND | os.O_NOFOLLOW | os.O_NONBLOCK | os.O_CLOEXEC
@@ -66,7 +67,7 @@ def ssh_settings(host: str) -> SshSettings:
     for line in answer.decode("utf-8", "surrogateescape").split("\n"):
         name, _, value = line.partition(" ")
         if name == "userknownhostsfile":
-            known_hosts += value.split(" ")
+            known_hosts += [path for path in value.split(" ") if path != NO_FILE]
         elif name == "identityfile":
             identities.append(os.path.expanduser(value))
     return SshSettings(known_hosts, identities)
