@@ -186,6 +186,8 @@ class MailTest(CommandTest):
         accept = f"aide-compare accept --sha256 {sha256(NEW)} {new} {old}"
         self.assertIn(accept, words_of(text), "the command that accepts")
         self.assertIn(f"aide-compare page {old} {new} > changes.html", words_of(text))
+        call(self, "-", "new.db", text=OLD)
+        self.assertIn("aide-compare page OLD NEW > changes.html", words_of(body(sent(self))))
         check_size(self, "a mail", text)
         self.assertEqual(self.read("words"), b"-oi -t\n", "how sendmail is called")
 

@@ -22,14 +22,14 @@ removed=%(removed)s
 changed=%(changed)s
 old_sha256=
 new_sha256=%(digest)s
-old=/o
+old=%(old)s
 new=/n
 old_written=
 new_written=
 error=%(error)s
 later=unknown
 """
-ZERO: dict[str, Any] = {"status": 0, "added": 0, "removed": 0, "changed": 0}
+ZERO: dict[str, Any] = {"status": 0, "added": 0, "removed": 0, "changed": 0, "old": "/o"}
 NOTHING: dict[str, Any] = {"added": "", "removed": "", "changed": ""}
 WORDS = ("OK", "WARNING", "CRITICAL", "UNKNOWN")
 NUMBERS = re.compile(r"([a-z]+=(\d+|U) )*(age=\d+s)?")
@@ -222,6 +222,9 @@ class StateTest(CommandTest):
             "If it is right: aide-compare accept /n /o",
         ]
         self.assertEqual(lines[-2:], commands, "what to do then")
+        for name in ("-", "/dev/fd/3", "of-another-directory.db"):
+            lines = self.people(status=5, added=1, changed=4, old=name)
+            self.assertTrue(lines[-1].startswith("New database"), f"no command for {name}")
         lines = self.people(status=24, error="aide: x\x01y", **NOTHING)
         self.assertIn("status 24", lines[1])
         self.assertEqual(lines[2:], ["  aide: x\\001y"])

@@ -108,9 +108,19 @@ def database_line(side: str, name: str, written: int | None) -> str:
     return f"{side} database: {name}, written {minute_of(written)}"
 
 
+def leads_to_file(name: str) -> bool:
+    """Whether the name of a database means a file here too. An escaped name is not the name, a
+    descriptor was that of another process, and a relative name may be one of another directory."""
+    from aide_compare.compare.unpack import given_descriptor
+
+    if "\\" in name or given_descriptor(name) is not None:
+        return False
+    return os.path.isabs(name) or os.path.lexists(name)
+
+
 def command_lines(state: State) -> list[str]:
-    """The commands for what differs. An escaped name is not the name, so it is in no command."""
-    if not state.status or "\\" in state.old + state.new:
+    """The commands for what differs, if the names of the databases are of use in them."""
+    if not state.status or not (leads_to_file(state.old) and leads_to_file(state.new)):
         return []
     import shlex
 

@@ -17,6 +17,7 @@ from aide_compare.base.words import KINDS, SEVERITIES, counted
 from aide_compare.changes.finding import Finding
 from aide_compare.changes.judged import Judged
 from aide_compare.compare.state import State
+from aide_compare.compare.unpack import given_descriptor
 from aide_compare.lines.change import Change, Counts
 from aide_compare.show.brief import Read, entry_words
 from aide_compare.show.changes import Limits, Shares
@@ -244,10 +245,11 @@ def accept_lines(state: State) -> list[str]:
 
 
 def names_of(state: State, *sides: str) -> list[str]:
-    """The names of databases for a command. An escaped name is not the name, so it is left to the
-    reader."""
+    """The names of databases for a command. An escaped name is not the name, and a descriptor is
+    of no use to the reader, so both are left to the reader."""
     names = {"old": state.old, "new": state.new}
-    if "\\" in state.old + state.new:
+    is_given = any(given_descriptor(name) is not None for name in names.values())
+    if is_given or "\\" in state.old + state.new:
         return [side.upper() for side in sides]
     return [os.path.abspath(names[side]) for side in sides]
 
