@@ -93,6 +93,11 @@ class HandsTest(CommandTest):
             words = ("--unit-failed", name, "--send-queue", "queue")
             self.refused(15, b"needs the name of a unit", tool, *words)
         self.refused(15, b"needs --send-queue", tool, "--unit-failed", "x")
+        send = ("--send-queue", "queue")
+        self.refused(15, b"goes with neither", tool, *send, "--queue", "queue")
+        self.refused(15, b"goes with neither", tool, *send, "--test")
+        for job in (send, ("--test",)):
+            self.refused(15, b"no databases are compared", tool, *job, "old.db", "new.db")
 
     def test_same_counts(self) -> None:
         """A run by hand, a mail, the unit and cron have the same counts, by the same defaults. The

@@ -127,12 +127,12 @@ def parsed(words: Sequence[str]) -> MailRequest:
     )
     progress.tell_steps(args.verbose)
     if not isinstance(request.comparison, Fault):
-        check(request)
+        check(request, request.comparison.databases)
     return request
 
 
-def check(request: MailRequest) -> None:
-    """Refuses options that mean nothing without another one."""
+def check(request: MailRequest, databases: Sequence[str]) -> None:
+    """Refuses options that mean nothing without another one, or with it."""
     state = request.state
     if request.weekly and not state:
         text = "--weekly needs --state, beside which the number of quiet runs is kept"
@@ -142,6 +142,10 @@ def check(request: MailRequest) -> None:
         raise Fault(Status.USAGE, text)
     if request.unit_failed and not request.send_queue:
         raise Fault(Status.USAGE, "--unit-failed needs --send-queue")
+    if request.send_queue and (request.queue or request.is_test):
+        raise Fault(Status.USAGE, "--send-queue goes with neither --queue nor --test")
+    if databases and (request.send_queue or request.is_test):
+        raise Fault(Status.USAGE, "with --send-queue or --test no databases are compared")
 
 
 def own_defaults(words: Sequence[str]) -> list[str]:
