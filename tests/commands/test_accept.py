@@ -91,6 +91,7 @@ class AcceptTest(AcceptingTest):
             (18, "--max-size 20"),
             (15, "--max-size x"),
             (15, "--keep kept"),
+            (15, "--trusted old.db new.db"),
         ):
             self.refuses(status, name, DIGEST, *words.split())
         digest = ("--sha256", DIGEST)

@@ -110,8 +110,9 @@ class AcceptAskedTest(AcceptingTest):
         nothing to accept."""
         self.refused(15, b"--sha256 DIGEST is needed", TOOL, *FILES, text=b"y\n")
         self.refused(15, b"unrecognized arguments: --yes", TOOL, "--yes", *FILES)
-        status, text = self.asked(b"y\n", ("-q", *FILES))
-        self.assertEqual((status, PROMPT in text), (15, False), text)
+        for words in (["-q"], ["--state", "state"]):
+            status, text = self.asked(b"y\n", (*words, *FILES))
+            self.assertEqual((status, PROMPT in text), (15, False), text)
         for new in (HEAD + b"/a\n" + END, b""):
             self.write("base/aide.db.new", new, 0o600)
             status, text = self.asked(b"y\n")

@@ -152,6 +152,10 @@ def main(arguments: Sequence[str]) -> int:
     if not args.sha256 and (args.quiet or not can_ask()):
         why = "--sha256 DIGEST is needed, or a terminal, on which this command asks"
         raise Fault(Status.USAGE, why, hint)
+    if args.sha256 and args.trusted and not args.trusted_only:
+        raise Fault(Status.USAGE, "--trusted goes with --trusted-only", hint)
+    if args.state and not args.sha256:
+        raise Fault(Status.USAGE, "--state goes with --sha256", hint)
     new, baseline = args.files or databases_of_aide()
     trusted: Sequence[str] = args.trusted or ()
     if args.sha256:
