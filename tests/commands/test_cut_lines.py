@@ -30,7 +30,7 @@ class CutLinesTest(CommandTest):
         self.assertEqual(len(paths), host["listed"], "all that is kept")
         self.assertIn("/zz/.ssh/authorized_keys", paths, "the severe one is kept")
         self.assertEqual((host["told"], host["high"], summary["cut"]), (FLOOD + 1, 1, 1))
-        words = "long: its changes were cut, the least severe ones; "
+        words = "long: its changes were cut; "
         words += f"{host['listed']} of {FLOOD + 1} changes are listed; 1 of all are high\n"
         self.assertIn(words, hosts.report().output)
         self.assertLess(os.stat(self.path("store/hosts/long/lines")).st_size, 21 << 10)
@@ -40,6 +40,22 @@ class CutLinesTest(CommandTest):
         self.assertIn("/zz/.ssh/authorized_keys\n", said.output)
         said = hosts.compare_one("long", "--quiet")
         self.assertEqual((said.status, said.output.count("\n"), said.errors), (1, 2, ""), said)
+
+    def test_owners(self) -> None:
+        """A user who floods with changes of the same severity hides none of root's, and root's come
+        first."""
+        hosts = Hosts(self)
+        hosts.set_limit("host_comparison", "MAX_KEPT", 20 << 10)
+        texts = [line(b"/a%04d" % number, b"", 1, b"100666") for number in range(FLOOD)]
+        flood = (text.replace(b"100666 0 0 ", b"100666 1000 1000 ") for text in texts)
+        root = line(b"/root/.bashrc"), line(b"/root/x")
+        hosts.compared({"long": (database(), database(*flood, *root))})
+        _, found, changes = hosts.objects()
+        self.assertEqual(found["long"]["report"], "cut", found)
+        paths = {each["path"] for each in changes}
+        self.assertTrue({"/root/.bashrc", "/root/x"} <= paths, "what root has is kept")
+        brief = hosts.report("--format", "brief").output
+        self.assertIn("High:\n  long                added    /root/.bashrc", brief)
 
     def report_of(self, hosts: Hosts, lines: bytes) -> Fields:
         """What the report says of a host whose lines these are."""

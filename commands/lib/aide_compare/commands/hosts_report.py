@@ -17,6 +17,7 @@ from aide_compare.base.parser import Parser, add_option
 from aide_compare.base.paths import Pattern
 from aide_compare.base.program import FRONT, find_installed
 from aide_compare.hosts.canary import notes_in
+from aide_compare.hosts.findings import GROUPS
 from aide_compare.hosts.host_changes import SameChanges
 from aide_compare.hosts.hosts_page import page
 from aide_compare.hosts.hosts_read import CUT, UNREADABLE, differs, hosts_of, is_silent, read_host
@@ -116,8 +117,11 @@ def read_hosts(names: Sequence[str], request: ReportRequest) -> tuple[list[Field
 
 
 def sort_key(fields: Fields, order: str, by_severity: bool) -> bytes:
-    """What a change is sorted by; those with one key stay in the order of paths."""
-    rank = rank_of(fields.get("severity", "")) if by_severity else 0
+    """What a change is sorted by: of each severity those of root come first. Those with one key
+    stay in the order of paths."""
+    rank = 0
+    if by_severity:
+        rank = rank_of(fields.get("severity", "")) * GROUPS + fields["owners"]
     place = 0
     if order == "rare":
         place = fields["hosts"]
@@ -169,6 +173,7 @@ class HostsReport:
         count = 0
         for fields, payers in changes:
             key = sort_key(fields, order, by_severity)
+            del fields["owners"]
             numbers = ",".join(map(str, payers)).encode()
             sorter.put(b"%s\t%s\t%s\n" % (key, numbers, ENCODE(fields).encode()))
             count += 1

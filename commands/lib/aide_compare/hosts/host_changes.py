@@ -64,7 +64,7 @@ class SameChanges:
         labels = {label_of(name) for name in (*old, *new)}
         what = [fields["kind"], fields.get("type"), sorted(labels - own), without(new, own)]
         path = key_of(bytes_of(fields, "path").replace(b"%", b"%25"))
-        key = b"%s\0%s" % (path, digest_of([*what, fields.get("severity")]))
+        key = b"%s\0%s" % (path, digest_of([*what, fields.get("severity"), fields.get("owners")]))
         row = (
             key,
             host,

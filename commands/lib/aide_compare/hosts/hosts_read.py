@@ -21,7 +21,7 @@ from aide_compare.hosts.store import LINES, HostDirectory, check_name
 from aide_compare.lines.change import Fields
 from aide_compare.lines.reader import Refused
 
-MEMBERS = frozenset("kind path path_hex summary type old new severity".split())
+MEMBERS = frozenset("kind path path_hex summary type old new severity owners".split())
 MAX_LIST = 16 << 20
 WHOLE = "whole"
 CUT = "cut"

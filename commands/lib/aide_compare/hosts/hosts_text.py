@@ -25,7 +25,7 @@ MAX_CUT = 6
 NAMES_WIDTH = 18
 MAX_LETTERS = 400
 WHY = {
-    CUT: "its changes were cut, the least severe ones",
+    CUT: "its changes were cut",
     UNREADABLE: "its changes cannot be read, or are too many",
 }
 ORDERS = {
