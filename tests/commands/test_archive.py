@@ -519,6 +519,8 @@ class ArchiveTest(CommandTest):
         self.not_made(b"")
         os.chmod(self.path("keys.gpg"), 0o644)
         self.not_made(b"", keyring="nowhere")
+        self.write("keys.asc", b"-----BEGIN PGP PUBLIC KEY BLOCK-----\n")
+        self.not_made(b"gpg --dearmor", keyring="keys.asc")
         self.not_made(b"", 15, "more")
         self.write("host-old.db", b"no database\n")
         self.refused(24, None, ARCHIVE, "--from=mirror", "host-old.db", "host-new.db")

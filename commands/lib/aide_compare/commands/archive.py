@@ -25,6 +25,7 @@ from aide_compare.compare.unpack import Copy, copy_database
 NAME = "aide-compare archive"
 DEBIANS_KEYRING = "/usr/share/keyrings/debian-archive-keyring.gpg"
 SUMS = ".md5sums"
+ARMOR = b"-----BEGIN PGP"  # As apt also takes it.
 MAX_MEMORY = 512 << 20
 DESCRIPTION = """\
 Writes the database that OLD would be after upgrades to packages of a signed archive, which
@@ -57,6 +58,9 @@ def name_of(path: str) -> str:
 def keys_of(path: str, nights: Sequence[Night]) -> bytes:
     """The keys of a keyring: it is as both databases have it, or in neither of them."""
     text = trusted_text(path, "the keyring")
+    if text.startswith(ARMOR):
+        why = f"the keyring {shown(path)} is a text, which gpgv does not read"
+        raise Fault(Status.DEVICE, why, "gpg --dearmor makes a keyring of it")
     content = content_of(io.BytesIO(text))
     found = [night.get(path) for night in nights]
     if any(found) and not all(entry and fits(entry, content) for entry in found):
