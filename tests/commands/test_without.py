@@ -399,6 +399,7 @@ class WithoutTest(CommandTest):
         """A list that is not as in the old database is reported, even if nothing differs."""
         text = b"/var/log/**\n"
         path = os.fsencode(self.write("list", text))
+        os.symlink("list", self.path("link"))
         said = b"is not as it was when the baseline was made"
         rows = [(b"/elsewhere", "sha256", b"0", False), (path, "sha256", b"0", False)]
         for name in ("sha256", "sha512"):
@@ -409,6 +410,7 @@ class WithoutTest(CommandTest):
             self.write("list.db", list_database(listed, name.encode(), digest))
             for words in (
                 ["--exclude-from", "list"],
+                ["--exclude-from", "link"],
                 ["--exclude-from", os.fsdecode(path), "--exclude", "/etc/**"],
             ):
                 answer = self.call(TOOL, *words, "list.db", "list.db")

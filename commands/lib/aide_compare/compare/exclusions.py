@@ -129,7 +129,7 @@ def read_exclusions(files: Sequence[str], patterns: Sequence[str]) -> Exclusions
     lines = []
     for path in files:
         text = trusted_text(path, WHAT)
-        lists[os.fsencode(os.path.abspath(path))] = text
+        lists[os.fsencode(os.path.realpath(path))] = text  # A database has no digest of a link.
         lines += [exclusion(line, place) for line, place in lines_in(text, path, WHAT)]
     lines += [exclusion(os.fsencode(text), "--exclude") for text in patterns]
     if len(lines) > MAX_LINES:
