@@ -473,6 +473,11 @@ class ArchiveTest(CommandTest):
         place.sign(key="other")
         self.not_made(b"no key", 18, "--output", "made.db")
         self.assertEqual(self.read("made.db"), old)
+        if os.getuid() == 0:  # In the directory of another user too.
+            os.mkdir(self.path("others"))
+            os.chown(self.path("others"), NOBODY, NOBODY)
+            self.not_made(b"no key", 18, "--output", "others/made.db")
+            self.assertEqual(self.read("others/made.db"), old)
         self.write("host-new.db", b"no database\n")
         source = f"--from={self.path(SUITE)}"
         for name, status in (("host-new.db", 24), ("gone.db", 18)):

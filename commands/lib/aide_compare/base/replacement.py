@@ -5,7 +5,7 @@ import errno
 import os
 import time
 import zlib
-from collections.abc import Callable
+from collections.abc import Callable, Sequence
 from contextlib import closing, suppress
 
 from aide_compare.base.directories import ANYBODY, LISTING, Directory, closed_after, failure
@@ -113,7 +113,9 @@ class Replacement:
 
     def commit_copy(self, source: int) -> None:
         """The same of the bytes of an open file."""
-        self._do(lambda directory: self._put(directory, lambda part: copy_file(source, part)))
+        self._do(
+            lambda directory: self._put(directory, lambda part: copy_file(source, part)), [source]
+        )
 
     def close(self) -> None:
         for part in self.waiting:
@@ -124,19 +126,20 @@ class Replacement:
         text = f"cannot write {self.what} {shown(self.path)}: {why_of(error)}"
         return Fault(Status.DEVICE, text)
 
-    def _do(self, work: Callable[[Directory], None]) -> None:
-        """Does the work with the rights that the directory asks for."""
+    def _do(self, work: Callable[[Directory], None], needed: Sequence[int] = ()) -> None:
+        """Does the work, which needs these descriptors, with the rights that the directory asks
+        for."""
         if os.path.isdir(self.path):
             raise Fault(Status.USAGE, f"{self.what} is a directory: {shown(self.path)}")
         try:
             if self.directory.is_safe():
                 work(self.directory)
             else:
-                self._do_as_other(work)
+                self._do_as_other(work, needed)
         except (Fault, OSError) as error:
             raise self._fault(error)
 
-    def _do_as_other(self, work: Callable[[Directory], None]) -> None:
+    def _do_as_other(self, work: Callable[[Directory], None], needed: Sequence[int]) -> None:
         """Does the work with the rights of the one user who can write there too. With more of them
         nobody's will do."""
         directory = self.directory
@@ -148,7 +151,7 @@ class Replacement:
             work(directory)
             return b""
 
-        with_rights_of(min(directory.others), work_there, keep=(directory.fd,))
+        with_rights_of(min(directory.others), work_there, keep=(directory.fd, *needed))
 
     def _reserve(self, directory: Directory) -> None:
         part = self._new_file(directory)
