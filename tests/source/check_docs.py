@@ -18,6 +18,7 @@ Prints what fails and, at the end, `N passed, M failed`.
 import glob
 import os
 import re
+import shutil
 import subprocess
 import sys
 
@@ -59,13 +60,14 @@ def read(name):
 
 
 def tracked():
-    """The files of the repository, by git where there is one."""
-    done = subprocess.run(
-        ["git", "-C", TOP, "ls-files"], stdout=subprocess.PIPE, stderr=subprocess.DEVNULL
-    )
-    names = done.stdout.decode().split("\n")[:-1]
-    if done.returncode == 0 and names:
-        return names
+    """The files of the repository, by git if it is installed and reads this one."""
+    if shutil.which("git"):
+        done = subprocess.run(
+            ["git", "-C", TOP, "ls-files"], stdout=subprocess.PIPE, stderr=subprocess.DEVNULL
+        )
+        names = done.stdout.decode().split("\n")[:-1]
+        if done.returncode == 0 and names:
+            return names
     return [
         os.path.relpath(name, TOP) for name in glob.glob(os.path.join(TOP, "**"), recursive=True)
     ]

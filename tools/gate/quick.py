@@ -74,10 +74,13 @@ COMMANDS = "commands/lib/aide_compare/commands/"
 def changed(since: str) -> list[str]:
     """The files that differ from a revision, and new ones."""
     names: set[str] = set()
-    for words in (["diff", "--name-only", since], ["ls-files", "--others", "--exclude-standard"]):
-        done = subprocess.run(
-            ["git", "-C", TOP, *words], stdout=subprocess.PIPE, check=True, text=True
-        )
+    for words in (["ls-files", "--others", "--exclude-standard"], ["diff", "--name-only", since]):
+        try:
+            done = subprocess.run(
+                ["git", "-C", TOP, *words], stdout=subprocess.PIPE, check=True, text=True
+            )
+        except (OSError, subprocess.CalledProcessError) as error:
+            sys.exit(f"what was changed is not known ({error}): --files and --all need no git")
         names.update(done.stdout.splitlines())
     return sorted(names)
 
@@ -135,7 +138,7 @@ def main() -> int:
         help="what counts as changed (origin/main)",
     )
     args = parser.parse_args()
-    names = changed(args.since)
+    names = [] if args.files or args.all else changed(args.since)
     count = Count()
     if (
         args.files
