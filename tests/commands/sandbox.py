@@ -16,6 +16,7 @@ from typing import Any, Optional, Union
 
 from tests.lib.apart import has_own_mounts
 from tests.lib.byte_code import compile_modules
+from tests.lib.copies import copy_directory
 from tests.lib.programs import find_program, lines_program_of, reason_without
 from tests.lib.scratch import TOP as HERE, Scratch
 
@@ -111,10 +112,7 @@ def compiled_commands() -> str:
     directory = tempfile.mkdtemp(prefix="aide-compare-commands-")
     atexit.register(shutil.rmtree, directory, True)
     for name in ("bin", "lib", "share"):
-        without = shutil.ignore_patterns("__pycache__")
-        shutil.copytree(
-            os.path.join(HERE, "commands", name), os.path.join(directory, name), ignore=without
-        )
+        copy_directory(os.path.join(HERE, "commands", name), os.path.join(directory, name))
     compile_modules(os.path.join(directory, "lib"))
     return directory
 
@@ -141,6 +139,8 @@ class CommandTest(Scratch, unittest.TestCase):
         self.lines_program = shutil.copy(
             lines_program_of(program), self.path("libexec/aide-compare/aide_lines")
         )
+        for path in (self.program, self.lines_program):
+            os.chmod(path, 0o755)
         for name in ("bin", "lib", "share"):
             shutil.copytree(os.path.join(compiled_commands(), name), self.path(name))
         os.rename(self.path("bin/aide-compare"), self.path("front"))
