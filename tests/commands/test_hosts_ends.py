@@ -70,7 +70,6 @@ class HostsEndsTest(CommandTest):
     def test_ends(self) -> None:
         """Without room, a reader or a store: a status that is no comparison's."""
         hosts = four_hosts(self)
-        self.set_names("base.spool", BLOCK=1)
         said = hosts.report(before=[*SHELL, 'ulimit -f 0; exec "$@"', "sh"])
         self.assertEqual((said.status, said.output, self.leftovers()), (18, "", []), said)
         self.assertTrue(said.errors)

@@ -534,10 +534,10 @@ class MailTest(CommandTest):
         unit = [*queue, "--max-age", "50h", "--state", "state"]
         short = [*queue, "-A", "report_level=summary", "old.db", "new.db"]
         for label, words, wanted in (
-            ("with a page", ["--attach-page", *queue, "old.db", "new.db"], (7, 2, 4)),
-            ("the unit's", [*unit, "-c", "conf"], (7, 3, 5)),
-            ("of a short report", short, (7, 2, 4)),
-            ("by sendmail", ["old.db", "new.db"], (7, 3, 3)),
+            ("with a page", ["--attach-page", *queue, "old.db", "new.db"], (7, 2, 7)),
+            ("the unit's", [*unit, "-c", "conf"], (7, 3, 6)),
+            ("of a short report", short, (7, 2, 5)),
+            ("by sendmail", ["old.db", "new.db"], (7, 3, 4)),
             ("a large one of the unit", [*unit, "-c", "large"], (4, 3, 6)),
             ("without some paths", [*unit, "-c", "large", "--exclude", "/y"], (4, 3, 8)),
         ):

@@ -7,6 +7,7 @@ import os
 import stat
 import time
 from contextlib import suppress
+from io import BufferedRandom
 
 from aide_compare.base.directories import PLACE, closed_after, failure, open_directory, walked
 from aide_compare.base.ending import Fault, Status, failing, write_all
@@ -19,6 +20,8 @@ MAX_BYTES = 1 << 20
 TEMPORARY = ".aide-compare-"
 NAME_ANOTHER = " (name another directory by TMPDIR)"
 PRIVATE = 0o600
+# Where a caller's open files have names.
+OPENED = ("/dev/fd/", "/proc/self/fd/")
 NO_TMPFILE = (errno.EOPNOTSUPP, errno.EISDIR, errno.EINVAL)
 NEW_FILE = os.O_CREAT | os.O_EXCL | os.O_RDWR | os.O_NOFOLLOW | os.O_CLOEXEC
 KINDS = {
@@ -28,6 +31,18 @@ KINDS = {
     stat.S_IFSOCK: "socket",
     stat.S_IFLNK: "link",
 }
+
+
+def given_descriptor(path: str) -> int | None:
+    """The number of the descriptor that a path means, such as - or /dev/stdin; None for all other
+    paths."""
+    if path in ("-", "/dev/stdin"):
+        return 0
+    for directory in OPENED:
+        number = path.removeprefix(directory)
+        if number != path and number.isascii() and number.isdigit() and len(number) < 8:
+            return int(number)
+    return None
 
 
 def file_kind(mode: int) -> str:
@@ -178,6 +193,11 @@ def nameless(path: str = "") -> int:
             if file.name:
                 os.unlink(file.name, dir_fd=directory)
             return file.fd
+
+
+def private_file() -> BufferedRandom:
+    """A private file without a name, for what is written first and read afterwards."""
+    return open(nameless(), "w+b")
 
 
 def in_memory(data: bytes) -> int:

@@ -7,8 +7,8 @@ from array import array
 from bisect import bisect_right
 from typing import Dict, Iterable, Iterator, List, NamedTuple, Optional, Set, Tuple
 
+from aide_compare.base.files import private_file
 from aide_compare.base.paths import key_of_path, path_of
-from aide_compare.base.spool import Spool
 from aide_compare.base.words import KINDS, SEVERITIES
 from aide_compare.changes.sides import NOWHERE, Weighed
 from aide_compare.lines.change import Counts, Standing
@@ -107,7 +107,7 @@ class Findings:
     def __init__(self) -> None:
         # Blocks of records with the keys of their paths behind them: where each begins, and which
         # finding is the first in it.
-        self.file = Spool()
+        self.file = private_file()
         self.starts = array("Q")
         self.firsts = array("I")
         self.size = 0

@@ -2,7 +2,6 @@
 from __future__ import annotations
 
 import os
-import shlex
 from collections.abc import Iterator, Sequence
 from typing import TYPE_CHECKING, Optional
 
@@ -149,6 +148,8 @@ class Printer(Reporter):
             write_all(1, text)
         if not os.isatty(1) or not comparison.differs:
             return
+        import shlex
+
         report = guarded(shlex.join(["aide-compare", "--report", *self.arguments]))
         write_all(1, b"\nAIDE's report: %s\n" % report.encode("utf-8", "backslashreplace"))
         if 0 < os.get_terminal_size(1).lines < text.count(b"\n") + LINES_BESIDE:

@@ -9,7 +9,7 @@ from typing import Iterable, Iterator, NamedTuple, Optional, Sequence
 
 from aide_compare.base import progress
 from aide_compare.base.ending import Fault, Status, write_blocks
-from aide_compare.base.spool import Spool
+from aide_compare.base.files import private_file
 from aide_compare.base.line_sorter import LineSorter
 from aide_compare.base.kinds import Server, duration, matching, pattern
 from aide_compare.base.options import ATTACH_PAGE, MAIL_TIME, RESULT_AGE, SMTP, TO, Option
@@ -141,7 +141,7 @@ class HostsReport:
     def __init__(self, names: Sequence[str], request: ReportRequest) -> None:
         self.hosts, same_changes = read_hosts(names, request)
         self.command = command_text(command_words(request))
-        self.body = Spool()
+        self.body = private_file()
         by_severity = request.format != "json" or request.order != "path"
         changes = same_changes.objects(names, request.max_hosts)
         count = self._sort(changes, request.order, by_severity)

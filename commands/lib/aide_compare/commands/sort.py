@@ -8,11 +8,11 @@ from aide_compare.base import progress
 from aide_compare.base.database import MAX_LINE, Kind, Layout
 from aide_compare.base.ending import Fault, Status, say, write_blocks
 from aide_compare.base.escapes import shown
+from aide_compare.base.files import private_file
 from aide_compare.base.line_sorter import LineSorter
 from aide_compare.base.options import MAX_SIZE
 from aide_compare.base.parser import Parser
 from aide_compare.base.paths import path_of
-from aide_compare.base.spool import Spool
 from aide_compare.compare.unpack import Copy, copy_database
 
 BLOCK = 1 << 16
@@ -50,7 +50,7 @@ class Unsorted:
         self.file = open(copy.fd, "rb", buffering=BLOCK)
         self.file.seek(0)
         self.sorter = sorter
-        self.head = Spool()
+        self.head = private_file()
         self.end = 0
         self.count = 0
         # How many entries have to come before the one above them.

@@ -8,6 +8,7 @@ from typing import NamedTuple, Optional
 
 from aide_compare.base.ending import Fault, Status, tell, write_all
 from aide_compare.base.escapes import guarded, shown
+from aide_compare.base.files import given_descriptor
 from aide_compare.base.replacement import replace
 from aide_compare.base.options import RESULT_AGE, STATE, Option
 from aide_compare.base.parser import Parser
@@ -111,8 +112,6 @@ def database_line(side: str, name: str, written: int | None) -> str:
 def leads_to_file(name: str) -> bool:
     """Whether the name of a database means a file here too. An escaped name is not the name, a
     descriptor was that of another process, and a relative name may be one of another directory."""
-    from aide_compare.compare.unpack import given_descriptor
-
     if "\\" in name or given_descriptor(name) is not None:
         return False
     return os.path.isabs(name) or os.path.lexists(name)

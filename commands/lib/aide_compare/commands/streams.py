@@ -10,7 +10,7 @@ from typing import TYPE_CHECKING, BinaryIO, NamedTuple, Optional
 
 from aide_compare.base.ending import Fault, Status, failing, write_all, write_blocks
 from aide_compare.base.escapes import shown
-from aide_compare.base.files import open_regular
+from aide_compare.base.files import given_descriptor, open_regular, private_file
 from aide_compare.base.options import (
     AFTER,
     BEFORE,
@@ -21,8 +21,6 @@ from aide_compare.base.options import (
     TRUSTED,
 )
 from aide_compare.base.parser import Parser
-from aide_compare.base.spool import Spool
-from aide_compare.compare.unpack import given_descriptor
 from aide_compare.lines.reader import BLOCK, Reader, Refused, reader_over
 
 if TYPE_CHECKING:
@@ -99,13 +97,13 @@ def open_lines(path: str) -> BinaryIO:
 def write_of_lines(path: str, writer: Writer) -> int:
     """Writes what is made of lines when all of it is known: nothing of what is refused, which is a
     status of its own."""
-    spool = Spool()
+    file = private_file()
     try:
         with failing("cannot read or write"), open_lines(path) as source:
             for part in writer(Reader(source), None, None):
-                spool.write(part)
-            spool.seek(0)
-            while block := spool.read(BLOCK):
+                file.write(part)
+            file.seek(0)
+            while block := file.read(BLOCK):
                 write_all(1, block)
     except Refused as refused:
         raise Fault(REFUSED, str(refused)) from None

@@ -13,11 +13,10 @@ from contextlib import suppress
 from aide_compare.base.directories import ANYBODY, open_directory
 from aide_compare.base.ending import Fault, Status, failing, write_all
 from aide_compare.base.escapes import shown
-from aide_compare.base.files import PRIVATE
+from aide_compare.base.files import PRIVATE, given_descriptor
 from aide_compare.base.replacement import Replacement
 from aide_compare.base.rights import name_of
 from aide_compare.compare.state import MAX_BYTES, State, parse_state
-from aide_compare.compare.unpack import given_descriptor
 
 STREAMS = {"-": 1, "/dev/stdout": 1, "/dev/stderr": 2}
 RIGHTS_OF = (

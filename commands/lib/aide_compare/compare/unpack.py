@@ -13,7 +13,13 @@ from itertools import chain
 from aide_compare.base import progress
 from aide_compare.base.ending import Fault, Status, failing, write_all
 from aide_compare.base.escapes import shown
-from aide_compare.base.files import file_kind, nameless, open_regular, private_directory
+from aide_compare.base.files import (
+    file_kind,
+    given_descriptor,
+    nameless,
+    open_regular,
+    private_directory,
+)
 from aide_compare.base.directories import closed_after, failure
 from aide_compare.base.words import words_of_side
 
@@ -23,7 +29,6 @@ SMALL_BLOCK = 1 << 12
 MAX_MEMBERS = 1 << 16
 GZIP = b"\x1f\x8b"
 COMPRESS = b"\x1f\x9d"
-DESCRIPTORS = ("/dev/fd/", "/proc/self/fd/")
 WITH_GZIP_HEADER = 31  # What zlib calls a window of 32 KiB behind a header of gzip.
 
 
@@ -73,18 +78,6 @@ class Copy:
     def written_at(self, written: float | None) -> Copy:
         """The same copy of a database that was last modified then."""
         return Copy(self.fd, self.name, written, self._digest)
-
-
-def given_descriptor(path: str) -> int | None:
-    """The number of the descriptor that a path means, such as - or /dev/stdin; None for all other
-    paths."""
-    if path in ("-", "/dev/stdin"):
-        return 0
-    for directory in DESCRIPTORS:
-        number = path.removeprefix(directory)
-        if number != path and number.isascii() and number.isdigit() and len(number) < 8:
-            return int(number)
-    return None
 
 
 def open_database(side: str, path: str) -> Opened:

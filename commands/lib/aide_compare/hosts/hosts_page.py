@@ -6,7 +6,7 @@ from html import escape
 from typing import Iterator, Sequence
 
 from aide_compare.base.escapes import shown_note
-from aide_compare.base.spool import Spool
+from aide_compare.base.files import private_file
 from aide_compare.hosts.hosts_text import ORDERS, Report, canary_lines, headline, host_lists
 from aide_compare.hosts.hosts_text import names_of
 from aide_compare.hosts.shares import Selection
@@ -87,7 +87,7 @@ def page(report: Report, limit: int = 0) -> Iterator[bytes]:
     limit = limit or MAX_PAGE
     room = max(limit - len(head(report, count, count)) - RESERVE, 0)
     selection = Selection(room, report.summary["differ"])
-    items = Spool()
+    items = private_file()
     ends = [0]
     for fields, payers in report.changes():
         text = item_of(fields, report.summary["hosts"])

@@ -15,9 +15,9 @@ import time
 from contextlib import suppress
 from functools import lru_cache
 from typing import Dict, Iterator, List, NamedTuple, Optional, Sequence, Tuple
-from urllib.parse import unquote_to_bytes
 
 from aide_compare.base.escapes import shown
+from aide_compare.base.paths import unescaped
 from aide_compare.base.words import SIDES
 from aide_compare.lines.capabilities import file_capabilities
 from aide_compare.lines.change import Change, Fields, Texts, Value, Values, values_of
@@ -134,7 +134,7 @@ def _extended_attributes(value: bytes) -> Optional[List[Tuple[bytes, bytes]]]:
         return None
     attributes = []
     for field, encoded in zip(fields[::2], fields[1::2]):
-        name = unquote_to_bytes(field)
+        name = unescaped(field)
         data = _from_base64(encoded)
         if not name or data is None:
             return None

@@ -7,12 +7,12 @@ import os
 from array import array
 from collections import Counter
 from html import escape
+from io import BufferedRandom
 from itertools import islice
 from typing import TYPE_CHECKING, Dict, Iterator, List, NamedTuple, Optional, Set, Tuple
 
 from aide_compare.base.escapes import shown_note
-from aide_compare.base.files import BLOCK
-from aide_compare.base.spool import Spool
+from aide_compare.base.files import BLOCK, private_file
 from aide_compare.base.words import KINDS, SEVERITIES
 from aide_compare.lines.change import Change, Counts, Standing
 from aide_compare.lines.reader import Reader
@@ -136,7 +136,7 @@ class Groups:
     standing and severity no more than a page has."""
 
     def __init__(self) -> None:
-        self.spool = Spool()
+        self.file = private_file()
         self.end = 0  # Of what is written there.
         self.size = 0  # Of all heads.
         self.packages: Set[str] = set()
@@ -167,7 +167,7 @@ class Groups:
             text += VALUES + line
         else:
             text += b"\n"
-        self.spool.write(text)
+        self.file.write(text)
         self.end += len(text)
 
     def _group_of(self, change: Change) -> Group:
@@ -194,7 +194,7 @@ class Groups:
                 numbers[f"{standing}_{severity}"] += count
         return Counts(**numbers)
 
-    def write(self, file: Spool, limit: int, max_elements: int) -> None:
+    def write(self, file: BufferedRandom, limit: int, max_elements: int) -> None:
         """Writes the groups, as far as there is room for them."""
         groups = sorted(self.groups.values(), key=Group.order)
         headings = [group.heading() for group in groups]
@@ -207,7 +207,9 @@ class Groups:
             self._write_list(file, group, rooms, max_elements)
             file.write(b"</details>\n")
 
-    def _write_list(self, file: Spool, group: Group, rooms: Rooms, max_elements: int) -> None:
+    def _write_list(
+        self, file: BufferedRandom, group: Group, rooms: Rooms, max_elements: int
+    ) -> None:
         """Writes the entries of a group. Those after so many of a page are in an element that a
         browser with scripts reads as text."""
         first = self.listed
@@ -233,8 +235,8 @@ class Groups:
         here = -1
         for place in group.places:
             if place != here:
-                self.spool.seek(place)
-            text = self.spool.readline()
+                self.file.seek(place)
+            text = self.file.readline()
             here = place + len(text)
             head, _, line = text[:-1].partition(VALUES)
             if not rooms.heads.reserve(len(head) + ITEM):
@@ -270,7 +272,7 @@ def page(
 ) -> Iterator[bytes]:
     """Yields the page of the lines of a Reader, when all of them have been read and are good."""
     groups = Groups()
-    lists = Spool()
+    lists = private_file()
     name = os.fsencode(title)
     for line, entry in entries_of(reader, judged):
         groups.add(line, entry)
