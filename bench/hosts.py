@@ -29,7 +29,7 @@ TOP = os.path.dirname(os.path.dirname(os.path.abspath(__file__)))
 SPEC = "@@begin_db\n@@db_spec name perm uid gid size mtime inode lcount attr sha256\n"
 SSH = """#!/bin/sh
 while [ "${1#-}" != "$1" ]; do [ "$1" = -o ] && shift; shift; done
-[ $((1${1#host} %% %(differ)d)) -ne 1 ] || exec cat "%(root)s/marked"
+[ $((1${1#host} %% %(differ)d)) -ne %(marked)d ] || exec cat "%(root)s/marked"
 exec cat "%(root)s/new"
 """
 
@@ -94,7 +94,7 @@ def put_hosts(root: str, args: argparse.Namespace) -> None:
             file.write(text)
     os.mkdir(f"{root}/stubs")
     with open(f"{root}/stubs/ssh", "w") as script:
-        script.write(SSH % {"differ": args.differ, "last": args.differ - 1, "root": root})
+        script.write(SSH % {"differ": args.differ, "marked": 1 % args.differ, "root": root})
     os.chmod(f"{root}/stubs/ssh", 0o755)
     with open(f"{root}/hosts", "w") as hosts:
         for number in range(args.hosts):
