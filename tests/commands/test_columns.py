@@ -96,8 +96,8 @@ class ColumnsTest(CommandTest):
         """A comparison of the daily job sends a mail whose subject ends so, or none."""
         self.expect(new, mail.call(self, *STATE, "o.db", new), status, b"", b"")
         message = mail.sent(self)
-        if subject is None:
-            self.assertIsNone(message, new)
+        if message is None or subject is None:
+            self.assertEqual((message, subject), (None, None), new)
         else:
             self.assertRegex(message["Subject"], f": {re.escape(subject)}$")
 
