@@ -385,10 +385,13 @@ class MailTest(CommandTest):
 
     def test_room(self) -> None:
         """A TMPDIR of each size: a mail goes out, or the status says that none did; never a
-        difference without a mail."""
+        difference without a mail. Without room to judge the changes, it has their counts."""
         os.mkdir(self.path("small"))
         self.write("half.db", many(b"/f%05d", 4000))
-        wanted = {1: "4000 open of 4000 changes", 18: "no comparison (status 18)"}
+        wanted = {
+            1: r"4000 open of 4000 changes|differences \(4000 added\)",
+            18: r"no comparison \(status 18\)",
+        }
         for size in range(16, 1000, 96):
             with self.mounted("small", "-t", "tmpfs", "-o", "size=%dk" % size, "none") as is_small:
                 if not is_small:
@@ -397,7 +400,7 @@ class MailTest(CommandTest):
                 answer = call(self, "empty.db", "half.db", environment=room)
                 self.assertEqual(os.listdir(self.path("small")), [])
             self.assertIn(answer.status, wanted, (size, answer))
-            self.assertIn(wanted[answer.status], subject(sent(self)), (size, answer))
+            self.assertRegex(subject(sent(self)), wanted[answer.status], (size, answer))
 
     def waiting(self) -> list[str]:
         return sorted(os.listdir(self.path("queue")))
