@@ -21,7 +21,10 @@ TESTS = (
     "test_accept.AcceptTest.test_modes",
     "test_accept_partly.AcceptPartlyTest.test_open",
     "test_faults.FaultsTest.test_rooms",
-    "test_hands.HandsTest.test_defaults",
+    *(
+        "test_hands.HandsTest.test_" + name
+        for name in ("faulty_defaults", "bad_lines", "bad_values")
+    ),
 )
 
 
