@@ -1,6 +1,6 @@
 """Small mistakes in a text in Python, made by a walk over its syntax tree: a comparison or
 condition turned round, another number, a flag, argument or statement left out. Each mutant differs
-from the text at one place.
+from the text at one place. Annotations stay: they are for whoever reads.
 """
 import ast
 import copy
@@ -80,7 +80,7 @@ def of_statement(node):
 
 
 def of_return(node):
-    if node.value is not None:
+    if node.value is not None and getattr(node.value, "value", "") is not None:
         yield "result", replaced(node, value=ast.Constant(None))
 
 
@@ -102,6 +102,8 @@ WAYS = {
 def places(node):
     """Each node of a tree, with what puts another one in its place."""
     for name, value in ast.iter_fields(node):
+        if name in ("annotation", "returns"):
+            continue
         children = value if isinstance(value, list) else [value]
         for at, child in enumerate(children):
             if isinstance(child, ast.AST):
