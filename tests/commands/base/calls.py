@@ -10,6 +10,8 @@ from typing import Any
 
 from aide_compare.base.ending import Fault
 
+OTHER = 65534
+
 
 def outcome(work: Callable[..., Any], *given: Any, **more: Any) -> Any:
     try:
@@ -64,3 +66,20 @@ class ModuleTest(unittest.TestCase):
         """A call ends with a Fault of this status, whose text has this part."""
         label = f"{work.__name__} of {given!r:.300}"
         self.expect_fault(label, outcome(work, *given), status, part)
+
+
+class PlacesTest(ModuleTest):
+    """A test with directories in which others can write, or nobody else."""
+
+    def setUp(self) -> None:
+        super().setUp()
+        for name in ("own", "own/inner", "his", "his/roots", "sticky", "sticky/own", "group"):
+            os.mkdir(self.path(name))
+        os.chmod(self.path("sticky"), 0o1777)
+        os.chmod(self.path("group"), 0o775)
+        self.write("own/file", b"text")
+        self.write("sticky/file", b"text")
+        os.mkfifo(self.path("own/fifo"))
+        os.symlink("file", self.path("own/short"))
+        if os.getuid() == 0:
+            os.chown(self.path("his"), OTHER, OTHER)

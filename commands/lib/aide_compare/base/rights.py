@@ -10,6 +10,8 @@ from aide_compare.base.ending import Fault, Status, failing, status_of
 from aide_compare.base.escapes import shown
 from aide_compare.base.processes import Work, end_with, in_child, start_child
 
+MAX_NAME = 100
+
 
 def entry_of(uid: int) -> pwd.struct_passwd:
     """What the machine knows of a user; an entry with the number alone for one that it does not
@@ -25,7 +27,7 @@ def name_of(uid: int) -> str:
     user = entry_of(uid).pw_name
     if user == str(uid):
         return f"the user {uid}"
-    return shown(user, 100)
+    return shown(user, MAX_NAME)
 
 
 def _can_be_root(call: Callable[[int], None]) -> bool:
@@ -45,7 +47,7 @@ def _become(entry: pwd.struct_passwd, groups: Sequence[int]) -> None:
     os.setresuid(uid, uid, uid)
     if uid == 0:
         return
-    has_user = _can_be_root(os.seteuid) or _can_be_root(os.setuid)
+    has_user = _can_be_root(os.seteuid)  # It can whenever setuid could.
     has_group = gid != 0 and _can_be_root(os.setegid)
     if has_user or has_group:
         raise Fault(Status.DEVICE, "the privileges of root cannot be given up")
@@ -63,11 +65,11 @@ def give_up(user: str) -> None:
     try:
         entry = pwd.getpwnam(user)
     except KeyError:
-        raise Fault(Status.USAGE, f"there is no user {shown(user, 100)}")
+        raise Fault(Status.USAGE, f"there is no user {shown(user, MAX_NAME)}")
     if os.getuid() == os.geteuid() == entry.pw_uid:
         return
     if os.geteuid() != 0:
-        raise Fault(Status.USAGE, f"only root can become {shown(user, 100)}")
+        raise Fault(Status.USAGE, f"only root can become {shown(user, MAX_NAME)}")
     become(entry)
 
 
