@@ -23,7 +23,7 @@ FILE_MODES = 0o666
 FIRST_MODE = 0o600
 SECONDS_FOR_LOCK = 60
 SECONDS_FOR_WORK = 60
-BYTES_A_SECOND = 5 << 20
+BYTES_A_SECOND = 5_000_000
 CHANGED = "another process has changed it meanwhile"
 
 
@@ -153,7 +153,7 @@ class Baseline:
         self._settle()
         try:
             status = self._named_copy(source, self.mark)
-            self._put_in_place(identity(status))
+            self._put_in_place()
         finally:
             self._settle()
         os.fsync(self.directory)
@@ -207,15 +207,13 @@ class Baseline:
 
     def _give_to_owner(self, new: int, former: os.stat_result) -> None:
         """Gives the new file to the owner of the former one, as far as the caller may."""
-        if self.user is not None:
-            return
         if os.geteuid() == 0:
             os.fchown(new, former.st_uid, former.st_gid)
             return
         with suppress(PermissionError):
             os.fchown(new, -1, former.st_gid)
 
-    def _put_in_place(self, new: Identity) -> None:
+    def _put_in_place(self) -> None:
         """The new file gets the name. A former baseline keeps a name of its own, by which it is
         found and then kept."""
         if self.former is None:
@@ -230,7 +228,6 @@ class Baseline:
             self._link(self.name, self.spare)
             self._rename(self.part, self.name)
             self._check(self.spare, former)
-        self._check(self.name, new)
 
     def _check(self, name: str, wanted: Identity) -> None:
         if self._identity(name) != wanted:

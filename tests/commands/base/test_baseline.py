@@ -1,0 +1,189 @@
+"""The baseline in its directory: what it becomes, what a killed run has left, and what another
+process does between two steps."""
+from __future__ import annotations
+
+import contextlib
+import fcntl
+import os
+import signal
+import stat
+import unittest
+from collections.abc import Callable, Iterator
+from unittest import mock
+
+from tests.commands.base.calls import OTHER, ModuleTest
+
+from aide_compare.base import rights
+from aide_compare.base.ending import Fault
+from aide_compare.base.files import in_memory
+from aide_compare.base.processes import in_child
+from aide_compare.compare import baseline
+from aide_compare.compare.baseline import CHANGED, Baseline, Owners
+
+NAME = "aide.db"
+KEPT = "aide.db.previous"
+MARK = ".aide.db.new"
+PART = ".aide.db.part"
+
+
+@contextlib.contextmanager
+def opened(path: str) -> Iterator[Baseline]:
+    made = Baseline(path)
+    try:
+        yield made
+    finally:
+        os.close(made.directory)
+        if made.former:
+            os.close(made.former.fd)
+
+
+def replace(path: str, source: int) -> Owners:
+    with opened(path) as made:
+        return made.replace(source)
+
+
+class BaselineTest(ModuleTest):
+    def setUp(self) -> None:
+        super().setUp()
+        self.source = in_memory(b"new")
+        self.addCleanup(os.close, self.source)
+        self.base = self.path(NAME)
+
+    def fresh(self, **files: bytes) -> None:
+        """The directory has only these files, by their words in it."""
+        for name in os.listdir(self.folder):
+            os.remove(self.path(name))
+        names = {"base": NAME, "mark": MARK, "part": PART, "secret": "secret"}
+        for word, text in files.items():
+            self.write(names[word], text)
+
+    def texts(self) -> dict[str, bytes]:
+        return {name: self.read(name) for name in os.listdir(self.folder)}
+
+    def rights(self, name: str) -> tuple[int, int, int]:
+        found = os.lstat(self.path(name))
+        return stat.S_IMODE(found.st_mode), found.st_uid, found.st_gid
+
+    def test_replaced(self) -> None:
+        self.gives((os.getuid(), os.getgid()), replace, self.base, self.source)
+        self.expect("the first one", (self.texts(), self.rights(NAME)[0]), ({NAME: b"new"}, 0o600))
+        owner = (12345, 12346) if os.getuid() == 0 else (os.getuid(), os.getgid())
+        calls: tuple[Callable[..., bool], ...] = (baseline.exchange, lambda *_: False)
+        for call in calls:
+            self.fresh(base=b"old")
+            os.symlink(".", self.path(KEPT))
+            os.chown(self.base, *owner)
+            os.chmod(self.base, 0o4755)
+            with mock.patch.object(baseline, "exchange", call):
+                self.gives(owner, replace, self.base, self.source)
+            self.expect("the texts", self.texts(), {NAME: b"new", KEPT: b"old"})
+            self.expect("the new one", self.rights(NAME), (0o644, *owner))
+            self.expect("the former one", self.rights(KEPT), (0o4755, *owner))
+
+    @unittest.skipUnless(os.getuid() == 0, "it needs root")
+    def test_anothers(self) -> None:
+        self.fresh(base=b"old")
+        os.chown(self.folder, OTHER, OTHER)
+        self.gives((OTHER, OTHER), replace, self.base, self.source)
+        self.expect("the texts", self.texts(), {NAME: b"new", KEPT: b"old"})
+        self.expect("the new one", self.rights(NAME), (0o644, OTHER, OTHER))
+        large = in_memory(b"")
+        self.addCleanup(os.close, large)
+        os.ftruncate(large, 50_000_000)
+        with mock.patch.object(rights, "with_rights_of", side_effect=Fault(18, "late")) as call:
+            self.fails(18, "late", replace, self.base, large)
+        self.expect("the seconds that it may take", call.call_args[0][2], 70)
+        os.mkdir(self.path("second"))
+        os.chown(self.path("second"), 1, 1)
+        self.fails(18, "more than one user", replace, self.path("second/aide.db"), self.source)
+
+    @unittest.skipUnless(os.getuid() == 0, "it needs root")
+    def test_group(self) -> None:
+        """Who is not root keeps the group of the former one, in his own directory only."""
+
+        def replace_as_other() -> bytes:
+            os.setgroups([12346])
+            os.setresgid(OTHER, OTHER, OTHER)
+            os.setresuid(OTHER, OTHER, OTHER)
+            return repr(replace(self.base, self.source)[:]).encode()
+
+        self.fresh(base=b"old")
+        os.chown(self.base, OTHER, 12346)
+        given = ("it", replace_as_other, 60, [self.source])
+        os.chown(self.folder, 1, 1)
+        self.fails(18, "belongs to another user", in_child, *given)
+        os.chown(self.folder, OTHER, OTHER)
+        self.gives(b"(%d, 12346)" % OTHER, in_child, *given)
+        self.expect("the new one", self.rights(NAME), (0o644, OTHER, 12346))
+
+    def test_names(self) -> None:
+        self.fails(15, "name of a file: ''", Baseline, "")
+        self.fails(15, "name of a file: x/", Baseline, "x/")
+        os.mkfifo(self.base)
+        self.fails(18, "it is a FIFO", Baseline, self.base)
+
+    def test_lock(self) -> None:
+        with mock.patch.object(baseline, "SECONDS_FOR_LOCK", 0), opened(self.base):
+            self.fails(18, "locked it for 0 seconds", Baseline, self.base)
+
+    def test_lease(self) -> None:
+        """Another user's lease of the baseline does not keep the command waiting."""
+        self.fresh(base=b"old")
+        before = signal.signal(signal.SIGIO, signal.SIG_IGN)
+        self.addCleanup(signal.signal, signal.SIGIO, before)
+        with open(self.base, "r+b") as file, opened(self.base) as made:
+            try:
+                fcntl.fcntl(file, fcntl.F_SETLEASE, fcntl.F_WRLCK)
+            except OSError:
+                self.skipTest("nothing can be leased here")
+            self.assertIsNone(made.reading())
+
+    def test_settled(self) -> None:
+        """What a run has left that was killed after and before the names were exchanged."""
+        for texts, linked, want in (
+            ({"base": b"new", "part": b"old"}, NAME, {NAME: b"new", KEPT: b"old"}),
+            ({"base": b"old", "mark": b"new"}, PART, {NAME: b"old"}),
+            ({"base": b"old", "part": b"x"}, None, {NAME: b"old"}),
+        ):
+            self.fresh(**texts)
+            if linked == NAME:
+                os.link(self.base, self.path(MARK))
+            elif linked == PART:
+                os.link(self.path(MARK), self.path(PART))
+            with opened(self.base) as made:
+                made.settle()
+            self.expect(f"{texts} settled", self.texts(), want)
+
+    def swap(self, target: str) -> None:
+        """Another process moves the baseline away, and puts a link in its place."""
+        os.rename(self.base, self.path("moved"))
+        os.symlink(target, self.base)
+
+    def test_swapped(self) -> None:
+        """A baseline that another process moves, at whatever moment, is found out."""
+        exchange: Callable[..., bool] = baseline.exchange
+
+        def swapped_first(*given: object) -> bool:
+            self.swap("moved")
+            return exchange(*given)
+
+        def swapped_then(*given: object) -> bool:
+            is_done = exchange(*given)
+            self.swap("moved")
+            return is_done
+
+        def swapped_instead(*_: object) -> bool:
+            self.swap("secret")
+            return False
+
+        calls: tuple[Callable[..., bool], ...] = (swapped_first, swapped_then, swapped_instead)
+        for call in calls:
+            self.fresh(base=b"old", secret=b"x")
+            with mock.patch.object(baseline, "exchange", call):
+                self.fails(18, CHANGED, replace, self.base, self.source)
+            self.assertEqual(os.stat(self.path("secret")).st_nlink, 1, call)
+        self.fresh(base=b"old")
+        with opened(self.base) as made:
+            self.swap("moved")
+            self.fails(18, CHANGED, made.replace, self.source)
+            self.assertEqual(os.readlink(self.base), "moved", "nothing is replaced")
