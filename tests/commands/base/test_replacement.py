@@ -94,7 +94,7 @@ class ReplacementTest(PlacesTest):
         self.assertEqual(stat.S_IMODE(os.stat(self.path("new")).st_mode), 0o755, "a new folder")
         for name, status, part in (
             ("own", 15, "is a directory"),
-            ("own/none/", 15, "is a directory"),
+            ("own/file/", 15, "is a directory"),
             ("own/fifo", 18, "a FIFO"),
             ("own/short", 18, "a link"),
             ("group/state", 18, "other users"),
@@ -117,6 +117,11 @@ class ReplacementTest(PlacesTest):
 
     def test_short_ways(self) -> None:
         replacement.replace(self.path("made/state"), b"x")
+        self.assertEqual(self.read("made/state"), b"x")
+        self.addCleanup(os.chdir, os.getcwd())
+        os.chdir(self.folder)
+        replacement.replace("here", b"x")
+        self.assertEqual(self.read("here"), b"x")
         self.gives((b"y", os.getuid()), copied_over, self.path("made/state"), b"y")
         self.fails(18, "No such file", copied_over, self.path("none/state"), b"y")
         if os.getuid() == 0:
