@@ -45,9 +45,6 @@ class Output:
     """The place that a path means, to which bytes can be written. It is known before the work that
     this is possible."""
 
-    def __init__(self, path: str, what: str) -> None:
-        self.words = f"cannot write {what} {shown(path)}"
-
     def commit(self, data: bytes) -> None:
         raise NotImplementedError
 
@@ -56,7 +53,6 @@ class FileOutput(Output):
     """A file, which is replaced in one step."""
 
     def __init__(self, path: str, what: str, mode: int) -> None:
-        super().__init__(path, what)
         # A file for others may have a directory of its own.
         makes_directory = mode != PRIVATE
         self.file = Replacement(path, mode, what, makes_directory).begin()
@@ -69,7 +65,7 @@ class StreamOutput(Output):
     """A descriptor that the caller has opened."""
 
     def __init__(self, path: str, what: str, descriptor: int) -> None:
-        super().__init__(path, what)
+        self.words = f"cannot write {what} {shown(path)}"
         self.fd = descriptor
         if not _is_open_for_writing(descriptor):
             raise Fault(Status.DEVICE, f"{self.words}: the caller has not opened it for writing")
