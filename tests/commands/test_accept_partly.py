@@ -16,6 +16,8 @@ OPEN = ("--keep-open", "/[ab]", "--keep-open", "/c")
 OWNERS = (None, NOBODY) if os.getuid() == 0 else (None,)
 # A comparison that fails for a bug.
 FAULT = "def failing(*words):\n    1 / 0\nWork._keep_digests\nWork._keep_digests = failing\n"
+# One that says whose rights it has.
+WHOSE = "compare\ndef compare(_):\n    raise Fault(18, f'as user {os.geteuid()}')\n"
 
 
 def database(entries: dict[str, int]) -> bytes:
@@ -142,3 +144,11 @@ class AcceptPartlyTest(AcceptingTest):
         fault = b"a fault of this command: ZeroDivisionError"
         self.refuses(18, fault, sha256(new), "--trusted-only")
         self.assertEqual(contents(self)[:2], (old, OLDER), "the baseline stays")
+
+    def test_whose_rights(self) -> None:
+        """What differs is found with the rights of the baseline's owner."""
+        self.after_import("commands.accept_work", WHOSE)
+        for owner in OWNERS:
+            fresh(self, owner)
+            user = os.geteuid() if owner is None else owner
+            self.refuses(18, b"as user %d" % user, sha256(NEW), "--trusted-only")

@@ -11,7 +11,7 @@ from typing import NamedTuple, Optional
 
 from aide_compare.base.ending import Fault, Status, write_all
 from aide_compare.base.escapes import shown
-from aide_compare.base.files import copy_file, nameless, reopened
+from aide_compare.base.files import BLOCK, copy_file, nameless, reopened
 from aide_compare.base.directories import closed_after
 from aide_compare.base.paths import Pattern, key_of_path
 from aide_compare.base.processes import in_child
@@ -35,7 +35,6 @@ from aide_compare.compare.work import compare
 from aide_compare.lines.reader import reader_over
 from aide_compare.show.told import told_of
 
-BLOCK = 1 << 18
 SECONDS_TO_COMPARE = 6 * 3600
 
 # Databases by their sides.
