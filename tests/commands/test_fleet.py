@@ -27,6 +27,7 @@ case $1 in
     slow) while :; do printf x; sleep 0.1; done ;;
     silent) echo $$ > ROOT/ssh.pid; exec sleep 300 ;;
     unknown) printf 'Host key verification failed.\\r\\n' >&2; exit 255 ;;
+    changed) printf 'REMOTE HOST IDENTIFICATION HAS CHANGED!\\nHost key verification failed.\\n' >&2; exit 255 ;;
     coloured) printf 'a\\033[31mb\\302\\233c\\n' >&2; exit 1 ;;
     killer) kill -9 $PPID; exit 1 ;;
 esac
@@ -227,9 +228,12 @@ class FleetTest(CommandTest):
 
     def test_told(self) -> None:
         """What people see of a host's bytes, and a process that ends without an answer."""
-        unknown = "Host key verification failed. (ssh ended with 255); is its key in known_hosts?"
+        failed = "Host key verification failed. (ssh ended with 255); "
+        unknown = failed + "is its key in known_hosts?"
+        changed = failed + "its key is another one than in known_hosts"
         coloured = r"a\033[31mb\302\233c (ssh ended with 1)"
-        for host, told in (("unknown", unknown), ("coloured", coloured)):
+        causes = {"unknown": unknown, "changed": changed, "coloured": coloured}
+        for host, told in causes.items():
             self.fleet.put(host, OLD)
             said = self.fleet.compare_one(host)
             self.fleet.not_compared(told, said, host)

@@ -23,6 +23,8 @@ SSH = (
     "-o LogLevel=ERROR -o ControlPath=none -o ClearAllForwardings=yes"
 ).split()
 UNKNOWN_KEY = "Host key verification failed"
+# What ssh writes before that about a host whose key is another one than before.
+CHANGED_KEY = b"REMOTE HOST IDENTIFICATION HAS CHANGED"
 NOT_ALLOWED = "Permission denied"
 HINTS = (
     (UNKNOWN_KEY, "is its key in known_hosts?"),
@@ -69,6 +71,8 @@ def cause_of(errors: bytes, status: int) -> str:
     if lines:
         text = shown(lines[-1], 200)
     hints = "".join(f"; {hint}" for words, hint in HINTS if words in text)
+    if UNKNOWN_KEY in text and CHANGED_KEY in errors:
+        hints = "; its key is another one than in known_hosts"
     return f"{text} (ssh ended with {status}){hints}"
 
 
