@@ -86,6 +86,8 @@ class HostsQuietTest(CommandTest):
                 fleet.compare(self.hosts)
             self.write("down/h01", "")
             self.assertIn(f"h01 18 {cause}\n", fleet.compare(self.hosts).output)
+            brief = fleet.call("aide-compare hosts report", "--format=brief", self.hosts).output
+            self.assertIn(f"  h01: {cause}\n", brief, "the whole cause")
             said = fleet.compare("--no-fetch", self.hosts)
             fleet.not_compared(cause, said, "h01")
             self.assertNotIn("h01: ", said.output, "the name once")

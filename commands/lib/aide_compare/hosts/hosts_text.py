@@ -101,7 +101,7 @@ def host_lists(hosts: Iterable[Fields]) -> dict[str, list[str]]:
     differ: list[str] = []
     for host in hosts:
         if host["status"] > 7:
-            missing.append(f"{host['host']}: {host['error']} (status {host['status']})")
+            missing.append(f"{host['host']}: {host['error']}")
         elif differs(host):
             counts = "no counts are known"
             if host["added"] is not None:
