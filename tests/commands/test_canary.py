@@ -96,6 +96,8 @@ class CanaryTest(CommandTest):
         self.assertTrue(lines[1].startswith(note), lines)
         text = hosts.report().output
         self.assertTrue(text.startswith("C" + note[1:]), text)
+        brief = hosts.report("--format=brief").output
+        self.assertIn("the others were compared without it", brief.split("\n")[0])
         self.assertIn("\nopen=2\n", hosts.state("www2"))
 
     def test_failed(self) -> None:

@@ -191,6 +191,11 @@ def shortened(text: str, width: int) -> str:
     return text[:head] + "..." + text[len(text) - (width - 3 - head) :]
 
 
+def beginning(text: str, width: int) -> str:
+    """A text in so many columns, without its end if it is longer."""
+    return text if len(text) <= width else text[: width - 3] + "..."
+
+
 def short_names(fields: Fields) -> str:
     """The hosts of a change in few columns, such as "www1, www2 +35"."""
     count: int = fields["hosts"]
@@ -283,7 +288,7 @@ def short_lines(report: Report) -> Iterator[str]:
     """Yields the lines of the short text, at most MAX_ROWS of at most MAX_COLUMNS."""
     summary = report.summary
     lists = host_lists(report.hosts)
-    head = [shortened(line, MAX_COLUMNS) for line in canary_lines(summary)]
+    head = [beginning(line, MAX_COLUMNS) for line in canary_lines(summary)]
     head += [headline(summary), others_line(summary), ""]
     head += short_list("Not compared", lists["Not compared"], MAX_MISSING)
     head += short_list("Not all listed", lists["Not all changes are listed"], MAX_CUT)
