@@ -178,6 +178,7 @@ class TrustedTest(CommandTest):
         mail.call(self, *PAIR, *BOTH)
         message = mail.sent(self)
         self.assertRegex(mail.subject(message), r"3 open \(3 high\) of 7 changes\Z")
+        self.assertIn(b" 1 is silent: as before, but for times.", mail.body(message))
         self.assertIn(" ".join(PAIR), mail.words_of(mail.body(message)), "its page has the pair")
         os.remove(self.path("canary-new.db"))
         self.assertEqual(mail.call(self, *PAIR, *BOTH).status, 18)

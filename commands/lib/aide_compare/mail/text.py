@@ -205,20 +205,24 @@ def group_lines(judged: Judged, listing: Listing) -> list[str]:
     return [f"Recorded, as {judged.by} on this host says:", *lines, ""] if lines else []
 
 
+def are(count: int) -> str:
+    return "is" if count == 1 else "are"
+
+
 def sentence(counts: Counts) -> list[str]:
     """What the night was, in numbers."""
     if counts.open:
-        are = "is" if counts.open == 1 else "are"
         changes = counted(counts.open, "change", ",")
-        text = f"{changes} {are} open, {counts.open_high:,} of severity high."
+        text = f"{changes} {are(counts.open)} open, {counts.open_high:,} of severity high."
     else:
         text = "No change is open."
     if counts.recorded:
-        text += f" {counts.recorded:,} more are as packages' records on the host have them."
+        more = f"{counts.recorded:,} more {are(counts.recorded)}"
+        text += f" {more} as packages' records on the host have them."
     if counts.same:
-        text += f" {counts.same:,} are silent: as before, but for times."
+        text += f" {counts.same:,} {are(counts.same)} silent: as before, but for times."
     if counts.trusted:
-        text += f" {counts.trusted:,} are silent: as in the trusted pair."
+        text += f" {counts.trusted:,} {are(counts.trusted)} silent: as in the trusted pair."
     return wrap(text, WIDTH)
 
 
