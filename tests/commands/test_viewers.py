@@ -220,6 +220,7 @@ def try_commands(tally: ProgramTest) -> None:
             trials.append(([*tool, "--other"], b"", USAGE, b" --help"))
             trials.append(([*tool, "/nowhere"], b"", DEVICE, b"cannot open /nowhere: "))
             trials.append(([*tool, "/"], b"", DEVICE, b"cannot open"))
+            trials.append(([*tool, "--exclude", "/x"], lines, USAGE, b"name two databases"))
         for words, text, wanted, beginning in trials:
             status, output, errors = run(words, text)
             with tally.subTest(words=words[1:]):

@@ -64,6 +64,7 @@ def parser_of_changes(name: str, description: str, epilog: str) -> Parser:
 def stream_request(args: argparse.Namespace) -> StreamRequest:
     """What the options of such a command ask for; a Fault if they do not go together."""
     is_of_databases = args.config or args.before or args.after or args.trusted
+    is_of_databases = is_of_databases or args.exclude or args.exclude_from
     if len(args.files) > 2 or (len(args.files) < 2 and is_of_databases):
         raise Fault(Status.USAGE, "name two databases, OLD and NEW, or one file of lines")
     trusted: Sequence[str] = args.trusted or ()
