@@ -94,8 +94,8 @@ class HandsTest(CommandTest):
             self.refused(15, b"needs the name of a unit", tool, *words)
         self.refused(15, b"needs --send-queue", tool, "--unit-failed", "x")
         send = ("--send-queue", "queue")
-        self.refused(15, b"goes with neither", tool, *send, "--queue", "queue")
-        self.refused(15, b"goes with neither", tool, *send, "--test")
+        for other in ("--queue queue", "--test", "--state state"):
+            self.refused(15, b"goes with none", tool, *send, *other.split())
         for job in (send, ("--test",)):
             self.refused(15, b"no databases are compared", tool, *job, "old.db", "new.db")
 

@@ -142,8 +142,8 @@ def check(request: MailRequest, databases: Sequence[str]) -> None:
         raise Fault(Status.USAGE, text)
     if request.unit_failed and not request.send_queue:
         raise Fault(Status.USAGE, "--unit-failed needs --send-queue")
-    if request.send_queue and (request.queue or request.is_test):
-        raise Fault(Status.USAGE, "--send-queue goes with neither --queue nor --test")
+    if request.send_queue and (request.queue or request.is_test or state):
+        raise Fault(Status.USAGE, "--send-queue goes with none of --queue, --test and --state")
     if databases and (request.send_queue or request.is_test):
         raise Fault(Status.USAGE, "with --send-queue or --test no databases are compared")
 
