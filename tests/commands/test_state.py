@@ -206,7 +206,8 @@ class StateTest(CommandTest):
 
     def test_arguments(self) -> None:
         odd = ["--odd"], ["--state"], ["--max-age", "x"], ["--format", "prometheus", "a", "b"]
-        for words in odd:
+        ignored = ["--format", "json", "--max-age", "2h"], ["--format", "prometheus", "--quiet"]
+        for words in odd + ignored:
             answer = self.call(STATUS, *words)
             self.expect(f"status with {words}", answer, 15, b"", b"aide-compare status: ")
 

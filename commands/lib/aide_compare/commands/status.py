@@ -224,6 +224,9 @@ def request_of(arguments: Sequence[str]) -> StatusRequest:
     state = f"the state file that aide-compare wrote ({DAILY})"
     parser.add(STATE._replace(default=DAILY, help=state), RESULT_AGE)
     args = parser.parse(arguments)
+    is_conditional = args.quiet or args.max_age != RESULT_AGE.default
+    if is_conditional and args.format not in ("text", "line"):
+        parser.error("only --format text and line have --quiet and --max-age")
     if args.output != STDOUT and args.format != "prometheus":
         parser.error("only --format prometheus has an OUTPUT")
     return StatusRequest(
