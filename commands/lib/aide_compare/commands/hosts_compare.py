@@ -261,7 +261,7 @@ def own_parser() -> Parser:
     shares = "only the hosts of the Kth of N shares"
     parser.add(
         Option("--jobs", "how many hosts at a time (8)", metavar="N", kind=jobs, default=8),
-        Option("--share", shares, metavar="K/N", kind=part, default=(1, 1)),
+        Option("--share", shares, metavar="K/N", kind=part),
         Option("--no-fetch", "compare what was fetched before"),
         Option("--one", one),
         Option("--canary", canary, metavar="HOST", kind=check_name),
@@ -289,8 +289,11 @@ def request_of(arguments: Sequence[str]) -> CompareRequest:
         trusted={},
         max_kept=MAX_KEPT,
     )
+    if args.one and (args.share or args.canary):
+        raise Fault(Status.USAGE, "--one goes with neither --share nor --canary")
+    part = args.share or (1, 1)
     canary = args.canary or ""
-    return CompareRequest(args.file, args.one, args.share, settings, canary, args.quiet, args.color)
+    return CompareRequest(args.file, args.one, part, settings, canary, args.quiet, args.color)
 
 
 def hosts_to_compare(request: CompareRequest) -> list[str]:
