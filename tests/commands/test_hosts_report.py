@@ -214,17 +214,9 @@ class HostsReportTest(CommandTest):
     def test_wrong(self) -> None:
         hosts = Hosts(self)
         hosts.list_hosts("good1")
-        for words in (
-            "--max-hosts 0",
-            "--order x",
-            "--only-path x",
-            "--max-age 31d",
-            "--format=json --to root",
-            "--attach-page",
-            "--smtp mail.example:0",
-            "--to -x",
-            "x",
-        ):
+        wrong = ("--max-hosts 0", "--order x", "--only-path x", "--max-age 31d", "--to -x", "x")
+        without_mail = ("--attach-page", "--smtp mail.example", "--mail-time 9s")
+        for words in (*wrong, *without_mail, "--format=json --to root", "--smtp m:0 --to root"):
             said = hosts.report(*words.split())
             self.assertEqual((said.status, said.output), (15, ""), words)
             self.assertTrue(said.errors, words)

@@ -274,6 +274,8 @@ def request_of(arguments: Sequence[str]) -> ReportRequest:
     args = own_parser().parse(arguments)
     if args.attach_page and not args.to:
         raise Fault(Status.USAGE, "--attach-page goes with --to", f"try: {NAME} --help")
+    if (args.smtp or args.mail_time != MAIL_TIME.default) and not args.to:
+        raise Fault(Status.USAGE, "--smtp and --mail-time go with --to", f"try: {NAME} --help")
     usual_order = "path" if args.format == "json" else "rare"
     return ReportRequest(
         hosts_file=args.file,
