@@ -347,6 +347,9 @@ class ArchiveTest(CommandTest):
         keep_as_apt(self, place)
         place.expect(self.applied(sources=("lists", "archives")), "trusted", TOOL)
         self.applied(sources=("lists",), told=MISSING)
+        kept = self.path("lists/archive.example.org_dists_stable_main_binary-amd64_Packages")
+        os.rename(kept, kept + ".lz4")
+        self.applied(sources=("lists",), told=b"_Packages.lz4; /usr/lib/apt/apt-helper")
 
     def test_unsigned(self) -> None:
         """What no trusted key has signed is refused; nothing is written then."""

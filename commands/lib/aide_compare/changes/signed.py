@@ -14,7 +14,7 @@ from itertools import chain
 from typing import IO
 
 from aide_compare.base.directories import closed_after
-from aide_compare.base.ending import Fault, Status
+from aide_compare.base.ending import Fault, Status, say
 from aide_compare.base.escapes import shown
 from aide_compare.base.files import in_memory, nameless, read_file
 from aide_compare.base.processes import Taker, run
@@ -81,6 +81,8 @@ def packages_of(release: str, keys: int) -> Iterator[Signed]:
             index = UNPACK[ending](read_signed(path, MAX_INDEX, digest))
             for paragraph in index.decode("utf-8", "surrogateescape").split("\n\n"):
                 yield {**dict(FIELD.findall(paragraph)), RELEASE: release}
+        elif not ending and os.path.isfile(f"{path}.lz4"):  # apt packs it with its GzipIndexes.
+            say(f"not read: {shown(path)}.lz4; /usr/lib/apt/apt-helper cat-file unpacks it")
 
 
 def newest_of(
