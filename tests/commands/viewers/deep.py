@@ -1,215 +1,145 @@
 """Changes that are hard to show: deep paths, many nested folders, long values; each with little
 work and memory."""
-import json
+from __future__ import annotations
+
 import random
 import re
 import subprocess
+import unittest
+from collections.abc import Callable
 
-from tests.commands.viewers import HTML, JSON
-from tests.commands.viewers.refused import rich_lines
-from tests.commands.viewers.work import additions_to, bytes_held, growth_faults, lines_run, pages_of
+from tests.commands.viewers import HTML, JSON, lines
+from tests.commands.viewers.hostile import Database
+from tests.commands.viewers.work import (
+    MeasuredOf,
+    additions_to,
+    bytes_held,
+    check_growth,
+    lines_run,
+    pages_of,
+)
 from tests.oracle.configuration import DEFAULTS
 from tests.oracle.lines import lines_of as proved_lines_of
-
-from .hostile import Database
 
 MOST_BYTES = 20000000
 LONG = 100000
 # What a page says if it has not all.
 CUT = re.compile(b'<p class="remark">(?:This page has room for|Values are on this page of)')
+LinesOf = Callable[[int], bytes]
 
 
-def lines_over(old, new):
+def lines_over(new: dict[bytes, dict[str, object]]) -> bytes:
+    """The lines of a database that was empty before."""
     settings = {**DEFAULTS, "database_in": b"/a", "database_new": b"/b"}
-    return proved_lines_of(Database(old), Database(new), [b"old", b"new"], settings)[0]
+    databases = Database({}), Database(new)
+    proved: bytes = proved_lines_of(*databases, [b"old", b"new"], settings)[0]
+    return proved
 
 
-def deep_path(pieces):
-    return lines_over({}, {b"/x" * pieces: {"ftype": 0o100000, "s": 1}})
+def deep_path(pieces: int) -> bytes:
+    return lines_over({b"/x" * pieces: {"ftype": 0o100000, "s": 1}})
 
 
-def nested(depth):
-    return lines_over({}, {b"/d" * number: {"ftype": 0o040000} for number in range(1, depth)})
+def nested(depth: int) -> bytes:
+    return lines_over({b"/d" * number: {"ftype": 0o040000} for number in range(1, depth)})
 
 
-def long_value(byte, count):
-    return lines_over({}, {b"/a": {"ftype": 0o100000, "acl": byte * count}})
+def long_value(byte: bytes, count: int) -> bytes:
+    return lines_over({b"/a": {"ftype": 0o100000, "acl": byte * count}})
 
 
-def many(count):
+def many(count: int) -> bytes:
     """Entries that are each in another folder."""
-    return lines_over(
-        {}, {b"/d%06d/x" % number: {"ftype": 0o100000, "s": number} for number in range(count)}
-    )
+    return lines_over({b"/d%06d/x" % each: {"ftype": 0o100000, "s": each} for each in range(count)})
 
 
-def lines_of(lines):
-    return subprocess.run([*JSON], input=lines, stdout=subprocess.PIPE, check=True).stdout
+def lines_of(proved: bytes) -> bytes:
+    return subprocess.run([*JSON], input=proved, stdout=subprocess.PIPE, check=True).stdout
 
 
-def pages_over(lines_over_size):
+def pages_over(lines_of_size: LinesOf) -> MeasuredOf:
     """The work of both pages by the size of lines, and how long these are. They are made before the
     work begins."""
 
-    def given_of(size):
-        lines = lines_of(lines_over_size(size))
-        return pages_of(lines), len(lines)
+    def given_of(size: int) -> tuple[Callable[[], None], int]:
+        text = lines_of(lines_of_size(size))
+        return pages_of(text), len(text)
 
     return given_of
 
 
-def additions_over(lines_over_size):
-    def given_of(size):
-        lines = lines_over_size(size)
-        return additions_to(lines), len(lines)
+def additions_over(lines_of_size: LinesOf) -> MeasuredOf:
+    def given_of(size: int) -> tuple[Callable[[], None], int]:
+        text = lines_of_size(size)
+        return additions_to(text), len(text)
 
     return given_of
 
 
-def try_work(tally):
+def try_work(test: unittest.TestCase) -> None:
     """The lines of code that run, and the pieces of paths that are looked at, grow as the input
     does."""
-    for label, given_of, size in (
-        ("pages of a path of so many pieces", pages_over(deep_path), 1500),
-        ("pages of nested folders", pages_over(nested), 150),
-        ("pages of many folders", pages_over(many), 300),
-        ("lines with a path of so many pieces", additions_over(deep_path), 3000),
-        ("lines with nested folders", additions_over(nested), 150),
-        ("lines with many folders", additions_over(many), 300),
-    ):
-        tally.add("work for " + label, growth_faults(lines_run, given_of, size))
+    for made, size in ((deep_path, 1500), (nested, 150), (many, 300)):
+        with test.subTest(pages=made.__name__):
+            check_growth(test, lines_run, pages_over(made), size)
+        with test.subTest(lines=made.__name__):
+            check_growth(test, lines_run, additions_over(made), size)
 
 
-def try_memory(tally):
+def try_memory(test: unittest.TestCase) -> None:
     """The bytes that are held at once are a few copies of the longest line, and do not grow with
     the number of entries."""
-    for byte, copies in ((b"\x01", 12), (b"a", 12), (b"\xff", 12)):
-        lines = long_value(byte, LONG)
-        for label, work, length in (
-            ("lines", additions_to(lines), len(lines)),
-            ("pages", pages_of(lines_of(lines)), len(lines_of(lines))),
-        ):
-            held, most = bytes_held(work), copies * length + 3000000
-            tally.holds(
-                "memory for %s of the byte %r" % (label, byte),
-                held < most,
-                "%d of %d bytes" % (held, most),
-            )
-    for label, given_of in (("pages", pages_over(many)), ("lines", additions_over(many))):
-        few, more = bytes_held(given_of(300)[0]), bytes_held(given_of(3000)[0])
-        tally.holds(
-            "memory for %s of many entries" % label,
-            more < few + 1500000,
-            "%d, then %d bytes" % (few, more),
-        )
+    for byte in (b"\x01", b"a", b"\xff"):
+        proved = long_value(byte, LONG)
+        added = lines_of(proved)
+        with test.subTest(byte=byte):
+            test.assertLess(bytes_held(additions_to(proved)), 12 * len(proved) + 3000000)
+            test.assertLess(bytes_held(pages_of(added)), 12 * len(added) + 3000000)
+    for given_of in (pages_over(many), additions_over(many)):
+        few, more = (bytes_held(given_of(count)[0]) for count in (300, 3000))
+        test.assertLess(more, few + 1500000)
 
 
-def long_lines(count, letters):
+def long_lines(count: int, letters: int) -> bytes:
     """Lines of entries with long names and with values that cannot be packed."""
     pick = random.Random(count)
     counts = {"total": count, "added": 0, "removed": 0, "changed": count}
     database = {"path": "/a", "sha256": "00" * 32, "skipped": []}
-    summary = {"format": 3, "old": database, "new": database}
-
-    def value():
-        return "%0*x" % (letters, pick.getrandbits(4 * letters))
-
-    entries = [
-        {
-            "kind": "changed",
-            "path": "/%06d-%s" % (number, "n" * letters),
-            "summary": "f                 ",
-            "old": {"XAttrs": value()},
-            "new": {"XAttrs": value()},
-        }
-        for number in range(count)
-    ]
-    return b"".join(
-        json.dumps(fields).encode() + b"\n"
-        for fields in [
-            summary,
-            *entries,
-            {"end": True, **counts, "same_as_old": 0, "others": count, "status": 4},
-        ]
-    )
+    objects: list[dict[str, object]] = [{"format": 3, "old": database, "new": database}]
+    for number in range(count):
+        values = ["%0*x" % (letters, pick.getrandbits(4 * letters)) for _ in range(2)]
+        path, summary = f"/{number:06}-{'n' * letters}", "f                 "
+        sides = {"old": {"XAttrs": values[0]}, "new": {"XAttrs": values[1]}}
+        objects.append({"kind": "changed", "path": path, "summary": summary, **sides})
+    objects.append({"end": True, **counts, "same_as_old": 0, "others": count, "status": 4})
+    return lines.lines_of(objects)
 
 
-def try_sizes(tally):
+def try_sizes(test: unittest.TestCase) -> None:
     """No page is longer than it may be, and a page that has not all says so."""
-    for label, lines, is_cut in (
+    for label, text, is_cut in (
         ("a path of 200,000 pieces", lines_of(deep_path(200000)), False),
         ("1,000 nested folders", lines_of(nested(1000)), False),
         ("2,200 long entries", long_lines(2200, 9000), True),
     ):
         for words in ([*HTML], [*HTML, "--plain"]):
-            done = subprocess.run(
-                words, input=lines, stdout=subprocess.PIPE, stderr=subprocess.PIPE
-            )
-            good = not done.returncode and 1000 < len(done.stdout) <= MOST_BYTES
-            tally.holds(
-                "size for %s %s" % (label, words[1:]),
-                good,
-                "status %d, %d bytes" % (done.returncode, len(done.stdout)),
-            )
-            says = bool(CUT.search(done.stdout))
-            tally.holds(
-                "%s %s is said to be cut" % (label, words[1:]), says == is_cut, "it is %s" % says
-            )
+            with test.subTest(label, words=words[1:]):
+                status, page, errors = lines.run(words, text)
+                test.assertEqual(status, 0, errors)
+                test.assertIn(len(page), range(1000, MOST_BYTES + 1))
+                test.assertEqual(bool(CUT.search(page)), is_cut)
 
 
-def try_deep(tally):
-    try_work(tally)
-    try_memory(tally)
-    try_sizes(tally)
-
-
-def try_script(script, tally):
-    """The script of the page has no function that calls itself as deep as folders are nested."""
-    body = script[script.index("function fill(") : script.index("function toggle(")]
-    item = script[
-        script.index("function folderItem(") : script.index("// Folders that are open are filled")
-    ]
-    calls = [
-        line
-        for line in (item + body).splitlines()
-        if "fill(" in line and "function" not in line and "CHILDREN" not in line
-    ]
-    tally.add(
-        "the script fills folders in a loop",
-        ["it calls itself in: %s" % line.strip() for line in calls],
-    )
-    tally.holds(
-        "few folders are open at first", "opened.size < DEEP" in script, "there is no bound"
-    )
-    for word in (
-        "innerHTML",
-        "outerHTML",
-        "insertAdjacentHTML",
-        "document.write",
-        "eval(",
-        "setTimeout('",
-        ".href",
-        ".src",
-    ):
-        tally.holds("the script has no " + word, word not in script, "it has")
-
-
-def try_times(tally):
-    """What stands in place of a time is text, also if it is markup."""
-    from aide_compare.show.page_items import cell
-
-    tally.holds("a note is text", "<b>" not in cell("1", "<b>") + cell("<b>", "1"), "it is markup")
-    lines = [json.loads(line) for line in lines_of(rich_lines()).splitlines()]
-    entry = next(fields for fields in lines if "Mtime" in fields.get("new", ()))
-    for value in ("</noscript><meta http-equiv=refresh>", "2026-11-25T12:00:00Z<b>", "soon", 7):
-        entry["new_text"] = {"Mtime": value}
-        text = b"".join(json.dumps(fields).encode() + b"\n" for fields in lines)
-        done = subprocess.run(
-            [*HTML, "--plain"], input=text, stdout=subprocess.PIPE, stderr=subprocess.PIPE
-        )
-        good = (
-            not done.returncode and b"<meta http-equiv=refresh>" not in done.stdout
-            if value != 7
-            else done.returncode == 65
-        )
-        tally.holds("a time %r" % value, good, "status %d" % done.returncode)
+def try_script(script: str, test: unittest.TestCase) -> None:
+    """The script makes no markup of texts, and fills nested folders in a loop, of which few are
+    open at first: no function of it calls itself as deep as folders are nested."""
+    filling = script[script.index("function fill(") : script.index("function toggle(")]
+    end = script.index("// Folders that are open are filled")
+    filling += script[script.index("function folderItem(") : end]
+    for line in filling.splitlines():
+        if "function" not in line and "CHILDREN" not in line:
+            test.assertNotIn("fill(", line)
+    test.assertIn("opened.size < DEEP", script)
+    markup = "innerHTML outerHTML insertAdjacentHTML document.write eval( setTimeout(' .href .src"
+    for word in markup.split():
+        test.assertNotIn(word, script)

@@ -1,21 +1,20 @@
 """What aide-compare json has to say, computed from two databases: the proved lines, to which only
 texts and standings are added."""
+from __future__ import annotations
+
 import json
+from typing import Any
 
 from tests.oracle.lines import lines_of
 
-ADDED = ("old_text", "new_text", "standing", "severity", "package", "standings")
+ADDED = {"old_text", "new_text", "standing", "severity", "package", "standings"}
 
 
-def faults_of(objects, old, new, texts, settings):
-    """What is wrong with the objects of the lines of two databases."""
-    wanted = [json.loads(line) for line in lines_of(old, new, texts, settings)[0].splitlines()]
-    given = [
-        {name: value for name, value in fields.items() if name not in ADDED} for fields in objects
-    ]
-    faults = ["%r, and not %r" % pair for pair in zip(given, wanted) if pair[0] != pair[1]]
-    return (
-        faults
-        if len(given) == len(wanted)
-        else faults + ["%d objects, and not %d" % (len(given), len(wanted))]
-    )
+def faults_of(objects: list[dict[str, Any]], *databases: Any) -> list[str]:
+    """What is wrong with the objects of the lines of two databases, their texts and settings."""
+    wanted = [json.loads(line) for line in lines_of(*databases)[0].splitlines()]
+    given = [{name: each[name] for name in each if name not in ADDED} for each in objects]
+    faults = [f"{one}, and not {other}" for one, other in zip(given, wanted) if one != other]
+    if len(given) != len(wanted):
+        faults.append(f"{len(given)} objects, and not {len(wanted)}")
+    return faults

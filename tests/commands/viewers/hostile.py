@@ -1,5 +1,5 @@
-"""Entries with names and values that could be taken for something else: for a part of a report, or
-for markup."""
+"""Entries with names and values that could be taken for something else: for markup, or for text
+that is escaped already."""
 from collections import namedtuple
 
 from tests.oracle.attributes import ATTRIBUTES
@@ -9,34 +9,20 @@ Database = namedtuple("Database", "entries skipped", defaults=((),))
 NAMES = [
     b"a",
     b"b",
-    b"etc",
     b"x y",
-    b"a : b",
-    b"File: /a",
-    b"added: /a",
-    b"f+++++++++++++++++: /a",
-    b"-" * 51,
-    b"Added entries:",
     b"\n",
-    b"\n\n" + b"-" * 51 + b"\n",
-    b"a\nThe attributes of the databases:\n",
     b"\\",
     b"\\012",
-    b"\\\\",
     b" ",
     b"a ",
     b" a",
-    b"a | b",
     b"\0",
-    b"\x01",
     b"\x7f",
     b"\t",
-    b"\r",
     b"\xff",
     b"\xc3",
     b"\xc3\xa9",
     b"\xe2\x80\xae" + b"txt.exe",
-    b"\xe2\x81\xa6",
     b"\xe2\x80\xa8",
     b"\xef\xbb\xbf",
     b"\xe3\x85\xa4",
@@ -49,55 +35,16 @@ NAMES = [
     b'<b class="added">added',
     b"\"'><img src=x onerror=alert(1)>",
     b"&lt;",
-    b"&#60;script",
-    b"{{x}}",
-    b"%3Cscript",
-    b"<!-- STYLE -->",
     b"\\u003c",
     b"\xed\xa0\x80",
     b"\xf4\x90\x80\x80",
     b"x" * 300,
 ]
+# Values that end in blanks, that are long, and that grow when they are escaped.
 TARGETS = (
-    LINKS
-    + NAMES
-    + [
-        b"abc ",
-        b"abc" + b" " * 40,
-        b" ",
-        b" " * 32,
-        b" " * 33,
-        b" " * 70,
-        b"x" * 32 + b" ",
-        b"x" * 31 + b" ",
-        b"x" * 30 + b"\n",
-        b"\\" * 20,
-        b"\xff" * 40,
-        b" | " * 20,
-        b"x" * 31 + b"\n",
-        b"x" * 29 + b"\n",
-        b"a" + b"\\" * 20,
-        b"ab" + b"\\" * 20,
-        b"abc" + b"\n" * 20,
-        b" lead",
-        b"a" + b" " * 31,
-        b"a" + b" " * 63,
-    ]
+    LINKS + NAMES + [b"abc" + b" " * 40, b" " * 33, b"\\" * 20, b"\xff" * 40, b"abc" + b"\n" * 20]
 )
-VALUES = OPAQUE + [
-    b"<script>",
-    b"</script>",
-    b'"',
-    b"|",
-    b"\xff" * 33,
-    b"\\" * 33,
-    b"a" + b"\\" * 33,
-    b"ab" + b"\\" * 33,
-    b"abc" + b"\\" * 33,
-    b"\xe2\x80\xae",
-    b"a" * 200,
-    b"-" * 51,
-]
+VALUES = OPAQUE + [b"<script>", b"</script>", b'"', b"\xff" * 33, b"\xe2\x80\xae", b"a" * 200]
 TYPES = [mode & 0o170000 for mode in MODES if mode & 0o170000]
 
 

@@ -2,7 +2,7 @@
 import base64
 import hashlib
 import re
-from collections import Counter
+from collections import Counter, defaultdict
 from html import unescape
 from html.parser import HTMLParser
 
@@ -58,19 +58,16 @@ def bytes_shown(text):
 
 
 class Page(HTMLParser):
-    """What a page has, as a browser reads it: tags, attributes, scripts, styles and the content
-    policy."""
+    """What a page has, as a browser reads it: tags, attributes, the content policy, and the texts
+    in scripts, styles and other elements."""
 
     def __init__(self, text):
         super().__init__()
-        self.tags, self.names, self.scripts, self.styles, self.policy, self.inside = (
-            set(),
-            set(),
-            [],
-            [],
-            None,
-            "",
-        )
+        self.tags = set()
+        self.names = set()
+        self.texts = defaultdict(list)
+        self.policy = None
+        self.inside = ""
         self.feed(text)
         self.close()
 
@@ -85,17 +82,13 @@ class Page(HTMLParser):
         self.inside = ""
 
     def handle_data(self, data):
-        if self.inside in ("script", "style"):
-            (self.scripts if self.inside == "script" else self.styles).append(data)
+        self.texts[self.inside].append(data)
 
-    def unknown_decl(self, data):
-        self.tags.add("declaration " + data[:40])
+    def handle_other(self, data):
+        """A comment, a declaration or an instruction, which no page has."""
+        self.tags.add(f"other than an element: {data[:40]}")
 
-    def handle_comment(self, data):
-        self.tags.add("comment " + data[:40])
-
-    def handle_pi(self, data):
-        self.tags.add("instruction " + data[:40])
+    unknown_decl = handle_comment = handle_pi = handle_other
 
 
 def hashed(text):
@@ -131,21 +124,20 @@ def wanted_folders(entries):
 
 
 def bytes_of(fields, key="path"):
-    return (
-        bytes.fromhex(fields[key + "_hex"]) if key + "_hex" in fields else str(fields[key]).encode()
-    )
+    if key + "_hex" in fields:
+        return bytes.fromhex(fields[key + "_hex"])
+    return str(fields[key]).encode()
 
 
 def values_of(fields):
     """The values of a change by the names of their attributes: of each both sides, as bytes."""
     found = {}
     for place, side in enumerate(("old", "new")):
-        for name in fields.get(side, {}):
+        for name, value in fields.get(side, {}).items():
             label = name[:-4] if name.endswith("_hex") else name
-            has_value = fields[side][name] is not None
-            found.setdefault(label, [None, None])[place] = (
-                bytes_of(fields[side], label) if has_value else None
-            )
+            pair = found.setdefault(label, [None, None])
+            if value is not None:
+                pair[place] = bytes_of(fields[side], label)
     return found
 
 
@@ -153,9 +145,9 @@ def growth_of(fields):
     """The growth of a file that was there before and after; a whole size is among the facts of the
     others."""
     old, new = (fields.get(side, {}).get("Size") for side in ("old", "new"))
-    return (
-        None if old is None or new is None or fields["kind"] != "changed" else int(new) - int(old)
-    )
+    if old is None or new is None or fields["kind"] != "changed":
+        return None
+    return int(new) - int(old)
 
 
 def standing_of(fields):
@@ -189,34 +181,33 @@ def listed(text):
     for line in text.split("\n")[:-1]:
         found = ITEM.fullmatch(line)
         if not found:
-            return items, ["an item is %r" % line[:300]]
+            return items, [f"an item is {line[:300]!r}"]
         kind, _, severity, path, reason, title, about = (
             part and unescape(part) for part in found.groups()[:7]
         )
         words = (title or about or "").split()
         growth = next((int(word) for word in words if word[0] in "+-"), None)
-        inner = found.group(8) or ""
-        rows = {
-            unescape(row[1]): [
-                None if row[none] else bytes_shown(unescape(row[value]))
-                for none, value in ((2, 4), (5, 7))
-            ]
-            for row in ROW.finditer(inner)
-        }
-        if not FRAME.fullmatch(ROW.sub("", inner)):
-            faults.append("the table is %r" % inner[:300])
         names = sorted(word for word in words if word[0] not in "+-")
-        items.append(
-            (kind, bytes_shown(path), severity, reason and bytes_shown(reason), growth, names, rows)
-        )
+        inner = found[8] or ""
+        rows = dict(map(row_of, ROW.finditer(inner)))
+        if not FRAME.fullmatch(ROW.sub("", inner)):
+            faults.append(f"the table is {inner[:300]!r}")
+        reason = reason and bytes_shown(reason)
+        items.append((kind, bytes_shown(path), severity, reason, growth, names, rows))
     return items, faults
+
+
+def row_of(row):
+    """The name of a row of a table, and the two values."""
+    values = [None if row[none] else bytes_shown(unescape(row[none + 2])) for none in (2, 5)]
+    return unescape(row[1]), values
 
 
 def wanted_item(fields):
     values = values_of(fields)
     names = sorted({"Digests" if label in DIGESTS else label for label in values})
-    told = (fields["kind"], bytes_of(fields), fields.get("severity"), None)
-    return (*told, growth_of(fields), names, values)
+    head = (fields["kind"], bytes_of(fields), fields.get("severity"), None)
+    return (*head, growth_of(fields), names, values)
 
 
 def list_faults(text, objects, elements):
@@ -226,25 +217,22 @@ def list_faults(text, objects, elements):
     wanted, faults, given = groups_of(entries), [], GROUP.findall(text)
     content = text.partition('<div id="content"')[2].partition(">\n")[2]
     if GROUP.sub("", content) != "</div>\n</main>\n</body>\n</html>\n":
-        faults.append("there is more beside the list: %r" % GROUP.sub("", content)[:300])
+        faults.append(f"there is more beside the list: {GROUP.sub('', content)[:300]!r}")
     if len(given) != len(wanted):
-        return faults + ["there are %d groups, and not %d" % (len(given), len(wanted))]
+        return faults + [f"there are {len(given)} groups, and not {len(wanted)}"]
     parts = ["".join(group[place] for group in given).count("\n") for place in (4, 5)]
     if parts != [min(len(entries), elements), max(len(entries) - elements, 0)]:
-        faults.append("%r entries are elements and text" % parts)
-    for (standing, is_open, title, count, *items), (standing_, title_, entries_) in zip(
-        given, wanted
-    ):
-        told = (standing, bytes_shown(unescape(title)), int(count.replace(",", "")), bool(is_open))
-        if told != (standing_, title_, len(entries_), standing_ == "open"):
-            faults.append("a group is %r, and not %r" % (told, (standing_, title_, len(entries_))))
+        faults.append(f"{parts} entries are elements and text")
+    for (standing, is_open, title, count, *items), group in zip(given, wanted):
+        shown = bytes_shown(unescape(title))
+        head = (standing, shown, int(count.replace(",", "")), bool(is_open))
+        wanted_head = (*group[:2], len(group[2]), group[0] == "open")
+        if head != wanted_head:
+            faults.append(f"a group is {head}, and not {wanted_head}")
         found, more = listed("".join(items))
+        pairs = zip(found, map(wanted_item, group[2]))
         faults += more
-        faults += [
-            "%r is listed, and not %r" % pair
-            for pair in zip(found, map(wanted_item, entries_))
-            if pair[0] != pair[1]
-        ]
+        faults += [f"{one} is listed, and not {other}" for one, other in pairs if one != other]
     return faults[:5]
 
 
@@ -253,16 +241,17 @@ def page_faults(text, objects, is_plain, elements=1000):
     page = Page(text)
     faults = list_faults(text, objects, len(objects) if is_plain else elements)
     has_script = any("kind" in fields for fields in objects) and not is_plain
-    policy = "default-src 'none'; base-uri 'none'; form-action 'none'; style-src " + hashed(
-        "".join(page.styles)
-    )
-    policy += "; script-src " + hashed("".join(page.scripts)) if has_script else ""
-    if text.count("<script") != has_script or bool(page.scripts) != has_script:
-        faults.append("it has %d scripts" % text.count("<script"))
-    if page.tags - TAGS or page.names - ATTRIBUTES:
-        faults.append("it has %r" % sorted(page.tags - TAGS | page.names - ATTRIBUTES))
+    scripts, styles = "".join(page.texts["script"]), "".join(page.texts["style"])
+    policy = "default-src 'none'; base-uri 'none'; form-action 'none'; style-src " + hashed(styles)
+    if has_script:
+        policy += "; script-src " + hashed(scripts)
+    if text.count("<script") != has_script or bool(scripts) != has_script:
+        faults.append(f"it has {text.count('<script')} scripts")
+    unknown = sorted((page.tags - TAGS) | (page.names - ATTRIBUTES))
+    if unknown:
+        faults.append(f"it has {unknown}")
     if page.policy != policy:
-        faults.append("the content policy is %r" % page.policy)
+        faults.append(f"the content policy is {page.policy!r}")
     if DIRECTIONS.search(text):
         faults.append("a character is in it that is not seen")
     return faults
@@ -278,24 +267,22 @@ def luminance(colour):
     return 0.2126 * red + 0.7152 * green + 0.0722 * blue
 
 
-def contrast_faults(style, least=4.5, least_of_shapes=3):
+def contrast_faults(style):
     """The texts of a style that are hard to read on what is behind them, and the borders and bars
     that are hard to see, in light and in dark (WCAG 2.1, 1.4.3 and 1.4.11)."""
     faults = []
-    for scheme, block in zip(("light", "dark"), re.findall(r":root {(.*?)}", style, re.DOTALL)):
+    schemes = re.findall(r":root {(.*?)}", style, re.DOTALL)
+    for scheme, block in zip(("light", "dark"), schemes):
         colours = dict(re.findall(r"--([a-z-]+): (#[0-9a-f]{6})", block))
         backs = [name for name in colours if name in ("paper", "raised") or name.endswith("-tint")]
-        pairs = [(text, behind) for text in ("ink", "dim") for behind in backs]
-        pairs += [(kind, behind) for kind in KINDS for behind in ("paper", kind + "-tint")]
-        wanted = [(text, behind, least) for text, behind in pairs + [("paper", "removed")]]
-        shapes = ["border"] + [name for name in colours if name.startswith("bar-")]
-        wanted += [
-            (shape, behind, least_of_shapes) for shape in shapes for behind in ("paper", "raised")
-        ]
-        for text, behind, bound in wanted:
+        pairs = [(text, behind, 4.5) for text in ("ink", "dim") for behind in backs]
+        pairs += [(kind, behind, 4.5) for kind in KINDS for behind in ("paper", kind + "-tint")]
+        pairs.append(("paper", "removed", 4.5))
+        shapes = ["border", *(name for name in colours if name.startswith("bar-"))]
+        pairs += [(shape, behind, 3) for shape in shapes for behind in ("paper", "raised")]
+        for text, behind, least in pairs:
             lower, upper = sorted(luminance(colours[name]) for name in (text, behind))
-            if (upper + 0.05) / (lower + 0.05) < bound:
-                faults.append(
-                    "%s: %s on %s is %.1f" % (scheme, text, behind, (upper + 0.05) / (lower + 0.05))
-                )
-    return faults if len(re.findall(":root {", style)) == 2 else ["there are not two schemes"]
+            contrast = (upper + 0.05) / (lower + 0.05)
+            if contrast < least:
+                faults.append(f"{scheme}: {text} on {behind} is {contrast:.1f}")
+    return faults if len(schemes) == 2 else ["there are not two schemes"]

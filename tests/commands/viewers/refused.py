@@ -1,84 +1,71 @@
 """Lines with changes of all kinds, and what can be done to them so that they have to be refused."""
+from __future__ import annotations
+
 import json
 import re
+from collections.abc import Callable
+from typing import Any
 
 from tests.oracle.configuration import DEFAULTS
 from tests.oracle.lines import lines_of
 
 from .hostile import Database
 
-OLD = {
-    b"/etc": {"ftype": 0o040000, "p": 0o755, "m": 1700000000},
-    b"/etc/gone": {"ftype": 0o100000, "s": 7, "sha256": bytes(32)},
-    b"/etc/link": {"ftype": 0o120000, "l": b"abc"},
-    b"/etc/more": {"ftype": 0o100000, "s": 1},
-    b"/etc/shadow": {
-        "ftype": 0o100000,
-        "s": 900,
-        "p": 0o640,
-        "m": 1600000000,
-        "acl": b"\\" * 20,
-        "sha256": b"\x01" * 32,
-    },
-    b"/gone": {"ftype": 0o010000, "u": 3},
+Edit = Callable[[bytes], bytes]
+FILE, DIRECTORY, LINK, FIFO = 0o100000, 0o040000, 0o120000, 0o010000
+SHADOW: dict[str, Any] = {"ftype": FILE, "s": 900, "p": 0o640, "m": 1600000000, "acl": b"\\" * 20}
+LATER: dict[str, Any] = {"ftype": FILE, "s": 950, "p": 0o644, "m": 1600000001, "acl": b"\\" * 21}
+OLD: dict[bytes, dict[str, Any]] = {
+    b"/etc": {"ftype": DIRECTORY, "p": 0o755, "m": 1700000000},
+    b"/etc/gone": {"ftype": FILE, "s": 7, "sha256": bytes(32)},
+    b"/etc/link": {"ftype": LINK, "l": b"abc"},
+    b"/etc/more": {"ftype": FILE, "s": 1},
+    b"/etc/shadow": {**SHADOW, "sha256": b"\x01" * 32},
+    b"/gone": {"ftype": FIFO, "u": 3},
 }
-NEW = {
-    b"/a": {"ftype": 0o100000, "s": 5, "m": -3},
-    b"/etc": {"ftype": 0o040000, "p": 0o755, "m": 1800000000},
-    b"/etc/link": {"ftype": 0o120000, "l": b"x" * 70},
-    b"/etc/more": {"ftype": 0o100000, "s": 1, "p": 0o600},
-    b"/etc/new : one": {"ftype": 0o100000, "s": 0},
-    b"/etc/shadow": {
-        "ftype": 0o100000,
-        "s": 950,
-        "p": 0o644,
-        "m": 1600000001,
-        "acl": b"\\" * 21,
-        "sha256": b"\x02" * 32,
-    },
+NEW: dict[bytes, dict[str, Any]] = {
+    b"/a": {"ftype": FILE, "s": 5, "m": -3},
+    b"/etc": {"ftype": DIRECTORY, "p": 0o755, "m": 1800000000},
+    b"/etc/link": {"ftype": LINK, "l": b"x" * 70},
+    b"/etc/more": {"ftype": FILE, "s": 1, "p": 0o600},
+    b"/etc/new : one": {"ftype": FILE, "s": 0},
+    b"/etc/shadow": {**LATER, "sha256": b"\x02" * 32},
 }
 
 
-def rich_lines(changes=None):
-    """The proved lines of these databases, with some settings."""
-    settings = {
-        **DEFAULTS,
-        "database_in": b"/var/old.db",
-        "database_new": b"/var/new.db",
-        **(changes or {}),
-    }
-    return lines_of(Database(OLD), Database(NEW), [b"old", b"new"], settings)[0]
+def rich_lines() -> bytes:
+    """The proved lines of these databases."""
+    settings = {**DEFAULTS, "database_in": b"/var/old.db", "database_new": b"/var/new.db"}
+    proved: bytes = lines_of(Database(OLD), Database(NEW), [b"old", b"new"], settings)[0]
+    return proved
 
 
-def changed_line(number, **fields):
+def changed_line(number: int, **fields: Any) -> Edit:
     """Changes an object of a text of lines; a field that is Ellipsis is taken out."""
 
-    def edit(text):
+    def edit(text: bytes) -> bytes:
         lines = text.split(b"\n")
         known = {**json.loads(lines[number]), **fields}
-        lines[number] = json.dumps(
-            {name: value for name, value in known.items() if value is not ...}
-        ).encode()
+        kept = {name: value for name, value in known.items() if value is not ...}
+        lines[number] = json.dumps(kept).encode()
         return b"\n".join(lines)
 
     return edit
 
 
-def line_moved(first, second):
-    def edit(text):
-        lines = text.split(b"\n")
-        lines[first], lines[second] = lines[second], lines[first]
-        return b"\n".join(lines)
-
-    return edit
+def exchanged(text: bytes) -> bytes:
+    """The first two changes in each other's place."""
+    head, one, other, rest = text.split(b"\n", 3)
+    return b"\n".join([head, other, one, rest])
 
 
-LINE_EDITS = {
+DATABASE = {"path": "/a", "sha256": "00" * 32, "skipped": []}
+LINE_EDITS: dict[str, Edit] = {
     "no summary": lambda text: text[text.index(b"\n") + 1 :],
     "two summaries": lambda text: text[: text.index(b"\n") + 1] + text,
     "an entry less": lambda text: re.sub(rb'\n{"kind":[^\n]*', b"", text, count=1),
     "an entry twice": lambda text: re.sub(rb'(\n{"kind":[^\n]*)', rb"\1\1", text, count=1),
-    "entries exchanged": line_moved(1, 2),
+    "entries exchanged": exchanged,
     "no end": lambda text: text[: text.rindex(b"\n", 0, -1) + 1],
     "two ends": lambda text: text + text[text.rindex(b"\n", 0, -1) + 1 :],
     "text after the end": lambda text: text + b"{}\n",
@@ -95,11 +82,9 @@ LINE_EDITS = {
     "a standing that is none": changed_line(1, standing="<b>"),
     "a severity that is none": changed_line(1, severity="<b>"),
     "a package that is a number": changed_line(1, package=5),
-    "a digest of a database that is none": changed_line(
-        0, old={"path": "/a", "sha256": "<b>", "skipped": []}
-    ),
+    "a digest of a database that is none": changed_line(0, old={**DATABASE, "sha256": "<b>"}),
     "a database without a path": changed_line(0, new={"sha256": "00" * 32, "skipped": []}),
-    "columns in words": changed_line(0, new={"path": "/a", "sha256": "00" * 32, "skipped": "<b>"}),
+    "columns in words": changed_line(0, new={**DATABASE, "skipped": "<b>"}),
     "no kind": changed_line(1, kind=...),
     "another kind": changed_line(1, kind="<b>"),
     "a path without a slash": changed_line(1, path="etc"),

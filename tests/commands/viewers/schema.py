@@ -1,148 +1,111 @@
 """A validator of the part of JSON Schema (draft 2020-12) that contrib/json uses. A keyword that it
 does not know is a fault."""
+from __future__ import annotations
+
 import json
 import os
 import re
+from typing import Any, Callable
 
-from . import COMMANDS
+from tests.lib.scratch import TOP
 
-PATH = os.path.abspath(
-    os.path.join(COMMANDS, "..", "contrib", "json", "aide-compare-lines.schema.json")
-)
-KINDS = {"object": dict, "array": list, "string": str, "null": type(None), "boolean": bool}
+PATH = os.path.join(TOP, "contrib", "json", "aide-compare-lines.schema.json")
+KINDS: dict[str, type] = {
+    "object": dict,
+    "array": list,
+    "string": str,
+    "null": type(None),
+    "boolean": bool,
+}
 SAID = ("$schema", "$defs", "title", "description")
-ABSENT = object()
+Schema = dict[str, Any]
 
 
-def schema_of_lines():
+def schema_of_lines() -> Schema:
     with open(PATH, encoding="utf-8") as file:
-        return json.load(file)
+        schema: Schema = json.load(file)
+    return schema
 
 
-def is_of(value, kind):
+def is_of(value: object, kind: str) -> bool:
     if kind == "integer":
         return isinstance(value, int) and not isinstance(value, bool)
     return isinstance(value, KINDS[kind])
 
 
-def same(one, other):
+def is_any_of(value: object, kinds: str | list[str]) -> bool:
+    return any(is_of(value, kind) for kind in ([kinds] if isinstance(kinds, str) else kinds))
+
+
+def is_same(one: object, other: object) -> bool:
     """JSON's equality: true is not 1."""
     return one == other and isinstance(one, bool) == isinstance(other, bool)
+
+
+# Whether a value fits a keyword that says nothing of its members.
+PLAIN: dict[str, Callable[[Any, Any], bool]] = {
+    "type": is_any_of,
+    "const": is_same,
+    "enum": lambda value, rule: any(is_same(value, other) for other in rule),
+    "pattern": lambda value, rule: not isinstance(value, str) or bool(re.search(rule, value)),
+    "minimum": lambda value, rule: not is_of(value, "integer") or value >= rule,
+    "maximum": lambda value, rule: not is_of(value, "integer") or value <= rule,
+    "minItems": lambda value, rule: not isinstance(value, list) or len(value) >= rule,
+    "required": lambda value, rule: not isinstance(value, dict) or set(rule) <= set(value),
+    "dependentRequired": lambda value, rule: not isinstance(value, dict)
+    or all(set(rule.get(name, ())) <= set(value) for name in value),
+}
 
 
 class Validator:
     """Says what of a value does not fit a schema."""
 
-    def __init__(self, schema):
+    def __init__(self, schema: Schema) -> None:
         self.root = schema
 
-    def faults(self, value, schema=None, place="$"):
-        schema, found = self.root if schema is None else schema, []
-        if schema in (True, False):
-            return [] if schema else ["%s: not allowed" % place]
+    def faults(
+        self, value: object, schema: Schema | bool | None = None, place: str = "$"
+    ) -> list[str]:
+        if schema is None:
+            schema = self.root
+        if isinstance(schema, bool):
+            return [] if schema else [f"{place}: not allowed"]
+        found: list[str] = []
         for keyword, rule in schema.items():
-            if keyword not in SAID:
-                found += getattr(self, "_" + keyword.strip("$"), self._unknown(keyword))(
-                    value, rule, place, schema
-                )
+            if keyword in PLAIN:
+                if not PLAIN[keyword](value, rule):
+                    found.append(f"{place}: {value!r:.300} does not fit {keyword} {rule}")
+            elif keyword == "$ref":
+                found += self.faults(value, self.root["$defs"][rule.rpartition("/")[2]], place)
+            elif keyword == "oneOf":
+                found += self.faults_of_one(value, rule, place)
+            elif keyword in ("properties", "additionalProperties", "items"):
+                found += self.faults_of_members(value, keyword, schema, place)
+            elif keyword not in SAID:
+                found.append(f"the schema has the keyword {keyword}, which is not known")
         return found
 
-    @staticmethod
-    def _unknown(keyword):
-        return lambda *_: ["the schema has the keyword %s, which is not known" % keyword]
+    def faults_of_one(self, value: object, schemas: list[Schema], place: str) -> list[str]:
+        """What is wrong if a value does not fit one schema alone: that of the schema that is
+        nearest."""
+        tried = [self.faults(value, schema, place) for schema in schemas]
+        if tried.count([]) == 1:
+            return []
+        return min(tried, key=len) or [f"{place}: fits several"]
 
-    def _ref(self, value, rule, place, _):
-        return self.faults(value, self.root["$defs"][rule.rpartition("/")[2]], place)
-
-    def _type(self, value, rule, place, _):
-        kinds = rule if isinstance(rule, list) else [rule]
-        return (
-            []
-            if any(is_of(value, kind) for kind in kinds)
-            else ["%s: no %s" % (place, " or ".join(kinds))]
-        )
-
-    def _const(self, value, rule, place, _):
-        return [] if same(value, rule) else ["%s: not %r" % (place, rule)]
-
-    def _enum(self, value, rule, place, _):
-        return (
-            [] if any(same(value, other) for other in rule) else ["%s: none of %r" % (place, rule)]
-        )
-
-    def _pattern(self, value, rule, place, _):
-        return (
-            []
-            if not isinstance(value, str) or re.search(rule, value)
-            else ["%s: does not match %s" % (place, rule)]
-        )
-
-    def _minimum(self, value, rule, place, _):
-        return (
-            []
-            if not is_of(value, "integer") or value >= rule
-            else ["%s: less than %d" % (place, rule)]
-        )
-
-    def _maximum(self, value, rule, place, _):
-        return (
-            []
-            if not is_of(value, "integer") or value <= rule
-            else ["%s: more than %d" % (place, rule)]
-        )
-
-    def _minItems(self, value, rule, place, _):
-        return (
-            []
-            if not isinstance(value, list) or len(value) >= rule
-            else ["%s: too few members" % place]
-        )
-
-    def _items(self, value, rule, place, _):
-        members = value if isinstance(value, list) else []
-        return [
-            fault
-            for number, other in enumerate(members)
-            for fault in self.faults(other, rule, "%s[%d]" % (place, number))
-        ]
-
-    def _required(self, value, rule, place, _):
-        return [
-            "%s: has no %s" % (place, name)
-            for name in rule
-            if isinstance(value, dict) and name not in value
-        ]
-
-    def _dependentRequired(self, value, rule, place, schema):
-        members = value if isinstance(value, dict) else {}
-        return [
-            fault
-            for name in members
-            for fault in self._required(value, rule.get(name, []), place, schema)
-        ]
-
-    def _properties(self, value, rule, place, _):
-        members = value if isinstance(value, dict) else {}
-        return [
-            fault
-            for name, other in rule.items()
-            if name in members
-            for fault in self.faults(members[name], other, "%s.%s" % (place, name))
-        ]
-
-    def _additionalProperties(self, value, rule, place, schema):
-        members = value if isinstance(value, dict) else {}
-        return [
-            fault
-            for name in members
-            if name not in schema.get("properties", {})
-            for fault in self.faults(members[name], rule, "%s.%s" % (place, name))
-        ]
-
-    def _oneOf(self, value, rule, place, _):
-        tried = [self.faults(value, other, place) for other in rule]
-        return (
-            []
-            if sum(not found for found in tried) == 1
-            else min(tried, key=len) or ["%s: fits several" % place]
-        )
+    def faults_of_members(
+        self, value: object, keyword: str, schema: Schema, place: str
+    ) -> list[str]:
+        """What is wrong with the members of an object or a list that a keyword is about."""
+        rule = schema[keyword]
+        if isinstance(value, list) and keyword == "items":
+            named = [(str(number), member, rule) for number, member in enumerate(value)]
+        elif isinstance(value, dict) and keyword == "properties":
+            named = [(name, value[name], rule[name]) for name in rule if name in value]
+        elif isinstance(value, dict) and keyword == "additionalProperties":
+            others = set(value) - set(schema.get("properties", ()))
+            named = [(name, value[name], rule) for name in sorted(others)]
+        else:
+            return []
+        faults = [self.faults(member, each, f"{place}.{name}") for name, member, each in named]
+        return [fault for each in faults for fault in each]

@@ -1,11 +1,17 @@
 """The texts for people in the lines of aide-compare json: computed in another way, and a table of
 what real tools printed."""
+from __future__ import annotations
+
 import contextlib
 import os
 import random
 import signal
 import stat
 import time
+import unittest
+from collections.abc import Iterator
+from typing import Any
+from unittest import mock
 
 from aide_compare.lines.decoded import decoded, time_text
 
@@ -36,11 +42,6 @@ TABLE = [
     ),
     (
         "ACL",
-        b"POSIX,dXNlcjo6cnctCnVzZXI6cm9vdDpyd3gKZ3JvdXA6OnItLQpncm91cDpkYWVtb246cnd4Cm1hc2s6OnJ3eApvdGhlcjo6ci0tCg==,0",
-        "user::rw-, user:root:rwx, group::r--, group:daemon:rwx, mask::rwx, other::r--",
-    ),
-    (
-        "ACL",
         b"POSIX,dXNlcjo6cnd4Cmdyb3VwOjpyLXgKb3RoZXI6OnIteAo=,dXNlcjo6cnd4CnVzZXI6NDM0Mzpyd3gJI2VmZmVjdGl2ZTpyLS0KZ3JvdXA6"
         b"OnIteAkjZWZmZWN0aXZlOnItLQptYXNrOjpyLS0Kb3RoZXI6OnIteAo=",
         "user::rwx, group::r-x, other::r-x, default:user::rwx, default:user:4343:rwx #effective:r--, "
@@ -56,11 +57,6 @@ TABLE = [
         b"5,user.empty,0,user.nl,YQpi,user.nul,YWJjAA==,trusted.t,dHQ=,security.selinux,"
         b"c3lzdGVtX3U6b2JqZWN0X3I6ZXRjX3Q6czA=",
         'user.empty: ""; user.nl: "a\\012b"; user.nul: "abc\\000"; trusted.t: "tt"; security.selinux: system_u:object_r:etc_t:s0',
-    ),
-    (
-        "XAttrs",
-        b"2,user.demo,dHdv,user.bin,AAECAwQFBgcICQoLDA0ODxAREhM=",
-        'user.demo: "two"; user.bin: 0sAAECAwQFBgcICQoLDA0ODxAREhM=',
     ),
     ("SELinux", b"c3lzdGVtX3U6b2JqZWN0X3I6ZXRjX3Q6czA=", "system_u:object_r:etc_t:s0"),
     ("SELinux", b"c3lzdGVtX3U6b2JqZWN0X3I6ZXRjX3Q6czAA", "system_u:object_r:etc_t:s0"),
@@ -151,12 +147,12 @@ class TooLong(Exception):
     """Ends what takes more processor time than it may."""
 
 
-def stop(*_):
+def stop(*_: object) -> None:
     raise TooLong
 
 
 @contextlib.contextmanager
-def bounded():
+def bounded() -> Iterator[None]:
     former = signal.signal(signal.SIGPROF, stop)
     signal.setitimer(signal.ITIMER_PROF, MOST_SECONDS)
     try:
@@ -166,131 +162,101 @@ def bounded():
         signal.signal(signal.SIGPROF, former)
 
 
-def text_of(label, value):
-    """The text, or in its place the fault that should not be."""
-    try:
-        return decoded(label, value, "File")
-    except Exception as error:
-        return "\n%s" % type(error).__name__
-
-
-def try_table(tally):
+def try_table(test: unittest.TestCase) -> None:
     """The table, and values of hostile sizes."""
     for label, value, text in TABLE:
-        given = text_of(label, value)
-        tally.holds("%s %r" % (label, value), given == text, "it is %r, and not %r" % (given, text))
+        with test.subTest(label=label, value=value):
+            test.assertEqual(decoded(label, value, "File"), text)
     for label, value in LONG:
-        with bounded():
-            text = text_of(label, value) or ""
-        good = len(text) <= MOST_CHARACTERS and text.isprintable()
-        tally.holds(
-            "%s of %d bytes" % (label, len(value)),
-            good,
-            "%d characters, %.100r" % (len(text), text),
-        )
+        with test.subTest(label=label, length=len(value)), bounded():
+            long = decoded(label, value, "File") or ""
+            test.assertLessEqual(len(long), MOST_CHARACTERS)
+            test.assertTrue(long.isprintable(), long[:100])
 
 
-ZONES = [
-    "UTC",
-    "Europe/Berlin",
-    "America/St_Johns",
-    "Asia/Kathmandu",
-    "Australia/Lord_Howe",
-    "Africa/Monrovia",
-]
+ZONES = (
+    "UTC Europe/Berlin America/St_Johns Asia/Kathmandu Australia/Lord_Howe Africa/Monrovia".split()
+)
 FIRST, LAST = -62135596800, 253402300799
 
 
-def local_text(seconds):
+def local_text(seconds: int) -> str | None:
     """A time of the years 1 to 9999 as strftime has it."""
     try:
         local = time.localtime(seconds)
     except (OverflowError, ValueError, OSError):
         return None
-    return (
-        "%04d-" % local.tm_year + time.strftime("%m-%d %H:%M:%S %z", local)
-        if 1 <= local.tm_year <= 9999
-        else None
-    )
+    if not 1 <= local.tm_year <= 9999:
+        return None
+    return f"{local.tm_year:04}-" + time.strftime("%m-%d %H:%M:%S %z", local)
 
 
-def try_zones(seed, tally):
-    """Times of all centuries, and around each change of the clock from 1800 to 2040, in zones with
-    odd offsets."""
-    pick, before = random.Random("zones %d" % seed), os.environ.get("TZ")
-    times = [pick.randrange(FIRST - 10, LAST + 10) for _ in range(2000)] + [
-        FIRST - 1,
-        FIRST,
-        -1,
-        0,
-        LAST,
-        LAST + 1,
-        2**63,
-    ]
-    for zone in ZONES:
-        os.environ["TZ"] = zone
+@contextlib.contextmanager
+def zone_of(zone: str) -> Iterator[None]:
+    """Runs in another zone, and without the texts that were kept of the one before."""
+    try:
+        with mock.patch.dict(os.environ, TZ=zone):
+            time.tzset()
+            time_text.cache_clear()
+            yield
+    finally:
         time.tzset()
         time_text.cache_clear()
-        hours = [hour * 3600 for hour in range(-1490000, 620000, 6)]
-        offsets = [time.localtime(seconds).tm_gmtoff for seconds in hours]
-        changes = [
-            seconds + pick.randrange(21600)
-            for seconds, one, other in zip(hours, offsets, offsets[1:])
-            if one != other
-        ]
-        around = [seconds + step for seconds in changes for step in range(-22000, 22000, 450)]
-        faults = [
-            "%d is %r" % (seconds, time_text(seconds))
-            for seconds in times + around
-            if time_text(seconds) != local_text(seconds)
-        ]
-        tally.add("times in " + zone, faults[:5])
-    os.environ.pop("TZ") if before is None else os.environ.update(TZ=before)
-    time.tzset()
-    time_text.cache_clear()
 
 
-def mode_of(digits, kind):
-    """What ls prints of permissions, without the type if that is not known."""
-    text = stat.filemode(TYPES.get(kind, stat.S_IFREG) | int(digits, 8))
-    return text if kind in TYPES else text[1:]
+def changes_of_clock(pick: random.Random) -> list[int]:
+    """A moment near each change of this zone's clock from 1800 to 2040."""
+    hours = [hour * 3600 for hour in range(-1490000, 620000, 6)]
+    offsets = [time.localtime(seconds).tm_gmtoff for seconds in hours]
+    pairs = zip(hours, offsets, offsets[1:])
+    return [seconds + pick.randrange(21600) for seconds, one, other in pairs if one != other]
 
 
-def wanted_text(label, value, kind):
-    """The text that a value has; Ellipsis where the table has to say it."""
+def try_zones(seed: int, test: unittest.TestCase) -> None:
+    """Times of all centuries, and around each change of the clock, in zones with odd offsets."""
+    pick = random.Random(f"zones {seed}")
+    times = [pick.randrange(FIRST - 10, LAST + 10) for _ in range(2000)]
+    times += [FIRST - 1, FIRST, -1, 0, LAST, LAST + 1, 2**63]
+    for zone in ZONES:
+        with test.subTest(zone=zone, seed=seed), zone_of(zone):
+            changes = changes_of_clock(pick)
+            around = [each + step for each in changes for step in range(-22000, 22000, 450)]
+            wrong = [each for each in times + around if time_text(each) != local_text(each)]
+            test.assertEqual([(each, time_text(each)) for each in wrong[:5]], [])
+
+
+def wanted_text(label: str, value: Any, kind: str | None) -> str | None:
+    """The text of a value that has one, if the table is not what says it."""
     if label == "Perm":
-        return mode_of(value, kind)
+        text = stat.filemode(TYPES.get(kind or "", stat.S_IFREG) | int(value, 8))
+        return text if kind in TYPES else text[1:]  # So ls prints it, without an unknown type.
     if label in ("Atime", "Mtime", "Ctime"):
         return local_text(int(value))
-    return Ellipsis if label in DECODED else None
+    return None
 
 
-def text_faults(objects):
+def text_faults(objects: list[dict[str, Any]]) -> list[str]:
     """What is wrong with the texts of the objects of changes."""
+    return [fault for entry in objects if "kind" in entry for fault in faults_of_entry(entry)]
+
+
+def faults_of_entry(entry: dict[str, Any]) -> list[str]:
     faults = []
-    for entry in objects:
-        kind = entry.get("type") if entry.get("summary", "!")[0] != "!" else None
-        sides, texts = (
-            [entry.get(side + end, {}) for side in ("old", "new")] for end in ("", "_text")
-        )
-        if "kind" not in entry:
-            continue
-        for values, given in zip(sides, texts):
-            for name, value in values.items():
-                label = name[:-4] if name.endswith("_hex") else name
-                wanted, text = wanted_text(label, value, values.get("Type", kind)), given.get(label)
-                if wanted is not Ellipsis and text != wanted:
-                    faults.append(
-                        "%s of %r has the text %r, and not %r" % (label, entry, text, wanted)
-                    )
-                if text is not None and not text.isprintable():
-                    faults.append("%s of %r has the text %r" % (label, entry, text))
-        for label in set(texts[0]) & set(texts[1]):
-            names = [
-                name
-                for name in (label, label + "_hex")
-                if name in sides[0] and sides[0][name] != sides[1].get(name)
-            ]
-            if texts[0][label] == texts[1][label] and names:
-                faults.append("%s of %r has one text for two values" % (label, entry))
+    kind = entry.get("type") if entry.get("summary", "!")[0] != "!" else None
+    sides = [entry.get(side, {}) for side in ("old", "new")]
+    texts = [entry.get(side + "_text", {}) for side in ("old", "new")]
+    for values, given in zip(sides, texts):
+        for name, value in values.items():
+            label = name[:-4] if name.endswith("_hex") else name
+            text = given.get(label)
+            wanted = wanted_text(label, value, values.get("Type", kind))
+            if text != wanted and label not in DECODED:
+                faults.append(f"{label} of {entry} has the text {text!r}, and not {wanted!r}")
+            if text is not None and not text.isprintable():
+                faults.append(f"{label} of {entry} has the text {text!r}")
+    for label in set(texts[0]) & set(texts[1]):
+        names = [name for name in (label, label + "_hex") if name in sides[0]]
+        is_other = any(sides[0][name] != sides[1].get(name) for name in names)
+        if texts[0][label] == texts[1][label] and is_other:
+            faults.append(f"{label} of {entry} has one text for two values")
     return faults

@@ -3,9 +3,15 @@ were held at once.
 
 Work that grows as its input does doubles with it; a walk within a walk makes it four times as much.
 """
+from __future__ import annotations
+
 import io
 import sys
 import tracemalloc
+import unittest
+from collections.abc import Callable
+from types import FrameType
+from typing import Any
 
 from tests.commands.viewers import COMMANDS  # It puts the modules of the commands in reach.
 
@@ -15,18 +21,21 @@ from aide_compare.show.page import page
 
 OURS = COMMANDS + "/lib/aide_compare/"
 MOST_GROWTH = 1.3
+Work = Callable[[], None]
+# What to measure at a size, and the length of that input.
+MeasuredOf = Callable[[int], "tuple[Work, int]"]
 
 
-def lines_run(work):
+def lines_run(work: Work) -> int:
     """How many lines of the commands' modules a call runs."""
     count = 0
 
-    def see_line(frame, event, _):
+    def see_line(frame: FrameType, event: str, _: object) -> Any:
         nonlocal count
         count += event == "line"
         return see_line
 
-    def see_call(frame, event, _):
+    def see_call(frame: FrameType, event: str, _: object) -> Any:
         return see_line if frame.f_code.co_filename.startswith(OURS) else None
 
     before = sys.gettrace()
@@ -38,7 +47,7 @@ def lines_run(work):
     return count
 
 
-def bytes_held(work):
+def bytes_held(work: Work) -> int:
     """The most bytes that a call holds at once."""
     tracemalloc.start()
     try:
@@ -48,10 +57,10 @@ def bytes_held(work):
         tracemalloc.stop()
 
 
-def pages_of(lines):
+def pages_of(lines: bytes) -> Work:
     """A call that makes both forms of a page."""
 
-    def work():
+    def work() -> None:
         for is_plain in (False, True):
             for _ in page(Reader(io.BytesIO(lines)), "", is_plain):
                 pass
@@ -59,29 +68,23 @@ def pages_of(lines):
     return work
 
 
-def additions_to(lines):
+def additions_to(lines: bytes) -> Work:
     """A call that reads proved lines and adds texts to them."""
 
-    def work():
+    def work() -> None:
         for _ in added_lines(Reader(io.BytesIO(lines)), None, {}):
             pass
 
     return work
 
 
-def growth_faults(measure, given_of, size):
-    """What is wrong with the growth of some work from a size to twice that size: it grows as its
-    input does.
-
-    `given_of` gives what to measure at a size, and the size of that input.
-    """
+def check_growth(
+    test: unittest.TestCase, measure: Callable[[Work], int], given_of: MeasuredOf, size: int
+) -> None:
+    """Some work grows as its input does, from a size to twice that size. `given_of` gives what to
+    measure at a size, and the length of that input."""
     (small, few), (large, more) = [
-        (measure(given), length) for given, length in map(given_of, (size, 2 * size))
+        (measure(work), length) for work, length in map(given_of, (size, 2 * size))
     ]
-    if not small:
-        return ["nothing was counted"]
-    return (
-        ["%d at %d, %d at %d" % (small, few, large, more)]
-        if large * few > MOST_GROWTH * small * more
-        else []
-    )
+    test.assertGreater(small, 0)
+    test.assertLessEqual(large * few, MOST_GROWTH * small * more, (small, few, large, more))

@@ -1,0 +1,212 @@
+"""aide-compare json and page of two databases: where and when, what --full and --with put into the
+lines, and what the schema says of all lines."""
+from __future__ import annotations
+
+import json
+import os
+import re
+import socket
+from typing import Any
+
+from tests.commands.sandbox import HERE, Answer, CommandTest, sha256
+from tests.commands.viewers.lines import proved_lines
+from tests.commands.viewers.schema import Validator, schema_of_lines
+
+DATE = re.compile("[0-9]{4}-[0-9]{2}-[0-9]{2}T[0-9]{2}:[0-9]{2}:[0-9]{2}Z")
+USAGE, CONFIGURATION, DEVICE = 15, 17, 18
+# Databases of AIDE 0.18.3 with access control lists, extended attributes, flags and capabilities.
+OLD, NEW = (
+    os.path.join(HERE, "tests", "commands", "viewers", "values", name)
+    for name in ("old.db", "new.db")
+)
+Fields = dict[str, Any]
+
+
+def objects_of(answer: Answer) -> list[Fields]:
+    return [json.loads(line) for line in answer.output.splitlines()]
+
+
+def changed(fields: Fields, **values: object) -> Fields:
+    """An object with other members; one that is Ellipsis is taken out."""
+    return {name: value for name, value in {**fields, **values}.items() if value is not ...}
+
+
+class OccasionTest(CommandTest):
+    def compared(self, *words: str) -> list[Fields]:
+        """What json says of both databases."""
+        answer = self.call("aide-compare json", *words, OLD, NEW)
+        self.assertEqual((answer.status, answer.errors), (7, b""), answer)
+        return objects_of(answer)
+
+    def lines_over(self, old: str = OLD, new: str = NEW, more: str = "") -> bytes:
+        """The lines of the proved program."""
+        text = f"database_in=file:{old}\ndatabase_new=file:{new}\n{more}\n"
+        return proved_lines(os.fsencode(self.program), text)
+
+    def put_pair(self, columns: str, old: str, new: str) -> tuple[str, str]:
+        """Two databases with these columns and lines."""
+        text = f"@@begin_db\n@@db_spec name {columns}\n%s\n@@end_db\n"
+        return self.write("one.db", text % old), self.write("other.db", text % new)
+
+    def added_to(self, lines: bytes, *words: str) -> list[Fields]:
+        """What json makes of lines."""
+        answer = self.answered(0, None, b"", "aide-compare json", *words, text=lines)
+        return objects_of(answer)
+
+    def test_two(self) -> None:
+        """The lines are those of the proved program, with the names of both, the severity of each
+        change, and the counts of standings."""
+        given, wanted = self.compared(), self.added_to(self.lines_over())
+        levels = [change.pop("severity") for change in given[1:-1]]
+        self.assertLessEqual(set(levels), {"high", "medium", "low"})
+        self.assertEqual((given[-1].pop("standings")["open"], len(levels)), (7, 7))
+        self.assertIn("_text", json.dumps(wanted))
+        wanted[0]["old"]["path"] = OLD
+        wanted[0]["new"]["path"] = NEW
+        self.assertEqual(given, wanted)
+
+    def test_page(self) -> None:
+        said = [OLD.encode(), b"-rw-r--r--", b"Open, severity ", b"<h1>File changes on "]
+        self.answered(7, said, b"", "aide-compare page", "--plain", OLD, NEW)
+
+    def test_refused(self) -> None:
+        for status, errors, words in (
+            (USAGE, b"name two databases", ["-c", "/dev/null", OLD]),
+            (USAGE, b"name two databases", [OLD, NEW, OLD]),
+            (DEVICE, b"cannot open the new database /nowhere", [OLD, "/nowhere"]),
+            (CONFIGURATION, b"aide: after:1: line not understood", ["-A", "x", OLD, NEW]),
+            (DEVICE, b"more than 9 bytes", ["--max-size", "9", OLD, NEW]),
+        ):
+            for tool in ("aide-compare json", "aide-compare page"):
+                self.refused(status, errors, tool, *words)
+
+    def test_full(self) -> None:
+        objects = self.compared("--full", "--with", "site=berlin", "--with", "a.b=\u00e9")
+        digests = []
+        for name in (OLD, NEW):
+            with open(name, "rb") as file:
+                digests.append(sha256(file.read())[:16])
+        wanted = {"host": socket.gethostname(), "site": "berlin", "a.b": "\u00e9"}
+        wanted.update(old_digest=digests[0], new_digest=digests[1])
+        for fields in objects:
+            for name in ("@timestamp", "old_time", "new_time"):
+                self.assertRegex(fields.pop(name), DATE)
+            self.assertEqual({name: fields.pop(name, None) for name in wanted}, wanted)
+        self.assertEqual(objects, self.compared(), "nothing else is other")
+
+    def test_full_without_times(self) -> None:
+        """Nobody knows the time of a pipe, nor that of what lines were made of."""
+        with open(OLD, "rb") as file:
+            text = file.read()
+        answer = self.answered(7, None, b"", "aide-compare json", "--full", "-", NEW, text=text)
+        first = objects_of(answer)[0]
+        self.assertIsNone(first["old_time"])
+        self.assertRegex(first["new_time"], DATE)
+        for fields in self.added_to(self.lines_over(), "--full", "--with", "host=www"):
+            self.assertEqual((fields["host"], fields["old_time"]), ("www", None))
+            self.assertRegex(fields["@timestamp"], DATE)
+
+    def test_names_of_databases(self) -> None:
+        """A name that is not UTF-8 is there in hexadecimal digits."""
+        name = os.fsencode(self.path("")) + b"\xff"
+        os.symlink(os.fsencode(NEW), name)
+        first = objects_of(self.call("aide-compare json", OLD, os.fsdecode(name)))[0]
+        self.assertEqual(first["old"]["path"], OLD)
+        self.assertEqual((first["new"]["path_hex"], "path" in first["new"]), (name.hex(), False))
+
+    def test_names_of_users(self) -> None:
+        pair = self.put_pair("uid gid size", "/a 0 0 0", "/a 4000000000 1 0")
+        root = {"UID": "root", "GID": "root"}
+        texts: list[tuple[list[str], object]] = [(["--names"], root), ([], None)]
+        for words, names in texts:
+            entry = self.added_to(self.lines_over(*pair), *words)[1]
+            self.assertEqual(entry["old"], {"UID": 0, "GID": 0})
+            self.assertEqual(entry["new"], {"UID": 4000000000, "GID": 1})
+            self.assertEqual(entry.get("old_text"), names)
+
+    def test_one_text(self) -> None:
+        """Two values with one text, such as a list with and without its last newline: the text
+        would hide the change."""
+        values = ("/a POSIX,dXNlcjo6cnctCg==,0 16", "/a POSIX,dXNlcjo6cnct,0 0016")
+        entry = self.added_to(self.lines_over(*self.put_pair("acl e2fsattrs", *values)))[1]
+        self.assertEqual(set(entry["new"]), {"ACL", "E2FSAttrs"})
+        self.assertFalse({"old_text", "new_text"} & set(entry))
+
+    def test_types(self) -> None:
+        """A mode has the letter of the type if the line tells the type of both sides."""
+        pair = self.put_pair("perm", "/a 100644\n/b 100644", "/a 41777\n/b 101777")
+        for more, wanted in (
+            ("", ["-rw-r--r--", "drwxrwxrwt"]),
+            ("report_ignore_changed_attrs=ftype", ["rw-r--r--", "rwxrwxrwt"]),
+        ):
+            entry = self.added_to(self.lines_over(*pair, more=more))[1]
+            modes = [entry[side]["Perm"] for side in ("old_text", "new_text")]
+            self.assertEqual((entry["path"], modes), ("/a", wanted))
+
+    def test_left_out(self) -> None:
+        """Entries that are left out are counted in the first line only."""
+        objects = objects_of(self.call("aide-compare json", "--exclude", "/**", OLD, NEW))
+        counts = objects[0]["left_out"]
+        self.assertEqual(set(counts), {"old", "new"})
+        self.assertGreater(min(counts.values()), 0)
+        self.assertFalse([fields for fields in objects[1:] if "left_out" in fields])
+
+    def test_members(self) -> None:
+        """Members that lines have already, or that are none."""
+        lines = self.lines_over()
+        members = ["path=/x", "status=x", "standing=x", "a", "=x", "a b=x", 'a"=x', "a=\udcff"]
+        words = [["--with", member] for member in (*members, "a=" + 5000 * "x")]
+        for more in (*words, ["--with", "a=x", "--with", "a=y"], ["--format", "xml"]):
+            self.refused(USAGE, b"aide-compare json: ", "aide-compare json", *more, text=lines)
+
+    def test_schema(self) -> None:
+        """Good lines fit the schema, and lines with one fault each do not."""
+        validator = Validator(schema_of_lines())
+        objects = self.compared("--full", "--with", "site=x")
+        summary, end = objects[0], objects[-1]
+        entry = next(each for each in objects if each.get("kind") == "changed")
+        recorded = changed(entry, standing="recorded", severity="high", package="openssl 3.0.15")
+        for fields in [*objects, recorded, changed(summary, left_out={"old": 1})]:
+            self.assertEqual(validator.faults(fields), [])
+        database: Fields = {"path": "/a", "sha256": "00" * 32, "skipped": []}
+        bad: list[object] = [
+            changed(summary, format=1),
+            changed(summary, old=...),
+            changed(summary, new={**database, "sha256": "00"}),
+            changed(summary, new={**database, "skipped": ["fstype"]}),
+            changed(summary, left_out={"old": -1}),
+            changed(entry, kind="other"),
+            changed(entry, path="a"),
+            changed(entry, path=...),
+            changed(entry, path_hex="2f"),
+            changed(entry, severity="huge"),
+            changed(entry, standing="hope"),
+            changed(entry, same_as="new"),
+            changed(entry, summary="f"),
+            changed(entry, summary=...),
+            changed(entry, new={"Sise": 2}),
+            changed(entry, new={"Size": "x"}),
+            changed(entry, new={"Size": None}),
+            changed(entry, new={"Perm": "644"}),
+            changed(entry, new={"SHA256": "<b>"}),
+            changed(entry, new={"ACL_hex": "0"}),
+            changed(entry, new_text={"Perm": 5}),
+            changed(entry, more=3),
+            changed(entry, old_digest="0"),
+            changed(entry, **{"@timestamp": "today"}),
+            changed(end, added="1"),
+            changed(end, others=...),
+            changed(end, standings={"open": 1}),
+            changed(end, status=8),
+            changed(end, status=...),
+            changed(end, end=False),
+            [],
+            "summary",
+        ]
+        for value in bad:
+            with self.subTest(value=value):
+                self.assertNotEqual(validator.faults(value), [])
+
+    def test_keywords(self) -> None:
+        """A keyword that the validator does not know is not passed over."""
+        self.assertIn("minLength", str(Validator({"minLength": 3}).faults("x")))
