@@ -1,4 +1,6 @@
 """A headless Chromium that gets its commands through two pipes."""
+from __future__ import annotations
+
 import base64
 import fcntl
 import json
@@ -7,8 +9,14 @@ import shutil
 import subprocess
 import tempfile
 import time
+from typing import Any
 
 NAMES = ["chromium", "chromium-browser", "google-chrome"]
+OPTIONS = (
+    "--headless=new --no-sandbox --disable-gpu --hide-scrollbars --remote-debugging-pipe"
+    " --no-first-run".split()
+)
+FAULTS = ("Log.entryAdded", "Runtime.exceptionThrown", "Page.javascriptDialogOpening")
 SECONDS = 120
 
 
@@ -16,13 +24,11 @@ class Browser:
     """A browser with one page. `faults` has what it has complained of: errors, and breaches of the
     content policy."""
 
-    def __init__(self, command=None):
-        self.folder, self.faults, self.count, self.rest = (
-            tempfile.mkdtemp(prefix="page-"),
-            [],
-            0,
-            b"",
-        )
+    def __init__(self, command: str | None = None) -> None:
+        self.folder = tempfile.mkdtemp(prefix="page-")
+        self.faults: list[str] = []
+        self.count = 0
+        self.rest = b""
         command = command or next(filter(None, map(shutil.which, NAMES)), None)
         if not command:
             raise SystemExit("there is no Chromium (%s)" % ", ".join(NAMES))
@@ -31,17 +37,7 @@ class Browser:
         # The browser reads its orders from 3 and answers on 4.
         inner = [fcntl.fcntl(end, fcntl.F_DUPFD_CLOEXEC, 10) for end in (inner_read, inner_write)]
         self.process = subprocess.Popen(
-            [
-                command,
-                "--headless=new",
-                "--no-sandbox",
-                "--disable-gpu",
-                "--hide-scrollbars",
-                "--remote-debugging-pipe",
-                "--no-first-run",
-                "--user-data-dir=" + self.folder,
-                "about:blank",
-            ],
+            [command, *OPTIONS, "--user-data-dir=" + self.folder, "about:blank"],
             stdin=subprocess.DEVNULL,
             stdout=subprocess.DEVNULL,
             stderr=subprocess.DEVNULL,
@@ -51,33 +47,25 @@ class Browser:
         for end in [inner_read, inner_write] + inner:
             os.close(end)
         self.write, self.read, self.session = write, read, None
-        target = next(
-            target
-            for target in self.ask("Target.getTargets")["targetInfos"]
-            if target["type"] == "page"
-        )
-        self.session = self.ask("Target.attachToTarget", targetId=target["targetId"], flatten=True)[
-            "sessionId"
-        ]
+        targets = self.ask("Target.getTargets")["targetInfos"]
+        number = next(target["targetId"] for target in targets if target["type"] == "page")
+        attached = self.ask("Target.attachToTarget", targetId=number, flatten=True)
+        self.session = attached["sessionId"]
         for domain in ("Page", "Runtime", "Log", "DOM"):
             self.ask(domain + ".enable")
         self.ask("Performance.enable", timeDomain="threadTicks")
 
-    def receive(self):
+    def receive(self) -> dict[str, Any]:
         """The next message of the browser."""
         while b"\0" not in self.rest:
             self.rest += os.read(self.read, 1 << 20)
         text, self.rest = self.rest.split(b"\0", 1)
         message = json.loads(text)
-        if message.get("method") in (
-            "Log.entryAdded",
-            "Runtime.exceptionThrown",
-            "Page.javascriptDialogOpening",
-        ):
+        if message.get("method") in FAULTS:
             self.faults.append(json.dumps(message["params"])[:400])
         return message
 
-    def ask(self, method, **parameters):
+    def ask(self, method: str, **parameters: Any) -> dict[str, Any]:
         """The answer to an order."""
         self.count += 1
         message = {"id": self.count, "method": method, "params": parameters}
@@ -91,7 +79,7 @@ class Browser:
                     raise SystemExit("%s: %s" % (method, answer["error"]))
                 return answer["result"]
 
-    def open(self, path):
+    def open(self, path: str) -> float:
         """Opens a page. Returns the seconds until it is loaded and its script has run."""
         began = time.time()
         self.ask("Page.navigate", url="file://" + path)
@@ -100,7 +88,7 @@ class Browser:
                 raise SystemExit("the page was not loaded")
         return time.time() - began
 
-    def value(self, expression):
+    def value(self, expression: str) -> Any:
         """What an expression of the page's language comes to."""
         answer = self.ask(
             "Runtime.evaluate", expression=expression, returnByValue=True, awaitPromise=True
@@ -109,20 +97,17 @@ class Browser:
             raise SystemExit("%s: %s" % (expression, json.dumps(answer["exceptionDetails"])[:300]))
         return answer["result"].get("value")
 
-    def worked(self):
+    def worked(self) -> float:
         """Seconds of the processor that the page's thread has worked."""
-        metrics = {
-            metric["name"]: metric["value"]
-            for metric in self.ask("Performance.getMetrics")["metrics"]
-        }
-        return metrics["TaskDuration"]
+        metrics = self.ask("Performance.getMetrics")["metrics"]
+        return next(each["value"] for each in metrics if each["name"] == "TaskDuration")
 
-    def count_of(self, selector):
+    def count_of(self, selector: str) -> int:
         """How many elements there are; this asks no script of the page."""
         root = self.ask("DOM.getDocument", depth=0)["root"]["nodeId"]
         return len(self.ask("DOM.querySelectorAll", nodeId=root, selector=selector)["nodeIds"])
 
-    def press(self, key, code):
+    def press(self, key: str, code: int) -> None:
         for kind in ("rawKeyDown", "keyUp"):
             self.ask(
                 "Input.dispatchKeyEvent", type=kind, key=key, code=key, windowsVirtualKeyCode=code
@@ -130,29 +115,25 @@ class Browser:
         if key == "Enter":
             self.ask("Input.dispatchKeyEvent", type="char", key=key, text="\r")
 
-    def picture(self, path, width, height, dark=False):
-        self.ask(
-            "Emulation.setDeviceMetricsOverride",
-            width=width,
-            height=height,
-            deviceScaleFactor=1,
-            mobile=False,
-        )
-        self.ask(
-            "Emulation.setEmulatedMedia",
-            features=[{"name": "prefers-color-scheme", "value": "dark" if dark else "light"}],
-        )
+    def resize(self, width: int, height: int) -> None:
+        metrics = {"width": width, "height": height, "deviceScaleFactor": 1, "mobile": False}
+        self.ask("Emulation.setDeviceMetricsOverride", **metrics)
+
+    def picture(self, path: str, width: int, height: int, dark: bool = False) -> None:
+        self.resize(width, height)
+        scheme = {"name": "prefers-color-scheme", "value": "dark" if dark else "light"}
+        self.ask("Emulation.setEmulatedMedia", features=[scheme])
         self.ask("Runtime.evaluate", expression="scrollTo(0, 0)")
         with open(path, "wb") as file:
             file.write(base64.b64decode(self.ask("Page.captureScreenshot", format="png")["data"]))
 
-    def version(self):
+    def version(self) -> str:
         session, self.session = self.session, None
         name = self.ask("Browser.getVersion")["product"]
         self.session = session
         return name
 
-    def close(self):
+    def close(self) -> None:
         self.session = None
         self.ask("Browser.close")
         self.process.wait(30)

@@ -1,12 +1,15 @@
 """Changes to look at in a browser: such as an upgrade makes, with standings; and with hostile
 names."""
+from __future__ import annotations
+
 import io
 import json
 import random
 import subprocess
+from typing import Any
 from unittest import mock
 
-from tests.commands.viewers import HTML, JSON, hostile
+from tests.commands.viewers import HTML, JSON, hostile, lines
 from tests.commands.viewers.lines import changes_of, stand, with_counts
 from tests.oracle.configuration import DEFAULTS
 from tests.oracle.lines import lines_of as proved_lines_of
@@ -14,6 +17,7 @@ from tests.oracle.lines import lines_of as proved_lines_of
 from aide_compare.lines.reader import Reader
 from aide_compare.show.page import page
 
+Entries = dict[bytes, dict[str, Any]]
 HOST = {
     "host": "www.example.org",
     "@timestamp": "2026-11-25T05:23:11Z",
@@ -30,7 +34,7 @@ FOLDERS = {
     "usr/sbin": "openssh-server 1:9.2p1-2",
 }
 DIGESTS = (("md5", 16), ("sha1", 20), ("sha256", 32), ("sha512", 64), ("rmd160", 20))
-DEMO = [
+DEMO: list[tuple[str, Any, Any, str]] = [
     ("etc/passwd", {"s": 2811, "m": 1767225600}, {"s": 2874, "m": 1795500000}, "high"),
     ("etc/ssh/sshd_config", {"s": 3223, "p": 0o600}, {"s": 3241, "p": 0o644}, "high"),
     ("etc/cron.d/backup", None, {"s": 97, "p": 0o644, "u": 0, "g": 0, "m": 1795500123}, "medium"),
@@ -39,50 +43,37 @@ DEMO = [
 ]
 
 
-def lines_over(old, new):
-    settings = {
-        **DEFAULTS,
-        "database_in": b"/var/lib/aide/aide.db",
-        "database_new": b"/var/lib/aide/aide.db.new",
-    }
-    return proved_lines_of(
-        hostile.Database(old), hostile.Database(new), [b"old", b"new"], settings
-    )[0]
+def lines_over(old: Entries, new: Entries) -> bytes:
+    names = {"database_in": b"/var/lib/aide/aide.db", "database_new": b"/var/lib/aide/aide.db.new"}
+    databases = hostile.Database(old), hostile.Database(new)
+    return proved_lines_of(*databases, [b"old", b"new"], {**DEFAULTS, **names})[0]
 
 
-def digests_of(text):
-    pick = random.Random(text)
-    return {name: bytes(pick.getrandbits(8) for _ in range(size)) for name, size in DIGESTS}
+def file_of(name: str, **values: int) -> dict[str, Any]:
+    """A file with these values, and with digests that belong to a name."""
+    pick = random.Random(name)
+    digests = {kind: bytes(pick.choices(range(256), k=size)) for kind, size in DIGESTS}
+    return {"ftype": 0o100000, **values, **digests}
 
 
-def demo_changes():
+def demo_changes() -> bytes:
     """Lines such as an upgrade makes."""
-    sides, pick = ({}, {}), random.Random(4)
+    pick = random.Random(4)
+    sides: list[Entries] = [{}, {}]
     for number in range(260):
         path, kind = b"/%s/item-%03d" % (pick.choice(list(FOLDERS)).encode(), number), pick.random()
         for side, entries in enumerate(sides):
             if kind > 0.12 or (kind > 0.05) == side:
-                entries[path] = {
-                    "ftype": 0o100000,
-                    "s": 4000 + number * 37 + side * 120,
-                    "p": 0o755,
-                    "u": 0,
-                    "g": 0,
-                    "m": 1767225600 + side * 28000000,
-                    **digests_of("%d %d" % (number, side)),
-                }
-    for path, *values, _ in DEMO:
-        for side, (entries, value) in enumerate(zip(sides, values)):
-            if value:
-                entries[b"/" + path.encode()] = {
-                    "ftype": 0o100000,
-                    **value,
-                    **digests_of("%s %d" % (path, side)),
-                }
+                grown = {"s": 4000 + number * 37 + side * 120, "m": 1767225600 + side * 28000000}
+                entries[path] = file_of(f"{number} {side}", p=0o755, u=0, g=0, **grown)
+    for name, *pair, _ in DEMO:
+        for side, values in enumerate(pair):
+            if values:
+                sides[side][b"/" + name.encode()] = file_of(f"{name} {side}", **values)
     return lines_over(*sides)
 
 
-def standing_of(path):
+def standing_of(path: str) -> tuple[str, str]:
     """A standing and a package such as an upgrade has."""
     folder = path[1:].rpartition("/")[0]
     if folder == "var/lib/dpkg/info":
@@ -91,7 +82,7 @@ def standing_of(path):
     return ("recorded", package) if package else ("open", "")
 
 
-def demo_lines():
+def demo_lines() -> bytes:
     """These lines with a host, times and standings."""
     objects = [json.loads(line) for line in lines_of(demo_changes()).splitlines()]
     severe = {"/" + row[0]: row[3] for row in DEMO}
@@ -100,50 +91,42 @@ def demo_lines():
         standing, package = ("open", "") if path in severe else standing_of(path)
         stand(fields, standing, severe.get(path, "medium"), package)
     objects[0].update(HOST)
-    return b"".join(json.dumps(fields).encode() + b"\n" for fields in with_counts(objects))
+    return lines.lines_of(with_counts(objects))
 
 
-def hostile_changes():
-    sides = [{}, {}]
+def hostile_changes() -> bytes:
+    sides: list[Entries] = [{}, {}]
     for number, name in enumerate(hostile.NAMES):
         for side in range(2):
-            sides[side][b"/" + name + b"/x"] = {
-                "ftype": 0o120000,
-                "l": name + b"%d" % side,
-                "acl": name.replace(b" ", b"_"),
-            }
+            link = {"l": name + b"%d" % side, "acl": name.replace(b" ", b"_")}
+            sides[side][b"/" + name + b"/x"] = {"ftype": 0o120000, **link}
             if number % 3:
                 sides[side][b"/" + name] = {"s": number + side}
     return lines_over(*sides)
 
 
-def hostile_lines():
+def hostile_lines() -> bytes:
     """Lines with hostile names, also of packages, in decoded values and in the first line."""
     objects = [json.loads(line) for line in lines_of(hostile_changes()).splitlines()]
-    names = [
-        "<img src=x onerror=alert(1)>",
-        "</script>",
-        "</noscript><script>alert(1)</script>",
-        "\u202etxt.exe",
-        "\ud800",
-    ]
+    script = "</noscript><script>alert(1)</script>"
+    names = ["<img src=x onerror=alert(1)>", "</script>", script, "\u202etxt.exe", "\ud800"]
     for number, fields in enumerate(changes_of(objects)):
         stand(fields, "recorded" if number % 2 else "open", "high", names[number % 5])
         fields["new_text"] = dict.fromkeys(fields.get("new", ()), names[number % 5])
     more = {"@timestamp": names[2], "<b>": names[3], "left_out": {"old": 3, "new": 0}}
     objects[0].update(host=names[0], **more)
-    return b"".join(json.dumps(fields).encode() + b"\n" for fields in with_counts(objects))
+    return lines.lines_of(with_counts(objects))
 
 
-def lines_of(lines):
-    return subprocess.run([*JSON], input=lines, stdout=subprocess.PIPE, check=True).stdout
+def lines_of(proved: bytes) -> bytes:
+    return subprocess.run([*JSON], input=proved, stdout=subprocess.PIPE, check=True).stdout
 
 
-def page_of(lines, *words):
-    return subprocess.run([*HTML, *words], input=lines, stdout=subprocess.PIPE, check=True).stdout
+def page_of(text: bytes, *words: str) -> bytes:
+    return subprocess.run([*HTML, *words], input=text, stdout=subprocess.PIPE, check=True).stdout
 
 
-def split_page_of(lines):
+def split_page_of(text: bytes) -> bytes:
     """A page of which nine entries are elements, and all others are text."""
     with mock.patch("aide_compare.show.page.MAX_ELEMENTS", 9):
-        return b"".join(page(Reader(io.BytesIO(lines)), "", False))
+        return b"".join(page(Reader(io.BytesIO(text)), "", False))
