@@ -16,6 +16,7 @@ class Column(NamedTuple):
 T = TypeVar("T")
 Pair = Tuple[T, T]
 SHA256, I_BIT, ANF, ARF, TYPE, GROWING = 30, 27, 28, 29, 35, 40
+CHMOD = ("100644", "100600")
 XATTRS, FLAGS = Column("xattrs", (33,)), Column("e2fsattrs", (36,))
 SIZE, MTIME = Column("size", (5,)), Column("mtime", (8,))
 LOG, LOG_AND_DIGEST = Column("size", (5, GROWING)), Column("size sha256", (5, GROWING, SHA256))
@@ -125,12 +126,6 @@ CONFIGURATION = [
         "database_in=file:DIR/with blank\n" + NEW_ONLY,
         files={"with blank": A},
     ),
-    Case(
-        "a backslash before @",
-        (4, 18),
-        "database_in=file:DIR/with\\@\n" + NEW_ONLY,
-        files={"with@": A},
-    ),
     also("a comment behind a value", (4, 17), "report_level=summary # short"),
     also("a comment behind a bool", (4, 17), "report_quiet=no # yes"),
     also("a comment behind an expression", (17, 17), "report_force_attrs=s # x"),
@@ -167,25 +162,12 @@ XATTR = ("0", "1,dXNlci54,MQ==")
 REVERSED = ("2,dXNlci5vbmU=,MQ==,dXNlci50d28=,Mg==", "2,dXNlci50d28=,Mg==,dXNlci5vbmU=,MQ==")
 FILE = entry("")
 ONE = of_mode("", FILE)
-
-
-def allowed(bit: int) -> str:
-    """Another file, with the bit of a rule that allows it to come or go."""
-    return entry("", bit, path="/b")
-
+# Another file, with the bit of a rule that allows it to come, or to go.
+MAY_COME, MAY_GO = entry("", ANF, path="/b"), entry("", ARF, path="/b")
 
 ATTRIBUTES = [
-    Case(
-        "only the new entry has it",
-        (0, 4),
-        BOTH,
-        WITHOUT,
-        WITH,
-        texts=(DIFFERENT + r"\+sha256", ""),
-    ),
-    Case(
-        "only the old entry has it", (0, 4), BOTH, WITH, WITHOUT, texts=(DIFFERENT + "-sha256", "")
-    ),
+    Case("only the new has it", (0, 4), BOTH, WITHOUT, WITH, texts=(DIFFERENT + r"\+sha256", "")),
+    Case("only the old has it", (0, 4), BOTH, WITH, WITHOUT, texts=(DIFFERENT + "-sha256", "")),
     Case("the same, ignored", (0, 0), BOTH + "report_ignore_added_attrs=H\n", WITHOUT, WITH),
     fields(
         "a first extended attribute",
@@ -194,20 +176,8 @@ ATTRIBUTES = [
         XATTR,
         texts=(r"f   \.         X   : /a", r"f   \.         \+   : /a"),
     ),
-    fields(
-        "the same, added attributes ignored",
-        (4, 0),
-        XATTRS,
-        XATTR,
-        lines="report_ignore_added_attrs=X\n",
-    ),
-    fields(
-        "a last extended attribute",
-        (4, 0),
-        XATTRS,
-        XATTR[::-1],
-        lines="report_ignore_removed_attrs=X\n",
-    ),
+    fields("a first one, ignored", (4, 0), XATTRS, XATTR, "report_ignore_added_attrs=X\n"),
+    fields("a last one, ignored", (4, 0), XATTRS, XATTR[::-1], "report_ignore_removed_attrs=X\n"),
     fields(
         "a first flag of the file system",
         (4, 4),
@@ -235,7 +205,7 @@ ATTRIBUTES = [
         (4, 4),
         XATTRS,
         ("0", "0"),
-        modes=("100644", "100600"),
+        modes=CHMOD,
         texts=(r"f   p         \.   : /a", r"f   p             : /a"),
     ),
     Case(
@@ -269,8 +239,8 @@ ATTRIBUTES = [
         ("1 " + EMPTY, "2 " + OTHER),
         texts=(r"f = \.       H     : /a", r"f > \.       H     : /a"),
     ),
-    Case("a new file that is allowed", (0, 1), BOTH, ONE, of_mode("", FILE, allowed(ANF))),
-    Case("a removed file that is allowed", (0, 2), BOTH, of_mode("", FILE, allowed(ARF)), ONE),
+    Case("a new file that is allowed", (0, 1), BOTH, ONE, of_mode("", FILE, MAY_COME)),
+    Case("a removed file that is allowed", (0, 2), BOTH, of_mode("", FILE, MAY_GO), ONE),
     Case(
         "a file that was moved",
         (0, 3),
@@ -293,7 +263,7 @@ REPORTS = [
         (4, 4),
         MTIME,
         ("5", "5"),
-        modes=("100644", "100600"),
+        modes=CHMOD,
         lines=IGNORED + "m\n",
         texts=(r"f   p   :         : /a", r"f   p   \.         : /a"),
     ),
@@ -310,25 +280,9 @@ REPORTS = [
         (4, 4),
         SIZE,
         ("1", "2"),
-        modes=("100644", "100600"),
+        modes=CHMOD,
         lines=IGNORED + "s\nreport_force_attrs=s\n",
         texts=(r"f > p             : /a", r"f : p             : /a"),
-    ),
-    Case(
-        "the details of an added entry",
-        (1, 1),
-        BOTH + "report_level=added_removed_entries\nreport_ignore_added_attrs=s\n",
-        of_mode("size"),
-        of_mode("size", entry("5", 5)),
-        texts=(r"(?s)\A(?!.*Size)", r"\n  Size      : "),
-    ),
-    Case(
-        "the details of a removed entry",
-        (2, 2),
-        BOTH + "report_level=added_removed_entries\nreport_ignore_removed_attrs=s\n",
-        of_mode("size", entry("5", 5)),
-        of_mode("size"),
-        texts=(r"(?s)\A(?!.*Size)", r"\n  Size      : "),
     ),
     Case(
         "the order of two digests",
@@ -339,25 +293,20 @@ REPORTS = [
         texts=(r"(?s)WHIRLPOOL.*GOST", r"(?s)GOST.*WHIRLPOOL"),
     ),
     Case(
-        "a backslash in a path",
-        (1, 1),
-        BOTH,
-        plain(),
-        plain("/x%5Cy 32 1"),
-        texts=(r": /x\\y\n", r": /x\\134y\n"),
-    ),
-    Case(
-        "a backslash before three digits",
-        (1, 1),
-        BOTH,
-        plain(),
-        plain("/x%5C123 32 1"),
-        texts=(r": /x\\134123\n", r": /x\\134123\n"),
-    ),
-    Case(
         "the digests of the databases", (4, 4), texts=(r"(?s)\A(?!.*SHA256)", r"\n  SHA256    : ")
     ),
 ]
+# Those of an entry that is added, and of one that is removed: an ignored attribute is left out.
+for status, word, sizes in ((1, "added", ("", "5")), (2, "removed", ("5", ""))):
+    old, new = (of_mode("size", *[entry(each, 5)] * bool(each)) for each in sizes)
+    lines = f"report_level=added_removed_entries\nreport_ignore_{word}_attrs=s\n"
+    texts = (r"(?s)\A(?!.*Size)", r"\n  Size      : ")
+    REPORTS.append(Case(f"details, {word}", (status, status), BOTH + lines, old, new, texts=texts))
+for path, texts in (
+    ("/x%5Cy", (r": /x\\y\n", r": /x\\134y\n")),
+    ("/x%5C123", (r": /x\\134123\n", r": /x\\134123\n")),
+):
+    REPORTS.append(Case(path, (1, 1), BOTH, plain(), plain(f"{path} 32 1"), texts=texts))
 
 DATABASES = [
     Case("a database with CR LF", (2, 24), new=A.replace("\n", "\r\n")),
