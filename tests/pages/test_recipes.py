@@ -154,9 +154,7 @@ class DaysTest(RecipesTest):
         begin(self)
         whole = gzip.compress(os.urandom(3000) + NEW.encode())
         for text, status, reason in (
-            (whole[:-50], 18, "cut short"),
             (whole[:-8] + b"\0" * 8, 18, "damaged"),
-            (b"", 24, "no @@begin_db"),
             (NEW.replace("@@end_db\n", "").encode(), 24, "no @@end_db"),
             (None, 18, "cannot open|no such file"),
         ):
@@ -304,10 +302,8 @@ class HandsTest(RecipesTest):
 
     def test_measured(self) -> None:
         """The group of the recipe has all attributes."""
-        columns = (
-            "lname size bcount perm uid gid atime mtime ctime inode lcount md5 acl xattrs selinux "
-            "e2fsattrs capabilities"
-        )
+        columns = "lname size bcount perm uid gid atime mtime ctime inode lcount md5 acl xattrs "
+        columns += "selinux e2fsattrs capabilities"
         fields = "x 1 1 100644 1 1 1 1 1 1 1 1B2M2Y8AsgTpgAmY7PhCfg== 1 1 1 1 1"
         head = f"@@begin_db\n@@db_spec name attr {columns}\n"
         new = f"{head}/a 4094 {fields}\n@@end_db\n"
