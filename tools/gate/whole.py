@@ -34,7 +34,10 @@ def prove(count):
         if os.path.lexists(os.path.join(TOP, name)):
             os.remove(os.path.join(TOP, name))
     os.environ.setdefault("RT_JOBS", str(jobs()))
+    # For root `rt ci` runs what it has built as nobody, who has to be able to read it.
+    umask = os.umask(0o022)
     count.run(parts.PROOFS)
+    os.umask(umask)
 
 
 def runs_here(program):
