@@ -4,12 +4,16 @@ from __future__ import annotations
 
 import os
 import re
+import stat
 import time
 from typing import Any, Dict, List
 
+from tests.commands.base.calls import ModuleTest
 from tests.commands.made_up import Night, time_of
 from tests.commands.sandbox import CommandTest
 from tests.commands.test_hosts_report import Hosts
+
+from aide_compare.hosts import canary
 
 ONE, TWO, EVIL = b"one", b"two, of the upgraded package", b"EVIL"
 NOTE = "canary www1: what differs there too is silent on the other hosts"
@@ -161,3 +165,20 @@ class CanaryTest(CommandTest):
             hosts = self.fleet("www2", "www4")
             found.append(sorted(self.compared(hosts, "--jobs", jobs, "--canary", "www1")))
         self.assertEqual(found[1:], found[:1] * 2)
+
+
+class NotesTest(ModuleTest):
+    def test_notes(self) -> None:
+        """A note is the owner's alone and has an end, and one that cannot be read is told."""
+        for name in ("one", "two"):
+            os.mkdir(self.path(name))
+        canary.keep_note(self.path("one"), "a\n" + "é" * 5000)
+        found = os.stat(self.path("one/canary"))
+        self.assertEqual((stat.S_IMODE(found.st_mode), found.st_size), (0o600, 5000))
+        os.mkfifo(self.path("two/canary"))
+        text, why = canary.notes_in([self.path("one"), self.path("two"), self.path("one")])
+        self.assertTrue(text.startswith("a\\012é"), text)
+        self.assertIn("it is a FIFO", why)
+        for _ in range(2):
+            canary.keep_note(self.path("one"), "")
+        self.assertEqual(os.listdir(self.path("one")), [])

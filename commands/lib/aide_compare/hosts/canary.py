@@ -14,13 +14,13 @@ from aide_compare.base.replacement import replace
 from aide_compare.base.words import TRUSTED_SIDES
 from aide_compare.compare.state import State, read_state
 from aide_compare.compare.unpack import Copy, copy_database
+from aide_compare.hosts.host_comparison import MAX_BASELINE
 from aide_compare.hosts.hosts_read import WHOLE, changes_of, differs, host_of
 from aide_compare.hosts.store import BASELINE, LINES, NEW, HostDirectory
 
 # A line in the store for the reports that follow.
 NOTE = "canary"
 MAX_NOTE = 5000
-MAX_DATABASE = 4 << 30
 
 
 def refuse_cut(directory: HostDirectory, state: State) -> None:
@@ -43,7 +43,7 @@ def trusted_pair(store: str, host: str, seconds: float) -> dict[str, Copy]:
         digests = (state.old_sha256, state.new_sha256)
         pair = {}
         for side, name, digest in zip(TRUSTED_SIDES, (BASELINE, NEW), digests):
-            pair[side] = copy_database(side, directory.file(name), MAX_DATABASE)
+            pair[side] = copy_database(side, directory.file(name), MAX_BASELINE)
             if pair[side].sha256 != digest:
                 raise directory.fault(f"{name} is not the database that was compared")
     return pair
