@@ -20,7 +20,7 @@ from contextlib import suppress
 from functools import partial
 from typing import NamedTuple, Optional
 
-from aide_compare.base.directories import Directory, closed_after, open_directory
+from aide_compare.base.directories import LISTING, Directory, closed_after, open_directory
 from aide_compare.base.ending import Fault, Status, failing, say
 from aide_compare.base.escapes import shown
 from aide_compare.base.files import in_memory
@@ -37,12 +37,11 @@ LOG = "/dev/log"
 JOURNAL = "/run/systemd/journal/socket"
 AUTH_ALERT = 4 * 8 + 1
 MAX_ANSWER = 1 << 16
-MAX_ANSWERS = 64 << 20  # Bytes of memory for all that a server answers.
 QUIT_SECONDS = 5
 LOG_SECONDS = 5
 MAX_LABEL = 63  # Bytes of a part of a domain (RFC 1035).
 MAX_WAITING = 64
-MAX_WAITING_BYTES = 64 << 20
+MAX_BYTES = 64 << 20  # Of a mail that waits, and of memory for all that a server answers.
 TIMED_OUT = 1
 
 Way = Callable[[bytes], object]
@@ -145,7 +144,7 @@ def _bound_memory(message: bytes) -> None:
     """Room for some copies of the message and for what a server answers, and for no more."""
     with open("/proc/self/statm") as file:
         used = int(file.read().split()[0]) * resource.getpagesize()
-    bound_of(resource.RLIMIT_AS, used + 10 * len(message) + MAX_ANSWERS)
+    bound_of(resource.RLIMIT_AS, used + 10 * len(message) + MAX_BYTES)
 
 
 def _exchange(server: Server, seconds: int, message: bytes) -> str:
@@ -227,8 +226,7 @@ def deliver(way: Way, message: bytes) -> None:
 
 def waiting_in(directory: Directory) -> list[str]:
     """The names of the messages that wait in a directory, the oldest first."""
-    flags = os.O_RDONLY | os.O_DIRECTORY | os.O_CLOEXEC
-    with closed_after(os.open(".", flags, dir_fd=directory.fd)) as listing:
+    with closed_after(os.open(".", LISTING, dir_fd=directory.fd)) as listing:
         names = os.listdir(listing)
     return sorted(name for name in names if name.endswith(".mail") and not name.startswith("."))
 
@@ -250,11 +248,11 @@ def way_in(path: str) -> Way:
 
 def waiting_mail(directory: Directory, name: str) -> bytes:
     """A message that waits; a Fault if it is anything else than a regular file of the caller."""
-    flags = os.O_RDONLY | os.O_NOFOLLOW | os.O_NONBLOCK | os.O_CLOEXEC
+    flags = os.O_NOFOLLOW | os.O_NONBLOCK
     with open(os.open(name, flags, dir_fd=directory.fd), "rb") as file:
         status = os.fstat(file.fileno())
         is_ours = stat.S_ISREG(status.st_mode) and status.st_uid == os.geteuid()
-        if not is_ours or status.st_size > MAX_WAITING_BYTES:
+        if not is_ours or status.st_size > MAX_BYTES:
             raise Fault(Status.DEVICE, f"{shown(name)} is no mail that this user has put there")
         return file.read()
 

@@ -1,0 +1,80 @@
+"""How sendmail ends and what it says, the line in the system log, and mails that wait."""
+from __future__ import annotations
+
+import os
+import resource
+import socket
+from unittest import mock
+
+from tests.commands.base.calls import OTHER, ModuleTest
+
+from aide_compare.base.directories import open_directory
+from aide_compare.mail import sending
+
+
+class SendingTest(ModuleTest):
+    def mailer(self, body: str) -> str:
+        path = self.write("sendmail", f"#!/bin/sh\n{body}\n".encode())
+        os.chmod(path, 0o755)
+        return path
+
+    def test_ends(self) -> None:
+        for body, why in (
+            ("echo one; echo two >&2; echo; exit 3", "status 3 of sendmail: two"),
+            ("exit 75", "status 75 of sendmail: it gave no reason"),
+            ("kill -9 $$", "status 137 of sendmail: it gave no reason"),
+            ("exec sleep 9", "sendmail did not end within 1 seconds: it gave no reason"),
+            ("printf %0400d 1; exit 1", f"status 1 of sendmail: {'0' * 300}..."),
+        ):
+            self.fails(18, why, sending.by_sendmail, self.mailer(body), 1, b"x")
+        words = f'echo "$@" > {self.path("words")}; cat >> {self.path("words")}'
+        self.gives(None, sending.by_sendmail, self.mailer(words), 60, b"a mail")
+        self.assertEqual(self.read("words"), b"-oi -t\na mail")
+
+    def test_find(self) -> None:
+        """Only an executable file is sendmail."""
+        for name in ("one", "two", "two/sendmail"):
+            os.mkdir(self.path(name))
+        self.write("one/sendmail", b"")
+        path = ":".join(["", *(self.path(name) for name in ("one", "two"))])
+        with mock.patch.dict(os.environ, PATH=path), mock.patch.object(sending, "MAILERS", ()):
+            self.fails(18, "cannot find sendmail", sending.find_mailer)
+            os.chmod(self.path("one/sendmail"), 0o755)
+            self.gives(self.path("one/sendmail"), sending.find_mailer)
+
+    def test_alert(self) -> None:
+        with socket.socket(socket.AF_UNIX, socket.SOCK_DGRAM) as log:
+            log.bind(self.path("log"))
+            with mock.patch.multiple(sending, LOG=self.path("log"), JOURNAL="/no/"):
+                self.gives(True, sending.alert, "x" * 801)
+                line = b"<33>aide-compare mail: %s..." % (b"x" * 800)
+                self.assertEqual(log.recv(2000), line)
+            with mock.patch.multiple(sending, LOG="/no/", JOURNAL=self.path("log")):
+                self.gives(True, sending.alert, "x")
+                self.assertIn(b"PRIORITY=1\n", log.recv(2000))
+        with mock.patch.multiple(sending, LOG="/no/", JOURNAL="/no/"):
+            self.gives(False, sending.alert, "x")
+
+    def test_waiting(self) -> None:
+        """Only a mail that this user has put there is sent, and none that is too large."""
+        self.write("a.mail", b"text")
+        with open_directory(self.folder) as directory:
+            with mock.patch.object(sending, "MAX_BYTES", 4):
+                self.gives(b"text", sending.waiting_mail, directory, "a.mail")
+                self.write("b.mail", b"texts")
+                self.fails(18, "is no mail", sending.waiting_mail, directory, "b.mail")
+            if os.getuid() == 0:
+                os.chown(self.path("a.mail"), OTHER, OTHER)
+                self.fails(18, "is no mail", sending.waiting_mail, directory, "a.mail")
+
+    def test_memory(self) -> None:
+        """The exchange may take ten times the message, and what a server may answer."""
+        message = bytes(50_000_000)
+        with mock.patch.object(sending, "bound_of") as bound:
+            sending._bound_memory(message)
+        with open("/proc/self/statm", encoding="ascii") as file:
+            used = int(file.read().split()[0]) * resource.getpagesize()
+        kind, limit = bound.call_args[0]
+        self.assertEqual(kind, resource.RLIMIT_AS)
+        wanted = used + 10 * len(message) + sending.MAX_BYTES
+        self.assertLess(abs(limit - wanted), 5_000_000)
