@@ -6,7 +6,7 @@ host say makes it `recorded`, which shortens what people read and silences nothi
 from __future__ import annotations
 
 from enum import Enum
-from typing import Any, Dict, Iterable, NamedTuple, Tuple, Union
+from typing import Any, Dict, NamedTuple, Tuple, Union
 
 from aide_compare.base.words import KINDS, SEVERITIES, counted
 from aide_compare.lines.attributes import NUMBERS
@@ -209,13 +209,3 @@ class Counts(NamedTuple):
         standings = [f"{each.value}={self.of(each)}" for each in reversed(Standing)]
         severities = [f"{each}={self.of_severity(each)}" for each in SEVERITIES]
         return " ".join(standings + severities)
-
-
-def counts_of(standings: Iterable[Tuple[Standing, str]]) -> Counts:
-    """The Counts of changes, each given by its standing and its severity."""
-    numbers = dict.fromkeys(Counts._fields, 0)
-    for standing, severity in standings:
-        numbers[standing.value] += 1
-        if not standing.is_silent:
-            numbers[f"{standing.value}_{severity}"] += 1
-    return Counts(**numbers)

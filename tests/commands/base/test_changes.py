@@ -1,0 +1,98 @@
+"""A change that the object of a line says, what says none, and the counts of all changes."""
+from __future__ import annotations
+
+from typing import Any
+
+from tests.commands.base.calls import ModuleTest
+
+from aide_compare.lines.change import Change, Counts, Standing, change_of
+
+LINE: dict[str, Any] = {
+    "path_hex": "2fff",
+    "kind": "changed",
+    "type": "File",
+    "summary": "f >",
+    "standing": "recorded",
+    "severity": "low",
+    "package": "p 1",
+    "old": {"Size": 1, "Inode": "9999999999999999999", "LinkName": "9", "ACL_hex": "ff"},
+    "new": {"Size": None},
+    "old_text": {"Size": "one"},
+    "new_text": {"Size": "none"},
+}
+CHANGE = Change(
+    path=b"/\xff",
+    kind="changed",
+    type="File",
+    letters="f >",
+    old={"Size": 1, "Inode": 9999999999999999999, "LinkName": "9", "ACL": b"\xff"},
+    new={"Size": None},
+    standing=Standing.RECORDED,
+    severity="low",
+    package="p 1",
+    old_texts={"Size": "one"},
+    new_texts={"Size": "none"},
+    says_standing=True,
+)
+LEAST = Change(b"/a", "added", "Entry", "", {}, {}, Standing.OPEN, "", "", {}, {}, False)
+COUNTS = Counts(100, 20, 3, 6, 1, 2, 3, 0, 1, 2)
+
+
+class ChangesTest(ModuleTest):
+    def test_whole(self) -> None:
+        self.gives(CHANGE, change_of, LINE)
+        self.expect("the sides", CHANGE.sides, (CHANGE.old, CHANGE.new))
+        self.gives(LEAST, change_of, {"path": "/a", "kind": "added"})
+
+    def test_standings(self) -> None:
+        """Only what a proof gives is silent, and a word that says more is refused."""
+        rows: list[tuple[dict[str, str], Standing, bool]] = [
+            ({"same_as": "old"}, Standing.SAME, True),
+            ({"same_as": "trusted", "standing": "trusted"}, Standing.TRUSTED, True),
+            ({"standing": "recorded"}, Standing.RECORDED, False),
+            ({"standing": "open"}, Standing.OPEN, False),
+            ({}, Standing.OPEN, False),
+        ]
+        for more, standing, is_silent in rows:
+            got = change_of({"path": "/a", "kind": "added", **more}).standing
+            self.expect(f"{more}", (got, got.is_silent), (standing, is_silent))
+
+    def test_none(self) -> None:
+        rows: list[dict[str, Any]] = [
+            {"kind": "moved"},
+            {"path_hex": "61"},
+            {"severity": "none"},
+            {"severity": 1},
+            {"type": None},
+            {"package": ["p"]},
+            {"summary": 3},
+            {"standing": "same"},
+            {"same_as": "old"},
+            {"same_as": "new"},
+            {"old": {"Size": [1]}},
+            {"new": {"Size": True}},
+            {"old": {"Inode": "x"}},
+            {"old_text": ["one"]},
+            {"new_text": {"Size": 1}},
+        ]
+        for more in rows:
+            with self.subTest(more=more), self.assertRaises((ValueError, KeyError)):
+                change_of({**LINE, **more})
+
+    def test_counts(self) -> None:
+        self.expect("no change", set(Counts()), {0})
+        self.expect("the sums", (COUNTS.silent, COUNTS.told, COUNTS.total), (120, 9, 129))
+        self.expect("the high ones", COUNTS.of_severity("high"), 1)
+        self.expect("the low ones", COUNTS.of_severity("low"), 5)
+        self.expect("the words", COUNTS.words(), "6 open (1 high), 3 recorded of 129 changes")
+        self.expect("silent ones", Counts(same=1).words(), "1 change, all silent")
+        line = "open=6 recorded=3 trusted=20 same=100 high=1 medium=3 low=5"
+        self.expect("the line", COUNTS.line(), line)
+        for counts, changes, fits in (
+            (COUNTS, 129, True),
+            (COUNTS, 128, False),
+            (COUNTS._replace(open=7), 130, False),
+            (COUNTS._replace(recorded=2), 128, False),
+            (COUNTS._replace(same=-1), 28, False),
+        ):
+            self.gives(fits, counts.fits, changes)
