@@ -65,7 +65,9 @@ class BaselineTest(ModuleTest):
         return stat.S_IMODE(found.st_mode), found.st_uid, found.st_gid
 
     def test_replaced(self) -> None:
-        self.gives((os.getuid(), os.getgid()), replace, self.base, self.source)
+        self.addCleanup(os.chdir, os.getcwd())
+        os.chdir(self.folder)
+        self.gives((os.getuid(), os.getgid()), replace, NAME, self.source)
         self.expect("the first one", (self.texts(), self.rights(NAME)[0]), ({NAME: b"new"}, 0o600))
         owner = (12345, 12346) if os.getuid() == 0 else (os.getuid(), os.getgid())
         calls: tuple[Callable[..., bool], ...] = (baseline.exchange, lambda *_: False)
