@@ -27,6 +27,7 @@ from aide_compare.base.paths import Pattern, Table, pattern_of, unescaped
 from aide_compare.base.words import counted
 
 MAX_LINES = 10000
+MAX_TEXT = 200  # Characters of a path, a pattern or a reason that is told.
 AHEAD = 1 << 13
 # The directory of a path, as far as nothing of it is escaped: a / may be.
 DIRECTORY = re.compile(rb"(/[^%\s]{0,4095})/")
@@ -66,7 +67,7 @@ def exclusion(text: bytes, place: str) -> Exclusion:
     programs = PROGRAMS.fullmatch(text)
     if programs is None:
         return Exclusion(pattern_of(text, place), place, "")
-    reason = shown(programs.group(1).strip(), 100)
+    reason = shown(programs.group(1).strip(), MAX_TEXT)
     return Exclusion(pattern_of(programs.group(2), place), place, reason)
 
 
@@ -82,7 +83,7 @@ class Exclusions(Table[Exclusion]):
         self.list_directories = {os.path.dirname(path) for path in lists}
         self.above = {start[:size] for start in self.by_start for size in range(len(start))}
 
-    @lru_cache(maxsize=1024)
+    @lru_cache
     def is_free(self, directory: bytes) -> bool:
         """Whether no line means anything below a directory, and no list is in it.
 
@@ -96,7 +97,7 @@ class Exclusions(Table[Exclusion]):
         sizes = range(min(len(pieces), self.longest) + 1)
         return not any(pieces[:size] in self.by_start for size in sizes)
 
-    @lru_cache(maxsize=1024)
+    @lru_cache
     def free_tree(self, directory: bytes) -> bytes:
         """The highest directory, this one or one above it, below which no line means anything and
         no list is; b"" if there is none."""
@@ -257,7 +258,7 @@ class LeftOut:
         if self.layout.kind_of(line) is not Kind.ENTRY:
             return True
         fields = fields_in(line)
-        if not columns or len(fields) != len(columns):
+        if len(fields) != len(columns):
             return True
         return self._keeps_entry(dict(zip(columns, fields)))
 
@@ -265,7 +266,7 @@ class LeftOut:
         path = unescaped(entry[PATH_COLUMN])
         text = self.rules.lists.get(path)
         if text is not None and not is_text_of(entry, text):
-            self.changed_lists.append(shown(path, 200))
+            self.changed_lists.append(shown(path, MAX_TEXT))
         if self.rules.of(path) is None:
             return True
         line = self._line_for(path, entry)
@@ -294,7 +295,7 @@ class LeftOut:
             place = line.place
             if line.reason:
                 place += f"; programs too: {line.reason}"
-            yield f"  {count} by {shown(line.pattern.text, 200)} ({place})"
+            yield f"  {count} by {shown(line.pattern.text, MAX_TEXT)} ({place})"
         if self.staying:
             yield f"  {self.staying} more that lines name stay, each for one of these: {STAYING}"
 
