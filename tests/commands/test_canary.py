@@ -3,7 +3,6 @@ If it fails, the others are compared all the same."""
 from __future__ import annotations
 
 import os
-import re
 import stat
 import time
 from typing import Any, Dict, List
@@ -148,15 +147,6 @@ class CanaryTest(CommandTest):
             self.assertTrue({"/usr/bin/a", MARK.decode()} <= told or not is_used, (name, told))
             is_silent = "\nopen=0\n" in hosts.state("www2")
             self.assertEqual(is_silent, is_used, (name, hosts.state("www2")))
-
-    def test_one(self) -> None:
-        """One host beside the canary, and the canary alone."""
-        hosts = self.fleet("www3")
-        for host, count in (("www3", 1), ("www2", 0), ("www1", 2)):
-            said = hosts.compare_one(host, "--canary", "www1")
-            self.assertTrue(said.output.startswith("www1 4 "), said)
-            paths = re.findall(r"(?m)^(?:added|changed) File: .*", said.output)
-            self.assertEqual(len(paths), count, said)
 
     def test_jobs(self) -> None:
         """Jobs of any number give the same."""
