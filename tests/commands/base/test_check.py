@@ -1,0 +1,74 @@
+"""Which level the check for Nagios has, by the counts of a state and the limits that are asked
+for."""
+from __future__ import annotations
+
+from typing import Any, Optional
+from unittest import mock
+
+from tests.commands.base.calls import ModuleTest
+
+from aide_compare.base.ending import Done
+from aide_compare.base.kinds import alarm_limit
+from aide_compare.commands import check
+from aide_compare.commands.check import CheckRequest
+from aide_compare.compare.state import DAILY
+from aide_compare.lines.change import Counts
+
+SILENT = Counts(same=1)
+LOW = Counts(recorded=1, recorded_low=1)
+MEDIUM = Counts(recorded=2, recorded_low=1, recorded_medium=1)
+HIGH = Counts(recorded=1, recorded_high=1)
+OPEN = Counts(open=1, open_low=1)
+OK, WARNING, CRITICAL, UNKNOWN = range(4)
+ANY = {"alarm": "any"}
+ROWS: tuple[tuple[int, int, Optional[Counts], dict[str, str]], ...] = (
+    (OK, 0, None, {}),
+    (WARNING, 1, None, {}),
+    (CRITICAL, 2, None, {}),
+    (CRITICAL, 7, None, {"warning": "9"}),
+    (UNKNOWN, 8, SILENT, {}),
+    (UNKNOWN, 18, None, {}),
+    (OK, 7, SILENT, {}),
+    (WARNING, 7, LOW, {}),
+    (CRITICAL, 7, OPEN, {}),
+    (WARNING, 1, SILENT, ANY),
+    (CRITICAL, 4, SILENT, ANY),
+    (OK, 4, SILENT, {**ANY, "warning": "1"}),
+    (OK, 4, SILENT, {**ANY, "critical": "1"}),
+    (WARNING, 4, LOW, {"critical": "2"}),
+    (CRITICAL, 4, MEDIUM, {"critical": "2"}),
+    (WARNING, 4, LOW, {"critical": "medium"}),
+    (CRITICAL, 4, MEDIUM, {"critical": "medium"}),
+    (CRITICAL, 4, HIGH, {"critical": "medium"}),
+    (WARNING, 4, MEDIUM, {"critical": "high"}),
+    (CRITICAL, 4, LOW, {"critical": "low"}),
+    (OK, 4, LOW, {"warning": "2"}),
+    (WARNING, 4, MEDIUM, {"warning": "2"}),
+    (OK, 4, LOW, {"warning": "high"}),
+    (WARNING, 4, HIGH, {"warning": "high"}),
+    (OK, 4, OPEN, {"warning": "high", "critical": "high"}),
+)
+
+
+def level(status: int, counts: Optional[Counts], words: dict[str, str]) -> int:
+    limits = [words.get(name) for name in ("warning", "critical")]
+    asked = [alarm_limit(limit) if limit else None for limit in limits]
+    request = CheckRequest("state", 100, words.get("alarm", "not-silent"), *asked)
+    state: Any = mock.Mock(status=status, standings=counts)
+    return check.level_of(request, state)
+
+
+class CheckTest(ModuleTest):
+    def test_levels(self) -> None:
+        for want, *given in ROWS:
+            self.gives(want, level, *given)
+
+    def test_line(self) -> None:
+        """Whatever fails is UNKNOWN, in a line of bounded length."""
+        with mock.patch.object(check, "tell") as told:
+            self.gives(UNKNOWN, check.main, ["--state", "x" * 500])
+            line = f"AIDE UNKNOWN: there is no {'x' * 500}"
+            self.assertEqual(told.call_args[0][0], line[: len("AIDE UNKNOWN: ") + 300])
+        with mock.patch.object(check, "request_of", side_effect=Done):
+            self.gives(UNKNOWN, check.main, ["--help"])
+        self.assertEqual(check.request_of(["--no-defaults"]).state, DAILY)
