@@ -49,7 +49,7 @@ class ShowTest(CommandTest):
         entry = b"/x 0 %d 104755 8 0 1000 5 MTcwMDAwMDAwMA== 77 1 %s %s 0\n" % fields
         self.write("one.db", COLUMNS + entry + END)
         self.write("two.db", COLUMNS + entry.replace(b" 1000 5 ", b" 1000 6 ") + END)
-        answer = self.call(TOOL, "/x", "one.db", "two.db")
+        answer = self.call(TOOL, "/x", "one.db", "two.db", environment={"TZ": "UTC"})
         for line in (
             "  Perm         4755 (-rwsr-xr-x)",
             "* Size         old 5",
