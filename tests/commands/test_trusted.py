@@ -237,7 +237,7 @@ class TrustedTest(CommandTest):
         """Root opens the pair, and compares with the rights of the user in whose directory the
         baseline is."""
         if os.geteuid() != 0:
-            self.skipTest("the rights of the baseline's owner (it needs root)")
+            self.skipTest("it needs root")
         put(self)
         os.makedirs(self.path("his"), exist_ok=True)
         for name in BOTH:
