@@ -11,6 +11,13 @@ from tests.packaging.installation import Answer, InstallTest, texts, tree
 TIMER = "aide-compare.timer"
 UNITS = ["aide-compare-failed.service", "aide-compare-mail.service", "aide-compare.service", TIMER]
 WANTED = "etc/systemd/system/timers.target.wants/" + TIMER
+# What `aide-compare setup` puts into /etc.
+MADE = (
+    "etc/aide-compare/defaults",
+    "etc/apt/apt.conf.d/60aide-compare",
+    "etc/cron.daily/aide-compare",
+    "etc/systemd/system/aide-compare.service.d/signed.conf",
+)
 RULES = "etc/aide/aide.conf.d/31_aide_aide-compare"
 NOTES = "var/lib/systemd/deb-systemd-helper-enabled/"
 BASELINE = "var/lib/aide-compare/hosts/www/aide.db"
@@ -127,9 +134,11 @@ def try_life(trial: InstallTest, package: str) -> None:
     trial.assertTrue(machine.has(BASELINE), "a purge leaves the baselines of hosts")
     shutil.rmtree(os.path.join(machine.root, "var/lib/aide-compare/hosts"), ignore_errors=True)
     machine.install()
-    machine.write(DAILY, "mail\n")
+    for path in (DAILY, *MADE):
+        machine.write(path, "text\n")
     machine.dpkg("--purge", "aide-compare")
-    trial.assertFalse(machine.has("var/lib/aide-compare"), "a purge leaves no empty folder")
+    for path in ("var/lib/aide-compare", "etc/aide-compare", *MADE, os.path.dirname(MADE[-1])):
+        trial.assertFalse(machine.has(path), "a purge leaves no " + path)
 
 
 def code(trial: InstallTest, machine: Machine) -> None:
