@@ -148,6 +148,15 @@ class CanaryTest(CommandTest):
             is_silent = "\nopen=0\n" in hosts.state("www2")
             self.assertEqual(is_silent, is_used, (name, hosts.state("www2")))
 
+    def test_one(self) -> None:
+        """One host beside the canary, and the canary alone."""
+        hosts = self.fleet("www3")
+        for host, count in (("www3", 1), ("www2", 0), ("www1", 2)):
+            hosts.list_hosts(*dict.fromkeys(("www1", host)))
+            lines = self.compared(hosts, "--canary", "www1")
+            self.assertTrue(lines[0].startswith("www1 4 "), lines)
+            self.assertIn(f"\nopen={count}\n", hosts.state(host))
+
     def test_jobs(self) -> None:
         """Jobs of any number give the same."""
         found = []
