@@ -24,6 +24,7 @@ class ModuleTest(unittest.TestCase):
     """A test of some modules, with a directory of its own."""
 
     def setUp(self) -> None:
+        os.umask(0o022)  # Whatever umask the caller has.
         self.folder = tempfile.mkdtemp(prefix="aide-compare-test-")
         self.addCleanup(shutil.rmtree, self.folder, True)
         os.chmod(self.folder, 0o755)
