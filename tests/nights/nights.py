@@ -121,7 +121,8 @@ class Nights:
         inside = self.machine.inside
         inside("systemctl", "reset-failed")  # A check may start once in two hours.
         if inside("systemctl", "start", "dailyaidecheck.service").returncode:
-            raise RuntimeError("AIDE's daily check was not started")
+            log = inside("journalctl", "--unit=dailyaidecheck", "--lines=20", "--output=cat").stdout
+            raise RuntimeError(f"AIDE's daily check has failed: {log.decode()}")
         inside("systemctl", "start", "aide-compare.service")
         time.sleep(3)
         limit = time.monotonic() + MAIL_SECONDS
