@@ -233,6 +233,10 @@ class RecordedTest(CommandTest):
             self.expect(f"damaged records, {number}", answer, 4, b"1 ")
             self.assertNotIn(b"a fault of", answer.errors)
             self.write(f"dpkg/{name}", files[name])
+        self.set_names("changes.packages", PIECE=16)
+        self.write("dpkg/info/tool.list", b"x" * (1 << 21))  # One line, which came in pieces.
+        before = "resource.setrlimit(resource.RLIMIT_CPU, (9, 9))"
+        self.answered(4, b"1 ", None, "aide-compare", "host-old.db", "host-new.db", before=before)
 
     def test_rpm(self) -> None:
         """What rpm says of its packages, by a program in rpm's place."""

@@ -106,7 +106,7 @@ class Dpkg:
                 size = self._size_of(file, name)
                 limit = min(MAX_FILE, self.remaining)
                 remaining = self.remaining - limit
-                rest = b""
+                rest = bytearray()
                 while size > 0 and (block := os.read(file, PIECE)):
                     size -= len(block)
                     self.remaining -= len(block)
@@ -114,10 +114,10 @@ class Dpkg:
                         raise Fault(Status.DEVICE, f"{self.words} has more than {limit} bytes")
                     whole, newline, end = block.rpartition(b"\n")
                     if newline:
-                        yield rest + whole + newline
-                        rest = b""
+                        yield bytes(rest) + whole + newline
+                        rest.clear()
                     rest += end
-                yield rest
+                yield bytes(rest)
 
     def _size_of(self, file: int, name: str) -> int:
         status = os.fstat(file)
