@@ -9,7 +9,6 @@ import hashlib
 import os
 import pwd
 import socket
-import stat
 import subprocess
 import sys
 import time
@@ -409,16 +408,16 @@ class MailTest(CommandTest):
         """A mail that waits stays until it is sent."""
         queue = ["--queue", "queue", "--alarm-sent-is-success"]
         self.assertIsNone(self.mail("old.db", "new.db", *queue, status=0))
-        names = self.waiting()
-        self.assertEqual(len(names), 1)
-        mode = stat.S_IMODE(os.stat(self.path("queue/" + names[0])).st_mode)
-        self.assertEqual(oct(mode), "0o600")
+        (name,) = self.waiting()
+        self.assertEqual(os.stat(self.path("queue/" + name)).st_mode & 0o7777, 0o600)
         self.stub("sendmail", "exit 75")
         self.fails("it cannot be sent", ("--send-queue", "queue"), b"cannot send the mail")
-        self.assertEqual(self.waiting(), names, "it waits on")
-        take_mail(self)
-        self.assertEqual(subject(self.mail("--send-queue", "queue", status=0)), SUBJECT + COUNTS)
-        self.assertEqual(self.waiting(), [])
+        self.assertEqual(self.waiting(), [name], "it waits on")
+        for before in ("", "rm queue/*.mail;"):  # Another run may be faster.
+            take_mail(self, before)
+            message = self.mail("--send-queue", "queue", status=0)
+            self.assertEqual((subject(message), self.waiting()), (SUBJECT + COUNTS, []))
+            self.mail("old.db", "new.db", *queue, status=0)
 
     def test_odd_queue(self) -> None:
         """What is no mail, before one that is, is neither sent nor in its way."""

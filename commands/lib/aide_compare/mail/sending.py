@@ -264,7 +264,8 @@ def send_all(path: str, way: Way) -> None:
     with open_directory(path, make=True) as directory:
         for name in waiting_in(directory):
             try:
-                with failing(f"cannot send or remove the mail {shown(name)}"):
+                what = f"cannot send or remove the mail {shown(name)}"
+                with failing(what), suppress(FileNotFoundError):  # Another run has sent it.
                     deliver(way, waiting_mail(directory, name))
                     os.unlink(name, dir_fd=directory.fd)
             except Fault as fault:
