@@ -218,7 +218,8 @@ class ViewersTest(ProgramTest):
             settings = random_settings(pick)
             is_plain = number % 2 == 1
             with self.subTest(seed=seed, number=number):
-                objects = objects_of(lines_of_databases(*databases, names, settings)[0])
+                old, new = databases
+                objects = objects_of(lines_of_databases(old, new, names, settings)[0])
                 self.check_lines(objects, *databases, names, settings)
                 if number % 4 < 2:
                     page = page_of(objects, is_plain)

@@ -30,7 +30,7 @@ LinesOf = Callable[[int], bytes]
 
 def lines_over(new: dict[bytes, dict[str, object]]) -> bytes:
     """The lines of a database that was empty before."""
-    settings = {**DEFAULTS, "database_in": b"/a", "database_new": b"/b"}
+    settings: dict[str, object] = {**DEFAULTS, "database_in": b"/a", "database_new": b"/b"}
     databases = Database({}), Database(new)
     proved: bytes = proved_lines_of(*databases, [b"old", b"new"], settings)[0]
     return proved

@@ -35,7 +35,11 @@ NEW: dict[bytes, dict[str, Any]] = {
 
 def rich_lines() -> bytes:
     """The proved lines of these databases."""
-    settings = {**DEFAULTS, "database_in": b"/var/old.db", "database_new": b"/var/new.db"}
+    settings: dict[str, object] = {
+        **DEFAULTS,
+        "database_in": b"/var/old.db",
+        "database_new": b"/var/new.db",
+    }
     proved: bytes = lines_of(Database(OLD), Database(NEW), [b"old", b"new"], settings)[0]
     return proved
 

@@ -13,6 +13,7 @@ from collections.abc import Iterator
 from typing import Any
 from unittest import mock
 
+from aide_compare.lines.change import Value
 from aide_compare.lines.decoded import decoded, time_text
 
 TYPES = {
@@ -29,7 +30,7 @@ DECODED = ("ACL", "XAttrs", "SELinux", "E2FSAttrs", "Caps")
 # What AIDE 0.18.3 kept of files on ext4 (Debian 12, 2026-11-25), and what these printed of the same
 # files: getfacl 2.3.1, getfattr 2.5.1, getcap of libcap 2.66, lsattr of e2fsprogs 1.47.0, ls -Z's
 # label as it was set.
-TABLE = [
+TABLE: list[tuple[str, Value, str | None]] = [
     (
         "ACL",
         b"POSIX,dXNlcjo6cnctCmdyb3VwOjpyLS0Kb3RoZXI6OnItLQo=,0",
