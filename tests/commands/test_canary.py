@@ -157,6 +157,15 @@ class CanaryTest(CommandTest):
             self.assertTrue(lines[0].startswith("www1 4 "), lines)
             self.assertIn(f"\nopen={count}\n", hosts.state(host))
 
+    def test_same(self) -> None:
+        """A canary without a difference is used, and silences nothing."""
+        hosts = self.fleet()
+        hosts.put("www1", database(False, 1), database(False, 1))
+        lines = self.compared(hosts, "--canary", "www1")
+        self.assertTrue(lines[0].startswith("www1 0 "), lines)
+        self.assertFalse([line for line in lines if "was not used" in line])
+        self.assertIn(f"www2 {SAME}2 open (2 high) of 5 changes", lines)
+
     def test_jobs(self) -> None:
         """Jobs of any number give the same."""
         found = []

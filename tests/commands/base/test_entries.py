@@ -79,7 +79,8 @@ class EntriesTest(ModuleTest):
         cut = LeftOut(rules)
         got = b"".join(cut.lines(io.BytesIO(text)))
         self.expect("what stays", got, text.replace(b"/e/f/g 100644 AAAA\n", b"\n"))
-        self.expect("how many are left out", cut.total, 1)
+        words = ["left out of the new database: 1 entry", "  1 by /e/** (a line)"]
+        self.expect("what is said of it", list(cut.words("new")), words)
         self.expect("a list that was changed", cut.changed_lists, ["/a/m/list"])
         for directory, tree in ((b"/b/x/y", b"/b"), (b"/a/b/c", b"/a/b"), (b"/a", b"")):
             self.expect("a free tree", rules.free_tree(directory), tree)
