@@ -42,6 +42,7 @@ class OutputsTest(PlacesTest):
             self.gives(None, outputs.owner_of, self.path("his/roots/x"))
             os.chdir(self.path("his"))
             self.gives(OTHER, outputs.owner_of, "x")
+            self.gives(None, outputs.owner_of, "-")
         self.assertIn("of root, whose", outputs.rights_hint(0))
 
     def test_streams(self) -> None:
@@ -75,5 +76,8 @@ class OutputsTest(PlacesTest):
     def test_states(self) -> None:
         """What a child hands over is a whole state of the status with which it has ended."""
         self.gives(0, status_in, STATE % 0, 0)
-        for text, status in ((STATE % 0, 1), (STATE % 0 + b"x" * 70000, 0), (b"", 0)):
+        failed = (STATE % 18).replace(b"=0\n", b"=\n")
+        longest = failed[:-1].ljust(65535, b"x") + b"\n"
+        self.gives(18, status_in, longest, 18)
+        for text, status in ((STATE % 0, 1), (longest + b"x", 18), (b"", 0)):
             self.fails(18, "left no whole result", status_in, text, status)
