@@ -7,7 +7,7 @@ from unittest import mock
 
 from tests.commands.base.calls import ModuleTest
 
-from aide_compare.base.ending import Done
+from aide_compare.base import parser
 from aide_compare.base.kinds import alarm_limit
 from aide_compare.commands import check
 from aide_compare.commands.check import CheckRequest
@@ -69,6 +69,10 @@ class CheckTest(ModuleTest):
             self.gives(UNKNOWN, check.main, ["--state", "x" * 500])
             line = f"AIDE UNKNOWN: there is no {'x' * 500}"
             self.assertEqual(told.call_args[0][0], line[: len("AIDE UNKNOWN: ") + 300])
-        with mock.patch.object(check, "request_of", side_effect=Done):
+        with mock.patch.object(parser, "write_all") as written:
             self.gives(UNKNOWN, check.main, ["--help"])
+        shown = " ".join(written.call_args[0][1].decode().split())
+        parts = ["state file that aide-compare wrote", "older result is", "which changes count"]
+        for text in (*parts, " ".join(check.EPILOG.split())):
+            self.assertIn(text, shown)
         self.assertEqual(check.request_of(["--no-defaults"]).state, DAILY)

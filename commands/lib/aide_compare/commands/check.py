@@ -84,10 +84,10 @@ def is_warning(request: CheckRequest, counts: Counts) -> bool:
     return counts.told > 0
 
 
-def every_difference_counts(request: CheckRequest, state: State) -> bool:
-    """Whether nobody knows the standings, or nobody has asked for them."""
+def every_difference_counts(request: CheckRequest) -> bool:
+    """Whether nobody has asked for the standings."""
     has_limit = request.warning is not None or request.critical is not None
-    return state.standings is None or (request.alarm != NOT_SILENT and not has_limit)
+    return request.alarm != NOT_SILENT and not has_limit
 
 
 def level_of(request: CheckRequest, state: State) -> Level:
@@ -97,7 +97,7 @@ def level_of(request: CheckRequest, state: State) -> Level:
         return Level.OK
     if state.status > 7:
         return Level.UNKNOWN
-    if counts is None or every_difference_counts(request, state):
+    if counts is None or every_difference_counts(request):
         return Level.WARNING if state.status == ONLY_ADDED else Level.CRITICAL
     if is_critical(request, counts):
         return Level.CRITICAL
