@@ -25,6 +25,8 @@ SAMPLE = {
     b"/usr/.x y": "open high",
     b"/usr/lib/tool": "recorded medium tool 2",
 }
+# Records of packages that fail when the changes are grouped already.
+UNNAMED = "def failing(*_):\n    raise MemoryError\nDpkg.named\nDpkg.named = failing\n"
 WORDS = "4 open (1 high), 1 recorded of 6 changes"
 BRIEF = f"""{WORDS}
 
@@ -234,6 +236,10 @@ class StandingsTest(CommandTest):
             answer = self.call(NAGIOS, "--state", "state")
             self.expect("the check then", answer, 2, b"AIDE CRITICAL", b"")
             self.assertTrue(is_mailed(self, host), "a mail then")
+        self.write(name, text)
+        self.after_import("lines.change", "Counts.fits\nCounts.fits = lambda *_: False\n")
+        said = b"the counts of the standings are not those of the changes"
+        self.answered(4, None, said, TOOL, "host-old.db", "host-new.db")
 
     def test_no_records(self) -> None:
         """If records cannot be trusted, each change stays open."""
@@ -243,6 +249,11 @@ class StandingsTest(CommandTest):
         cause = b"no package groups the changes: other users can write dpkg's records"
         told = [cause, b"5 open (1 high)"]
         self.expect("records that others can write", answer, 7, b"5 open (1 high) of 6", told)
+        os.chmod(self.path("dpkg"), 0o755)
+        self.after_import("changes.packages", UNNAMED)
+        answer = self.call(TOOL, "o.db", "n.db")
+        told = [b"no package groups the changes: out of memory", b"5 open (1 high)"]
+        self.expect("records that fail late", answer, 7, b"5 open (1 high) of 6", told)
 
     def test_many(self) -> None:
         """Of many entries the first are listed, the most severe first, and the others are
@@ -266,7 +277,8 @@ class StandingsTest(CommandTest):
         """Of more changes than memory is given for, the report is printed, and says why."""
         self.set_names("changes.judged", MAX_FINDINGS=2)
         answer = self.call(TOOL, "old.db", "new.db")
-        self.expect("too many", answer, 7, b"AIDE found differences", b"more than 2 changes")
+        said = b"not judged: there are more than 2 changes"
+        self.expect("too many", answer, 7, b"AIDE found differences", said)
         self.set_names("changes.judged", MAX_FINDINGS=4)
         self.assertIn(b"4 open", self.call(TOOL, "old.db", "new.db").output)
 
