@@ -145,6 +145,13 @@ class AcceptPartlyTest(AcceptingTest):
         self.refuses(18, fault, sha256(new), "--trusted-only")
         self.assertEqual(contents(self)[:2], (old, OLDER), "the baseline stays")
 
+    def test_no_comparison(self) -> None:
+        """Beside a pair that is no database nothing is compared, so nothing is accepted."""
+        self.write("bad.db", b"x\n")
+        told = b"refused: nothing was compared, so nothing is silent"
+        self.refuses(24, told, sha256(NEW), "--trusted-only", "--trusted", "bad.db", "old.db")
+        self.assertEqual(contents(self)[:2], (OLD, OLDER), "the baseline stays")
+
     def test_whose_rights(self) -> None:
         """What differs is found with the rights of the baseline's owner."""
         self.after_import("commands.accept_work", WHOSE)
