@@ -65,7 +65,8 @@ class AcceptPartlyTest(AcceptingTest):
             fresh(self, owner)
             self.accepts(told, sha256(NEW), *OPEN)
             self.assertEqual(contents(self), (KEPT, OLD, NEW, 3))
-            self.assertEqual(self.read(BASE + "aide.db")[:2], b"\x1f\x8b", "packed as the new one")
+            # Packed as the new one, without a name or a time.
+            self.assertEqual(self.read(BASE + "aide.db")[:8], b"\x1f\x8b\x08" + bytes(5))
             words = (*([] if owner is None else ["--user", "nobody"]), *FILES[::-1])
             brief = b"  added    /a: "
             self.answered(7, brief, b"3 open of 3 changes", "aide-compare", *words)
@@ -81,7 +82,7 @@ class AcceptPartlyTest(AcceptingTest):
             new = NEW.replace(b"/c 36", line + b"/c 36")
             self.put(OLD.replace(b"/c 36", line + b"/c 36"), new)
             self.accepts(b"but for what stays open", sha256(new), *OPEN)
-            found = contents(self)[0] or b""
+            found = self.read(BASE + "aide.db")  # Plain as the new one.
             self.assertEqual([text for text in found.split(b"\n") if text[:1] == b"/"], wanted)
 
     def test_refused(self) -> None:
