@@ -52,6 +52,15 @@ class AcceptTest(AcceptingTest):
         self.assertEqual(contents(self), (NEW, None, NEW, 2))
         self.assertEqual(self.rights("aide.db")[0], 0o600)
 
+    def test_left(self) -> None:
+        """A run that was killed right after the exchange: the next one keeps the former baseline,
+        though it has nothing to accept."""
+        self.write("base/aide.db", NEW)
+        self.write("base/.aide.db.part", OLD)
+        os.link(self.path("base/aide.db"), self.path("base/.aide.db.new"))
+        self.accepts(b"the baseline already")
+        self.assertEqual(contents(self), DONE)
+
     def test_told(self) -> None:
         """The counts of the comparison that the state is of, and what is not known."""
         date = b"compared 2025-11-24T16:00:00Z: added 1, removed 1, changed 2\n"
