@@ -50,8 +50,10 @@ class InstallTest(Scratch, unittest.TestCase):
         it."""
         os.mkdir(self.path(folder))
         lines = name.replace("aide", "aide_lines")
-        shutil.copy(lines_program_of(program), self.path(folder, lines))
-        return shutil.copy(program, self.path(folder, name))
+        for source, target in ((program, name), (lines_program_of(program), lines)):
+            shutil.copy(source, self.path(folder, target))
+            os.chmod(self.path(folder, target), 0o755)  # Also if it was built with a umask of 077.
+        return self.path(folder, name)
 
     def make_newer(self, program: str) -> str:
         """A program beside another that stands for its build for newer processors, with the record
