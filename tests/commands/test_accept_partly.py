@@ -16,6 +16,8 @@ OPEN = ("--keep-open", "/[ab]", "--keep-open", "/c")
 OWNERS = (None, NOBODY) if os.getuid() == 0 else (None,)
 # A comparison that fails for a bug.
 FAULT = "def failing(*words):\n    1 / 0\nWork._keep_digests\nWork._keep_digests = failing\n"
+# One whose lines may have few bytes.
+SHORT = "ask = Request\ndef Request(**words):\n    return ask(max_report=600, **words)\n"
 # One that says whose rights it has.
 WHOSE = "compare\ndef compare(_):\n    raise Fault(18, f'as user {os.geteuid()}')\n"
 
@@ -151,6 +153,10 @@ class AcceptPartlyTest(AcceptingTest):
         self.write("bad.db", b"x\n")
         told = b"refused: nothing was compared, so nothing is silent"
         self.refuses(24, told, sha256(NEW), "--trusted-only", "--trusted", "bad.db", "old.db")
+        self.set_names("compare.work", MIN_LINES=1)
+        self.after_import("commands.accept_work", SHORT)
+        told = b"refused: the changes have more than 600 bytes"
+        self.refuses(18, told, sha256(NEW), "--trusted-only")
         self.assertEqual(contents(self)[:2], (OLD, OLDER), "the baseline stays")
 
     def test_whose_rights(self) -> None:
