@@ -1,0 +1,213 @@
+"""Packages that are built here, an archive of them that is signed here, and a machine that has been
+upgraded from it."""
+from __future__ import annotations
+
+import base64
+import gzip
+import hashlib
+import lzma
+import os
+import shutil
+import subprocess
+import time
+from typing import Callable, Dict, List, Tuple
+
+from tests.commands.made_up import Night
+from tests.commands.sandbox import Answer, CommandTest
+from tests.oracle.agreement import same_as
+from tests.oracle.database import database_of
+
+INFO = b"/var/lib/dpkg/info/"
+SUITE = "mirror/dists/stable"
+TOOL, LIBRARY = b"/usr/bin/tool", b"/usr/lib/multi/lib.so"
+ONE, TWO = b"one\n", b"two, of the upgraded package\n"
+ODD = "/usr/share/tool/a b%ü".encode()
+CONFIGURATION = b"/etc/tool.conf"
+HOME = {
+    "/var/lib/apt/lists": "lists",
+    "/var/cache/apt/archives": "archives",
+    "/var/lib/aide-compare/daily": "base",
+    "/var/lib/aide": "base",
+}
+ARCHIVE = "aide-compare archive"
+RELEASE = "Origin: Trial\nDate: {date}\n{more}SHA256:\n"
+
+
+def sums_of(version: str) -> bytes:
+    """What a package of a version has as its digests."""
+    return b"sums of " + version.encode()
+
+
+def gpg(sandbox: CommandTest, key: str, *words: str) -> bytes:
+    """What gpg prints, with the home of a key."""
+    command = ["gpg", "--homedir", sandbox.path(key), "--batch", *words]
+    return subprocess.run(command, check=True, capture_output=True).stdout
+
+
+class Built:
+    """A package as it is built: its files with their modes, and its links."""
+
+    def __init__(self, name: str, version: str, architecture: str = "amd64") -> None:
+        self.name = name
+        self.version = version
+        self.architecture = architecture
+        self.files: Dict[bytes, Tuple[bytes, int]] = {}
+        self.links: Dict[bytes, bytes] = {}
+        self.fields = ""
+
+    def file(self, path: bytes, content: bytes, mode: int = 0o644) -> Built:
+        self.files[path] = content, mode
+        return self
+
+    def link(self, path: bytes, target: bytes) -> Built:
+        self.links[path] = target
+        return self
+
+    def build(self, sandbox: CommandTest) -> None:
+        """Makes its file in the mirror, and what an index says of it."""
+        tree = sandbox.path("tree")
+        shutil.rmtree(tree, ignore_errors=True)
+        os.makedirs(tree + "/DEBIAN")
+        control = f"Package: {self.name}\nVersion: {self.version}\n"
+        control += f"Architecture: {self.architecture}\nMaintainer: T <t@example.org>\n"
+        sandbox.write("tree/DEBIAN/control", (control + "Description: trial\n").encode())
+        sandbox.write("tree/DEBIAN/md5sums", sums_of(self.version))
+        if CONFIGURATION in self.files:
+            sandbox.write("tree/DEBIAN/conffiles", CONFIGURATION + b"\n")
+        for path, (content, mode) in self.files.items():
+            place = os.fsencode(tree) + path
+            os.makedirs(os.path.dirname(place), exist_ok=True)
+            with open(place, "wb") as file:
+                file.write(content)
+            os.chmod(place, mode)
+        for path, target in self.links.items():
+            os.symlink(target, os.fsencode(tree) + path)
+        for folder, _, _ in os.walk(tree):
+            os.chmod(folder, 0o755)
+        file_name = f"pool/{self.name}_{self.version}_{self.architecture}.deb"
+        os.makedirs(sandbox.path("mirror/pool"), exist_ok=True)
+        words = ["dpkg-deb", "--root-owner-group", "-Zxz", "--build", tree]
+        subprocess.run(
+            [*words, sandbox.path("mirror/" + file_name)], check=True, capture_output=True
+        )
+        data = sandbox.read("mirror/" + file_name)
+        digest = hashlib.sha256(data).hexdigest()
+        self.fields = f"{control}Filename: {file_name}\nSize: {len(data)}\nSHA256: {digest}\n"
+
+
+class Place:
+    """A signed mirror with packages, and two nights of a machine."""
+
+    def __init__(self, sandbox: CommandTest) -> None:
+        self.sandbox = sandbox
+        self.old = Night()
+        self.new = Night()
+        self.built: List[Built] = []
+        for night in (self.old, self.new):
+            for path in (b"/", b"/usr", b"/usr/bin", b"/usr/share", b"/etc"):
+                night.directory(path)
+            night.link(b"/lib", b"usr/lib")
+            night.link(b"/usr/bin/alias", b"true")
+            night.file(b"/usr/bin/true", ONE, 0o100755)
+            night.file(b"/usr/bin/passwd", ONE, 0o104755)
+
+    def listed(self, name: str, version: str = "1") -> None:
+        """A package that dpkg has unpacked again between the nights, with the version of now."""
+        for night, text in ((self.old, "0"), (self.new, version)):
+            night.file(INFO + name.encode() + b".list", sums_of(text))
+            night.file(INFO + name.encode() + b".md5sums", sums_of(text))
+
+    def package(self, built: Built) -> None:
+        built.build(self.sandbox)
+        self.built.append(built)
+
+    def sign(self, key: str = "gpg", more: str = "", ending: str = "", **changed: bytes) -> None:
+        """Writes the index and its signed text; `changed` is another index in place of the
+        signed one."""
+        index = "\n".join(built.fields for built in self.built).encode()
+        pack: Dict[str, Callable[[bytes], bytes]] = {".gz": gzip.compress, ".xz": lzma.compress}
+        data = pack[ending](index) if ending else index
+        folder = self.sandbox.path(SUITE)
+        shutil.rmtree(folder, ignore_errors=True)
+        os.makedirs(folder + "/main/binary-amd64")
+        name = "main/binary-amd64/Packages" + ending
+        self.sandbox.write(f"{SUITE}/{name}", changed.get("index", data))
+        date = time.strftime("%a, %d %b %Y %H:%M:%S UTC", time.gmtime())
+        text = RELEASE.format(date=date, more=more)
+        text += f" {hashlib.sha256(data).hexdigest()} {len(data)} {name}\n"
+        self.sandbox.write("release", text.encode())
+        words = ["--yes", "--digest-algo", "SHA256", "--output", folder + "/InRelease"]
+        gpg(self.sandbox, key, *words, "--clearsign", self.sandbox.path("release"))
+
+    def ask(
+        self, *words: str, sources: Tuple[str, ...] = (SUITE,), keyring: str = "keys.gpg"
+    ) -> Answer:
+        """What the command answers. The nights are written first."""
+        self.sandbox.write("host-old.db", self.old.database())
+        self.sandbox.write("host-new.db", self.new.database())
+        more = [f"--from={self.sandbox.path(source)}" for source in sources]
+        more.append(f"--keyring={self.sandbox.path(keyring)}")
+        names = ("host-old.db", "host-new.db")
+        return self.sandbox.call("aide-compare archive", *more, *words, *names)
+
+    def expect(self, answer: Answer, want: str, *paths: bytes) -> None:
+        """What accounts for the changes of some paths, beside what was made."""
+        for path in paths:
+            self.sandbox.assertEqual(self.standing(answer, path), want, path)
+
+    def standing(self, answer: Answer, path: bytes) -> str:
+        """What accounts for a change beside the old database and the one that was made."""
+        texts = (self.old.database(), self.new.database(), self.old.database(), answer.output)
+        maps = [database_of(text).entries for text in texts]
+        old, new, trusted_old, trusted_new = (entries.get(path) for entries in maps)
+        return same_as(old, new, trusted_old, trusted_new) or "open"
+
+
+def upgraded(sandbox: CommandTest) -> Place:
+    """A machine on which two packages have come to their version 2."""
+    place = Place(sandbox)
+    place.listed("tool", "2")
+    place.listed("lib:amd64", "2")
+    tool = Built("tool", "2").file(TOOL, TWO, 0o755).file(b"/usr/bin/true", TWO, 0o755)
+    tool.file(b"/usr/bin/plain", TWO, 0o4755).file(ODD, TWO).file(CONFIGURATION, TWO)
+    tool.link(b"/usr/bin/alias", b"tool").link(b"/usr/bin/zero", b"0")
+    place.package(tool.file(b"/usr/share/tool/new/file", TWO))
+    place.package(Built("lib", "2").file(b"/lib/multi/lib.so", TWO))
+    place.package(Built("lib", "1.5").file(b"/lib/multi/lib.so", b"of another version\n"))
+    for night in (place.old, place.new):
+        content = ONE if night is place.old else TWO
+        night.file(TOOL, content, 0o100755).file(b"/usr/bin/true", content, 0o100755)
+        night.file(b"/usr/bin/plain", content, 0o100755)
+        night.directory(b"/usr/lib/multi").file(LIBRARY, content).directory(b"/usr/share/tool")
+        night.file(b"/usr/share/tool/gone", ONE).file(CONFIGURATION, content)
+        # A new file is measured as the one before it, and gets none of its rights.
+        night.file(b"/usr/share/tool/a", ONE, capabilities=base64.b64encode(b"x").decode())
+    del place.new.entries[b"/usr/share/tool/gone"]
+    place.new.link(b"/usr/bin/alias", b"tool", size=4)
+    place.new.link(b"/usr/bin/zero", b"0", lname="00", size=1)
+    place.new.file(ODD, TWO).directory(b"/usr/share/tool/new").file(
+        b"/usr/share/tool/new/file", TWO
+    )
+    return place
+
+
+def make_keys(sandbox: CommandTest) -> None:
+    """Two keys, of which the first is trusted."""
+    for key in ("gpg", "other"):
+        os.mkdir(sandbox.path(key), 0o700)
+        words = ("--quick-gen-key", f"{key} <t@example.org>", "ed25519", "sign", "0")
+        gpg(sandbox, key, "--passphrase", "", *words)
+    sandbox.write("keys.gpg", gpg(sandbox, "gpg", "--export"))
+
+
+def keep_as_apt(sandbox: CommandTest, place: Place) -> None:
+    """Puts the indexes and the packages where apt keeps them."""
+    os.makedirs(sandbox.path("lists"))
+    os.makedirs(sandbox.path("archives"))
+    before = "lists/archive.example.org_dists_stable_"
+    shutil.copy(sandbox.path(SUITE + "/InRelease"), sandbox.path(before + "InRelease"))
+    index = sandbox.path(SUITE + "/main/binary-amd64/Packages")
+    shutil.copy(index, sandbox.path(before + "main_binary-amd64_Packages"))
+    for built in place.built:
+        name = f"{built.name}_{built.version}_amd64.deb"
+        shutil.copy(sandbox.path("mirror/pool/" + name), sandbox.path("archives/" + name))
