@@ -9,6 +9,7 @@ from unittest import mock
 from tests.commands.base.calls import OTHER, ModuleTest
 
 from aide_compare.base.directories import open_directory
+from aide_compare.base.kinds import Server
 from aide_compare.mail import sending
 
 
@@ -25,6 +26,8 @@ class SendingTest(ModuleTest):
             ("kill -9 $$", "status 137 of sendmail: it gave no reason"),
             ("exec sleep 9", "sendmail did not end within 1 seconds: it gave no reason"),
             ("printf %0400d 1; exit 1", f"status 1 of sendmail: {'0' * 300}..."),
+            # Of what it says, 64 KiB are kept.
+            ("printf '%065533d\\nb\\n' 1; echo c; exit 1", "status 1 of sendmail: b"),
         ):
             self.fails(18, why, sending.by_sendmail, self.mailer(body), 1, b"x")
         words = f'echo "$@" > {self.path("words")}; cat >> {self.path("words")}'
@@ -57,8 +60,10 @@ class SendingTest(ModuleTest):
 
     def test_waiting(self) -> None:
         """Only a mail that this user has put there is sent, and none that is too large."""
-        self.write("a.mail", b"text")
+        for name in (".b.mail", "a.mail.part", "a.mail"):
+            self.write(name, b"text")
         with open_directory(self.folder) as directory:
+            self.gives(["a.mail"], sending.waiting_in, directory)
             with mock.patch.object(sending, "MAX_BYTES", 4):
                 self.gives(b"text", sending.waiting_mail, directory, "a.mail")
                 self.write("b.mail", b"texts")
@@ -66,6 +71,7 @@ class SendingTest(ModuleTest):
             if os.getuid() == 0:
                 os.chown(self.path("a.mail"), OTHER, OTHER)
                 self.fails(18, "is no mail", sending.waiting_mail, directory, "a.mail")
+        self.gives(None, sending.send_all, self.path("none"), None)  # Nothing has waited yet.
 
     def test_memory(self) -> None:
         """The exchange may take ten times the message, and what a server may answer."""
@@ -76,5 +82,22 @@ class SendingTest(ModuleTest):
             used = int(file.read().split()[0]) * resource.getpagesize()
         kind, limit = bound.call_args[0]
         self.assertEqual(kind, resource.RLIMIT_AS)
-        wanted = used + 10 * len(message) + sending.MAX_BYTES
+        wanted = used + 10 * len(message) + (64 << 20)
         self.assertLess(abs(limit - wanted), 5_000_000)
+
+    def test_exchange(self) -> None:
+        """A server has its time; with the mail, five seconds or half of the rest for its end."""
+        refused = {"a@b": (550, b"nobody " * 99)}
+        server, domain = Server("there", 25), sending.own_domain()
+        for seconds, quit_seconds, addresses, why in (
+            (60, 5, {}, ""),
+            (4, 2, refused, f" for {('a@b: 550 ' + 'nobody ' * 99)[:300]}..."),
+        ):
+            with mock.patch("smtplib.SMTP") as taking, mock.patch.object(
+                sending, "_end_by_alarm"
+            ) as alarm:
+                taking.return_value.send_message.return_value = addresses
+                self.gives(why, sending._exchange, server, seconds, b"To: a@b\n\n")
+            taking.assert_called_once_with("there", 25, local_hostname=domain, timeout=seconds)
+            taking.return_value.quit.assert_called_once_with()
+            self.assertAlmostEqual(alarm.call_args[0][0], quit_seconds, 1)
