@@ -88,16 +88,6 @@ class HandsTest(CommandTest):
         self.assertIsNone(self.of_unit("aide-compare-mail.service"), "a success mails no failure")
         message = self.of_unit("aide-compare-mail.service", **variables)
         self.assertIn(b"failed: exit-code", mail.body(message), "the variables are enough")
-        tool = "aide-compare mail"
-        for name in ("x y", ""):
-            words = ("--unit-failed", name, "--send-queue", "queue")
-            self.refused(15, b"needs the name of a unit", tool, *words)
-        self.refused(15, b"needs --send-queue", tool, "--unit-failed", "x")
-        send = ("--send-queue", "queue")
-        for other in ("--queue queue", "--test", "--state state"):
-            self.refused(15, b"goes with none", tool, *send, *other.split())
-        for job in (send, ("--test",)):
-            self.refused(15, b"no databases are compared", tool, *job, "old.db", "new.db")
 
     def test_same_counts(self) -> None:
         """A run by hand, a mail, the unit and cron have the same counts, by the same defaults. The

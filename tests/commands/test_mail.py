@@ -323,12 +323,10 @@ class MailTest(CommandTest):
         self.assertIn(b"500 changes are open", text)
 
     def test_refusals(self) -> None:
-        """sendmail that fails, with a reason or without one, or hangs."""
+        """sendmail that fails, or hangs."""
         pair = ("old.db", "new.db")
         self.stub("sendmail", 'cat > /dev/null; echo "no route" >&2; exit 75')
         self.fails("a failure", pair, b"cannot send the mail", b"status 75", b"no route")
-        self.stub("sendmail", "exit 1")
-        self.fails("without a reason", pair, b"it gave no reason")
         self.stub("sendmail", 'echo "warning: retrying" >&2; sleep 50 & sleep 50')
         start = time.monotonic()
         self.fails("it hangs", (*pair, "--mail-time", "1s"), b"did not end within 1 seconds")
@@ -451,14 +449,6 @@ class MailTest(CommandTest):
             self.fails("a full queue", words, b"64 mails wait already")
         alert = b"<33>aide-compare mail: 64 mails wait in queue: none can be sent"
         self.assertTrue(lines[0].startswith(alert), lines)
-
-    def test_default_heartbeat(self) -> None:
-        """--weekly among the defaults counts for each mail that keeps a state, and for no other
-        one."""
-        self.write("etc/defaults", time.strftime("--weekly %a\n", time.localtime()))
-        message = self.mail("--state", "beat.state", "old.db", "old.db", status=0)
-        self.assertEqual(subject(message), SUBJECT + "no difference in 1 run")
-        self.assertIsNone(self.mail("old.db", "old.db", status=0), "no heartbeat without a state")
 
     def test_test(self) -> None:
         self.assertEqual(subject(self.mail("--test", status=0)), SUBJECT + "test")

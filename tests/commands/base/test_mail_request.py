@@ -1,0 +1,98 @@
+"""What the options of a mail ask for: its own and the comparison's, with the defaults before
+them."""
+from __future__ import annotations
+
+from typing import Any
+from unittest import mock
+
+from tests.commands.base.calls import ModuleTest
+
+from aide_compare.base import parser, progress
+from aide_compare.base.ending import Fault
+from aide_compare.base.kinds import Server
+from aide_compare.commands import mail_request
+from aide_compare.commands.mail_request import own_parser, parsed, request_of
+
+
+class MailRequestTest(ModuleTest):
+    def setUp(self) -> None:
+        super().setUp()
+        place = mock.patch.object(parser, "DIRECTORY", self.folder)
+        place.start()
+        self.addCleanup(place.stop)
+
+    def asks(self, words: str, **wanted: Any) -> Any:
+        """The comparison of some words, which ask for nothing else that no words ask for."""
+        request = request_of(words.split())
+        usual = parsed([])._replace(comparison=request.comparison)
+        self.expect(words, request, usual._replace(**wanted))
+        return request.comparison
+
+    def test_words(self) -> None:
+        rows: dict[str, dict[str, Any]] = {
+            "o n": {"address": "root", "default_fault": ""},
+            "--to a@b --max-mail 2M": {"address": "a@b", "max_mail": 2 << 20},
+            "--smtp there:26 --mail-time 9s": {"smtp": Server("there", 26), "seconds": 9},
+            "--attach-page --alarm any": {"has_page": True, "alarm": "any"},
+            "--queue q --alarm-sent-is-success": {"queue": "q", "sent_is_success": True},
+            "--test": {"is_test": True},
+            "--send-queue q --unit-failed x": {"send_queue": "q", "unit_failed": "x"},
+            "--state s --weekly o n": {"state": "s", "weekly": "Mon"},
+            "--state s --weekly Tue o n": {"state": "s", "weekly": "Tue"},
+            "--state s o --weekly": {"state": "s", "weekly": "Mon"},
+        }
+        for words, wanted in rows.items():
+            self.asks(words, **wanted)
+        with mock.patch.object(progress, "tell_steps") as tell:
+            comparison = self.asks("--user u --state s -v -- --weekly n", user="u", state="s")
+        tell.assert_any_call(True)
+        got = (comparison.databases, comparison.user, comparison.state)
+        self.assertEqual(got, (["--weekly", "n"], "u", "s"))
+
+    def test_refused(self) -> None:
+        """What means nothing without another word, or with it. A word of the comparison that means
+        nothing is mailed."""
+        for words, why in (
+            ("--weekly o n", "--weekly needs --state"),
+            ("--state -", "--state needs a file"),
+            ("--unit-failed x", "--unit-failed needs --send-queue"),
+            ("--unit-failed x/y --send-queue q", "needs the name of a unit"),
+            ("--unit-failed= --send-queue q", "needs the name of a unit"),
+            ("--send-queue q --queue q", "goes with none of"),
+            ("--send-queue q --test", "goes with none of"),
+            ("--send-queue q --state s", "goes with none of"),
+            ("--send-queue q o n", "no databases are compared"),
+            ("--test o n", "no databases are compared"),
+        ):
+            self.fails(15, why, request_of, words.split())
+        self.assertIn("--odd", self.asks("--odd").text)
+
+    def test_defaults(self) -> None:
+        """The defaults come first; --weekly counts only with a state. What a mail cannot use is
+        said, and costs no mail."""
+        self.write("defaults", b"--to a@b\n--weekly Tue\n--max-age 5d\n")
+        with mock.patch.object(mail_request, "say") as say:
+            self.asks("--to c@d", address="c@d")
+            self.asks("-- --state=s n", address="a@b")
+            self.assertEqual(self.asks("o n", address="a@b").max_age, 5 * 86400)
+            for state in ("--state=s", "--state s"):
+                self.asks(state, address="a@b", weekly="Tue", state="s")
+            say.assert_not_called()
+            for line, why in (("--to -x", "address"), ("--odd", "defaults, line 1: ")):
+                self.write("defaults", line.encode())
+                request = request_of(["o", "n"])
+                self.assertIn(why, request.default_fault)
+                say.assert_called_with(request.default_fault)
+                self.assertEqual(isinstance(request.comparison, Fault), line == "--odd", line)
+            self.assertIn("--not-known", request_of(["--not-known"]).comparison.text)  # type: ignore
+
+    def test_help(self) -> None:
+        words = " ".join(own_parser().format_help().split())
+        for part in (
+            "aide-compare mail [OPTIONS] [ARGUMENTS of aide-compare]",
+            "where the mail goes (root)",
+            "which changes are mailed: not-silent (the default), or any",
+            "kept in the queue.",
+        ):
+            self.assertIn(part, words)
+        self.assertNotIn("--state FILE", words, "it is the comparison's")
