@@ -181,40 +181,6 @@ class RecordedTest(CommandTest):
         missing = [number for number in range(60) if f"new-{number:02} 1" not in head]
         self.assertFalse(missing, ("all of many", (missing, text[:900])))
 
-    def test_read(self) -> None:
-        """Without the digest that a record has, the file on this machine needs that and the
-        database's."""
-        path = self.path("there").encode()
-        for label, content, measured, want in (
-            ("the package's content", TWO, TWO, RECORDED),
-            ("another content on this machine", EVIL, TWO, OPEN),
-            ("another content in the database", TWO, EVIL, OPEN),
-        ):
-            host = Host()
-            host.new.columns = host.old.columns = tuple(
-                column for column in host.new.columns if column != "md5"
-            )
-            host.new.file(path, measured)
-            host.packages.append(Package("tool", "2", {path: TWO}))
-            with open(path, "wb") as file:
-                file.write(content)
-            self.check(label, host, {path: want})
-
-    def test_weak_digest(self) -> None:
-        """A database that has only SHA-1 of a content does not say which one it is: the file on
-        this machine is not asked."""
-        path = self.path("there").encode()
-        self.write("there", TWO)
-        host = Host()
-        columns = [column for column in host.new.columns if column not in ("md5", "sha256")]
-        host.new.columns = host.old.columns = (*columns, "sha1")
-        host.new.file(path, TWO, sha1=base64_of(hashlib.sha1(TWO).digest()))
-        for night in (host.old, host.new):
-            for fields in night.entries.values():
-                fields.setdefault("sha1", "0")
-        host.packages.append(Package("tool", "2", {path: TWO}))
-        self.check("a weak digest", host, {path: OPEN})
-
     def test_damage(self) -> None:
         """Damaged records group less, and end nothing."""
         draw = random.Random(7)
