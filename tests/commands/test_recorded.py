@@ -114,13 +114,20 @@ class RecordedTest(CommandTest):
 
     def test_links(self) -> None:
         """A link is recorded if a package lists it, and what it points to."""
-        for target, want in ((b"tool.so.2", RECORDED), (b"/tmp/evil", OPEN), (b"missing", OPEN)):
+        for target, want in (
+            (b"tool.so.2", RECORDED),
+            (b"/tmp/evil", OPEN),
+            (b"missing", OPEN),
+            (b"", OPEN),
+        ):
             host = Host()
             host.old.link(LIB + b"tool.so", b"tool.so.1")
             host.new.link(LIB + b"tool.so", target)
-            listed = (LIB + b"tool.so",)
-            host.packages.append(Package("tool", "2", {LIB + b"tool.so.2": TWO}, listed=listed))
-            self.check(f"a link to {target!r}", host, {LIB + b"tool.so": want})
+            host.new.file(LIB + b"beside", TWO)
+            files = {LIB + b"tool.so.2": TWO, LIB + b"beside": TWO}
+            host.packages.append(Package("tool", "2", files, listed=(LIB + b"tool.so",)))
+            wanted = {LIB + b"tool.so": want, LIB + b"beside": RECORDED}
+            self.check(f"a link to {target!r}", host, wanted)
 
     def test_made(self) -> None:
         """What scripts of packages make is open, and has one line for a directory; what a package
@@ -134,19 +141,20 @@ class RecordedTest(CommandTest):
             host.old.file(source, ONE).file(compiled, ONE)
             host.new.file(source, TWO).file(compiled, TWO)
             host.packages.append(Package(f"python-{name.decode()}", "2", {source: TWO}))
-        host.old.file(cache + b"three.cpython-311.pyc", ONE)
-        host.new.file(cache + b"three.cpython-311.pyc", TWO)
-        host.old.file(LIB + b"python3/evil.py", ONE)
-        host.new.file(LIB + b"python3/evil.py", EVIL)
+        # Of three.py, which did not change, and of foreign.py, which no package has.
+        compiled_files = [cache + name + b".cpython-311.pyc" for name in (b"three", b"foreign")]
+        for name in (*compiled_files, LIB + b"python3/foreign.py", LIB + b"python3/evil.py"):
+            host.old.file(name, ONE)
+            host.new.file(name, EVIL)
         files = {LIB + b"python3/evil.py": TWO, LIB + b"python3/three.py": TWO}
         host.packages.append(Package("tool", "2", files))
         text = host.brief(self)
         made = "  medium  made     /usr/lib/python3/__pycache__: 2 files, by packages\n"
         self.assertEqual(text.count(made), 1, ("one line for a directory", text))
-        for file in ("evil.py", "__pycache__/three.cpython-311.pyc"):
-            line = f"  medium  changed  /usr/lib/python3/{file}: content"
-            self.assertEqual(text.count(line), 1, (f"a line of its own: {file}", text))
-        self.holds("compiled files are open", text.startswith("4 open, 2 recorded of 6"), text)
+        for name in (*compiled_files, LIB + b"python3/evil.py"):
+            line = f"  medium  changed  {name.decode()}: content"
+            self.assertEqual(text.count(line), 1, (f"a line of its own: {name!r}", text))
+        self.holds("compiled files are open", text.startswith("6 open, 2 recorded of 8"), text)
 
     def test_named(self) -> None:
         """Packages that came, went or fell to an older version are named before all else."""
@@ -213,13 +221,14 @@ class RecordedTest(CommandTest):
         host = upgraded(TWO)
         host.packages = []
         host.new.link(LIB + b"tool.so", b"tool.so.2").file(LIB + b"ghost", TWO)
-        host.new.link(LIB + b"evil.so", b"/tmp/evil")
+        host.new.link(LIB + b"evil.so", b"/tmp/evil").file(LIB + b"fresh", TWO)
         digest = hashlib.sha256(TWO).hexdigest()
         rows = ["P\ttool\t1:2-3\t8"]
         rows.append(f"F\t/usr/bin/tool\t{digest}\t\t0")
         rows.append("F\t/usr/lib/tool.so\t\ttool.so.2\t0")
         rows.append("F\t/usr/lib/evil.so\t\ttool.so.2\t0")
         rows.append(f"F\t/usr/lib/ghost\t{digest}\t\t1")
+        rows += ["P\tfresh\t1\t8", f"F\t/usr/lib/fresh\t{digest}\t\t0"]
         self.write("rpm.said", "".join(row + "\n" for row in rows))
         self.stub("rpm", f'[ "$1 $2" = "-qa --dbpath" ] && cat "{self.path("rpm.said")}"')
         wanted = {
@@ -227,10 +236,13 @@ class RecordedTest(CommandTest):
             LIB + b"tool.so": "recorded tool 1:2-3",
             LIB + b"evil.so": OPEN,
             LIB + b"ghost": OPEN,
+            LIB + b"fresh": "recorded fresh 1",
         }
         self.check("rpm's records", host, wanted)
         line = "  tool 1:2-3: 2 files, as rpm's records have them"
-        self.assertIn(line, host.brief(self), "their line")
+        text = host.brief(self)
+        self.assertIn(line, text, "their line")
+        self.assertIn("\nNew packages: fresh 1\n", text, "one of which each path came")
         self.set_names("changes.rpm", MAX_ALL=1 << 20)
         for stub, said in (
             ("exit 1", b"rpm did not say which packages there are"),
@@ -239,4 +251,4 @@ class RecordedTest(CommandTest):
             self.stub("rpm", stub)
             answer = self.call("aide-compare", "host-old.db", "host-new.db")
             told = [b"no package groups the changes: ", said]
-            self.expect(f"an rpm of {stub}", answer, 5, b"4 open", told)
+            self.expect(f"an rpm of {stub}", answer, 5, b"5 open", told)

@@ -9,7 +9,7 @@ from contextlib import suppress
 from typing import Callable, Dict, Iterable, Iterator, List, NamedTuple, Optional, Set
 
 from aide_compare.base.ending import Fault
-from aide_compare.base.files import open_regular
+from aide_compare.base.files import BLOCK, open_regular
 from aide_compare.base.paths import path_of
 from aide_compare.changes.entries import Entry, Sides, has_strong
 from aide_compare.changes.finding import IS_CONTENT, IS_LINK, Finding, Findings
@@ -19,7 +19,6 @@ from aide_compare.lines.attributes import DIGEST_COLUMNS
 from aide_compare.lines.change import Standing
 
 MAX_CONTENT = 2 << 30
-BLOCK = 1 << 18
 # So many findings, and so many bytes of their paths, are asked for at once.
 MAX_ASKED = 5000
 MAX_BYTES = 1 << 21
@@ -68,7 +67,7 @@ class Contents:
         return False
 
     def _blocks(self, path: bytes) -> Iterator[bytes]:
-        with open(open_regular(os.fsdecode(path)), "rb", buffering=0) as file:
+        with open(open_regular(os.fsdecode(path)), "rb") as file:
             while block := file.read(min(BLOCK, self.remaining)):
                 self.remaining -= len(block)
                 yield block
