@@ -122,7 +122,7 @@ class RecordedTest(CommandTest):
         ):
             host = Host()
             host.old.link(LIB + b"tool.so", b"tool.so.1")
-            host.new.link(LIB + b"tool.so", target)
+            host.new.link(LIB + b"tool.so", target, acl="0", e2fsattrs="0")
             host.new.file(LIB + b"beside", TWO)
             files = {LIB + b"tool.so.2": TWO, LIB + b"beside": TWO}
             host.packages.append(Package("tool", "2", files, listed=(LIB + b"tool.so",)))

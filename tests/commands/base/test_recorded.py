@@ -13,7 +13,14 @@ from aide_compare.changes import recorded
 from aide_compare.changes.entries import Entry
 from aide_compare.changes.finding import IS_CONTENT, IS_LINK
 from aide_compare.changes.packages import Member
-from aide_compare.changes.recorded import AskedPlace, Contents, Sieve, source_of, target_of
+from aide_compare.changes.recorded import (
+    AskedPlace,
+    Contents,
+    Matcher,
+    Sieve,
+    source_of,
+    target_of,
+)
 
 COMPILED = b"/a/__pycache__/b.cpython-311%s.pyc"
 
@@ -74,6 +81,21 @@ class RecordedTest(ModuleTest):
         one = {b"/c": every[b"/c"]}
         self.expect("some", list(recorded._asked(links, b"/c".__eq__)), [one])
         self.expect("the bounds", (recorded.MAX_ASKED, recorded.MAX_BYTES), (5000, 2 << 20))
+
+    def test_match(self) -> None:
+        """All records are read for many findings only, and a finding only if they have its path."""
+        for count, is_many in ((1, False), (2, True)):
+            findings, records = mock.MagicMock(), mock.Mock()
+            findings.__len__.return_value = count
+            findings.rows.return_value = [SimpleNamespace(bits=IS_CONTENT)] * count
+            findings.keys.return_value = [b"\1a", b"\1b"]
+            records.known_paths.return_value = [[b"/a"]]
+            records.members.return_value = {}
+            with mock.patch.object(recorded, "MAX_ASKED", 1):
+                Matcher(records, mock.Mock(), mock.Mock()).match(findings)
+            self.expect("all records", records.known_paths.called, is_many)
+            self.expect("what is asked for", records.members.call_args[0][0], {b"/a"})
+            findings.finding.assert_not_called()
 
     def test_contents(self) -> None:
         """A content that only the file on this machine says is read, as long as there is room."""
