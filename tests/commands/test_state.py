@@ -94,11 +94,6 @@ class StateTest(CommandTest):
         for status, added, removed, changed, want in (
             (0, 0, 0, 0, 0),
             (1, 5, 0, 0, 1),
-            (2, 0, 3, 0, 2),
-            (3, 1, 1, 0, 2),
-            (4, 0, 0, 9, 2),
-            (5, 1, 0, 4, 2),
-            (6, 0, 1, 1, 2),
             (7, 12, 34, 56, 2),
         ):
             self.put(status=status, added=added, removed=removed, changed=changed)
