@@ -172,24 +172,6 @@ class HandsTest(CommandTest):
         os.symlink(self.path("nothing"), self.path("etc/defaults"))
         self.refused(18, None, TOOL, *NIGHT)
 
-    def test_bad_lines(self) -> None:
-        """Only options that are the same for all may be there."""
-        for line in (
-            "--state x",
-            "--user root",
-            "--queue q",
-            "--json x",
-            "-c x",
-            "o.db",
-            "--",
-            "--attach-page yes",
-            "--max-age",
-            "--odd",
-            "--to",
-        ):
-            self.prepare(line + "\n")
-            self.refused(15, b"defaults, line 4: ", TOOL, *NIGHT)
-
     def test_bad_values(self) -> None:
         """A value that a mail cannot use costs no mail, and the mail says it."""
         for line, said in (("--alarm never", b"invalid choice"), ("--to é", b"address")):

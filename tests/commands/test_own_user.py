@@ -21,10 +21,7 @@ TESTS = (
     "test_accept.AcceptTest.test_modes",
     "test_accept_partly.AcceptPartlyTest.test_open",
     "test_faults.FaultsTest.test_rooms",
-    *(
-        "test_hands.HandsTest.test_" + name
-        for name in ("faulty_defaults", "bad_lines", "bad_values")
-    ),
+    *("test_hands.HandsTest.test_" + name for name in ("faulty_defaults", "bad_values")),
 )
 
 

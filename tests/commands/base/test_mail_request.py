@@ -10,6 +10,8 @@ from tests.commands.base.calls import ModuleTest
 from aide_compare.base import parser, progress
 from aide_compare.base.ending import Fault
 from aide_compare.base.kinds import Server
+from aide_compare.base.options import COMPARISON_DEFAULTS
+from aide_compare.base.parser import defaults_for
 from aide_compare.commands import mail_request
 from aide_compare.commands.mail_request import own_parser, parsed, request_of
 
@@ -85,6 +87,16 @@ class MailRequestTest(ModuleTest):
                 say.assert_called_with(request.default_fault)
                 self.assertEqual(isinstance(request.comparison, Fault), line == "--odd", line)
             self.assertIn("--not-known", request_of(["--not-known"]).comparison.text)  # type: ignore
+
+    def test_bad_lines(self) -> None:
+        """Only options that are the same for all may be among the defaults."""
+        for line in (
+            *("--state x", "--user root", "--queue q", "--json x", "-c x", "o.db", "--"),
+            *("--attach-page yes", "--max-age", "--odd", "--to"),
+        ):
+            self.write("defaults", b"# x\n\n--max-report 1G\n%s\n" % line.encode())
+            with self.subTest(line):
+                self.fails(15, "defaults, line 4: ", defaults_for, COMPARISON_DEFAULTS, ())
 
     def test_help(self) -> None:
         words = " ".join(own_parser().format_help().split())
