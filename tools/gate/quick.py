@@ -31,6 +31,7 @@ TESTS = {
     "commands/lib/aide_compare/changes/": (
         "tests.commands.base.test_changes",
         "tests.commands.base.test_lookups",
+        "tests.commands.base.test_recorded",
         "tests.commands.base.test_severity",
         "tests.commands.test_many",
         "tests.commands.test_nights",
@@ -38,7 +39,15 @@ TESTS = {
         "tests.commands.test_silenced",
         "tests.commands.test_standings",
     ),
+    "commands/lib/aide_compare/commands/accept": (
+        "tests.commands.base.test_accept_work",
+        "tests.commands.test_accept",
+    ),
     "commands/lib/aide_compare/commands/check.py": ("tests.commands.base.test_check",),
+    "commands/lib/aide_compare/commands/mail": (
+        "tests.commands.base.test_mail_request",
+        "tests.commands.test_mail",
+    ),
     "commands/lib/aide_compare/commands/status.py": ("tests.commands.test_state",),
     "commands/lib/aide_compare/commands/sort.py": ("tests.commands.test_sorting",),
     "commands/lib/aide_compare/commands/json.py": ("tests.commands.test_viewers",),
