@@ -13,7 +13,7 @@ import sys
 from tools.lib.arguments import parser_of
 from tools.source.definition_lines import PROSE, shown, users_first, wrapped
 from tools.source.definitions import TOP, WORD, Definitions, crates, imports_of
-from tools.source.headline_tables import counted, library_words, members_of, read, types_of
+from tools.source.headline_tables import library_words, members_of, read, types_of
 
 PAGE, LINES_PAGE = "docs/HEADLINE.md", "docs/HEADLINE_LINES.md"
 COMPARE = "crates/aide_headline/src/comparison.rt"
@@ -153,7 +153,7 @@ def premises(definitions, places):
         files = len({each[:2] for each in order})
         crate, file, name = place
         text = f"`{name}` of `crates/{crate}/specs/{file}.antt`: {len(order)} definitions, "
-        text += f"{count} lines, in {counted(files, 'file')}"
+        text += f"{count} lines; files: {files}"
         lines.append("- " + "\n  ".join(wrapped(text, "", PROSE - 2)))
     return lines + [""]
 

@@ -165,9 +165,5 @@ def library_words(outside, known=()):
     ]
 
 
-def counted(count, word):
-    return f"{count} {word}" if count == 1 else f"{count} {word}s"
-
-
 def listed(names):
     return ", ".join("`%s`" % name for name in names)
