@@ -29,13 +29,6 @@ equal_values u v e = (same_value-Decides u v).0 (negated _ e)
 never : (u : Value) → is_different (Some u) (Some u) ≡ false
 never u = rw ((same_value-Decides u u).1 refl) refl
 
-not_different : (u v : Value) → u ≡ v → is_different (Some u) (Some v) ≡ false
-not_different u v e = ap (λ w. is_different (Some u) (Some w)) (sym e) ∙ never u
-
-different_by : (b : Bool) → (((b && true) || (false && true)) && not false) ≡ false → b ≡ false
-different_by true e = cc
-different_by false e = refl
-
 same_by : (d digest own : Bool) → own ≡ false
     → (((d && true && true) || (((true && not true) || (true && not true)) && not digest)) && not own) ≡ false
     → d ≡ false

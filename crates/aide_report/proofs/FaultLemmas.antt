@@ -18,7 +18,7 @@ use Rattle.aide_report.specs.Standing.{IsFaultOf}
 use Rattle.aide_report.specs.RunFaults.{IsCaused, IsFirst, IsLater, IsRight, HasPenWritten}
 use Rattle.aide_text.specs.Failures.{Rose}
 use Rattle.aide_text.specs.declared.pen.Pen.{Pen}
-use Rattle.aide_report.specs.Runs.{Report, Runs, RunsBy, report_over, IsRunFault, Causes, HasCause}
+use Rattle.aide_report.specs.Runs.{Report, RunsBy, IsRunFault, Causes, HasCause}
 use Rattle.aide_report.specs.declared.run_fault.RunFault.{RunFault}
 use Rattle.aide_report.specs.declared.run_fault.RunFault.TheVariants.{Open, Database, Changed, Write}
 use Rattle.aide_report.proofs.FirstFaults.{RunsBy-unique}
@@ -77,14 +77,6 @@ cause_by limits task over bytes_of sources sink (Database fault) caused answer r
     (answer old new told_old told_new inside))
 cause_by limits task over bytes_of sources sink (Changed side) caused answer right = right
 cause_by limits task over bytes_of sources sink (Write written) caused answer right = caused
-
-pub has_cause : (limits : Limits) (task : Asked) (bytes_of : Side → Option (List ℕ)) (sources sink : Type 0) (fault : RunFault)
-    → IsCaused sources sink fault → IsRunFault limits task bytes_of fault → IsRight limits bytes_of fault
-    → HasCause fault sources sink
-    (λ first. (old new : List ℕ) → bytes_of Old ≡ Some old → bytes_of New ≡ Some new → (r : Result Report DbFault)
-    → Runs limits task old new r → r ≡ Err first)
-    (λ side. (text : List ℕ) → bytes_of side ≡ Some text → ⊥)
-has_cause limits task = cause_by limits task (report_over task)
 
 -- ---- the end of a pass
 

@@ -16,7 +16,7 @@ use Rattle.aide_report.specs.Asked.{Asked}
 use Rattle.aide_report.specs.Missing.{TellsSide, RunsOver, RunsOverBy, HasAnswerOver, IsHindered, SendsFront, SendsWhole, StopsFor}
 use Rattle.aide_report.specs.Missing.{run_answer}
 use Rattle.aide_report.specs.RunFaults.{IsCaused, IsFirst, IsLater}
-use Rattle.aide_report.specs.Runs.{Report, Runs, RunsBy, report_over, EndsEarly, EndsWell, IsFirstFaultOf, Causes}
+use Rattle.aide_report.specs.Runs.{Report, RunsBy, EndsEarly, EndsWell, IsFirstFaultOf, Causes}
 use Rattle.aide_report.specs.declared.outcome.Outcome.{Outcome}
 use Rattle.aide_report.specs.declared.run_fault.RunFault.{RunFault}
 use Rattle.aide_report.specs.declared.run_fault.RunFault.TheVariants.{Open, Database, Changed, Write}
@@ -243,15 +243,6 @@ whole_by limits over bytes_of is_missing old new outcome before after told told_
     over_texts limits over bytes_of is_missing old new (λ r. SendsWhole r outcome before after) told told_new there
     (λ old_text new_text is_old is_new run runs. whole_given run outcome before after (all old_text new_text is_old is_new run runs))
 
-pub whole_over : (limits : Limits) (wish : Asked) (bytes_of : Side → Option (List ℕ)) (is_missing : Side → Bool) (old new : Option (List ℕ))
-    (outcome : Outcome) (before after : Option (List ℕ))
-    → TellsSide (bytes_of Old) (is_missing Old) old → TellsSide (bytes_of New) (is_missing New) new
-    → ((side : Side) → is_missing side ≡ false)
-    → ((old_text new_text : List ℕ) → bytes_of Old ≡ Some old_text → bytes_of New ≡ Some new_text
-    → (run : Result Report DbFault) → Runs limits wish old_text new_text run → EndsWell run outcome before after)
-    → (r : Result Report RunFault) → RunsOver limits wish old new r → SendsWhole r outcome before after
-whole_over limits wish = whole_by limits (report_over wish)
-
 pub front_by : (limits : Limits) (over : List ℕ → List ℕ → Report) (bytes_of : Side → Option (List ℕ)) (is_missing : Side → Bool)
     (old new : Option (List ℕ)) (before after : Option (List ℕ))
     → TellsSide (bytes_of Old) (is_missing Old) old → TellsSide (bytes_of New) (is_missing New) new
@@ -262,15 +253,6 @@ pub front_by : (limits : Limits) (over : List ℕ → List ℕ → Report) (byte
 front_by limits over bytes_of is_missing old new before after told told_new there all =
     over_texts limits over bytes_of is_missing old new (λ r. SendsFront r before after) told told_new there
     (λ old_text new_text is_old is_new run runs. front_given run before after (all old_text new_text is_old is_new run runs))
-
-pub front_over : (limits : Limits) (wish : Asked) (bytes_of : Side → Option (List ℕ)) (is_missing : Side → Bool) (old new : Option (List ℕ))
-    (before after : Option (List ℕ))
-    → TellsSide (bytes_of Old) (is_missing Old) old → TellsSide (bytes_of New) (is_missing New) new
-    → ((side : Side) → is_missing side ≡ false)
-    → ((old_text new_text : List ℕ) → bytes_of Old ≡ Some old_text → bytes_of New ≡ Some new_text
-    → (run : Result Report DbFault) → Runs limits wish old_text new_text run → EndsEarly run before after)
-    → (r : Result Report RunFault) → RunsOver limits wish old new r → SendsFront r before after
-front_over limits wish = front_by limits (report_over wish)
 
 -- nothing is a front of every answer
 pub nothing_front : (r : Result Report RunFault) (bytes : Option (List ℕ)) → SendsFront r bytes bytes

@@ -14,7 +14,6 @@ mod levels;
 mod lines;
 mod paces;
 mod pair;
-mod pieces;
 mod refused;
 mod reported;
 mod room;

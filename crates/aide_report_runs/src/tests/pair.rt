@@ -1,5 +1,4 @@
 //! A pair of databases with every form of field, and its report at each level.
-use super::pieces::joined;
 use std::alloc::{AllocError, Allocator};
 
 pub(super) const OLD: &[u8] = b"@@begin_db\n\
@@ -210,4 +209,13 @@ impl LevelRow {
             &[HEAD, self.summary, self.lists, self.details, self.databases],
         )
     }
+}
+
+/// These pieces, one after another.
+fn joined<A: Allocator + Copy>(alloc: A, pieces: &[&[u8]]) -> Result<Vec<u8, A>, AllocError> {
+    let mut text = Vec::new(alloc);
+    for piece in pieces {
+        text.extend_from_slice(piece)?;
+    }
+    Ok(text)
 }
