@@ -8,10 +8,11 @@ import os
 import re
 import stat
 from contextlib import suppress
+from functools import cached_property
 from os.path import commonprefix
 from typing import Callable, Dict, Iterable, Iterator, List, NamedTuple, Optional, Set, Tuple
 
-from aide_compare.base.ending import Fault, Status, failing
+from aide_compare.base.ending import Fault, Status, failing, reason
 from aide_compare.base.escapes import shown
 from aide_compare.base.files import open_regular
 from aide_compare.base.directories import LISTING, closed_after, open_directory
@@ -25,21 +26,18 @@ MAX_ALL = 256 << 20
 MAX_LOG = 4 << 20
 MAX_FILES = 200000
 MAX_COMPARED = 500
-MAX_STARTS = 8
+MAX_STARTS = 3
 PIECE = 1 << 16
 READ_ONLY = os.O_RDONLY | os.O_NOFOLLOW | os.O_NONBLOCK | os.O_CLOEXEC
-PARAGRAPH = re.compile(
-    rb"^(Package|Status|Architecture|Version|Conffiles):[ \t]*(.*(?:\n[ \t].*)*)", re.M
-)
-NAME = re.compile(rb"^Package:(.*)", re.M)
+PARAGRAPH = rb"(?m)^(Package|Status|Architecture|Version|Conffiles):[ \t]*(.*(?:\n[ \t].*)*)"
+NAME = rb"(?m)^Package:(.*)"
+LIST = ".list"
 INSTALLED = b"\nStatus: install ok installed\n"
-CONFFILE = re.compile(rb"^ ?(/.*?) ([0-9a-f]{32})(?: [a-z-]+)*$", re.M)
-SUM = re.compile(rb"([0-9a-f]{32})  ?(.+)")
+CONFFILE = rb"(?m)^ ?(/.*?) ([0-9a-f]{32})(?: [a-z-]+)*$"
+SUM = rb"(?m)^([0-9a-f]{32})  ?(.+)$"
 INFO_DIRECTORY = b"/var/lib/dpkg/info"
-INFO = re.compile(rb"/var/lib/dpkg/info/([A-Za-z0-9][A-Za-z0-9+.-]*)(:[a-z0-9-]+)?\.list")
-UPGRADE = re.compile(
-    rb"^[-0-9]+ [:0-9]+ upgrade ([^: \n]+)(?::[^ \n]*)? ([^ \n]+) ([^ \n]+)$", re.M
-)
+INFO = rb"/var/lib/dpkg/info/([A-Za-z0-9][A-Za-z0-9+.-]*)(:[a-z0-9-]+)?\.list"
+UPGRADE = rb"(?m)^[-0-9]+ [:0-9]+ upgrade ([^: \n]+)(?::[^ \n]*)? ([^ \n]+) ([^ \n]+)$"
 
 
 class Member(NamedTuple):
@@ -76,20 +74,24 @@ class Dpkg:
 
     def __init__(self, path: str = DPKG) -> None:
         self.remaining = MAX_ALL
+        self.owners = (0, os.geteuid())  # Who may own the files.
         self.words = f"dpkg's records in {shown(path)}"
         with open_directory(path) as directory, failing(f"cannot read {self.words}"):
             if directory.others:
                 raise Fault(Status.DEVICE, f"other users can write {self.words}")
             self.fd = os.open(".", LISTING, dir_fd=directory.fd)
-        # The paragraphs of packages that are there, by their names. What they say is read later.
-        self.paragraphs: Dict[bytes, List[bytes]] = {}
-        self.conffiles: List[bytes] = []  # Those that name files.
-        for paragraph in self._read("status").split(b"\n\n"):
-            match = NAME.search(paragraph)
+        # What each says of a package is read when a path of that package is asked for.
+        self.paragraphs = self._read("status").split(b"\n\n")
+
+    @cached_property
+    def _present(self) -> Dict[bytes, List[bytes]]:
+        """The paragraphs of packages that are there, by their names."""
+        present: Dict[bytes, List[bytes]] = {}
+        for paragraph in self.paragraphs:
+            match = re.search(NAME, paragraph)
             if match and (INSTALLED in paragraph or is_there(fields_of(paragraph))):
-                self.paragraphs.setdefault(match.group(1).strip(), []).append(paragraph)
-                if b"Conffiles:" in paragraph:
-                    self.conffiles.append(paragraph)
+                present.setdefault(match.group(1).strip(), []).append(paragraph)
+        return present
 
     def _read(self, name: str) -> bytes:
         """The bytes of a file; none if it is not there."""
@@ -97,31 +99,41 @@ class Dpkg:
 
     def _pieces(self, name: str) -> Iterator[bytes]:
         """The bytes of a file in pieces of whole lines; none if it is not there."""
-        with failing(f"cannot read {self.words}: {shown(name)}"):
-            try:
-                file = os.open(name, READ_ONLY, dir_fd=self.fd)
-            except FileNotFoundError:
-                return
-            with closed_after(file):
-                size = self._size_of(file, name)
-                limit = min(MAX_FILE, self.remaining)
-                remaining = self.remaining - limit
-                rest = bytearray()
-                while size > 0 and (block := os.read(file, PIECE)):
-                    size -= len(block)
-                    self.remaining -= len(block)
-                    if self.remaining < remaining:
-                        raise Fault(Status.DEVICE, f"{self.words} has more than {limit} bytes")
-                    whole, newline, end = block.rpartition(b"\n")
-                    if newline:
-                        yield bytes(rest) + whole + newline
-                        rest.clear()
-                    rest += end
+        try:
+            yield from self._read_pieces(name)
+        except FileNotFoundError:
+            return
+        except OSError as error:
+            text = f"cannot read {self.words}: {shown(name)}: {reason(error)}"
+            raise Fault(Status.DEVICE, text) from None
+
+    def _read_pieces(self, name: str) -> Iterator[bytes]:
+        """The same, and a failure as the system tells it. It makes nothing that only a failure
+        needs: there are some hundred lists, each of a few kilobytes."""
+        file = os.open(name, READ_ONLY, dir_fd=self.fd)
+        try:
+            size = self._size_of(file, name)
+            limit = min(MAX_FILE, self.remaining)
+            remaining = self.remaining - limit
+            rest = bytearray()
+            while size > 0 and (block := os.read(file, PIECE)):
+                size -= len(block)
+                self.remaining -= len(block)
+                if self.remaining < remaining:
+                    raise Fault(Status.DEVICE, f"{self.words} has more than {limit} bytes")
+                end = block.rfind(b"\n") + 1
+                if end:
+                    yield bytes(rest) + block[:end]
+                    rest.clear()
+                rest += block[end:]
+            if rest:
                 yield bytes(rest)
+        finally:
+            os.close(file)
 
     def _size_of(self, file: int, name: str) -> int:
         status = os.fstat(file)
-        is_own = status.st_uid in (0, os.geteuid()) and not status.st_mode & 0o022
+        is_own = status.st_uid in self.owners and not status.st_mode & 0o022
         if not stat.S_ISREG(status.st_mode) or not is_own:
             raise Fault(Status.DEVICE, f"other users can write {self.words}: {shown(name)}")
         return status.st_size
@@ -131,7 +143,7 @@ class Dpkg:
         not there."""
         name, _, architecture = base.partition(b":")
         version: Optional[bytes] = None
-        for paragraph in self.paragraphs.get(name, ()):
+        for paragraph in self._present.get(name, ()):
             fields = fields_of(paragraph)
             if architecture in (b"", fields.get(b"Architecture", b"").strip()):
                 version = fields.get(b"Version", b"").strip()
@@ -167,87 +179,90 @@ class Dpkg:
         """All paths of which the records say something, some at once."""
         self.remaining = MAX_ALL
         yield self._read("diversions").split(b"\n")
-        for base in self._bases():
-            for piece in self._pieces(f"info/{os.fsdecode(base)}.list"):
+        for name in self._lists():
+            for piece in self._pieces(f"info/{name}"):
                 yield piece.split(b"\n")
-        for paragraph in self.conffiles:
-            yield [path for path, _ in CONFFILE.findall(paragraph)]
+        for paragraph in self.paragraphs:
+            if b"Conffiles:" in paragraph:
+                yield [path for path, _ in re.findall(CONFFILE, paragraph)]
 
     def _lists_with(self, asked: Wanted) -> Iterator[Tuple[bytes, Wanted]]:
         """The beginnings of the names of the lists that have paths that are asked for, each with
         these. There are some hundred thousand lines on a machine."""
         starts = _starts_of(asked)
-        for base in self._bases():
+        for name in self._lists():
             listed: Wanted = set()
-            for piece in self._pieces(f"info/{os.fsdecode(base)}.list"):
-                text = b"\n" + piece
-                if any(map(text.__contains__, starts)):
-                    listed |= asked.intersection(text.split(b"\n"))
+            for piece in self._pieces(f"info/{name}"):
+                if any(map(piece.__contains__, starts)):
+                    listed |= asked.intersection(piece.split(b"\n"))
             if listed:
-                yield base, listed
+                yield os.fsencode(name[: -len(LIST)]), listed
 
     def _sums_of(self, base: bytes, paths: Wanted) -> Iterator[Tuple[bytes, bytes]]:
         """The digests of some paths, each with its path before it."""
         for piece in self._pieces(f"info/{os.fsdecode(base)}.md5sums"):
-            for line in piece.split(b"\n"):
-                match = SUM.fullmatch(line)
-                if match and b"/" + match.group(2) in paths:
-                    yield b"/" + match.group(2), match.group(1)
+            for digits, name in re.findall(SUM, piece):
+                path = b"/" + name
+                if path in paths:
+                    yield path, digits
 
     def _conffiles_with(self, asked: Wanted) -> Iterator[Tuple[str, bytes, bytes]]:
         """The configuration files among some paths, each with its package before it and its digest
         after it."""
-        for paragraph in self.conffiles:
-            if any(path in asked for path, _ in CONFFILE.findall(paragraph)):
-                fields = fields_of(paragraph)
+        starts = _starts_of(asked)
+        for paragraph in self.paragraphs:
+            if not any(map(paragraph.__contains__, starts)):
+                continue
+            fields = fields_of(paragraph)
+            files = re.findall(CONFFILE, fields.get(b"Conffiles", b""))
+            if is_there(fields) and any(path in asked for path, _ in files):
                 package = words_of(name_in(fields), fields.get(b"Version", b"").strip())
-                for path, digits in CONFFILE.findall(fields.get(b"Conffiles", b"")):
+                for path, digits in files:
                     yield package, path, digits
 
-    def _bases(self) -> List[bytes]:
-        """The beginnings of the names of lists, of the packages that are there."""
+    def _lists(self) -> List[str]:
+        """The names of the lists of packages, also of those of which only configuration is left."""
         with failing(f"cannot read {self.words}"):
             with closed_after(os.open("info", READ_ONLY | os.O_DIRECTORY, dir_fd=self.fd)) as info:
-                names = sorted(os.listdir(info))[:MAX_FILES]
-        bases = [os.fsencode(name[: -len(".list")]) for name in names if name.endswith(".list")]
-        return [base for base in bases if base.partition(b":")[0] in self.paragraphs]
+                names = [name for name in os.listdir(info) if name.endswith(LIST)]
+        return sorted(names)[:MAX_FILES]
 
     def named(self, findings: Findings, _kinds: Kinds) -> Named:
         """The packages whose list came or went, and those of which dpkg's log says that their last
         change was to an older version."""
         named = Named()
-        before = self._versions_before()
         count = 0
         for path, kind in findings.below(INFO_DIRECTORY):
-            match = INFO.fullmatch(path)
+            match = re.fullmatch(INFO, path)
             name = match.group(1) if match else b""
             version = self._version_of(name) or b""
             if match and kind == "added":
                 named.came.append(words_of(name, version))
             elif match and kind == "removed":
                 named.removed.append(shown(name, 100))
-            elif name in before and count < MAX_COMPARED:
+            elif match and name in self._versions_before and count < MAX_COMPARED:
                 count += 1
-                if is_less(version, before[name]):
-                    was = shown(before[name], 100)
+                before = self._versions_before[name]
+                if is_less(version, before):
+                    was = shown(before, 100)
                     named.downgraded.append(f"{words_of(name, version)}, which was {was}")
         return named
 
-    @staticmethod
-    def _versions_before() -> Dict[bytes, bytes]:
+    @cached_property
+    def _versions_before(self) -> Dict[bytes, bytes]:
         """The version that each package had before its last upgrade, as far as the log has that."""
         versions: Dict[bytes, bytes] = {}
         for path in (DPKG_LOG + ".1", DPKG_LOG):
             with suppress(Fault, OSError), closed_after(open_regular(path)) as log:
                 start = max(os.fstat(log).st_size - MAX_LOG, 0)
-                for name, version, _ in UPGRADE.findall(os.pread(log, MAX_LOG, start)):
+                for name, version, _ in re.findall(UPGRADE, os.pread(log, MAX_LOG, start)):
                     versions[name] = version
         return versions
 
 
 def fields_of(paragraph: bytes) -> Fields:
     """The fields of a paragraph of dpkg's status that somebody asks for."""
-    return dict(PARAGRAPH.findall(paragraph))
+    return dict(re.findall(PARAGRAPH, paragraph))
 
 
 def name_in(fields: Fields) -> bytes:
@@ -261,12 +276,17 @@ def is_there(fields: Fields) -> bool:
 
 
 def _starts_of(paths: Wanted) -> List[bytes]:
-    """What a list has if it has one of some paths: a newline, and the beginning of some of them. A
-    few are looked for, however many paths there are."""
+    """What a text has if it has one of some paths: the beginning of some of them. A few are looked
+    for, however many paths there are."""
     directories = sorted({path[: path.rfind(b"/") + 1] for path in paths})
     size = -(-len(directories) // MAX_STARTS)
-    groups = [directories[at : at + size] for at in range(0, len(directories), max(size, 1))]
-    return [b"\n" + os.fsencode(commonprefix([group[0], group[-1]])) for group in groups]
+    starts: List[bytes] = []
+    for at in range(0, len(directories), max(size, 1)):
+        group = directories[at : at + size]
+        start = os.fsencode(commonprefix([group[0], group[-1]]))
+        if not (starts and start.startswith(starts[-1])):
+            starts.append(start)
+    return starts
 
 
 def _spellings(paths: Wanted) -> Wanted:
