@@ -14,7 +14,8 @@ from __future__ import annotations
 import fnmatch
 import re
 from collections.abc import Callable, Iterable, Iterator
-from functools import lru_cache
+from functools import cached_property, lru_cache
+from itertools import takewhile
 from operator import itemgetter, methodcaller
 from typing import Generic, Protocol, TypeVar
 
@@ -30,8 +31,8 @@ MAX_PATH = 4096  # PATH_MAX of Linux: no path of a file is longer, so no row mea
 WILD = re.compile(rb"[*?\[\\]")
 # What fnmatch takes otherwise: an escaped byte, and a class, whose first byte may be any, with its
 # sign before that.
-TOKEN = re.compile(rb"\\(.?)|\[(?:([!^])|(?![!^]))(.[^]]*)\]|\[", re.S)
-RANGE = re.compile(rb"(.)-(.)", re.S)
+TOKEN = rb"(?s)\\(.?)|\[(?:([!^])|(?![!^]))(.[^]]*)\]|\["
+RANGE = rb"(?s)(.)-(.)"
 
 
 def unescaped(field: bytes) -> bytes:
@@ -71,24 +72,36 @@ def _token(match: re.Match[bytes]) -> bytes:
         return b"[%s]" % literal if literal in b"*?[" else literal
     if inner is None:
         raise ValueError("a class has no end")
-    if any(first > last for first, last in RANGE.findall(inner)):
+    if any(first > last for first, last in re.findall(RANGE, inner)):
         raise ValueError("a class is not understood")
     is_negated = bool(match.group(2))
     return b"[!%s]" % inner if is_negated else b"[%s]" % inner
 
 
+def _as_fnmatch(piece: bytes) -> bytes:
+    """A piece of a pattern as fnmatch has it; a ValueError says why it is none."""
+    return re.sub(TOKEN, _token, piece)
+
+
 def _test(piece: bytes) -> Callable[[bytes], object]:
     """A test of one piece of a path. What fnmatch makes of it looks for each text between stars
-    once, from left to right; most pieces have a star at one end only, and need no expression."""
-    if not WILD.search(piece):
+    once, from left to right; most pieces have a star at the ends only, and need no expression."""
+    if _is_fixed(piece):
         return piece.__eq__
     before, _, after = piece.partition(b"*")
-    if not after and not WILD.search(before):
+    if not after and _is_fixed(before):
         return methodcaller("startswith", before)
-    if not before and not WILD.search(after):
+    if not before and _is_fixed(after):
         return methodcaller("endswith", after)
-    text = TOKEN.sub(_token, piece)
+    middle = after.removesuffix(b"*")
+    if not before and _is_fixed(middle):
+        return methodcaller("__contains__", middle)
+    text = _as_fnmatch(piece)
     return re.compile(fnmatch.translate(text.decode("latin-1")).encode("latin-1")).match
+
+
+def _is_fixed(piece: bytes) -> bool:
+    return WILD.search(piece) is None
 
 
 def _never(_piece: bytes) -> bool:
@@ -107,16 +120,36 @@ class Pattern:
         if not text.startswith(b"/"):
             raise ValueError("a path begins with /")
         pieces = text[1:].split(b"/")
-        if any(b"**" in piece and piece != b"**" for piece in pieces):
+        if b"**" in text and any(b"**" in piece and piece != b"**" for piece in pieces):
             raise ValueError("** is a piece of its own, as in /var/log/**")
-        wild = next((at for at, piece in enumerate(pieces) if WILD.search(piece)), len(pieces))
+        if b"[" in text or b"\\" in text:
+            for piece in pieces:
+                _as_fnmatch(piece)
         self.text = text
-        self.fixed = tuple(pieces[:wild])
-        self.tests = [None if piece == b"**" else _test(piece) for piece in pieces]
-        self.padded = [*self.tests, _never]  # Behind the last piece no piece fits.
-        # For a quick no: a path has at least so many pieces, and these among them.
-        self.min_pieces = len(pieces) - self.tests.count(None)
-        self.named = {piece for piece in pieces[wild:] if not WILD.search(piece)}
+        self.pieces = pieces
+        self.fixed = tuple(takewhile(_is_fixed, pieces))
+
+    # What follows is made when a path is tested: most patterns of a table never test one.
+
+    @cached_property
+    def tests(self) -> list[Callable[[bytes], object] | None]:
+        """The tests of the pieces, None for `**`."""
+        return [None if piece == b"**" else _test(piece) for piece in self.pieces]
+
+    @cached_property
+    def padded(self) -> list[Callable[[bytes], object] | None]:
+        """The same, and behind the last piece no piece fits."""
+        return [*self.tests, _never]
+
+    @cached_property
+    def min_pieces(self) -> int:
+        """For a quick no: a path has at least so many pieces."""
+        return len(self.pieces) - self.pieces.count(b"**")
+
+    @cached_property
+    def named(self) -> set[bytes]:
+        """For a quick no: a path has these pieces."""
+        return set(filter(_is_fixed, self.pieces))
 
     def names_in(self, pieces: list[bytes]) -> Callable[[bytes], object] | None:
         """A test of the names in a directory, given by its pieces, that the pattern means; None if
@@ -192,7 +225,7 @@ class Table(Generic[RowType]):
         for place, row in enumerate(rows):
             pattern = row.pattern
             self.by_start.setdefault(pattern.fixed, []).append((place, row))
-            self.by_directory.setdefault(pattern.fixed[: len(pattern.tests) - 1], []).append(
+            self.by_directory.setdefault(pattern.fixed[: len(pattern.pieces) - 1], []).append(
                 (place, row)
             )
         self.longest = max(map(len, self.by_start), default=0)
