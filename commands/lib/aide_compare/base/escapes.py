@@ -10,6 +10,7 @@ controls, such as those that turn the direction of text.
 from __future__ import annotations
 
 import re
+from functools import lru_cache
 
 # The characters of the category Cf (Unicode 15), with the two separators of the categories Zl and
 # Zp.
@@ -29,6 +30,7 @@ def _escaped(data: bytes) -> str:
     return "".join(f"\\{byte:03o}" for byte in data)
 
 
+@lru_cache(maxsize=None)
 def _table() -> dict[int, str]:
     """What stands in place of each character that is escaped. Bytes that are no UTF-8 are U+DC80 to
     U+DCFF."""
@@ -42,9 +44,15 @@ def _table() -> dict[int, str]:
     return table
 
 
-_ALL = _table()
-_BUT_BACKSLASHES = {code: text for code, text in _ALL.items() if code != 92}
-_BUT_LINES = {code: text for code, text in _BUT_BACKSLASHES.items() if code not in (9, 10)}
+@lru_cache(maxsize=None)
+def _table_but(kept: str) -> dict[int, str]:
+    """The same but for some characters."""
+    return {code: text for code, text in _table().items() if chr(code) not in kept}
+
+
+def _is_plain(text: str) -> bool:
+    """Whether no character is escaped, but perhaps the backslash: so most names are."""
+    return text.isascii() and text.isprintable()
 
 
 def _bytes_of(text: str | bytes | bytearray | memoryview) -> bytes:
@@ -67,7 +75,9 @@ def _bytes_of_letter(letter: str) -> bytes:
 def shown(text: str | bytes, limit: int = 5000) -> str:
     """Bytes or text of others in one line, cut after so many characters with "..."."""
     letters = _bytes_of(text[: 4 * limit + 4]).decode("utf-8", "surrogateescape")
-    line = letters[:limit].translate(_ALL)
+    line = letters[:limit]
+    if "\\" in line or not _is_plain(line):
+        line = line.translate(_table())
     if len(letters) > limit:
         line += "..."
     return line
@@ -76,13 +86,15 @@ def shown(text: str | bytes, limit: int = 5000) -> str:
 def guarded(text: str) -> str:
     """A line of ours in which names are `shown` already: all else that is escaped, but not the
     backslash."""
-    return _bytes_of(text).decode("utf-8", "surrogateescape").translate(_BUT_BACKSLASHES)
+    if _is_plain(text):
+        return text
+    return _bytes_of(text).decode("utf-8", "surrogateescape").translate(_table_but("\\"))
 
 
 def shown_lines(data: str | bytes | bytearray) -> str:
     """Whole lines: newlines and tabs stay, and backslashes, since the reports and error lines have
     escapes of their own."""
-    return _bytes_of(data).decode("utf-8", "surrogateescape").translate(_BUT_LINES)
+    return _bytes_of(data).decode("utf-8", "surrogateescape").translate(_table_but("\\\t\n"))
 
 
 def _is_visible(letter: str) -> bool:
