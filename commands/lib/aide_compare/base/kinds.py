@@ -3,22 +3,23 @@ needs."""
 from __future__ import annotations
 
 import argparse
-import base64
 import os
 import re
 from collections.abc import Callable
-from typing import NamedTuple, TypeVar
+from typing import TYPE_CHECKING, NamedTuple, TypeVar
 
 from aide_compare.base.escapes import shown
-from aide_compare.base.paths import Pattern
 from aide_compare.base.words import SEVERITIES
+
+if TYPE_CHECKING:
+    from aide_compare.base.paths import Pattern
 
 # Seconds and bytes.
 UNITS = {"": 1, "s": 1, "m": 60, "h": 3600, "d": 86400, "k": 1 << 10, "M": 1 << 20, "G": 1 << 30}
 MAX_SECONDS = 30 * 86400
 MAX_SIZE = 1 << 62
-BASE64_DIGEST = re.compile("[A-Za-z0-9+/]{42}[AEIMQUYcgkosw048]=")
-HEX_DIGITS = re.compile("[0-9a-fA-F]{16,64}")
+BASE64_DIGEST = "[A-Za-z0-9+/]{42}[AEIMQUYcgkosw048]="
+HEX_DIGITS = "[0-9a-fA-F]{16,64}"
 
 Value = TypeVar("Value")
 
@@ -61,6 +62,8 @@ def duration(text: str) -> int:
 
 def pattern(text: str) -> Pattern:
     """A pattern of paths."""
+    from aide_compare.base.paths import Pattern
+
     try:
         return Pattern(os.fsencode(text))
     except ValueError as error:
@@ -77,7 +80,7 @@ size = matching(
     "[0-9]{1,15}[kMG]?", "a number of bytes, as in 4000000, 500k, 20M or 1G", _bounded_size
 )
 # As systemd.unit(5) has it.
-UNIT_NAME = re.compile(r"[A-Za-z0-9:_.\\@-]{1,255}")
+UNIT_NAME = r"[A-Za-z0-9:_.\\@-]{1,255}"
 unit_name = matching(UNIT_NAME, "the name of a unit", str)
 
 
@@ -89,9 +92,11 @@ def any_text(text: str) -> str:
 def digest_digits(text: str) -> str:
     """The digits of a SHA-256: all 64 of them, the first 16 or more, or all of it in base 64."""
     joined = "".join(text.split())
-    if BASE64_DIGEST.fullmatch(joined):
+    if re.fullmatch(BASE64_DIGEST, joined):
+        import base64
+
         joined = base64.b64decode(joined).hex()
-    if not HEX_DIGITS.fullmatch(joined):
+    if not re.fullmatch(HEX_DIGITS, joined):
         name = shown(text, 100) or "''"
         needs = "give 16 to 64 hexadecimal digits, or all 44 characters of base64"
         raise argparse.ArgumentTypeError(f"not a SHA-256: {name}; {needs}")

@@ -32,9 +32,9 @@ from aide_compare.base.options import (
 )
 
 OPERAND = "\0"  # Before a word that follows --. No argument has this byte.
-UNKNOWN_OPTION = re.compile(r"unrecognized arguments: (--?[\w-]+)")
+UNKNOWN_OPTION = r"unrecognized arguments: (--?[\w-]+)"
 DIRECTORY = "/etc/aide-compare"
-DEFAULTS_LINE = re.compile(r"(--[a-z-]+)(?:(?:=|[ \t]+)(.*))?", re.S)
+DEFAULTS_LINE = r"(?s)(--[a-z-]+)(?:(?:=|[ \t]+)(.*))?"
 MAY_BE_DEFAULTS = {
     option.name: option for option in (*COMPARISON_DEFAULTS, *MAIL_DEFAULTS, *CHECK_DEFAULTS)
 }
@@ -193,7 +193,7 @@ class Parser(argparse.ArgumentParser):
         """Refuses the command line, with the option that is nearest to one that is not there."""
         text = message.replace(OPERAND, "")
         hint = f"try: {self.prog} --help"
-        unknown = UNKNOWN_OPTION.match(text)
+        unknown = re.match(UNKNOWN_OPTION, text)
         if unknown:
             import difflib
 
@@ -240,7 +240,7 @@ def defaults_for(options: Iterable[Option], words: Sequence[str]) -> list[str]:
 
 def _default_in(line: bytes, place: str) -> tuple[str, str]:
     """The option of a line of the defaults, and its value; "" without one."""
-    match = DEFAULTS_LINE.fullmatch(os.fsdecode(line))
+    match = re.fullmatch(DEFAULTS_LINE, os.fsdecode(line))
     name = match.group(1) if match else ""
     if match is None or name not in MAY_BE_DEFAULTS:
         text = shown(line, 100)

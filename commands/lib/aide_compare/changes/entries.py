@@ -31,8 +31,8 @@ STRONG_BYTES = 32
 
 # What says no more than a mode: two lists, of which the second one, for new files in a folder, is
 # empty.
-ACL = re.compile(rb"POSIX,(?:0?|([^,]+)),0?")
-BASE_ACL = re.compile(rb"(?:(?:user|group|other)::[r-][w-][x-]\n?){3}\n?")
+ACL = rb"POSIX,(?:0?|([^,]+)),0?"
+BASE_ACL = rb"(?:(?:user|group|other)::[r-][w-][x-]\n?){3}\n?"
 TIME = re.compile(rb"-?[0-9]+")
 
 
@@ -122,10 +122,10 @@ class Entry:
         field = self.field("acl")
         if field == ABSENT or self.is_link:
             return False
-        acl = ACL.fullmatch(field)
+        acl = re.fullmatch(ACL, field)
         if not acl:
             return True
-        return bool(acl.group(1)) and not BASE_ACL.fullmatch(_unpacked(acl.group(1)) or b"")
+        return bool(acl.group(1)) and not re.fullmatch(BASE_ACL, _unpacked(acl.group(1)) or b"")
 
     @property
     def is_plain(self) -> bool:

@@ -2,7 +2,6 @@
 mode, an owner or another right that differs, or that nobody expects of a new file, stays open."""
 from __future__ import annotations
 
-import hashlib
 import os
 import re
 from contextlib import suppress
@@ -23,8 +22,6 @@ MAX_CONTENT = 2 << 30
 MAX_ASKED = 5000
 MAX_BYTES = 1 << 21
 SIEVE_BYTES = 1 << 20
-# Those that every Python computes, by the same name.
-COMPUTED = DIGEST_COLUMNS & hashlib.algorithms_guaranteed
 COMPILED = re.compile(rb"(/.*)/__pycache__/([^/]+)\.cpython-[0-9]+(?:\.opt-[12])?\.pyc")
 
 # What gives both entries of a finding.
@@ -54,8 +51,12 @@ class Contents:
         known = entry.digests()
         if member.column in known:
             return known[member.column] == member.digest
-        wanted = {column: known[column] for column in COMPUTED & known.keys()}
-        if member.column not in COMPUTED or not has_strong(wanted):
+        import hashlib
+
+        # Those that every Python computes, by the same name.
+        computed = DIGEST_COLUMNS & hashlib.algorithms_guaranteed
+        wanted = {column: known[column] for column in computed & known.keys()}
+        if member.column not in computed or not has_strong(wanted):
             return False
         hashes = {column: hashlib.new(column) for column in (*wanted, member.column)}
         with suppress(Fault, OSError):

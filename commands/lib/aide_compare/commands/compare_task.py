@@ -29,7 +29,6 @@ from aide_compare.base.program import KNOWN
 from aide_compare.base.replacement import ANYBODY_READS
 from aide_compare.base.rights import name_of, run_as
 from aide_compare.compare.comparison import Comparison, Request
-from aide_compare.compare.exclusions import Exclusions, read_exclusions
 from aide_compare.compare.outputs import Output, open_output, owner_of, rights_hint, state_in
 from aide_compare.compare.state import State
 from aide_compare.compare.unpack import Opened
@@ -38,6 +37,7 @@ from aide_compare.lines.change import Counts
 
 if TYPE_CHECKING:
     from aide_compare.changes.judged import Judged
+    from aide_compare.compare.exclusions import Exclusions
 
 NAME = "aide-compare compare"
 DESCRIPTION = """Compares two AIDE databases, plain or compressed by gzip, and prints what differs,
@@ -129,6 +129,10 @@ def exclusions_of(request: CompareRequest) -> Optional[Exclusions]:
     if not paths and request.reads_defaults:
         usual = administrators_file("without")
         paths = [usual] if usual else []
+    if not paths and not request.exclude:
+        return None
+    from aide_compare.compare.exclusions import read_exclusions
+
     return read_exclusions(paths, request.exclude)
 
 

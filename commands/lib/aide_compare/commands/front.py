@@ -60,7 +60,7 @@ Options: aide-compare hosts fetch --help. The manual: man aide-compare-hosts
 """
 HELP = ("--help", "-h")
 WORDS = (*COMMANDS, "hosts", "help")
-COMMAND_NAME = re.compile("[A-Za-z][A-Za-z-]{0,19}")
+COMMAND_NAME = "[A-Za-z][A-Za-z-]{0,19}"
 
 
 def become_program(arguments: Sequence[str]) -> NoReturn:
@@ -130,7 +130,7 @@ def print_help(words: Sequence[str]) -> int:
 def is_misspelt(arguments: Sequence[str]) -> bool:
     """Whether the first word seems to be meant as a subcommand, and not as a path."""
     word = arguments[0] if arguments else ""
-    if not COMMAND_NAME.fullmatch(word) or os.path.lexists(word):
+    if not re.fullmatch(COMMAND_NAME, word) or os.path.lexists(word):
         return False
     return len(arguments) == 1 or bool(nearest(word, WORDS))
 

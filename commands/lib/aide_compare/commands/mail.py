@@ -190,7 +190,7 @@ def failed_unit(request: MailRequest) -> Optional[FailedUnit]:
     if result == "success":
         return FailedUnit(request.unit_failed) if request.unit_failed else None
     name = os.environ.get("MONITOR_UNIT", "")
-    if not UNIT_NAME.fullmatch(name):
+    if not re.fullmatch(UNIT_NAME, name):
         name = "a unit"
     status = os.environ.get("MONITOR_EXIT_STATUS", "unknown")
     return FailedUnit(request.unit_failed or name, f": {result}, status {status}")

@@ -3,6 +3,7 @@ Prometheus reads."""
 from __future__ import annotations
 
 import os
+import re
 from collections.abc import Sequence
 from typing import NamedTuple, Optional
 
@@ -170,7 +171,7 @@ def write_json(request: StatusRequest) -> int:
     values: dict[str, object] = {key: getattr(state, key) for key in KEYS}
     for key, text in state.more.items():
         is_count = key.startswith("left_out_") or key in Counts._fields
-        values[key] = int(text) if is_count and NUMBER.fullmatch(text) else text
+        values[key] = int(text) if is_count and re.fullmatch(NUMBER, text) else text
     if state.skipped:
         values["skipped"] = state.skipped
     tell(json.dumps(values, sort_keys=True))

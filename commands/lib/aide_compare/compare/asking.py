@@ -17,7 +17,7 @@ from aide_compare.compare.configuration import NONE, Settings, Texts
 from aide_compare.lines.reader import FORMAT
 
 MAX_SETTINGS = 1 << 16
-LINE_BEFORE = re.compile(rb"\Aaide: before:(\d+):")
+LINE_BEFORE = rb"aide: before:(\d+):"
 
 # What takes the bytes that a program writes.
 Taker = Callable[[bytes], object]
@@ -64,9 +64,10 @@ def _ask(
 
 def _moved_back(errors: bytes, moved: int) -> bytes:
     """Error lines whose line of -B, if there is one, has the number that it has for the caller."""
-    return LINE_BEFORE.sub(
-        lambda match: b"aide: before:%d:" % (int(match.group(1)) - moved), errors
-    )
+    match = re.match(LINE_BEFORE, errors)
+    if match is None:
+        return errors
+    return b"aide: before:%d:" % (int(match.group(1)) - moved) + errors[match.end() :]
 
 
 def ask_for_changes(

@@ -4,18 +4,20 @@ from __future__ import annotations
 import os
 from collections.abc import Mapping, Sequence
 from types import MappingProxyType
-from typing import NamedTuple
+from typing import TYPE_CHECKING, NamedTuple
 
 from aide_compare.base.ending import Fault, ReaderGone, Status, fault_of
 from aide_compare.base.escapes import shown, shown_lines
 from aide_compare.base.program import Answer
 from aide_compare.base.words import TRUSTED_SIDES
 from aide_compare.compare.configuration import DEFAULTS, NONE, Texts
-from aide_compare.compare.exclusions import Exclusions, LeftOut
 from aide_compare.compare.state import State
 from aide_compare.compare.unpack import Copy
 from aide_compare.lines.change import Counts, Fields
 from aide_compare.lines.reader import EndCounts
+
+if TYPE_CHECKING:
+    from aide_compare.compare.exclusions import Exclusions, LeftOut
 
 MAX_SIZE = 1 << 40
 MAX_REPORT = 1 << 30

@@ -16,7 +16,7 @@ from aide_compare.base.files import open_regular
 DEFAULTS = ("/etc/aide/aide.conf", "/etc/aide.conf")
 NONE = "/dev/null"
 MAX_BYTES = 4194304
-INCLUDES = re.compile(rb"(?m)^[ \t]*(@@(?:x_)?include[^\n]*)")
+INCLUDES = rb"(?m)^[ \t]*(@@(?:x_)?include[^\n]*)"
 # The options whose names begin as those of the report and of databases do. A name that is none of
 # them is a group.
 OPTIONS = frozenset(
@@ -26,13 +26,13 @@ OPTIONS = frozenset(
     b"report_detailed_init report_ignore_e2fsattrs database database_in database_new "
     b"database_out database_add_metadata database_attrs database_gzip".split()
 )
-GROUP = re.compile(rb"[ \t]*((?:report_|database)[A-Za-z0-9_]*)[ \t]*=")
+GROUP = rb"[ \t]*((?:report_|database)[A-Za-z0-9_]*)[ \t]*="
 # Lines that may name a database: the program decides which of them count.
-NAMED = re.compile(rb"(?m)^[ \t]*database(?:_in|_new|_out)?[ \t]*=[^\n]*")
-WRITTEN = re.compile(rb"(?m)^([ \t]*)database_out([ \t]*=)")
-URLS = re.compile(rb"(?m)^[ \t]*report_url[ \t]*=[^\n]*")
+NAMED = rb"(?m)^[ \t]*database(?:_in|_new|_out)?[ \t]*=[^\n]*"
+WRITTEN = rb"(?m)^([ \t]*)database_out([ \t]*=)"
+URLS = rb"(?m)^[ \t]*report_url[ \t]*=[^\n]*"
 # What is no part of the name of a machine.
-OTHER_BYTES = re.compile(rb"[^A-Za-z0-9._-]")
+OTHER_BYTES = rb"[^A-Za-z0-9._-]"
 MAX_NAMED = 16
 ADVICE = "name OLD and NEW"
 # An empty set has a name that no group can have.
@@ -46,11 +46,11 @@ class Named(NamedTuple):
 
     side: str
     option: str
-    lines: re.Pattern[bytes]  # Those that may name it, wherever they stand.
+    lines: bytes  # What matches those that may name it, wherever they stand.
 
 
-OLD = Named("old", "database_in", re.compile(rb"(?m)^[ \t]*database(?:_in)?[ \t]*=[^\n]*"))
-NEW = Named("new", "database_new", re.compile(rb"(?m)^[ \t]*database_new[ \t]*=[^\n]*"))
+OLD = Named("old", "database_in", rb"(?m)^[ \t]*database(?:_in)?[ \t]*=[^\n]*")
+NEW = Named("new", "database_new", rb"(?m)^[ \t]*database_new[ \t]*=[^\n]*")
 
 # What the program says of a configuration: the values of its options by their names.
 Settings = Mapping[str, Any]
@@ -76,7 +76,8 @@ def without_includes(path: str) -> ReadConfiguration:
             if block is None:  # Such as /proc/kmsg, which has no end.
                 raise failure(errno.EAGAIN, "it has no bytes now")
             text = block
-    return ReadConfiguration(INCLUDES.sub(b"", text), _notes_of(INCLUDES.findall(text), path))
+    includes = re.findall(INCLUDES, text)
+    return ReadConfiguration(re.sub(INCLUDES, b"", text), _notes_of(includes, path))
 
 
 def _notes_of(includes: list[bytes], path: str) -> list[str]:
@@ -93,7 +94,7 @@ def _notes_of(includes: list[bytes], path: str) -> list[str]:
 def host_name() -> bytes:
     """The name of this machine, with only those bytes that a name has: others could be more
     lines."""
-    return OTHER_BYTES.sub(b"", os.fsencode(os.uname().nodename))
+    return re.sub(OTHER_BYTES, b"", os.fsencode(os.uname().nodename))
 
 
 class Defining(NamedTuple):
@@ -127,10 +128,10 @@ class Texts(NamedTuple):
     config: bytes
     after: bytes
 
-    def replaced(self, pattern: re.Pattern[bytes], line: bytes) -> Texts:
+    def replaced(self, pattern: bytes, line: bytes) -> Texts:
         """The same texts with another line in the file in place of each that a pattern matches: all
         keep their numbers."""
-        return self._replace(config=pattern.sub(line, self.config))
+        return self._replace(config=re.sub(pattern, line, self.config))
 
     def defining_host(self) -> Defining:
         """The texts with HOSTNAME defined as AIDE does, if they use it."""
@@ -152,7 +153,7 @@ class Texts(NamedTuple):
         asked: dict[bytes, bool] = {}
         for where, text in zip(("-B", shown(path), "-A"), self):
             for number, line in enumerate(text.split(b"\n"), 1):
-                match = GROUP.match(line)
+                match = re.match(GROUP, line)
                 if match is None or match.group(1) in OPTIONS:
                     continue
                 name = match.group(1)
@@ -189,7 +190,7 @@ class _Finder:
     def path_of(self, settings: Settings, texts: Texts, named: Named) -> str:
         """The path of one database, by what the program says of the texts."""
         path = settings[named.option]
-        count = len(named.lines.findall(texts.config))
+        count = len(re.findall(named.lines, texts.config))
         if path is None:
             raise self.fault(f"no {named.side} database; {ADVICE}")
         if count > MAX_NAMED:
@@ -218,19 +219,19 @@ def databases_of(texts: Texts, path: str, ask: Callable[[Texts], Settings | None
     return Databases(old, new)
 
 
-def _with_one(texts: Texts, lines: re.Pattern[bytes], count: int) -> Iterator[Texts]:
+def _with_one(texts: Texts, lines: bytes, count: int) -> Iterator[Texts]:
     """The texts with each of these lines of the file alone. What -A names wins over all."""
-    before = NAMED.sub(b"", texts.before)
+    before = re.sub(NAMED, b"", texts.before)
     for wanted in range(count):
         config = _only(texts.config, lines, wanted)
         yield Texts(before, config, texts.after)
 
 
-def _only(config: bytes, lines: re.Pattern[bytes], wanted: int) -> bytes:
+def _only(config: bytes, lines: bytes, wanted: int) -> bytes:
     """A text in which all but one of these lines are empty, so that each line keeps its number."""
     pieces = []
     end = 0
-    for number, match in enumerate(lines.finditer(config)):
+    for number, match in enumerate(re.finditer(lines, config)):
         pieces.append(config[end : match.start()])
         if number == wanted:
             pieces.append(match.group())

@@ -33,7 +33,7 @@ AHEAD = 1 << 13
 DIRECTORY = re.compile(rb"(/[^%\s]{0,4095})/")
 PATH_FIRST = (PATH_COLUMN,)
 # A line that also leaves out programs begins so: the reason is between the brackets.
-PROGRAMS = re.compile(rb"programs\(([^()]*[^() \t][^()]*)\)[ \t]+(/.*)")
+PROGRAMS = rb"programs\(([^()]*[^() \t][^()]*)\)[ \t]+(/.*)"
 ABSENT = b"0"
 RUN_BITS = 0o111
 SET_ID = 0o6000
@@ -64,7 +64,7 @@ def means_programs(line: Exclusion) -> bool:
 
 def exclusion(text: bytes, place: str) -> Exclusion:
     """What a line says. A Fault if it has no pattern."""
-    programs = PROGRAMS.fullmatch(text)
+    programs = re.fullmatch(PROGRAMS, text)
     if programs is None:
         return Exclusion(pattern_of(text, place), place, "")
     reason = shown(programs.group(1).strip(), MAX_TEXT)

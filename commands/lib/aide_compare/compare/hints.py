@@ -13,17 +13,15 @@ from aide_compare.base.rights import entry_of
 from aide_compare.compare.configuration import Texts
 from aide_compare.compare.unpack import Copy
 
-LINE = re.compile(rb"aide: ((?:trusted )?(?:old|new) database|config|before|after):(\d+): (.*)")
-OPENING = re.compile(
+LINE = rb"aide: ((?:trusted )?(?:old|new) database|config|before|after):(\d+): (.*)"
+OPENING = (
     rb"aide: (?:cannot open the ((?:trusted )?(?:old|new)) database"
     rb"|the ((?:trusted )?(?:old|new)) database changed)"
 )
-COLUMN = re.compile(rb".* in column (\d+)$")
-SKIPPED = re.compile(rb"^aide: (old|new) database: column ([0-9]{1,2}) skipped$", re.M)
-UNREADABLE = re.compile(
-    r"cannot open the (old|new) database ([\w/.+-]+): Permission denied", re.ASCII
-)
-ATTRIBUTES = re.compile("report_ignore_[a-z]+_attrs|report_force_attrs")
+COLUMN = rb".* in column (\d+)$"
+SKIPPED = rb"(?m)^aide: (old|new) database: column ([0-9]{1,2}) skipped$"
+UNREADABLE = r"(?a)cannot open the (old|new) database ([\w/.+-]+): Permission denied"
+ATTRIBUTES = "report_ignore_[a-z]+_attrs|report_force_attrs"
 BLOCK = 1 << 20
 MAX_HEAD = 1 << 16
 MAX_NAME = 40
@@ -59,7 +57,7 @@ NOT_SUPPORTED = (
     "aide-compare.conf(5)"
 )
 # Bytes that no text has.
-BINARY = re.compile(rb"[\x00-\x08\x0b\x0c\x0e-\x1a\x1c-\x1f]")
+BINARY = rb"[\x00-\x08\x0b\x0c\x0e-\x1a\x1c-\x1f]"
 
 
 def _start_of_line(descriptor: int, number: int, layout: Layout) -> bytes:
@@ -90,14 +88,14 @@ def _beginning_hint(head: bytes) -> str:
 def _can_be_shown(line: bytes) -> bool:
     """Whether a line is a text. Bytes that no text has, or that begin a packed file, would hide the
     lines around it."""
-    if not line or BINARY.search(line):
+    if not line or re.search(BINARY, line):
         return False
     return not any(line.startswith(beginning) for beginning, _ in BEGINNINGS)
 
 
 def _field_hints(words: bytes, line: bytes, layout: Layout) -> Iterator[str]:
     """The name and the field of the column that an error line names by its number."""
-    match = COLUMN.match(words)
+    match = re.match(COLUMN, words)
     if match is None:
         return
     number = int(match.group(1))
@@ -137,7 +135,7 @@ def _configuration_hints(number: int, words: bytes, text: bytes) -> Iterator[str
     if name == "report_format":
         yield "for JSON: aide-compare json OLD NEW"
     elif words in (b"unknown attribute", b"bad expression"):
-        if not ATTRIBUTES.fullmatch(name):
+        if not re.fullmatch(ATTRIBUTES, name):
             yield (
                 f"{name} is not an option, so the line defines a group of attributes; "
                 "is it a misspelt option?"
@@ -155,7 +153,7 @@ def _side_of(words: str) -> str:
 
 def _opening_hints(errors: bytes, copies: Mapping[str, Copy]) -> list[str]:
     """Which database could not be opened, or changed while it was read."""
-    match = OPENING.match(errors)
+    match = re.match(OPENING, errors)
     if match is None:
         return []
     words = (match.group(1) or match.group(2)).decode()
@@ -166,7 +164,7 @@ def _opening_hints(errors: bytes, copies: Mapping[str, Copy]) -> list[str]:
 def hints_of(errors: bytes, texts: Texts, path: str, copies: Mapping[str, Copy]) -> list[str]:
     """The lines that explain the first error line over texts, the path of the configuration, and
     the copies that were made."""
-    match = LINE.match(errors)
+    match = re.match(LINE, errors)
     if match is None:
         return _opening_hints(errors, copies)
     where = match.group(1).decode()
@@ -188,7 +186,7 @@ def hints_of(errors: bytes, texts: Texts, path: str, copies: Mapping[str, Copy])
 def hint_for_owner(text: str) -> Iterator[str]:
     """The command that mends a database that aideinit, as root, has left for root only, by the
     words of a Fault."""
-    match = UNREADABLE.search(text)
+    match = re.search(UNREADABLE, text)
     if match is None or os.geteuid() == 0:
         return
     what = "baseline" if match.group(1) == "old" else "new database"
@@ -199,7 +197,7 @@ def hint_for_owner(text: str) -> Iterator[str]:
 def skipped_in(errors: bytes, databases: Mapping[str, int]) -> dict[str, list[str]]:
     """By side the names of the columns that the program says it skipped; their numbers where the
     first lines name none."""
-    skipped = SKIPPED.findall(errors)
+    skipped = re.findall(SKIPPED, errors)
     names = {}
     for side in ("old", "new"):
         numbers = [int(number) for which, number in skipped if which.decode() == side]

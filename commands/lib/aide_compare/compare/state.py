@@ -28,10 +28,10 @@ NEEDED = ("status", "time")
 NUMBERS = (*NEEDED, *KINDS, "old_written", "new_written")
 DIGESTS = ("old_sha256", "new_sha256")
 KEYS = (*NEEDED, *KINDS, *DIGESTS, "old", "new", "old_written", "new_written", "error")
-NUMBER = re.compile("-?[0-9]{1,19}")
-COUNT = re.compile("[0-9]{1,18}")
-LINE = re.compile("([^=]+)=(.*)", re.S)
-DIGEST = re.compile("(?:[0-9a-f]{64})?")
+NUMBER = "-?[0-9]{1,19}"
+COUNT = "[0-9]{1,18}"
+LINE = "(?s)([^=]+)=(.*)"
+DIGEST = "(?:[0-9a-f]{64})?"
 # The further key that has the columns which mails have told.
 TOLD = "told_columns"
 
@@ -70,7 +70,7 @@ class State(NamedTuple):
         texts = {key: self.more[key] for key in Counts._fields if key in self.more}
         if not texts or not self.counts:
             return None
-        are_numbers = all(COUNT.fullmatch(text) for text in texts.values())
+        are_numbers = all(re.fullmatch(COUNT, text) for text in texts.values())
         if len(texts) != len(Counts._fields) or not are_numbers:
             raise ValueError("only some counts of standings, or no numbers")
         return Counts(*map(int, texts.values()))
@@ -122,7 +122,7 @@ class State(NamedTuple):
 
     def fault(self) -> str:
         """What does not fit in it; "" if it can be the state of a run."""
-        if not (DIGEST.fullmatch(self.old_sha256) and DIGEST.fullmatch(self.new_sha256)):
+        if not (re.fullmatch(DIGEST, self.old_sha256) and re.fullmatch(DIGEST, self.new_sha256)):
             return "a digest of another form"
         if not 0 <= self.status <= 255 or self.time < 0:
             return "a status or a time that no run has"
@@ -166,7 +166,7 @@ def _values_of(data: bytes) -> dict[str, str]:
         raise ValueError("another beginning or end")
     values: dict[str, str] = {}
     for line in lines[:-1]:
-        match = LINE.fullmatch(line)
+        match = re.fullmatch(LINE, line)
         if match is None or match.group(1) in values:
             raise ValueError("a line without a key, or one key twice")
         values[match.group(1)] = guarded(match.group(2))
@@ -177,7 +177,7 @@ def _number_of(key: str, text: str) -> int | None:
     """A number that stands in a state file; None where it may be missing and is."""
     if not text and key not in NEEDED:
         return None
-    if not NUMBER.fullmatch(text):
+    if not re.fullmatch(NUMBER, text):
         raise ValueError(f"no number: {shown(text, 50)}")
     return int(text)
 

@@ -7,7 +7,6 @@ import os
 import stat
 import zlib
 from collections.abc import Iterable, Iterator
-from hashlib import sha256
 from itertools import chain
 
 from aide_compare.base import progress
@@ -65,6 +64,8 @@ class Copy:
         """The digest in base 16. All bytes are read for it, unless whoever has read them has said
         it."""
         if not self._digest:
+            from hashlib import sha256
+
             digest = sha256()
             for offset in range(0, self.size, BLOCK):
                 digest.update(os.pread(self.fd, BLOCK, offset))
@@ -207,6 +208,8 @@ def copy_packed(opened: Opened, limit: int) -> int:
 def database_digest(opened: Opened, limit: int) -> str:
     """The SHA-256 of the unpacked bytes of an open database, in base 16, without a copy of them. It
     stays open."""
+    from hashlib import sha256
+
     digest = sha256()
     for block in _unpacked(opened, limit):
         digest.update(block)

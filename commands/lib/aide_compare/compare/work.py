@@ -5,8 +5,10 @@ from __future__ import annotations
 import io
 import json
 import os
+import re
 import time
 from collections.abc import Mapping, Sequence
+from typing import TYPE_CHECKING
 
 from aide_compare.base.ending import Fault, Status, write_all
 from aide_compare.base.files import nameless
@@ -16,12 +18,14 @@ from aide_compare.compare.asking import Question, ask_for_changes, defines_group
 from aide_compare.compare.comparison import Comparison, Lines, Refusal, Request
 from aide_compare.compare.configuration import URLS, Databases, Settings, Texts, databases_of
 from aide_compare.compare.configuration import options_in, without_includes
-from aide_compare.compare.exclusions import Exclusions, LeftOut, cut_copy
 from aide_compare.compare.hints import hints_of, notes_of, skipped_in
 from aide_compare.compare.report import write_report
 from aide_compare.compare.unpack import Copy, Opened, copy_opened, open_database
 from aide_compare.lines.change import Fields
 from aide_compare.lines.reader import ODD, Reader, Refused, end_of
+
+if TYPE_CHECKING:
+    from aide_compare.compare.exclusions import Exclusions, LeftOut
 
 MAX_CLOCKS_DIFFER = 600
 HEAD_BYTES = 1 << 16
@@ -137,7 +141,7 @@ class Work:
         """The texts that the program reads; a Refusal if the configuration is not right. If -A
         gives options, a line for a report to standard output settles those of the report: it is
         taken out of the file, and what it has settled is said before -A."""
-        if not texts.after or not URLS.search(texts.config):
+        if not texts.after or not re.search(URLS, texts.config):
             return texts
         if self._settings(texts) is None:
             raise self._refusal()
@@ -170,6 +174,8 @@ class Work:
     def _leave_out(self, side: str, exclusions: Exclusions) -> None:
         """What is compared is a copy without some entries. Digests are of the whole database, so
         that it can be accepted."""
+        from aide_compare.compare.exclusions import cut_copy
+
         cut = cut_copy(self.compared[side], exclusions)
         self.compared[side] = cut.fd
         self.left_out[side] = cut.left_out

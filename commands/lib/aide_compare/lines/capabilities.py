@@ -24,7 +24,7 @@ WORDS = {0x01000000: 2, 0x02000000: 4, 0x03000000: 5}
 VERSION_BITS = 0xFF000000
 IS_EFFECTIVE = 1
 WORDS_WITH_ROOT = 5
-ONE_CLAUSE = re.compile(r"\A= (\w[\w,]*)\+")
+ONE_CLAUSE = r"\A= (\w[\w,]*)\+"
 
 
 class Masks(NamedTuple):
@@ -101,7 +101,7 @@ def file_capabilities(data: bytes) -> Optional[str]:
     others = {number: masks.sets_of(number) for number in range(len(NAMES), NUMBERS)}
     base = most_common(list(known.values()))
     text = f"={SETS[base]}" + "".join(clauses(known, base))
-    text = ONE_CLAUSE.sub(r"\1=", text)  # "= cap_chown+p" is written as cap_chown=p.
+    text = re.sub(ONE_CLAUSE, r"\1=", text)  # "= cap_chown+p" is written as cap_chown=p.
     text += "".join(clauses(others, 0))
     if masks.root is not None:
         text += f" [rootid={masks.root}]"

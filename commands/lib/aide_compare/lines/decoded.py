@@ -45,9 +45,9 @@ ACL_ENTRY = re.compile(
     rb"(?:[\t ]+(#effective:[r-][w-][x-]))?"
 )
 MAX_ACL_ENTRIES = 400
-COUNT = re.compile(rb"0|[1-9][0-9]{0,5}")
-TEXT = re.compile("[^\x00-\x08\x0b-\x1f\x7f]*\x00?")  # No controls but a zero byte at the end.
-LABEL = re.compile(rb"[^\x00-\x20\";\x7f]+\x00?")
+COUNT = rb"0|[1-9][0-9]{0,5}"
+TEXT = "[^\x00-\x08\x0b-\x1f\x7f]*\x00?"  # No controls but a zero byte at the end.
+LABEL = rb"[^\x00-\x20\";\x7f]+\x00?"
 # What would end a name or a value of a line of extended attributes is escaped in them.
 NAME_ESCAPES = {ord(letter): f"\\{ord(letter):03o}" for letter in ' ";'}
 QUOTED_ESCAPES = {ord('"'): "\\042"}
@@ -58,7 +58,7 @@ x=2000000 F=40000000 N=10000000 P=20000000 V=100000 m=400
 """
 FLAGS = [(pair[0], int(pair[2:], 16)) for pair in _FLAG_TABLE.split()]
 KNOWN_FLAGS = sum(bit for _, bit in FLAGS)
-CAPABILITIES_TEXT = re.compile(rb"[a-z0-9_,=+ -]+")
+CAPABILITIES_TEXT = rb"[a-z0-9_,=+ -]+"
 TIMES = ("Atime", "Mtime", "Ctime")
 # The attributes that are texts of their own in a database.
 ENCODED = ("ACL", "XAttrs", "SELinux", "E2FSAttrs", "Caps")
@@ -130,7 +130,7 @@ def _extended_attributes(value: bytes) -> Optional[List[Tuple[bytes, bytes]]]:
     """The names and values of a field: their number, each name with percent escapes, each value in
     base 64; or None."""
     number, *fields = value.split(b",")
-    if not COUNT.fullmatch(number) or len(fields) != 2 * int(number):
+    if not re.fullmatch(COUNT, number) or len(fields) != 2 * int(number):
         return None
     attributes = []
     for field, encoded in zip(fields[::2], fields[1::2]):
@@ -149,10 +149,10 @@ def _attribute_text(name: bytes, data: bytes) -> str:
         capabilities = file_capabilities(data)
         if capabilities is not None:
             return capabilities
-    if name == b"security.selinux" and LABEL.fullmatch(data):
+    if name == b"security.selinux" and re.fullmatch(LABEL, data):
         return shown(data.removesuffix(b"\0"), MAX_TEXT)
     with suppress(UnicodeDecodeError):
-        if TEXT.fullmatch(data.decode()):
+        if re.fullmatch(TEXT, data.decode()):
             return f'"{shown(data, MAX_TEXT).translate(QUOTED_ESCAPES)}"'
     return "0s" + base64.b64encode(data[:MAX_TEXT]).decode()
 
@@ -195,7 +195,7 @@ def flags_text(value: bytes) -> Optional[str]:
 def capabilities_text(value: bytes) -> Optional[str]:
     """The text that AIDE keeps in base 64, as libcap made it."""
     text = _from_base64(value) or b""
-    if not CAPABILITIES_TEXT.fullmatch(text):
+    if not re.fullmatch(CAPABILITIES_TEXT, text):
         return None
     return _cut(text.decode())
 

@@ -11,7 +11,6 @@ directory.
 from __future__ import annotations
 
 import stat
-from textwrap import wrap
 from typing import Callable, Iterator, List, Optional, Tuple
 
 from aide_compare.base.escapes import guarded, shown
@@ -274,6 +273,8 @@ def package_lines(judged: Judged) -> Iterator[str]:
     }
     for title, names in titles.items():
         if names:
+            from textwrap import wrap
+
             named = names[:MAX_NAMED]
             if len(names) > MAX_NAMED:
                 named.append(f"and {len(names) - MAX_NAMED} more")

@@ -21,9 +21,9 @@ RED = "\033[1;31m"
 YELLOW = "\033[33m"
 PLAIN = "\033[0m"
 COLOURS = {"high": RED, "medium": YELLOW}
-HOSTS_SEVERITY = re.compile("    (high|medium)(?=, )")
-SEVERITY = re.compile("^  (high|medium) ", re.M)
-TITLE = re.compile("^(Open|Recorded):$", re.M)
+HOSTS_SEVERITY = "    (high|medium)(?=, )"
+SEVERITY = "(?m)^  (high|medium) "
+TITLE = "(?m)^(Open|Recorded):$"
 
 
 def wants_colours(choice: str) -> bool:
@@ -45,7 +45,7 @@ def in_colour(line: str, colour: str, choice: str) -> str:
 
 def severity_in_colour(line: str, choice: str) -> str:
     """A line of the report of many hosts, with the severity that it begins with in a colour."""
-    match = HOSTS_SEVERITY.match(line)
+    match = re.match(HOSTS_SEVERITY, line)
     if match is None:
         return line
     severity: str = match.group(1)
@@ -61,8 +61,8 @@ def coloured(text: bytes) -> bytes:
     """The bytes of what people read first, with its first line, its titles and the severities in
     colours."""
     first, _, rest = text.decode("utf-8", "surrogateescape").partition("\n")
-    rest = SEVERITY.sub(_coloured_severity, rest)
-    rest = TITLE.sub(rf"{BOLD}\g<0>{PLAIN}", rest)
+    rest = re.sub(SEVERITY, _coloured_severity, rest)
+    rest = re.sub(TITLE, rf"{BOLD}\g<0>{PLAIN}", rest)
     return f"{BOLD}{first}{PLAIN}\n{rest}".encode("utf-8", "surrogateescape")
 
 
