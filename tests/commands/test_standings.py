@@ -194,6 +194,13 @@ class StandingsTest(CommandTest):
         ):
             answer = check(self, recorded(), *words)
             self.assertEqual(answer.status, status, ("limits count what is recorded", words))
+        for words, status in (
+            (("--critical", "1"), 2),
+            (("--warning", "1"), 2),
+            (("--critical", "9"), 1),
+        ):
+            answer = check(self, silent(), "--alarm", "any", *words)
+            self.assertEqual(answer.status, status, ("limits count what is silent", words))
 
     def test_no_proof(self) -> None:
         """A line that says a standing which no proof has given is refused; so are counts of another

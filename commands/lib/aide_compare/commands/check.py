@@ -33,7 +33,8 @@ Status: 0 OK, all changes are silent; 1 WARNING, the others are in packages' rec
 2 CRITICAL, a change is open; 3 UNKNOWN, all else. A LIMIT replaces the rule for 1 or 2: a number
 of changes that are not silent, or the least severity of one, high, medium or low.
 
-With --alarm any: 1 WARNING, entries were added; 2 CRITICAL, entries were removed or changed."""
+With --alarm any: 1 WARNING, entries were added; 2 CRITICAL, entries were removed or changed; and
+a LIMIT that is a number counts all changes."""
 MAX_LINE = 300
 ONLY_ADDED = 1
 
@@ -65,29 +66,31 @@ class Answer(NamedTuple):
     numbers: str = ""
 
 
-def is_reached(limit: AlarmLimit, counts: Counts) -> bool:
+def changes_that_count(request: CheckRequest, counts: Counts) -> int:
+    if request.alarm == NOT_SILENT:
+        return counts.told
+    return counts.total
+
+
+def is_reached(limit: AlarmLimit, request: CheckRequest, counts: Counts) -> bool:
     if limit.severity:
         severities = SEVERITIES[: SEVERITIES.index(limit.severity) + 1]
         return any(counts.of_severity(severity) for severity in severities)
-    return counts.told >= limit.changes
+    return changes_that_count(request, counts) >= limit.changes
 
 
-def is_critical(request: CheckRequest, counts: Counts) -> bool:
+def is_critical(request: CheckRequest, state: State, counts: Counts) -> bool:
     if request.critical is not None:
-        return is_reached(request.critical, counts)
+        return is_reached(request.critical, request, counts)
+    if request.alarm != NOT_SILENT:
+        return state.status != ONLY_ADDED
     return counts.open > 0
 
 
 def is_warning(request: CheckRequest, counts: Counts) -> bool:
     if request.warning is not None:
-        return is_reached(request.warning, counts)
-    return counts.told > 0
-
-
-def every_difference_counts(request: CheckRequest) -> bool:
-    """Whether nobody has asked for the standings."""
-    has_limit = request.warning is not None or request.critical is not None
-    return request.alarm != NOT_SILENT and not has_limit
+        return is_reached(request.warning, request, counts)
+    return changes_that_count(request, counts) > 0
 
 
 def level_of(request: CheckRequest, state: State) -> Level:
@@ -97,9 +100,9 @@ def level_of(request: CheckRequest, state: State) -> Level:
         return Level.OK
     if state.status > 7:
         return Level.UNKNOWN
-    if counts is None or every_difference_counts(request):
+    if counts is None:
         return Level.WARNING if state.status == ONLY_ADDED else Level.CRITICAL
-    if is_critical(request, counts):
+    if is_critical(request, state, counts):
         return Level.CRITICAL
     if is_warning(request, counts):
         return Level.WARNING
