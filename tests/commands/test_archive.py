@@ -9,7 +9,7 @@ import shutil
 import subprocess
 from typing import Any, Dict, List
 
-from tests.commands import test_mail as mail
+from tests.commands import mail
 from tests.commands.sandbox import HERE, NOBODY, Answer, CommandTest
 from tests.commands.signed_archive import (
     ARCHIVE,

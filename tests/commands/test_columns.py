@@ -6,7 +6,7 @@ import json
 import os
 import re
 
-from . import test_mail as mail
+from . import mail
 from .sandbox import CommandTest, END
 
 TOOL = "aide-compare"

@@ -13,7 +13,7 @@ from typing import Any, List, Tuple
 
 from tests.lib.program_test import slow
 
-from . import test_mail as mail
+from . import mail
 from .sandbox import CommandTest, END, TIME_LIMIT
 
 TOOL = "aide-compare"

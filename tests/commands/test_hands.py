@@ -9,7 +9,7 @@ from typing import Any
 
 from tests.lib.waiting import is_alive, until
 
-from . import test_mail as mail
+from . import mail
 from . import test_standings as standings
 from .sandbox import CommandTest, HERE, NOBODY, Texts
 

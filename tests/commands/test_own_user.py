@@ -12,9 +12,11 @@ from tests.lib.programs import VARIABLE
 
 from .sandbox import AS_NOBODY, PYTHON, CommandTest, after
 
-OF_MAIL = "texts statuses errors short refusals missing queue odd_queue full_queue".split()
+OF_QUEUES = "refusals missing queue odd_queue full_queue".split()
 TESTS = (
-    *("test_mail.MailTest.test_" + name for name in OF_MAIL),
+    *("test_mail.TextsTest.test_" + name for name in ("texts", "statuses", "errors")),
+    "test_mail_size.SizesTest.test_short",
+    *("test_mail_queue.QueueTest.test_" + name for name in OF_QUEUES),
     *("test_run.RunTest.test_" + name for name in ("state", "modes", "state_faults")),
     "test_run.RunTest.test_failed_states",
     "test_accept.AcceptTest.test_digests",
@@ -28,8 +30,7 @@ TESTS = (
 @slow
 class OwnUserTest(CommandTest):
     def test_as_another_user(self) -> None:
-        if os.geteuid() != 0:
-            self.skipTest("it needs root")
+        self.needs_root()
         directory = self.path("repository")
         copy_sources(directory)
         os.mkdir(self.path("programs"))

@@ -10,7 +10,7 @@ from __future__ import annotations
 import os
 from typing import Any, Dict, List, NamedTuple, Tuple
 
-from tests.commands import test_mail as mail
+from tests.commands import mail
 from tests.commands.made_up import Host, Night, standings_of
 from tests.commands.sandbox import CommandTest, HERE
 from tests.commands.test_nights import database_of, read_night

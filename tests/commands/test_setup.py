@@ -59,8 +59,7 @@ class SetupTest(CommandTest):
 
     def setUp(self) -> None:
         super().setUp()
-        if os.geteuid() != 0:
-            self.skipTest("it needs root")
+        self.needs_root()
         self.set_machine(NOBODY_NAME)
         for name, text in FILES.items():
             self.write(name, text)

@@ -4,7 +4,7 @@ from __future__ import annotations
 
 from typing import Any, Dict, List, Tuple
 
-from tests.commands import test_mail as mail
+from tests.commands import mail
 from tests.commands.made_up import MORE_ACL, Host, Package, acl_of, time_of
 from tests.commands.sandbox import CommandTest
 from tests.commands.test_standings import NAGIOS, TOOL

@@ -13,8 +13,8 @@ import time
 from collections.abc import Callable, Iterator
 from typing import Any
 
-from .sandbox import Answer, CommandTest
-from .test_mail import COUNTS, SUBJECT, TOOL, body, call, logging, many, prepare, sent, subject
+from .mail import COUNTS, SUBJECT, TOOL, MailTest, body, call, logging, many, sent, subject
+from .sandbox import Answer
 
 NO_PROCESS = """import os, sys
 sys.path.insert(0, sys.argv[1])
@@ -111,11 +111,7 @@ def flood(connection: socket.socket) -> None:
         connection.sendall(b"220-" + b"x" * 5000 + b"\r\n")
 
 
-class SmtpTest(CommandTest):
-    def setUp(self) -> None:
-        super().setUp()
-        prepare(self)
-
+class SmtpTest(MailTest):
     def send(self, server: Server, *words: str, new: str = "new.db", **more: Any) -> Answer:
         """What the command answers that sends to this server."""
         with listening("127.0.0.1", server.serve) as place:

@@ -6,7 +6,7 @@ import json
 import os
 import re
 
-from tests.commands import test_mail as mail
+from tests.commands import mail
 from tests.commands.made_up import Host, Package, standings_of, time_of
 from tests.commands.sandbox import Answer, CommandTest
 

@@ -107,8 +107,7 @@ class StateTest(CommandTest):
         self.check("a real state", 2, ": 1 added, 1 removed, 2 changed" + numbers)
 
     def test_check_rights(self) -> None:
-        if os.getuid() != 0:
-            self.skipTest("it needs root")
+        self.needs_root()
         state = self.put()
         self.check("an unprivileged user", 0, "no difference", before=AS_NOBODY)
         os.chmod(state, 0o600)
@@ -316,8 +315,7 @@ class StateTest(CommandTest):
     def test_links(self) -> None:
         """The owner of the folder of the metrics puts links to a file of root in place of every
         name there, in a loop."""
-        if os.getuid() != 0:
-            self.skipTest("it needs root")
+        self.needs_root()
         self.put()
         folder, prey = self.path("exporter"), self.write("prey", "of root\n", 0o600)
         os.mkdir(folder)

@@ -7,7 +7,7 @@ import json
 import os
 from typing import List, Tuple
 
-from tests.commands import test_mail as mail
+from tests.commands import mail
 from tests.commands.accepting import accept, contents
 from tests.commands.made_up import Host, Night, standings_of, time_of
 from tests.commands.sandbox import CommandTest, NOBODY, sha256
@@ -236,8 +236,7 @@ class TrustedTest(CommandTest):
     def test_owner(self) -> None:
         """Root opens the pair, and compares with the rights of the user in whose directory the
         baseline is."""
-        if os.geteuid() != 0:
-            self.skipTest("it needs root")
+        self.needs_root()
         put(self)
         os.makedirs(self.path("his"), exist_ok=True)
         for name in BOTH:
