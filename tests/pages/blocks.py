@@ -7,7 +7,7 @@ A mark is a comment of the page, `<!-- ... -->` in Markdown and `.\\" ...` in a 
     prints TEXT         what the block prints has this text
     is output of CMD    the block is what a command prints, but for numbers
     not run: WHY        a configuration, or what another test tries
-    try: NAME           a recipe, which tests/pages/test_recipes.py runs, and
+    try: NAME           a recipe, which one of tests/pages/test_recipes*.py runs, and
     prints: NAME        the beginning of what it prints
     by hand: NAME       a recipe that needs another machine, or a person
     not tried: NAME     what a recipe prints on many machines

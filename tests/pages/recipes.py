@@ -3,10 +3,9 @@ from __future__ import annotations
 
 import gzip
 import os
-import shutil
 
 from tests.pages.blocks import RECIPES, Block, blocks_of
-from tests.pages.machine import BASELINE, HOSTS, NEWEST, NOBODY, STATE, MachineTest, example
+from tests.pages.machine import BASELINE, HEAD, HOSTS, NEWEST, NOBODY, STATE, MachineTest, example
 
 # What is added, removed and changed between the databases of examples/small_tree.
 STORED = (3, 4, 15)
@@ -24,11 +23,31 @@ database_attrs = Checksums
 """
 CHECK = "/usr/local/lib/nagios/plugins/check_aide_compare"
 METRICS = "/var/lib/prometheus/node-exporter/aide-compare.prom"
+OLD = HEAD + "/b 36 40755 4096\n/c 36 100644 10\n@@end_db\n"
+NEW = HEAD + "/a%20%C3%A9 36 100644 5\n/c 36 100600 7\n@@end_db\n"
+# A night in which only logs, a cache and AIDE's own database have changed, and one with an
+# intruder.
+LOGS = ["/var/log/auth.log", "/var/log/kern.log", "/var/log/syslog"]
+PLAIN = ["/etc/passwd", "/var/cache/man/da", "/var/cache/man/de", "/var/lib/aide/aide.db"]
+BEFORE = dict.fromkeys(PLAIN + LOGS, 1)
+NIGHT = {
+    "/etc/passwd": 1,
+    "/var/lib/aide/aide.db": 2,
+    "/var/log/syslog.1": 1,
+    **dict.fromkeys(LOGS, 2),
+}
+INTRUDER = {**NIGHT, "/etc/passwd": 2, "/etc/ld.so.preload": 1}
 
 
 def recipes() -> dict[str, Block]:
     """The blocks of the pages with recipes, by their marks."""
     return {block.marks[-1]: block for page in RECIPES for block in blocks_of(page)}
+
+
+def of_sizes(sizes: dict[str, int]) -> str:
+    """A database of paths and their sizes."""
+    lines = [f"{path} 36 100644 {size}\n" for path, size in sizes.items()]
+    return HEAD + "".join(sorted(lines)) + "@@end_db\n"
 
 
 class RecipesTest(MachineTest):
@@ -61,6 +80,14 @@ class RecipesTest(MachineTest):
         for name, text in (("old", old), ("new", new)):
             data = text if isinstance(text, bytes) else text.encode()
             self.write(f"/tmp/{name}.db.gz", gzip.compress(data))
+
+    def put_night(self, sizes: dict[str, int]) -> None:
+        """The databases of a night. The lines of debian.without name what lies below the root."""
+        texts = [
+            of_sizes({self.below(path): size for path, size in each.items()})
+            for each in (BEFORE, sizes)
+        ]
+        self.put_pair(*texts)
 
     def jobs(self) -> list[tuple[str, list[str]]]:
         """What starts a comparison each day: the units, and the job of cron."""
@@ -212,7 +239,3 @@ def begin(test: RecipesTest) -> None:
     status, output, _ = test.recipe("first host")
     test.assertEqual(status, 0)
     test.assertIn("SHA-256 ", output)
-
-
-def has_jq() -> bool:
-    return shutil.which("jq") is not None

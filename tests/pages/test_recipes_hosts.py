@@ -1,0 +1,140 @@
+"""The recipes of docs/HOSTS.md: a new host, and many hosts of which some lie, fail or are silent."""
+from __future__ import annotations
+
+import contextlib
+import gzip
+import os
+import pty
+import subprocess
+
+from tests.pages.machine import HOSTS, KEY, STORE
+from tests.pages.recipes import NEW, OLD, RecipesTest
+
+# What each host sends, ends with, and what its line says.
+SENT: dict[str, tuple[str | bytes, int, str]] = {
+    "same": (OLD, 0, "no differences"),
+    "other": (NEW, 7, "added 1, removed 1, changed 1"),
+    "zipped": (gzip.compress(OLD.encode()), 0, "no differences"),
+    "user@other.example-1": (NEW, 7, "added 1, removed 1, changed 1"),
+    "forged": ("x\n", 24, "no @@begin_db"),
+    "cut": (gzip.compress(os.urandom(2000) + NEW.encode())[:-100], 18, "cut short|damaged"),
+    "down": (OLD, 18, "No route to host"),
+    "loud": (OLD, 18, "more than 65536 bytes of errors"),
+    "silent": (OLD, 18, "sent nothing"),
+    "broken": (OLD, 18, "ssh ended with 255"),
+    "first": (OLD, 18, "no baseline yet"),
+}
+REFUSED = ("a b", "é", "-x", "a/b", "a..b", "..", "$(touch x)")
+
+
+class HostsTest(RecipesTest):
+    def test_add(self) -> None:
+        """A new host as on the page: what is shown, no, and yes."""
+        self.put_host("www", OLD, None)
+        self.write(HOSTS, "")
+        status, shown = self.on_terminal("no\n")
+        self.assertEqual(status, 24, shown)
+        self.assertFalse(os.path.exists(self.path(STORE, "hosts/www/aide.db")))
+        self.prints("add host", shown)
+        self.assertEqual(self.on_terminal("yes\n")[0], 0)
+        self.assertEqual(self.read("/root/.ssh/known_hosts"), f"www {KEY}\n")
+        self.assertEqual(self.read(HOSTS), "www\n")
+        self.assertEqual(self.read(STORE + "/hosts/www/aide.db"), OLD)
+
+    def on_terminal(self, answer: str) -> tuple[int, str]:
+        """The status of the recipe on a terminal, and what that shows; its question gets an
+        answer."""
+        ours, theirs = pty.openpty()
+        words = ["sh", "-c", self.below(self.text("add host"))]
+        process = subprocess.Popen(
+            words,
+            cwd=self.path("/tmp"),
+            env=self.environment(),
+            stdin=theirs,
+            stdout=theirs,
+            stderr=theirs,
+        )
+        os.close(theirs)
+        shown = b""
+        with contextlib.suppress(OSError):  # So Linux tells the end of a terminal.
+            while True:
+                shown += os.read(ours, 1 << 16)
+                if shown.endswith(b"yes or no: "):
+                    os.write(ours, answer.encode())
+        os.close(ours)
+        return process.wait(), self.above(shown.decode().replace("\r\n", "\n"))
+
+    def put_hosts(self) -> int:
+        for name, (text, _, _) in SENT.items():
+            self.put_host(name, text, None if name == "first" else OLD)
+        self.write(HOSTS, "# the hosts\n\n" + "".join(f"{name}\n" for name in (*SENT, *REFUSED)))
+        return len(SENT) + len(REFUSED)
+
+    def test_all_hosts(self) -> None:
+        """A line for each host; no host that was not compared counts as quiet."""
+        count = self.put_hosts()
+        status, output, errors = self.recipe("hosts")
+        self.assertEqual(status, 24, errors)
+        *lines, summary = output.splitlines()
+        told = {line.split(" ", 2)[0]: line.split(" ", 2)[1:] for line in lines}
+        self.assertEqual(set(told), {name.replace(" ", "\\040") for name in (*SENT, *REFUSED)})
+        for name, (_, wanted, text) in SENT.items():
+            self.assertEqual(told[name][0], str(wanted), told[name])
+            self.assertRegex(told[name][1], text)
+            state = self.read(f"{STORE}/states/{name}")
+            self.assertIn(f"\nstatus={wanted}\n", state)
+            if wanted > 7:
+                self.assertRegex(state, f"(?m)^error=.*({text})")
+        for name in REFUSED:
+            self.assertEqual(told[name.replace(" ", "\\040")][0], "15")
+        self.assertEqual(
+            summary, f"{count} hosts: 2 without differences, 2 with, {count - 4} not compared"
+        )
+        self.assertEqual(self.read(STORE + "/hosts/other/aide.db"), OLD)
+        self.assertFalse(os.path.exists(self.path(STORE, "hosts/x")))
+        self.report(count)
+
+    def report(self, count: int) -> None:
+        """What differs on all hosts at once: each change once, and one mail."""
+        status, output, _ = self.recipe("report hosts")
+        head = f"aide on {count} hosts: 2 differ, {count - 4} not compared"
+        self.assertEqual(status, 24)
+        self.assertTrue(output.startswith(head + ", 2 without differences\n"), output)
+        both = "File /a é\n    on other, user@other.example-1\n"
+        for text in (
+            f"added on 2 of {count} hosts: {both}",
+            f"changed on 2 of {count} hosts: File /c\n",
+            "\n  forged: ",
+            "\n  down: ssh: connect to host down port 22: No route to host",
+            "\n  a b: the name of a host",
+        ):
+            self.assertIn(text, output)
+        self.assertEqual(self.recipe("mail hosts")[0], 24)
+        mail = self.taken("mailed") or ""
+        self.assertIn(f"\nSubject: {head}\n", mail)
+        self.assertRegex(mail, r"(?m)^  other \+1 +added +/a é: -rw-r--r--$")
+
+    def test_at_once(self) -> None:
+        """Three runs over the same hosts at once: each has its lines, and the databases are
+        whole."""
+        self.put_hosts()
+        self.write("/tmp/three", "same\nother\nzipped\n")
+        words = ["aide-compare", "hosts", "compare", "--jobs", "3", self.path("/tmp/three")]
+        environment = self.environment()
+        runs = [subprocess.Popen(words, env=environment, stdout=subprocess.PIPE) for _ in range(3)]
+        for run in runs:
+            lines = run.communicate()[0].decode().splitlines()[:-1]
+            statuses = dict(line.split(" ")[:2] for line in lines)
+            self.assertEqual(run.returncode, 7)
+            self.assertEqual(statuses, {"same": "0", "other": "7", "zipped": "0"})
+        self.assertEqual(self.read(STORE + "/hosts/other/aide.db.new"), NEW)
+
+    def test_keys(self) -> None:
+        """The forced command sends what is asked for: the new database, not the baseline."""
+        command = "cat /var/lib/aide/aide.db.new"
+        lines = self.above(self.example("fleet/authorized_keys")).splitlines()
+        line = [line for line in lines if not line.startswith("#")]
+        self.assertEqual(len(line), 1)
+        self.assertTrue(line[0].startswith("restrict,from="))
+        self.assertIn(f'command="{command}"', line[0])
+        self.assertIn(command, self.above(self.example("fleet/playbook.yaml")))
