@@ -10,7 +10,7 @@ from collections import Counter
 from typing import Dict, List, Tuple
 from unittest import mock
 
-from tests.commands.test_without import means
+from tests.commands.base.test_patterns import means
 
 from aide_compare.compare import exclusions
 

@@ -3,18 +3,14 @@ pair beside it.
 
 Each answer has to be that of tests/oracle/lines.py, byte by byte: stored cases, each way of naming
 the pair, damages of each of the four, databases that change while they are read, long lines,
-outputs that fail, and random sessions. With AIDE_NIGHTS=DIRECTORY the nights of a directory are
-compared too, each with its clean twin as the trusted pair, and what nothing accounts for has to be
-what tests/program/nights_beside_twin.txt lists.
+outputs that fail, and random sessions.
 """
 from __future__ import annotations
 
 import collections
 import glob
-import gzip
 import json
 import os
-import unittest
 
 from tests.commands.viewers.schema import Validator, schema_of_lines
 from tests.lib.program_test import SESSIONS, new_seed, slow
@@ -32,21 +28,6 @@ from tests.program.real_files.test_replaced import ENTRIES, replace, resize, Tur
 from tests.program.test_lines import LinesProgramTest, faults_of_lines
 
 CASES = os.path.join(os.path.dirname(cases.FOLDER), cases.LINES, "*.case")
-NIGHTS = os.path.join(os.path.dirname(os.path.abspath(__file__)), "nights_beside_twin.txt")
-# The database before each of the nights.
-BEFORE = {
-    "n1-idle": "n0",
-    "n2-idle": "n1-idle",
-    "n3-rotate": "n2-idle",
-    "n4-rotate": "n3-rotate",
-    "n5-idle": "n4-rotate",
-    "n6-install": "n5-idle",
-    "n7-upgrade": "n6-install",
-    "n8-repack": "n7-upgrade",
-    "n9-remove": "n8-repack",
-    "n10-kernel": "n9-remove",
-    "n11-rotate": "n10-kernel",
-}
 DIGESTS = (
     b"47DEQpj8HBSa+/TImW+5JCeuQeRkm5NMpJWZG3hSuFU=",
     b"1N8IG5grI+ZsrHEC+dkQMvKWyvEwMZkdkK9E7my/bjs=",
@@ -128,28 +109,6 @@ def check_replaced(test, folder, way, name, texts):
         test.holds(label, is_right, answer)
         told += is_told
     test.holds(f"{label}, told at all", told)
-
-
-def left_in(output):
-    """The lines that nothing accounts for, each as its kind and its path."""
-    lines = [json.loads(line) for line in output.splitlines()]
-    return [
-        "%s %s" % (line["kind"], line["path"])
-        for line in lines
-        if "kind" in line and "same_as" not in line
-    ]
-
-
-def listed_nights():
-    """What is to be left of each night, by its name."""
-    nights, lines = {}, []
-    with open(NIGHTS, encoding="utf-8") as file:
-        for line in file.read().splitlines():
-            if line.startswith("@@ "):
-                lines = nights[line[3:]] = []
-            elif line and not line.startswith("#"):
-                lines.append(line)
-    return nights
 
 
 class TrustedTest(LinesProgramTest):
@@ -366,32 +325,3 @@ class TrustedTest(LinesProgramTest):
         if SESSIONS >= 1000:
             for account, count in self.accounts.items():
                 self.assertGreater(count, SESSIONS // 8, account)
-
-    @unittest.skipUnless(os.environ.get("AIDE_NIGHTS"), "only with AIDE_NIGHTS=DIRECTORY")
-    def test_nights(self) -> None:
-        """Each night of an intruder, with the night without him as the trusted pair, and each night
-        without him beside itself."""
-        nights = listed_nights()
-        for name, before in BEFORE.items():
-            for twin in (name + "-intruder", name):
-                if twin not in nights:
-                    continue
-                with Folder() as folder:
-                    four = []
-                    for each in (before, twin, before, name):
-                        with gzip.open(
-                            os.path.join(os.environ["AIDE_NIGHTS"], each + ".db.gz"), "rb"
-                        ) as file:
-                            four.append(file.read())
-                    folder_of(folder, four)
-                    answer = run(self.lines_program, folder.words_beside())
-                    self.check(twin, answer, wanted_lines(folder.words_beside()))
-                    left = left_in(answer.output)
-                    want = nights[twin] + (nights["every intruder"] if twin != name else [])
-                    self.add(
-                        twin + ", what is left", ["- " + line for line in want if line not in left]
-                    )
-                    self.add(
-                        twin + ", no more is left",
-                        ["+ " + line for line in left if line not in want],
-                    )
