@@ -11,14 +11,15 @@ import shutil
 import subprocess
 import sys
 import tempfile
-import unittest
 from typing import Any, Optional, Union
 
 from tests.lib.apart import has_own_mounts
 from tests.lib.byte_code import compile_modules
 from tests.lib.copies import copy_directory
-from tests.lib.programs import find_program, lines_program_of, reason_without
-from tests.lib.scratch import TOP as HERE, Scratch
+from tests.lib.program_test import ScratchTest
+from tests.lib.programs import find_program, lines_program_of
+from tests.lib.scratch import TOP as HERE
+from tests.lib.terminal import Terminal
 
 # Only for a tool that hangs: on a machine with much other work a run may take minutes.
 TIME_LIMIT = 300
@@ -117,19 +118,13 @@ def compiled_commands() -> str:
     return directory
 
 
-class CommandTest(Scratch, unittest.TestCase):
+class CommandTest(ScratchTest):
     """A test of the commands, with a directory of its own: the commands beside the program, a
     directory for what is unpacked, and the databases OLD and NEW in two forms."""
 
-    def __init__(self, name: str = "runTest") -> None:
-        unittest.TestCase.__init__(self, name)
-
     def setUp(self) -> None:
         program = find_program()
-        if program is None:
-            self.skipTest(reason_without())
-        self.make("aide-compare-test-")
-        self.addCleanup(self.remove)
+        super().setUp()
         self.room = self.path("room")
         for name in ("stubs", "room", "empty"):
             os.mkdir(self.path(name))
@@ -155,10 +150,6 @@ class CommandTest(Scratch, unittest.TestCase):
         for name, text in (("old", OLD), ("new", NEW)):
             self.write(name + ".db", text)
             self.write(name + ".db.gz", gzip.compress(text))
-
-    def read(self, name):
-        with open(self.path(name), "rb") as file:
-            return file.read()
 
     def set_names(self, module, **values):
         """Names of a module of the commands have other values in each command that this test
@@ -229,13 +220,18 @@ class CommandTest(Scratch, unittest.TestCase):
             errors = (errors or b"") + b"\nit did not end\n"
         return Answer(output or b"", errors or b"", process.returncode)
 
+    def terminal(self, tool, *words, environment=None, **streams):
+        """A tool in this folder on a terminal, without colours unless its environment says so."""
+        environment = {"TERM": "xterm", "NO_COLOR": "1", **(environment or {})}
+        return Terminal(
+            self.command(tool, *words),
+            cwd=self.root,
+            env=self.environment(**environment),
+            **streams,
+        )
+
     def leftovers(self):
         return os.listdir(self.room)
-
-    def holds(self, label, good, got=""):
-        """Something is so; `got` is shown if it is not."""
-        with self.subTest(label):
-            self.assertTrue(good, got)
 
     def expect(self, label, answer, status, output=None, errors=None):
         """An answer has a status, these texts where they are given (a list: each is in it), and

@@ -2,62 +2,18 @@
 from __future__ import annotations
 
 import os
-import pty
-import select
-import subprocess
 import time
 
 from .accepting import DIGEST, FILES, OLDER, TOOL, AcceptingTest, contents, fresh
-from .sandbox import CommandTest, END, HEAD, NEW, NOBODY, OLD
+from .sandbox import END, HEAD, NEW, NOBODY, OLD
 
 PROMPT = b"? [y/N] "
-SECONDS = 120
-
-
-class Terminal:
-    """A command on a terminal: what it has printed, and what is typed."""
-
-    def __init__(self, sandbox: CommandTest, tool: str, *words: str) -> None:
-        self.ours, theirs = pty.openpty()
-        environment = sandbox.environment(TERM="xterm", NO_COLOR="1")
-        command = sandbox.command(tool, *words)
-        self.process = subprocess.Popen(
-            command, 0, None, theirs, theirs, theirs, cwd=sandbox.root, env=environment
-        )
-        os.close(theirs)
-        self.text = b""
-
-    def read(self, until: bytes | None = None) -> None:
-        """Reads up to some bytes, or to the end."""
-        deadline = time.monotonic() + SECONDS
-        while until is None or until not in self.text:
-            ready, _, _ = select.select([self.ours], [], [], max(deadline - time.monotonic(), 0))
-            try:
-                block = os.read(self.ours, 1 << 16) if ready else b""
-            except OSError:  # So Linux tells the end of a terminal.
-                block = b""
-            if not block:
-                return
-            self.text += block.replace(b"\r\n", b"\n")
-
-    def type(self, text: bytes) -> None:
-        os.write(self.ours, text)
-
-    def end(self) -> tuple[int, bytes]:
-        """The status of the command, and all that it has printed."""
-        self.read()
-        os.close(self.ours)
-        return self.process.wait(SECONDS), self.text
 
 
 class AcceptAskedTest(AcceptingTest):
     def asked(self, answer: bytes, words: tuple[str, ...] = FILES) -> tuple[int, bytes]:
         """The status and the text of a command whose question, if it asks one, gets an answer."""
-        terminal = Terminal(self, TOOL, *words)
-        terminal.read(PROMPT)
-        if PROMPT in terminal.text:
-            terminal.type(answer)
-        return terminal.end()
+        return self.terminal(TOOL, *words).answered(PROMPT, answer)
 
     def test_yes(self) -> None:
         """What differs is shown, then the digest, then the question."""
@@ -79,7 +35,7 @@ class AcceptAskedTest(AcceptingTest):
 
     def test_typed_ahead(self) -> None:
         """What was typed before the question was there is no answer."""
-        terminal = Terminal(self, TOOL, *FILES)
+        terminal = self.terminal(TOOL, *FILES)
         terminal.type(b"y\n" * 5)
         terminal.read(PROMPT)
         time.sleep(0.5)
@@ -89,7 +45,7 @@ class AcceptAskedTest(AcceptingTest):
 
     def test_exchanged(self) -> None:
         """Another database that came after the question was asked is not accepted."""
-        terminal = Terminal(self, TOOL, *FILES)
+        terminal = self.terminal(TOOL, *FILES)
         terminal.read(PROMPT)
         self.write("base/aide.db.new", OLDER, 0o600)
         terminal.type(b"y\n")

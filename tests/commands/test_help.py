@@ -1,15 +1,12 @@
 """The help of each command, at the width of the terminal."""
 from __future__ import annotations
 
-import fcntl
 import os
-import pty
-import struct
 import subprocess
-import termios
 import unittest
 
 from tests.lib.scratch import TOP
+from tests.lib.terminal import Terminal
 
 FRONT = os.path.join(TOP, "commands", "bin", "aide-compare")
 COMMANDS = (
@@ -21,19 +18,8 @@ COMMANDS = (
 
 def help_at(command: str, columns: int) -> list[str]:
     """The lines of the help of a command on a terminal of so many columns."""
-    ours, theirs = pty.openpty()
-    fcntl.ioctl(theirs, termios.TIOCSWINSZ, struct.pack("HHHH", 24, columns, 0, 0))
-    words = [FRONT, *command.split(), "--help"]
-    with subprocess.Popen(words, stdin=theirs, stdout=theirs, stderr=theirs) as process:
-        os.close(theirs)
-        text = b""
-        while True:
-            try:
-                text += os.read(ours, 1 << 16)
-            except OSError:  # Linux tells the end of a terminal by this error.
-                break
-    os.close(ours)
-    if process.returncode:
+    status, text = Terminal([FRONT, *command.split(), "--help"], columns).end()
+    if status:
         raise AssertionError(text.decode())
     return text.decode().splitlines()
 

@@ -11,7 +11,6 @@ from typing import NamedTuple
 from tests.lib.waiting import until
 
 from .sandbox import CommandTest, NEW, OLD, sha256
-from .test_accept_asked import Terminal
 from .test_fleet import DIFFERS, Fleet
 
 PROMPT = b"yes or no: "
@@ -47,12 +46,9 @@ class Asked(NamedTuple):
 def add(sandbox: CommandTest, host: str, answer: str, *words: str, early: bytes = b"") -> Asked:
     """Runs the command on a terminal, and answers its question once it is asked."""
     options = ("--store", sandbox.path("store"), "--hosts-file", sandbox.path("etc-hosts"))
-    terminal = Terminal(sandbox, "aide-compare hosts add", *options, *words, host)
+    terminal = sandbox.terminal("aide-compare hosts add", *options, *words, host)
     terminal.type(early)
-    terminal.read(PROMPT)
-    if PROMPT in terminal.text:
-        terminal.type(answer.encode())
-    status, text = terminal.end()
+    status, text = terminal.answered(PROMPT, answer.encode())
     return Asked(status, text.decode("utf-8", "replace"))
 
 

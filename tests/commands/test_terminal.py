@@ -2,9 +2,7 @@
 of that is there."""
 from __future__ import annotations
 
-import contextlib
 import os
-import pty
 import re
 import subprocess
 import time
@@ -39,23 +37,13 @@ class TerminalTest(CommandTest):
 
     def on_terminal(self, *words: str, output: bool = True, **environment: str) -> Seen:
         """The status, and what a terminal gets; without `output` only standard error is one."""
-        ours, theirs = pty.openpty()
-        environment = self.environment(**{"TERM": "xterm", "NO_COLOR": "", **environment})
         with open(self.path("out"), "wb") as file:
-            process = subprocess.Popen(
-                self.command(TOOL, *words),
-                cwd=self.root,
-                env=environment,
-                stdout=theirs if output else file,
-                stderr=theirs,
+            streams = {} if output else {"stdout": file}
+            environment = {"NO_COLOR": "", **environment}
+            terminal = self.terminal(
+                TOOL, *words, environment=environment, stdin=subprocess.DEVNULL, **streams
             )
-        os.close(theirs)
-        text = b""
-        with contextlib.suppress(OSError):  # So Linux tells the end of a terminal.
-            while True:
-                text += os.read(ours, 1 << 16)
-        os.close(ours)
-        return process.wait(), text.replace(b"\r\n", b"\n")
+        return terminal.end()
 
     def seen(self, *words: str, **more: Any) -> Seen:
         """The same without the progress. On a busy machine each comparison is a long one, whose

@@ -5,7 +5,8 @@ import os
 import random
 import unittest
 
-from tests.lib.programs import find_program, lines_program_of, reason_without
+from tests.lib.programs import find_program, lines_program_of
+from tests.lib.scratch import Scratch
 from tests.lib.tally import difference
 
 QUICK = "AIDE_QUICK"
@@ -25,7 +26,25 @@ def new_seed() -> int:
     return int(os.environ.get("AIDE_SEED") or random.SystemRandom().randrange(10**9))
 
 
-class AnswerTest(unittest.TestCase):
+class StatedTest(unittest.TestCase):
+    """A test of statements, each with a label."""
+
+    def holds(self, label, good, got=""):
+        """Something is so; `got` is shown if it is not."""
+        with self.subTest(label):
+            self.assertTrue(good, got)
+
+
+class ScratchTest(Scratch, StatedTest):
+    """A test with a folder of its own."""
+
+    def setUp(self) -> None:
+        super().setUp()
+        self.make()
+        self.addCleanup(self.remove)
+
+
+class AnswerTest(StatedTest):
     """A test of answers."""
 
     def add(self, label, faults):
@@ -38,18 +57,11 @@ class AnswerTest(unittest.TestCase):
         """The answer of a program is the wanted one."""
         self.add(label, difference(got, want))
 
-    def holds(self, label, good, got=""):
-        """Something is so; `got` is shown if it is not."""
-        with self.subTest(label):
-            self.assertTrue(good, got)
-
 
 class ProgramTest(AnswerTest):
     """A test of the programs that were built."""
 
     def setUp(self) -> None:
         program = find_program()
-        if program is None:
-            self.skipTest(reason_without())
         self.program = os.fsencode(program)
         self.lines_program = os.fsencode(lines_program_of(program))

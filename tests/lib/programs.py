@@ -3,6 +3,7 @@ this repository."""
 from __future__ import annotations
 
 import os
+import unittest
 
 from tests.lib.scratch import TOP
 
@@ -10,10 +11,13 @@ VARIABLE = "AIDE_PROGRAM"
 BUILT = os.path.join(TOP, "crates", "aide", "out", "aide")
 
 
-def find_program() -> str | None:
-    """The whole path of the program `aide`, if it is there."""
+def find_program() -> str:
+    """The whole path of the program `aide`. A test is skipped where it is not there."""
     path = os.path.abspath(os.environ.get(VARIABLE) or BUILT)
-    return path if os.access(path, os.X_OK) else None
+    if not os.access(path, os.X_OK):
+        built = os.path.relpath(BUILT, TOP)
+        raise unittest.SkipTest(f"no program: {VARIABLE} names none, and {built} was not built")
+    return path
 
 
 def lines_program_of(program: str) -> str:
@@ -23,8 +27,3 @@ def lines_program_of(program: str) -> str:
     if directory.endswith("/crates/aide/out"):
         directory = os.path.join(directory, "..", "..", "aide_lines", "out")
     return os.path.abspath(os.path.join(directory, "aide_lines" + name[len("aide") :]))
-
-
-def reason_without() -> str:
-    """Why a test is skipped that needs the program."""
-    return f"no program: {VARIABLE} names none, and {os.path.relpath(BUILT, TOP)} was not built"

@@ -7,10 +7,7 @@ TOP = os.path.dirname(os.path.dirname(os.path.dirname(os.path.abspath(__file__))
 
 
 class Scratch:
-    def __init__(self, prefix):
-        self.make(prefix)
-
-    def make(self, prefix):
+    def make(self, prefix="aide-test-"):
         os.umask(0o022)  # Others have to read what root makes here, whatever umask the caller has.
         self.root = tempfile.mkdtemp(prefix=prefix)
         os.chmod(self.root, 0o755)
@@ -29,6 +26,10 @@ class Scratch:
             file.write(text if isinstance(text, bytes) else text.encode())
         os.chmod(path, mode)
         return path
+
+    def read(self, name):
+        with open(self.path(name), "rb") as file:
+            return file.read()
 
     def stub(self, name, body, folder="stubs"):
         """A command of the trials, found before that of the machine."""

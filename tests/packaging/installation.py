@@ -6,11 +6,11 @@ import os
 import shutil
 import stat
 import subprocess
-import unittest
 from typing import Any, Tuple
 
-from tests.lib.scratch import TOP as HERE, Scratch
-from tests.lib.programs import find_program, lines_program_of, reason_without
+from tests.lib.program_test import ScratchTest
+from tests.lib.programs import find_program, lines_program_of
+from tests.lib.scratch import TOP as HERE
 
 PARTS = [
     *("commands contrib docs examples/small_tree man packaging".split()),
@@ -24,18 +24,12 @@ NEEDED = """[ awk basename cat chmod cmp comm cp cut date dirname env find grep 
 python3 readlink rm rmdir sed sh sha256sum sort tail tar touch tr uniq wc xargs""".split()
 
 
-class InstallTest(Scratch, unittest.TestCase):
+class InstallTest(ScratchTest):
     """Each test installs below a directory of its own from a copy that it may change."""
-
-    def __init__(self, name: str = "runTest") -> None:
-        unittest.TestCase.__init__(self, name)
 
     def setUp(self) -> None:
         program = find_program()
-        if program is None:
-            self.skipTest(reason_without())
-        self.make("aide-install-test-")
-        self.addCleanup(self.remove)
+        super().setUp()
         self.program = self.copied_programs(program, "built programs", "aide")
         self.newer = [
             self.make_newer(one) for one in (self.program, lines_program_of(self.program))

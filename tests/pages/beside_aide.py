@@ -37,8 +37,8 @@ class Trial(Scratch, Tally):
     """A folder of its own, and the counts."""
 
     def __init__(self, program: str) -> None:
-        Scratch.__init__(self, "beside-aide-")
         Tally.__init__(self)
+        self.make("beside-aide-")
         self.program = os.path.abspath(program)
 
     def run(self, program: str, words: list[str], **more: Any) -> Answer:

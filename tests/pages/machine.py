@@ -12,11 +12,11 @@ import re
 import shutil
 import subprocess
 import tempfile
-import unittest
 
 from tests.lib import apart
-from tests.lib.programs import find_program, lines_program_of, reason_without
-from tests.lib.scratch import TOP, Scratch
+from tests.lib.program_test import ScratchTest
+from tests.lib.programs import find_program, lines_program_of
+from tests.lib.scratch import TOP
 
 # What blocks and commands name; in a test it lies below the root.
 DIRECTORIES = (
@@ -72,26 +72,19 @@ def example(name: str) -> bytes:
         return file.read()
 
 
-class MachineTest(Scratch, unittest.TestCase):
+class MachineTest(ScratchTest):
     """A test with such a directory of its own."""
 
-    def __init__(self, name: str = "runTest") -> None:
-        unittest.TestCase.__init__(self, name)
-
     def setUp(self) -> None:
-        program = find_program()
-        if program is None:
-            self.skipTest(reason_without())
-        self.program = program
-        self.make("aide-compare-pages-")
-        self.addCleanup(self.remove)
+        self.program = find_program()
+        super().setUp()
         for name in [*DIRECTORIES, "/stubs", "/tmp", "/var/lib/prometheus/node-exporter"]:
             os.makedirs(self.path(name), exist_ok=True)
         os.chmod(self.path("/var/lib/aide"), 0o700)
         for name in ("/tmp", "/var/tmp"):
             os.chmod(self.path(name), 0o1777)
         apart.forget_user("_aide", self.root)
-        shutil.copytree(installed(program), self.path("/usr/local"), True, dirs_exist_ok=True)
+        shutil.copytree(installed(self.program), self.path("/usr/local"), True, dirs_exist_ok=True)
         for directory, _, names in os.walk(self.path("/usr/local")):
             for name in names:
                 self.put_below(os.path.join(directory, name))

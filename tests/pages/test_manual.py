@@ -13,8 +13,8 @@ import subprocess
 import unittest
 from typing import Any
 
-from tests.lib.program_test import ProgramTest
-from tests.lib.scratch import TOP, Scratch
+from tests.lib.program_test import ProgramTest, ScratchTest
+from tests.lib.scratch import TOP
 from tests.oracle import configuration
 from tests.oracle.attributes import ATTRIBUTES, EMPTY_NAMES, GROUPS
 from tests.oracle.configuration import LEVELS, OLDER_OPTIONS, WITHOUT_EFFECT
@@ -109,10 +109,7 @@ def fault_of(line: str) -> str | None:
     return found.kind if isinstance(found, configuration.Fault) else None
 
 
-class PagesTest(Scratch, unittest.TestCase):
-    def __init__(self, name: str = "runTest") -> None:
-        unittest.TestCase.__init__(self, name)
-
+class PagesTest(ScratchTest):
     def test_man(self) -> None:
         if not shutil.which("man"):
             self.skipTest("not installed: man")
@@ -125,8 +122,6 @@ class PagesTest(Scratch, unittest.TestCase):
         """No style is doubtful. The pages of other programs that ours name are there."""
         if not shutil.which("mandoc"):
             self.skipTest("not installed: mandoc")
-        self.make("aide-manual-")
-        self.addCleanup(self.remove)
         text = "".join(map(read, MANUALS))
         for name, section_ in set(re.findall(r"\bXr (\S+) (\d)", text)):
             self.write(f"man/man{section_}/{name}.{section_}", "")
@@ -214,16 +209,8 @@ class NamesTest(unittest.TestCase):
         self.assertEqual(found and found[0], PAIR[0])
 
 
-class ShownTest(Scratch, ProgramTest):
+class ShownTest(ScratchTest, ProgramTest):
     """What the pages show is what the program writes."""
-
-    def __init__(self, name: str = "runTest") -> None:
-        unittest.TestCase.__init__(self, name)
-
-    def setUp(self) -> None:
-        super().setUp()
-        self.make("aide-manual-")
-        self.addCleanup(self.remove)
 
     def answer(self, program: bytes, *words: str | bytes, **streams: Any) -> tuple[int, str, str]:
         streams = {"stdin": subprocess.DEVNULL, "stdout": subprocess.PIPE, **streams}

@@ -1,12 +1,11 @@
 """The recipes of docs/HOSTS.md: a new host, and many hosts of which some lie, fail or are silent."""
 from __future__ import annotations
 
-import contextlib
 import gzip
 import os
-import pty
 import subprocess
 
+from tests.lib.terminal import Terminal
 from tests.pages.machine import HOSTS, KEY, STORE
 from tests.pages.recipes import NEW, OLD, RecipesTest
 
@@ -44,25 +43,10 @@ class HostsTest(RecipesTest):
     def on_terminal(self, answer: str) -> tuple[int, str]:
         """The status of the recipe on a terminal, and what that shows; its question gets an
         answer."""
-        ours, theirs = pty.openpty()
         words = ["sh", "-c", self.below(self.text("add host"))]
-        process = subprocess.Popen(
-            words,
-            cwd=self.path("/tmp"),
-            env=self.environment(),
-            stdin=theirs,
-            stdout=theirs,
-            stderr=theirs,
-        )
-        os.close(theirs)
-        shown = b""
-        with contextlib.suppress(OSError):  # So Linux tells the end of a terminal.
-            while True:
-                shown += os.read(ours, 1 << 16)
-                if shown.endswith(b"yes or no: "):
-                    os.write(ours, answer.encode())
-        os.close(ours)
-        return process.wait(), self.above(shown.decode().replace("\r\n", "\n"))
+        terminal = Terminal(words, cwd=self.path("/tmp"), env=self.environment())
+        status, shown = terminal.answered(b"yes or no: ", answer.encode())
+        return status, self.above(shown.decode())
 
     def put_hosts(self) -> int:
         for name, (text, _, _) in SENT.items():

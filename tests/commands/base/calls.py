@@ -2,11 +2,10 @@
 from __future__ import annotations
 
 import os
-import shutil
-import tempfile
-import unittest
 from collections.abc import Callable
 from typing import Any
+
+from tests.lib.program_test import ScratchTest
 
 from aide_compare.base.ending import Fault
 
@@ -20,32 +19,8 @@ def outcome(work: Callable[..., Any], *given: Any, **more: Any) -> Any:
         return int(fault.status), fault.text
 
 
-class ModuleTest(unittest.TestCase):
+class ModuleTest(ScratchTest):
     """A test of some modules, with a directory of its own."""
-
-    def setUp(self) -> None:
-        os.umask(0o022)  # Whatever umask the caller has.
-        self.folder = tempfile.mkdtemp(prefix="aide-compare-test-")
-        self.addCleanup(shutil.rmtree, self.folder, True)
-        os.chmod(self.folder, 0o755)
-
-    def path(self, name: str) -> str:
-        return os.path.join(self.folder, name)
-
-    def write(self, name: str, data: bytes) -> str:
-        """A file in the directory of this test: its path."""
-        with open(self.path(name), "wb") as file:
-            file.write(data)
-        return self.path(name)
-
-    def read(self, name: str) -> bytes:
-        with open(self.path(name), "rb") as file:
-            return file.read()
-
-    def holds(self, label: str, good: object, got: object = "") -> None:
-        """Something is so; `got` is shown if it is not."""
-        with self.subTest(label):
-            self.assertTrue(good, got)
 
     def expect(self, label: str, got: object, want: object) -> None:
         with self.subTest(label):

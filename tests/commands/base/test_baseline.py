@@ -52,14 +52,14 @@ class BaselineTest(ModuleTest):
 
     def fresh(self, **files: bytes) -> None:
         """The directory has only these files, by their words in it."""
-        for name in os.listdir(self.folder):
+        for name in os.listdir(self.root):
             os.remove(self.path(name))
         names = {"base": NAME, "mark": MARK, "part": PART, "secret": "secret"}
         for word, text in files.items():
             self.write(names[word], text)
 
     def texts(self) -> dict[str, bytes]:
-        return {name: self.read(name) for name in os.listdir(self.folder)}
+        return {name: self.read(name) for name in os.listdir(self.root)}
 
     def rights(self, name: str) -> tuple[int, int, int]:
         found = os.lstat(self.path(name))
@@ -67,7 +67,7 @@ class BaselineTest(ModuleTest):
 
     def test_replaced(self) -> None:
         self.addCleanup(os.chdir, os.getcwd())
-        os.chdir(self.folder)
+        os.chdir(self.root)
         self.gives((os.getuid(), os.getgid()), replace, NAME, self.source)
         self.expect("the first one", (self.texts(), self.rights(NAME)[0]), ({NAME: b"new"}, 0o600))
         owner = (12345, 12346) if os.getuid() == 0 else (os.getuid(), os.getgid())
@@ -91,7 +91,7 @@ class BaselineTest(ModuleTest):
     @unittest.skipUnless(os.getuid() == 0, "it needs root")
     def test_anothers(self) -> None:
         self.fresh(base=b"old")
-        os.chown(self.folder, OTHER, OTHER)
+        os.chown(self.root, OTHER, OTHER)
         self.gives((OTHER, OTHER), replace, self.base, self.source)
         self.expect("the texts", self.texts(), {NAME: b"new", KEPT: b"old"})
         self.expect("the new one", self.rights(NAME), (0o644, OTHER, OTHER))
@@ -118,9 +118,9 @@ class BaselineTest(ModuleTest):
         self.fresh(base=b"old")
         os.chown(self.base, OTHER, 12346)
         given = ("it", replace_as_other, 60, [self.source])
-        os.chown(self.folder, 1, 1)
+        os.chown(self.root, 1, 1)
         self.fails(18, "belongs to another user", in_child, *given)
-        os.chown(self.folder, OTHER, OTHER)
+        os.chown(self.root, OTHER, OTHER)
         self.gives(b"(%d, 12346)" % OTHER, in_child, *given)
         self.expect("the new one", self.rights(NAME), (0o644, OTHER, 12346))
 

@@ -5,7 +5,7 @@ import re
 from unittest import mock
 
 from tests.commands.base.calls import ModuleTest
-from tests.lib.programs import find_program, lines_program_of, reason_without
+from tests.lib.programs import find_program, lines_program_of
 from tests.oracle import configuration as oracle
 
 from aide_compare.base.ending import Fault
@@ -72,10 +72,7 @@ class ConfigurationsTest(ModuleTest):
     def test_databases(self) -> None:
         """Random texts: the paths that a comparison finds are those of the definitions, unless a
         side is named twice."""
-        program = find_program()
-        if program is None:
-            self.skipTest(reason_without())
-        lines_program = lines_program_of(program)
+        lines_program = lines_program_of(find_program())
         asked = mock.patch.object(asking, "find_installed", lambda name: lines_program)
         asked.start()
         self.addCleanup(asked.stop)

@@ -146,32 +146,25 @@ class FilesTest(PlacesTest):
             self.gives(text, copied, "/dev/fd/%d" % reading)
             os.close(reading)
 
-    def stub(self, body: str, name: str = "aide") -> str:
-        """A program in a directory of such."""
-        os.makedirs(os.path.dirname(self.path("stub/" + name)), exist_ok=True)
-        path = self.write("stub/" + name, f"#!/bin/sh\n{body}\n".encode())
-        os.chmod(path, 0o755)
-        return path
-
     def test_installed(self) -> None:
         """The program is found beside the modules of the commands, as they are installed."""
         for library in ("lib/aide-compare/python", "lib"):
-            module = self.path(f"stub/{library}/aide_compare/base/program.py")
+            module = self.path(f"stubs/{library}/aide_compare/base/program.py")
             with mock.patch.object(program, "__file__", module):
-                told = "cannot find " + self.folder
+                told = "cannot find " + self.root
                 self.fails(18, told, program.find_installed, program.PROGRAM)
-                place = self.stub("exit 0", "libexec/aide-compare/aide")
+                place = self.stub("libexec/aide-compare/aide", "exit 0")
                 self.gives(place, program.find_installed, program.PROGRAM)
             os.remove(place)
 
     def test_programs(self) -> None:
-        old, new = files.nameless(self.folder), files.nameless(self.folder)
+        old, new = files.nameless(self.root), files.nameless(self.root)
         self.addCleanup(os.close, old)
         self.addCleanup(os.close, new)
         os.write(old, b"old\n")
         os.write(new, b"new\n")
         body = 'cat /proc/self/fd/3 /proc/self/fd/4; echo "$LC_ALL $1"; echo why >&2; exit 5'
-        path = self.stub(body)
+        path = self.stub("aide", body)
         for given, want in (
             ({3: old, 4: new}, b"old\nnew\nC a b\n"),
             ({3: new, 4: old}, b"new\nold\nC a b\n"),
@@ -189,4 +182,6 @@ class FilesTest(PlacesTest):
             ("kill -9 $$", "was ended by signal 9"),
             ("exit 99", "could not be run: status 99"),
         ):
-            self.fails(18, why, program.run_program, self.stub(body), [], {3: old, 4: new}, len)
+            self.fails(
+                18, why, program.run_program, self.stub("aide", body), [], {3: old, 4: new}, len
+            )

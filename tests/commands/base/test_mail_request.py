@@ -19,7 +19,7 @@ from aide_compare.commands.mail_request import own_parser, parsed, request_of
 class MailRequestTest(ModuleTest):
     def setUp(self) -> None:
         super().setUp()
-        place = mock.patch.object(parser, "DIRECTORY", self.folder)
+        place = mock.patch.object(parser, "DIRECTORY", self.root)
         place.start()
         self.addCleanup(place.stop)
 

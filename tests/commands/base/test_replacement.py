@@ -119,7 +119,7 @@ class ReplacementTest(PlacesTest):
         replacement.replace(self.path("made/state"), b"x")
         self.assertEqual(self.read("made/state"), b"x")
         self.addCleanup(os.chdir, os.getcwd())
-        os.chdir(self.folder)
+        os.chdir(self.root)
         replacement.replace("here", b"x")
         self.assertEqual(self.read("here"), b"x")
         self.gives((b"y", os.getuid()), copied_over, self.path("made/state"), b"y")
@@ -130,7 +130,7 @@ class ReplacementTest(PlacesTest):
     def test_exchange(self) -> None:
         self.write("one", b"1")
         self.write("other", b"2")
-        with open_directory(self.folder) as folder:
+        with open_directory(self.root) as folder:
             given = (folder.fd, "one", "other")
             self.gives(True, replacement.exchange, *given)
             with mock.patch.object(replacement, "RENAME_EXCHANGE", 3):  # No call knows these flags.

@@ -62,7 +62,7 @@ class SendingTest(ModuleTest):
         """Only a mail that this user has put there is sent, and none that is too large."""
         for name in (".b.mail", "a.mail.part", "a.mail"):
             self.write(name, b"text")
-        with open_directory(self.folder) as directory:
+        with open_directory(self.root) as directory:
             self.gives(["a.mail"], sending.waiting_in, directory)
             with mock.patch.object(sending, "MAX_BYTES", 4):
                 self.gives(b"text", sending.waiting_mail, directory, "a.mail")
