@@ -1,42 +1,21 @@
-"""What reads the state file: the check for Nagios, the metrics and the line for the log."""
+"""What reads the state file: the text for people, the metrics and the line for the log."""
 from __future__ import annotations
 
 import json
 import os
-import re
 import subprocess
 import sys
 import time
 from typing import Any
 
-from .sandbox import AS_NOBODY, Answer, CommandTest, HERE, NOBODY, UMASK
+from .sandbox import AS_NOBODY, HERE, NOBODY, UMASK
+from .states import NOTHING, StateTest
 
-CHECK, STATUS = "check_aide_compare", "aide-compare status"
+STATUS = "aide-compare status"
 LINE, METRICS = STATUS + " --format line", STATUS + " --format prometheus"
-FORM = """format=2
-status=%(status)s
-time=%(time)s
-date=2026-11-23T16:30:00Z
-added=%(added)s
-removed=%(removed)s
-changed=%(changed)s
-old_sha256=
-new_sha256=%(digest)s
-old=%(old)s
-new=/n
-old_written=
-new_written=
-error=%(error)s
-later=unknown
-"""
-ZERO: dict[str, Any] = {"status": 0, "added": 0, "removed": 0, "changed": 0, "old": "/o"}
-NOTHING: dict[str, Any] = {"added": "", "removed": "", "changed": ""}
-WORDS = ("OK", "WARNING", "CRITICAL", "UNKNOWN")
-NUMBERS = re.compile(r"([a-z]+=(\d+|U) )*(age=\d+s)?")
-
 # The owner of a folder puts links in the place of every name there, in a loop.
-LINKS = """import os, sys
-os.setgroups([]); os.setgid(%d); os.setuid(%d)
+LINKS = f"""import os, sys
+{AS_NOBODY}
 folder, prey = sys.argv[1:]
 print("begun", flush=True)
 while True:
@@ -46,34 +25,10 @@ while True:
             os.rename(folder + "/mine", folder + "/" + name)
         except OSError:
             pass
-""" % (
-    NOBODY,
-    NOBODY,
-)
+"""
 
 
-class StateTest(CommandTest):
-    def put(self, age: int = 60, **more: Any) -> str:
-        """Writes a state of so many seconds ago. Returns its path."""
-        now = int(time.time())
-        given = {**ZERO, "error": "", "digest": "a" * 64, "time": now - age, **more}
-        return self.write("state", (FORM % given).encode("utf-8", "surrogateescape"))
-
-    def ask(self, tool: str, *words: str, **more: Any) -> Answer:
-        return self.call(tool, "--state", "state", *words, **more)
-
-    def check(self, label: str, status: int, *parts: str, words: Any = (), **more: Any) -> None:
-        """The check answers with one line of one bar at most, and with these parts."""
-        answer = self.ask(CHECK, *words, **more)
-        line = answer.output.decode("utf-8", "replace")
-        self.assertEqual((answer.status, answer.errors), (status, b""), (label, answer))
-        self.assertTrue(line.startswith(f"AIDE {WORDS[status]}: "), (label, line))
-        self.assertEqual((line.count("\n"), line[-1:]), (1, "\n"), (label, line))
-        text, _, numbers = line[:-1].partition("|")
-        self.assertTrue(NUMBERS.fullmatch(numbers) and len(line) < 500, (label, line))
-        for part in parts:
-            self.assertIn(part, line, label)
-
+class StatusTest(StateTest):
     def people(self, *words: str, **state: Any) -> list[str]:
         """What people get of a state: the lines of status."""
         self.put(**state)
@@ -89,73 +44,6 @@ class StateTest(CommandTest):
         self.assertEqual((answer.status, answer.errors), (status, b""), answer)
         self.assertEqual((answer.output.count(b"\n"), answer.output[-1:]), (1, b"\n"), answer)
         return str(answer.output.decode("utf-8", "replace"))
-
-    def test_check(self) -> None:
-        for status, added, removed, changed, want in (
-            (0, 0, 0, 0, 0),
-            (1, 5, 0, 0, 1),
-            (7, 12, 34, 56, 2),
-        ):
-            self.put(status=status, added=added, removed=removed, changed=changed)
-            numbers = f"|added={added} removed={removed} changed={changed} age=6"
-            text = f": {added} added, {removed} removed, {changed} changed|" if status else ": no "
-            self.check(f"the status {status}", want, numbers, text)
-        self.put(age=-20)
-        self.check("a clock that is a little behind", 0, "age=0s")
-        self.call("aide-compare", "old.db", "new.db", "--state", "state")
-        numbers = "|added=1 removed=1 changed=2 open=4 "
-        self.check("a real state", 2, ": 1 added, 1 removed, 2 changed" + numbers)
-
-    def test_check_rights(self) -> None:
-        self.needs_root()
-        state = self.put()
-        self.check("an unprivileged user", 0, "no difference", before=AS_NOBODY)
-        os.chmod(state, 0o600)
-        self.check("no right", 3, "cannot open the state file", before=AS_NOBODY)
-
-    def test_check_faults(self) -> None:
-        self.put(status=24, error="a|b=1;2\x01\x1b[0m|" + "é" * 4000, **NOTHING)
-        said = "no comparison, status 24: a!b=1;2\\001\\033[0m!"
-        self.check("an error", 3, said, "|age=6")
-        self.put(status=5, **NOTHING)
-        self.check("a state without counts", 2, "added=U removed=U changed=U")
-        self.put(age=93700)
-        self.check("an old state", 3, "older than 26 hours", "age=937")
-        self.check("an old state that may be", 0, "no difference", words=["--max-age", "27h"])
-        self.check("one that may not be", 3, "older than 10 seconds", words=["--max-age=10"])
-        self.put(age=-4000)
-        self.check("a state from the future", 3, "in the future")
-        arguments = ["--max-age"], ["--max-age", "x"], ["--max-age", "31d"], ["--odd|\n"]
-        for words in (*arguments, ["--state"], ["--state", ""]):
-            self.check(f"the arguments {words}", 3, words=words)
-
-    def test_check_files(self) -> None:
-        """What is no state file is UNKNOWN."""
-        state = self.put()
-        whole = self.read("state").decode()
-        for label, text in (
-            ("nothing", ""),
-            ("half", whole[:40]),
-            ("no end", whole[:-7]),
-            ("another format", whole.replace("format=2", "format=1")),
-            ("other keys", whole.replace("added", "x")),
-            ("no number", whole.replace("removed=0", "removed=x")),
-            ("a sum", whole.replace("status=0", "status=3-3")),
-            ("no status", whole.replace("status=0", "status=")),
-            ("a large number", whole.replace("status=0", "status=" + "9" * 30)),
-            ("counts that are not of the status", whole.replace("added=0", "added=1")),
-            ("a large file", whole + "x" * 70000),
-            ("NUL", whole.replace("status", "\0")),
-        ):
-            self.write("state", text)
-            self.check("a state that is " + label, 3, "is no state file")
-        os.remove(state)
-        self.check("no state", 3, "there is no state")
-        os.makedirs(state)
-        self.check("a folder", 3, "it is a directory")
-        os.rmdir(state)
-        os.mkfifo(state)
-        self.check("a FIFO", 3, "it is a FIFO")
 
     def test_metrics(self) -> None:
         self.put(status=5, added=1, changed=4)
@@ -339,24 +227,3 @@ class StateTest(CommandTest):
         self.expect("metrics in a folder of another user", answer, 0, b"", b"")
         found = os.stat(folder + "/aide.prom")
         self.assertEqual((found.st_uid, found.st_mode & 0o777), (NOBODY, 0o644))
-
-    def test_own_failures(self) -> None:
-        """What the check itself cannot do is UNKNOWN, since 1 and 2 say what was found."""
-        self.put()
-        few = "resource.setrlimit(resource.RLIMIT_NOFILE, (4, 4))"
-        self.assertEqual(self.ask(CHECK, before=few).status, 3, "few descriptors")
-        none = "resource.setrlimit(resource.RLIMIT_NPROC, (0, 0))"
-        if os.geteuid() == 0:  # This limit is none for root.
-            none = f"{AS_NOBODY}; {none}"
-        self.assertEqual(self.ask(CHECK, before=none).status, 0, "it needs no process")
-        with open("/dev/full", "wb") as full:
-            self.assertEqual(self.ask(CHECK, stdout=full).status, 3, "a full device")
-        for name in ("commands/check", "compare/state"):
-            module = f"lib/aide_compare/{name}.py"
-            for text in ("import a_missing_module", "raise MemoryError", "raise KeyError"):
-                kept = self.read(module)
-                self.write(module, text)
-                answer = self.ask(CHECK)
-                self.write(module, kept)
-                self.assertEqual(answer.status, 3, (name, text, answer))
-                self.assertIn(b"UNKNOWN", answer.output)

@@ -43,7 +43,10 @@ TESTS = {
         "tests.commands.base.test_accept_work",
         "tests.commands.test_accept",
     ),
-    "commands/lib/aide_compare/commands/check.py": ("tests.commands.base.test_check",),
+    "commands/lib/aide_compare/commands/check.py": (
+        "tests.commands.base.test_check",
+        "tests.commands.test_check",
+    ),
     "commands/lib/aide_compare/commands/mail": (
         "tests.commands.base.test_mail_request",
         "tests.commands.test_mail",
