@@ -8,6 +8,7 @@ from unittest import mock
 
 from tests.commands.base.calls import OTHER, ModuleTest
 
+from aide_compare.base import processes
 from aide_compare.base.directories import open_directory
 from aide_compare.base.kinds import Server
 from aide_compare.mail import sending
@@ -76,7 +77,7 @@ class SendingTest(ModuleTest):
     def test_memory(self) -> None:
         """The exchange may take ten times the message, and what a server may answer."""
         message = bytes(50_000_000)
-        with mock.patch.object(sending, "bound_of") as bound:
+        with mock.patch.object(processes, "bound_of") as bound:
             sending._bound_memory(message)
         with open("/proc/self/statm", encoding="ascii") as file:
             used = int(file.read().split()[0]) * resource.getpagesize()

@@ -177,7 +177,7 @@ class TextsTest(ModuleTest):
 
     def test_statuses(self) -> None:
         counts = ((0, 0, 0), (9, 0, 0), (0, 9, 0), (0, 0, 9), (1, 1, 1))
-        self.assertEqual([reader.status_of(each) for each in counts], [0, 1, 2, 4, 7])
+        self.assertEqual([reader.status_of_counts(each) for each in counts], [0, 1, 2, 4, 7])
 
     def test_ends(self) -> None:
         """How a command ends by what its main does. Without a text it ends with a message of its

@@ -20,10 +20,10 @@ from typing import Union
 from aide_compare.base.ending import Fault, Status, fault_of, write_all
 from aide_compare.base.escapes import guarded, shown
 from aide_compare.base.directories import closed_after
+from aide_compare.base.files import BLOCK
 
 MAX_RESULT = 1 << 20
 MAX_FILE = 256 << 20
-BLOCK = 1 << 18
 PAUSE = 0.25
 STOP_SECONDS = 10
 NOT_STARTED = 127
@@ -60,6 +60,13 @@ def bound_of(kind: int, limit: int) -> None:
     resource.setrlimit(kind, (min([limit, *finite]), limits[1]))
 
 
+def bound_memory(more: int) -> None:
+    """Bounds the memory of this process to what it has now and so many bytes more."""
+    with open("/proc/self/statm", encoding="ascii") as file:
+        pages = int(file.read().split()[0])
+    bound_of(resource.RLIMIT_AS, pages * resource.getpagesize() + more)
+
+
 # The limits of the memory of this process before it has limited itself.
 _limits_before: tuple[int, int] | None = None
 
@@ -69,9 +76,7 @@ def limit_memory(limit: int) -> None:
     of before: they have bounds of their own."""
     global _limits_before
     _limits_before = resource.getrlimit(resource.RLIMIT_AS)
-    with open("/proc/self/statm", encoding="ascii") as file:
-        pages = int(file.read().split()[0])
-    bound_of(resource.RLIMIT_AS, pages * resource.getpagesize() + limit)
+    bound_memory(limit)
 
 
 def _prepare_program(parent: int, places: Mapping[int, int]) -> None:

@@ -3,14 +3,14 @@ ends."""
 from __future__ import annotations
 
 import os
-from collections.abc import Callable, Mapping, Sequence
+from collections.abc import Mapping, Sequence
 from contextlib import suppress
 from typing import NamedTuple
 
 from aide_compare.base import progress
 from aide_compare.base.ending import Fault, Status, reason
 from aide_compare.base.escapes import shown
-from aide_compare.base.processes import run
+from aide_compare.base.processes import Taker, run
 
 # Its descriptors, beside the standard ones.
 OLD = 3
@@ -62,7 +62,7 @@ class Tail:
 class Drain:
     """Takes blocks: the first bytes go to `keep`, up to a limit, and all are counted."""
 
-    def __init__(self, limit: int, keep: Callable[[bytes], object]) -> None:
+    def __init__(self, limit: int, keep: Taker) -> None:
         self.limit = limit
         self.keep = keep
         self.size = 0
@@ -122,7 +122,7 @@ def run_program(
     program: str,
     words: Sequence[str | bytes],
     descriptors: Mapping[int, int],
-    take: Callable[[bytes], object],
+    take: Taker,
 ) -> Answer:
     """Runs the program. A Fault unless its status is one of its own. `descriptors` are those of the
     databases, 3 and 4, and of the configuration, 5. What it writes goes to `take`."""

@@ -50,6 +50,6 @@ def counted(number: int, word: str, form: str = "d") -> str:
     return f"{number:{form}} {word}s"
 
 
-def status_of(counts: tuple[int, int, int]) -> int:
+def status_of_counts(counts: tuple[int, int, int]) -> int:
     """The status of a comparison with these counts of what was added, removed and changed."""
     return sum(bit for bit, count in zip((1, 2, 4), counts) if count)

@@ -14,7 +14,7 @@ from itertools import groupby
 from typing import IO
 
 from aide_compare.base.escapes import shown
-from aide_compare.base.files import nameless
+from aide_compare.base.files import BLOCK, nameless
 from aide_compare.base.paths import escaped, key_of_path, path_of
 from aide_compare.changes.entries import ABSENT
 from aide_compare.changes.ordered import OrderedDatabase, usr_of
@@ -26,7 +26,6 @@ from aide_compare.lines.attributes import DIGEST_COLUMNS
 CONFIGURATION = b"/etc/"
 INFO = "/var/lib/dpkg/info/"
 STRONG = ("sha256", "sha512")
-BLOCK = 1 << 18
 # The digits of a mode before the last four of them, by the type of a member.
 TYPES = {tarfile.REGTYPE: b"10", tarfile.DIRTYPE: b"4", tarfile.SYMTYPE: b"12"}
 

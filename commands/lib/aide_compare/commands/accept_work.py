@@ -61,8 +61,8 @@ class Offer:
         opened = open_database("new", path)
         packed = copy_packed(opened, max_size)
         self.fd = reopened(packed, os.O_RDONLY)
-        self.copy = copy_opened(Opened("new", path, packed), max_size)
-        self.copy.written = opened.written
+        copy = copy_opened(Opened("new", path, packed), max_size)
+        self.copy = copy.written_at(opened.written)
         self.sha256 = self.copy.sha256
 
     def packed(self, copy: Copy) -> int:

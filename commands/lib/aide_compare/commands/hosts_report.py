@@ -32,7 +32,6 @@ from aide_compare.show.told import severity_in_colour
 
 NAME = "aide-compare hosts report"
 FORMAT = 3
-BLOCK = 1 << 18
 GREATEST = 10**12
 # The page that a mail may have. It leaves out what has no room, and says how much.
 MAX_MAILED_PAGE = 500000

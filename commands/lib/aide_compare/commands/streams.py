@@ -10,7 +10,7 @@ from typing import TYPE_CHECKING, BinaryIO, NamedTuple, Optional
 
 from aide_compare.base.ending import Fault, Status, failing, write_all, write_blocks
 from aide_compare.base.escapes import shown
-from aide_compare.base.files import given_descriptor, open_regular, private_file
+from aide_compare.base.files import BLOCK, given_descriptor, open_regular, private_file
 from aide_compare.base.options import (
     AFTER,
     BEFORE,
@@ -21,7 +21,7 @@ from aide_compare.base.options import (
     TRUSTED,
 )
 from aide_compare.base.parser import Parser
-from aide_compare.lines.reader import BLOCK, Reader, Refused, reader_over
+from aide_compare.lines.reader import Reader, Refused, reader_over
 
 if TYPE_CHECKING:
     from aide_compare.changes.judged import Judged
@@ -157,5 +157,6 @@ def write_changes(request: StreamRequest, writer: Writer) -> int:
     """Writes a stream of two databases, or of lines. Returns the status of the comparison, or 0."""
     if len(request.files) == 2:
         return write_of_databases(request, writer)
-    path = request.files[0] if request.files else STDIN
-    return write_of_lines(path, writer)
+    for path in request.files:
+        return write_of_lines(path, writer)
+    return write_of_lines(STDIN, writer)

@@ -4,12 +4,13 @@ from __future__ import annotations
 import json
 import os
 import re
-from collections.abc import Callable, Iterator, Mapping
+from collections.abc import Iterator, Mapping
 from contextlib import contextmanager, suppress
 
 from aide_compare.base.ending import Fault, Status
 from aide_compare.base.escapes import shown
 from aide_compare.base.files import in_memory
+from aide_compare.base.processes import Taker
 from aide_compare.base.program import CONFIGURATION, DATABASES, DESCRIPTORS, LINES, Answer, Drain
 from aide_compare.base.program import find_installed, run_program
 from aide_compare.base.words import TRUSTED_SIDES
@@ -18,9 +19,6 @@ from aide_compare.lines.reader import FORMAT
 
 MAX_SETTINGS = 1 << 16
 LINE_BEFORE = rb"aide: before:(\d+):"
-
-# What takes the bytes that a program writes.
-Taker = Callable[[bytes], object]
 
 
 def odd_answer(program: str, answer: Answer) -> Fault:
@@ -96,11 +94,11 @@ class Question:
         written = bytearray()
         self.texts = texts
         self.answer = ask_for_settings(texts, Drain(MAX_SETTINGS, written.extend).take)
-        self.settings: Settings | None = None
-        if self.answer.status <= 7:
-            self.settings = self._settings_in(bytes(written))
+        self.settings = self._settings_in(bytes(written))
 
-    def _settings_in(self, written: bytes) -> Settings:
+    def _settings_in(self, written: bytes) -> Settings | None:
+        if self.answer.status > 7:
+            return None
         with suppress(ValueError, KeyError, TypeError):
             settings = json.loads(written)
             if settings["format"] == FORMAT:

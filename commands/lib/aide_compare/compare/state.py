@@ -12,16 +12,14 @@ from aide_compare.base.directories import closed_after
 from aide_compare.base.ending import Fault, Status, failing
 from aide_compare.base.escapes import guarded, shown
 from aide_compare.base.files import open_regular
-from aide_compare.base.words import KINDS, SIDES, date_of, status_of
+from aide_compare.base.words import KINDS, SIDES, date_of, status_of_counts
 from aide_compare.lines.change import Counts
 
 FORMAT = "2"
 MAX_BYTES = 65536
 MAX_TOLD = 3
-# The state of the daily run, how old it may be, and how much the clocks of two machines that share
-# a file may differ.
+# The state of the daily run, and how much the clocks of two machines that share a file may differ.
 DAILY = "/var/lib/aide-compare/daily/state"
-AGE = 26 * 3600
 AHEAD = 300
 ALARM_ANY = "any"
 NEEDED = ("status", "time")
@@ -130,7 +128,7 @@ class State(NamedTuple):
             if self.status == 0 or (self.added, self.removed, self.changed) != (None, None, None):
                 return "counts that are missing"
             return ""
-        if min(self.counts) < 0 or status_of(self.counts) != self.status:
+        if min(self.counts) < 0 or status_of_counts(self.counts) != self.status:
             return "counts that are not those of the status"
         if self.standings and not self.standings.fits(sum(self.counts)):
             return "counts of standings that are not those of the changes"

@@ -13,6 +13,7 @@ from aide_compare.base import progress
 from aide_compare.base.ending import Fault, Status, failing, write_all
 from aide_compare.base.escapes import shown
 from aide_compare.base.files import (
+    BLOCK,
     file_kind,
     given_descriptor,
     nameless,
@@ -22,7 +23,6 @@ from aide_compare.base.files import (
 from aide_compare.base.directories import closed_after, failure
 from aide_compare.base.words import words_of_side
 
-BLOCK = 1 << 18
 SMALL_BLOCK = 1 << 12
 # Each member costs time, also an empty one. AIDE writes one.
 MAX_MEMBERS = 1 << 16

@@ -30,7 +30,6 @@ NO_FILE = "none"  # What ssh says if its configuration says so.
 KEY_LINE = re.compile(r"([!-~]+) ([a-z0-9@.-]+) ([A-Za-z0-9+/]+=*)")
 APPEND = os.O_RDWR | os.O_CREAT | os.O_APPEND | os.O_NOFOLLOW | os.O_NONBLOCK | os.O_CLOEXEC
 HOST_KEYS = {"ssh-ed25519": "ed25519", "ssh-rsa": "rsa"}
-LEFT = "fetch its database first, and see aide-compare hosts accept --help"
 
 
 class SshSettings(NamedTuple):

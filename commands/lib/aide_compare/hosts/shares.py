@@ -51,7 +51,8 @@ class Selection:
         self._turns: Counter[tuple[int, int]] = Counter()
         # What is listed, as a heap: the change that goes first is the first one.
         self._listed: list[Listed] = []
-        self._end: Key | None = None
+        # No change behind this one is listed; at first it is behind all.
+        self._end = Key(True, len(SEVERITIES), 0, 0)
         self._count = 0
 
     def offer(self, severity: str, payers: Sequence[int], cost: int = 1) -> None:
@@ -63,7 +64,7 @@ class Selection:
         self._count += 1
         self._spent[payer] += cost
         self._turns[payer, rank] += 1
-        if self._end is not None and key > self._end:
+        if key > self._end:
             self._leave_out(key, payer)
             return
         heapq.heappush(self._listed, Listed([-part for part in key], cost, payer))

@@ -9,12 +9,12 @@ import re
 from contextlib import suppress
 from typing import Any, BinaryIO, Dict, Iterator, NamedTuple, Optional, Tuple
 
+from aide_compare.base.files import BLOCK
 from aide_compare.base.paths import key_of_path
-from aide_compare.base.words import KINDS, SIDES, status_of
+from aide_compare.base.words import KINDS, SIDES, status_of_counts
 from aide_compare.lines.change import BY_PROOF, Change, Fields, bytes_of, change_of
 
 FORMAT = 3
-BLOCK = 1 << 18
 # An entry has at most the bytes of two lines of databases, and six times as many in JSON, some of
 # them in base 16 too.
 LINE_LIMIT = 1 << 25
@@ -74,7 +74,11 @@ class EndCounts(NamedTuple):
 
     @property
     def status(self) -> int:
-        return status_of(self.kinds)
+        return status_of_counts(self.kinds)
+
+
+# What a stream says whose last line was not read yet: fewer changes than it has.
+NOTHING_COUNTED = EndCounts(0, 0, 0, 0, 0, 0, 0)
 
 
 def end_of(fields: Fields) -> EndCounts:
@@ -107,15 +111,13 @@ def _is_summary(fields: Fields) -> bool:
 
 class Reader:
     """The lines of a file: the `summary` of the first one; by iteration each change as its line and
-    its value, once; then what the last line says, as `end_line`, `end` and `counts`."""
-
-    end_line: bytes
-    end: Fields
-    counts: EndCounts
+    its value, once; then what the last line says, as `end_line` and `counts`."""
 
     def __init__(self, file: BinaryIO) -> None:
         self.file = file
         self.number = 0
+        self.end_line = b""
+        self.counts = NOTHING_COUNTED
         # By the kind, and by what a proof accounts for the change with.
         self._counts: Dict[Tuple[str, Optional[str]], int] = {}
         self.summary = self._object_of(self._line("nothing was given: was nothing compared?"))
@@ -179,7 +181,6 @@ class Reader:
         if self.file.read(1):
             raise Refused(self.number + 1, "this is after the end")
         self.end_line = line
-        self.end = fields
 
     def _line(self, missing: str = "this ends too early: the last line is missing") -> bytes:
         line = self.file.readline(LINE_LIMIT)

@@ -10,7 +10,6 @@ import email
 import fcntl
 import os
 import re
-import resource
 import signal
 import socket
 import stat
@@ -25,7 +24,7 @@ from aide_compare.base.ending import Fault, Status, failing, say
 from aide_compare.base.escapes import shown
 from aide_compare.base.files import in_memory
 from aide_compare.base.kinds import Server
-from aide_compare.base.processes import bound_of, in_child, run_on
+from aide_compare.base.processes import bound_memory, in_child, run_on
 from aide_compare.base.replacement import replace
 from aide_compare.mail.message import shortened
 
@@ -142,9 +141,7 @@ def _hand_over(server: Server, seconds: int, message: bytes) -> bytes:
 
 def _bound_memory(message: bytes) -> None:
     """Room for some copies of the message and for what a server answers, and for no more."""
-    with open("/proc/self/statm") as file:
-        used = int(file.read().split()[0]) * resource.getpagesize()
-    bound_of(resource.RLIMIT_AS, used + 10 * len(message) + MAX_BYTES)
+    bound_memory(10 * len(message) + MAX_BYTES)
 
 
 def _exchange(server: Server, seconds: int, message: bytes) -> str:
