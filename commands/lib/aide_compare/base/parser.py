@@ -231,10 +231,12 @@ def defaults_for(options: Iterable[Option], words: Sequence[str]) -> list[str]:
         name, value = _default_in(line, place)
         if name not in names:
             continue
-        if MAY_BE_DEFAULTS[name].number_of_values > 1:
+        if not value:
+            defaults.append(name)
+        elif MAY_BE_DEFAULTS[name].number_of_values > 1:
             defaults += [name, *value.split()]
         else:
-            defaults.append(f"{name}={value}" if value else name)
+            defaults.append(f"{name}={value}")
     return defaults
 
 

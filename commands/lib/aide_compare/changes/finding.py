@@ -31,6 +31,12 @@ class Record(NamedTuple):
     level: int  # Its severity.
     bits: int
 
+    @property
+    def standing(self) -> Standing:
+        if self.bits & IS_RECORDED:
+            return Standing.RECORDED
+        return Standing.OPEN
+
 
 FORM = struct.Struct("=QQQQIIHBBH")
 # The bits of a record.
@@ -40,7 +46,6 @@ IS_FILE = 1 << 2
 IS_LINK = 1 << 3
 HAS_OWNER = 1 << 4
 IS_CONTENT = 1 << 5
-STANDINGS = (Standing.OPEN, Standing.RECORDED)
 # The numbers of kinds and severities in a record.
 PLACES = {word: place for words in (KINDS, SEVERITIES) for place, word in enumerate(words)}
 
@@ -207,7 +212,9 @@ class Findings:
 
     def path(self, place: int) -> bytes:
         block = bisect_right(self.firsts, place)
-        after = self.firsts[block] if block < len(self.firsts) else self.count
+        after = self.count
+        if block < len(self.firsts):
+            after = self.firsts[block]
         behind = self._at(after - 1) + FORM.size
         path_at = self.record(place).path_at
         self.file.seek(behind + path_at)
@@ -221,7 +228,7 @@ class Findings:
         return Finding(
             path=path,
             kind=KINDS[record.kind],
-            standing=STANDINGS[record.bits & IS_RECORDED],
+            standing=record.standing,
             severity=SEVERITIES[record.level],
             rank=record.rank,
             package=self.packages[record.package],

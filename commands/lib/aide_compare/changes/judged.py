@@ -10,7 +10,7 @@ from typing import Iterator, NamedTuple
 from aide_compare.base.ending import Fault, Status
 from aide_compare.base.words import SEVERITIES
 from aide_compare.changes.entries import Sides
-from aide_compare.changes.finding import IS_RECORDED, STANDINGS, Finding, Findings
+from aide_compare.changes.finding import Finding, Findings
 from aide_compare.changes.ordered import usr_of
 from aide_compare.changes.packages import Dpkg, Named
 from aide_compare.changes.recorded import Matcher
@@ -84,7 +84,7 @@ class Judged:
             record = next(waiting)
             yield JudgedLine(
                 outline.line,
-                STANDINGS[record.bits & IS_RECORDED].value,
+                record.standing.value,
                 SEVERITIES[record.level],
                 self.findings.packages[record.package],
             )

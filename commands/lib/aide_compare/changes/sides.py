@@ -2,7 +2,7 @@
 from __future__ import annotations
 
 from operator import itemgetter, ne
-from typing import Callable, Dict, List, NamedTuple, Optional, Tuple
+from typing import Callable, Dict, FrozenSet, List, NamedTuple, Optional, Tuple
 
 from aide_compare.base.database import fields_in
 from aide_compare.base.ending import Fault, Status
@@ -17,10 +17,9 @@ from aide_compare.changes.entries import (
     owner_of,
 )
 from aide_compare.changes.ordered import OrderedDatabase
-from aide_compare.changes.severity import TESTED, Rights, Severity, Weight
+from aide_compare.changes.severity import MAX_REMEMBERED, TESTED, Rights, Severity, Weight
 
 PRESENT = {"added": (False, True), "removed": (True, False), "changed": (True, True)}
-MAX_REMEMBERED = 1 << 12
 NOWHERE = (1 << 64) - 1
 # The columns that are no difference of two entries by themselves.
 BESIDE = frozenset(("name", "attr"))
@@ -36,8 +35,14 @@ def is_content(old: Optional[Entry], new: Optional[Entry]) -> bool:
         return False
     if old is None:
         return new.is_plain and (new.is_directory or not new.mode & SET_ID)
-    expected = OTHER_TARGET if new.is_link else CONTENT
-    return differences(old, new) <= expected
+    return differences(old, new) <= columns_of_content(new.is_link)
+
+
+def columns_of_content(is_link: bool) -> FrozenSet[str]:
+    """The columns that say another content, or another target."""
+    if is_link:
+        return OTHER_TARGET
+    return CONTENT
 
 
 class Known(NamedTuple):
@@ -81,8 +86,8 @@ class BothDatabases:
         self.rights = (fields_of_rights(self.old.columns), fields_of_rights(self.new.columns))
         self.has_same_columns = self.old.columns == self.new.columns
         self.known: Dict[object, Known] = {}
-        # Whether records could have a content if these columns differ: of a file, and of a link.
-        self.contents: Dict[Tuple[bool, ...], Tuple[bool, bool]] = {}
+        # Whether records could have a content if these columns differ, of a link or of all else.
+        self.contents: Dict[Tuple[Tuple[bool, ...], bool], bool] = {}
 
     def weighed(self, kind: str, path: bytes, key: bytes) -> Weighed:
         """A change of the entry with this path and its key, looked up in both databases."""
@@ -152,13 +157,13 @@ class BothDatabases:
         if not self.has_same_columns:
             return is_content(*self._entries(old, new))
         differ = tuple(map(ne, old, new))
-        fits = self.contents.get(differ)
-        if fits is None:
+        is_it = self.contents.get((differ, known.is_link))
+        if is_it is None:
             columns = {name for name, place in self.old.columns.items() if differ[place]} - BESIDE
-            fits = (columns <= CONTENT, columns <= OTHER_TARGET)
+            is_it = columns <= columns_of_content(known.is_link)
             if len(self.contents) < MAX_REMEMBERED:
-                self.contents[differ] = fits
-        return fits[known.is_link]
+                self.contents[differ, known.is_link] = is_it
+        return is_it
 
     def read(self, old_at: int, new_at: int) -> Sides:
         """The entries at these places, None for NOWHERE."""

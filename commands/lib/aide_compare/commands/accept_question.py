@@ -35,8 +35,9 @@ def databases_of_aide() -> tuple[str, str]:
 def compared(new: str, baseline: str, trusted: Sequence[str]) -> State:
     """Compares as aide-compare does, with the same defaults and privileges, and prints what
     differs."""
-    words = [TRUSTED.name, *trusted] if trusted else []
-    words += ["--", baseline, new]
+    words = ["--", baseline, new]
+    if trusted:
+        words = [TRUSTED.name, *trusted, *words]
     request = compare_request([*defaults_for(COMPARISON_DEFAULTS, words), *words])
     printer = Printer(request, words)
     ended = Task(printer.task_request, wants_state=True).carry_out(printer)

@@ -107,9 +107,9 @@ def loaded(name: str) -> Callable[[Sequence[str]], int]:
 
 
 def run_hosts(arguments: Sequence[str]) -> int:
-    word = arguments[0] if arguments else "--help"
-    if word in HELP:
+    if not arguments or arguments[0] in HELP:
         return print_usage(HOSTS_USAGE)
+    word = arguments[0]
     if word not in HOSTS:
         refuse(word, HOSTS, "aide-compare hosts")
     called(f"aide-compare hosts {word}")
@@ -127,16 +127,21 @@ def print_help(words: Sequence[str]) -> int:
     return main([words[0], "--help"])
 
 
+def first_word(arguments: Sequence[str]) -> str:
+    """The first word of a command line; "" if there is none."""
+    return next(iter(arguments), "")
+
+
 def is_misspelt(arguments: Sequence[str]) -> bool:
     """Whether the first word seems to be meant as a subcommand, and not as a path."""
-    word = arguments[0] if arguments else ""
+    word = first_word(arguments)
     if not re.fullmatch(COMMAND_NAME, word) or os.path.lexists(word):
         return False
     return len(arguments) == 1 or bool(nearest(word, WORDS))
 
 
 def main(arguments: Sequence[str]) -> int:
-    word = arguments[0] if arguments else ""
+    word = first_word(arguments)
     if word.startswith("-") and PROGRAM_JOBS & set(arguments):
         become_program(arguments)
     if word in HELP:

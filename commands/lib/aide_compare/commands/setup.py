@@ -168,7 +168,9 @@ class Machine:
         if not self.has_timer:
             return "with the other jobs of cron.daily"
         time = next_time(TIMER)
-        return f"on {time}" if time else f"by {TIMER}"
+        if not time:
+            return f"by {TIMER}"
+        return f"on {time}"
 
     def summary(self, count: int) -> list[str]:
         """The last lines: what was done, and what comes next."""

@@ -90,7 +90,8 @@ class Unsorted:
             raise Fault(Status.DATABASE, "no @@end_db")
         self.sorter.put(b"%s\t%s" % (key, line))
         self.count += 1
-        self.breaks += key < self._last_key
+        if key < self._last_key:
+            self.breaks += 1
         self._last_key = key
 
 

@@ -157,6 +157,6 @@ def write_changes(request: StreamRequest, writer: Writer) -> int:
     """Writes a stream of two databases, or of lines. Returns the status of the comparison, or 0."""
     if len(request.files) == 2:
         return write_of_databases(request, writer)
-    for path in request.files:
-        return write_of_lines(path, writer)
+    if request.files:
+        return write_of_lines(request.files[0], writer)
     return write_of_lines(STDIN, writer)

@@ -104,7 +104,9 @@ class Exclusions(Table[Exclusion]):
         end = 0
         while end >= 0:
             end = directory.find(b"/", end + 1)
-            tree = directory[:end] if end > 0 else directory
+            tree = directory
+            if end > 0:
+                tree = directory[:end]
             has_list = any(path.startswith(tree + b"/") for path in self.lists)
             if not has_list and self.is_free(tree):
                 return tree

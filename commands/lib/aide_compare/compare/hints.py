@@ -158,7 +158,9 @@ def _opening_hints(errors: bytes, copies: Mapping[str, Copy]) -> list[str]:
         return []
     words = (match.group(1) or match.group(2)).decode()
     copy = copies.get(_side_of(words))
-    return [f"the {words} database is {shown(copy.name)}"] if copy else []
+    if copy is None:
+        return []
+    return [f"the {words} database is {shown(copy.name)}"]
 
 
 def hints_of(errors: bytes, texts: Texts, path: str, copies: Mapping[str, Copy]) -> list[str]:

@@ -16,7 +16,9 @@ NAMES = (
 ).split()
 NUMBERS = 64
 # The letters of the sets that a capability is in, by bits.
-EFFECTIVE, PERMITTED, INHERITABLE = 1, 2, 4
+EFFECTIVE = 1
+PERMITTED = 2
+INHERITABLE = 4
 SETS = ("", "e", "p", "ep", "i", "ei", "ip", "eip")
 # How many words of 32 bits follow the first one, by its version. The last version has the user who
 # is root in a namespace in the last word.
@@ -62,8 +64,10 @@ def masks_in(data: bytes) -> Optional[Masks]:
     effective = 0
     if first & IS_EFFECTIVE:
         effective = permitted | inheritable
-    root = words[4] if count == WORDS_WITH_ROOT else None
-    return Masks(permitted, inheritable, effective, root)
+    masks = Masks(permitted, inheritable, effective, None)
+    if count == WORDS_WITH_ROOT:
+        return masks._replace(root=words[4])
+    return masks
 
 
 def name_of(number: int) -> str:

@@ -120,11 +120,13 @@ def rest_line(listing: Listing, part: Part, listed: Sequence[int]) -> str:
 
 def part_lines(listing: Listing, part: Part, room: int, read: Read) -> Iterator[str]:
     """So many lines for a part; the last one counts what is not listed."""
-    is_whole = part.size <= room
-    listed = listing.by_rank(part.level, part.owners, room if is_whole else room - 1)
+    limit = room
+    if part.size > room:
+        limit = room - 1
+    listed = listing.by_rank(part.level, part.owners, limit)
     for place in listed:
         yield finding_line(listing.findings.finding(place), read)
-    if not is_whole:
+    if part.size > room:
         yield rest_line(listing, part, listed)
 
 
@@ -173,7 +175,9 @@ def package_lines(listing: Listing) -> Iterator[str]:
 
 def files_of(count: int, high: int) -> str:
     files = counted(count, "file", ",")
-    return f"{files}, {high:,} of severity high" if high else files
+    if not high:
+        return files
+    return f"{files}, {high:,} of severity high"
 
 
 def made_lines(listing: Listing) -> Iterator[str]:
@@ -202,7 +206,9 @@ def group_lines(judged: Judged, listing: Listing) -> list[str]:
             lines.append(names_line(title, names))
     lines += package_lines(listing)
     lines += made_lines(listing)
-    return [f"Recorded, as {judged.by} on this host says:", *lines, ""] if lines else []
+    if not lines:
+        return []
+    return [f"Recorded, as {judged.by} on this host says:", *lines, ""]
 
 
 def are(count: int) -> str:
@@ -229,7 +235,10 @@ def sentence(counts: Counts) -> list[str]:
 def command_lines(words: Sequence[str], end: str = "") -> list[str]:
     """A command for a shell, in lines that can be copied as they are. A word is never broken."""
     lines = ["   "]
-    for word in [*map(shlex.quote, words), *([end] if end else [])]:
+    parts = [shlex.quote(word) for word in words]
+    if end:
+        parts.append(end)
+    for word in parts:
         if len(lines[-1]) + len(word) > WIDTH - len(" \\") - 1:
             lines[-1] += " \\"
             lines.append("     ")
@@ -283,7 +292,9 @@ def text_of_changes(mail: Mail, judged: Judged) -> list[str]:
     end = end_lines(mail)
     limit = MAX_LINES - len(head) - len(groups) - len(end) - 1
     lines = list(open_lines(listing, judged.read, limit))
-    return [*head, *lines, *([""] if lines else []), *groups, *end]
+    if lines:
+        lines.append("")
+    return [*head, *lines, *groups, *end]
 
 
 def end_lines(mail: Mail) -> list[str]:
@@ -291,7 +302,10 @@ def end_lines(mail: Mail) -> list[str]:
     notes = note_lines(mail.notes)
     words = ["aide-compare", "page", *mail.options, *names_of(mail.state, "old", "new")]
     page = ["All changes with their values, as a page:", *command_lines(words, "> changes.html")]
-    return [*page, *accept_lines(mail.state), *([""] if notes else []), *notes]
+    lines = [*page, *accept_lines(mail.state)]
+    if notes:
+        lines.append("")
+    return lines + notes
 
 
 def first_paths(changes: Iterable[Change]) -> list[str]:

@@ -115,7 +115,8 @@ def by_judgement(judged: Judged, reader: Reader, each: Fields, has_names: bool) 
             members = {name: mark for name, mark in named if mark}
             if len(known) >= MAX_KNOWN:
                 known.clear()
-            end = known[key] = members_text({**members, **each}) + b"}\n"
+            end = members_text({**members, **each}) + b"}\n"
+            known[key] = end
         texts = None if has_names else time_texts(line)
         if texts is None:
             texts = members_text(text_members(texts_of_line(json.loads(line), has_names)))

@@ -90,7 +90,8 @@ def most_of(counts: array[int], width: int, limit: int, name: Callable[[int], An
         if count and place not in first:
             total += count
             others += 1
-            rows += place // width != last
+            if place // width != last:
+                rows += 1
             last = place // width
     return Most([(place, counts[place]) for place in first], total, others, rows)
 
@@ -128,7 +129,8 @@ class Listing:
         """The code of a finding; what is not listed is counted."""
         if record.bits & IS_RECORDED:
             self.recorded[record.package] += 1
-            self.recorded_high[record.package] += record.level == HIGH
+            if record.level == HIGH:
+                self.recorded_high[record.package] += 1
             return NOT_LISTED
         if record.bits & IS_MADE and record.level != HIGH:
             self.made[record.directory * len(SEVERITIES) + record.level] += 1

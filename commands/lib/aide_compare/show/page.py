@@ -199,8 +199,9 @@ class Groups:
         groups = sorted(self.groups.values(), key=Group.order)
         headings = [group.heading() for group in groups]
         limit -= sum(map(len, headings)) + len(groups) * BESIDE_GROUP
-        is_large = self.size > limit // 2
-        for_tables = limit // 8 if is_large else limit - self.size
+        for_tables = limit - self.size
+        if self.size > limit // 2:
+            for_tables = limit // 8
         rooms = Rooms(Room(limit - for_tables), Room(for_tables))
         for group, heading in zip(groups, headings):
             file.write(heading)

@@ -210,7 +210,8 @@ def _facts(values: Values, notes: Texts) -> str:
 
 def _growth(entry: PageEntry, names: str) -> str:
     """The names of attributes, with the bytes by which a file has grown."""
-    old, new = entry.old.get("Size"), entry.new.get("Size")
+    old = entry.old.get("Size")
+    new = entry.new.get("Size")
     if isinstance(old, int) and isinstance(new, int):
         return names.replace("Size", f"Size {new - old:+d}")
     return names
