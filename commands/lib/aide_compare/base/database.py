@@ -15,6 +15,10 @@ MAX_LINE = 1 << 20
 FIELDS = re.compile(rb"[^ \t\n]+")
 FIRST_FIELD = re.compile(rb"[ \t]*([^ \t\n]+)")
 PATH_COLUMN = b"name"
+ABSENT = b"0"  # The field of a value that an entry does not have.
+# Bits of the modes of entries.
+SET_ID = 0o6000
+RUN_BITS = 0o111
 
 
 class Kind(Enum):

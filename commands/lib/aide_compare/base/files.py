@@ -9,7 +9,8 @@ import time
 from contextlib import suppress
 from io import BufferedRandom
 
-from aide_compare.base.directories import PLACE, closed_after, failure, open_directory, walked
+from aide_compare.base.directories import OTHERS_WRITE, PLACE, closed_after, failure
+from aide_compare.base.directories import open_directory, walked
 from aide_compare.base.ending import Fault, Status, failing, write_all
 from aide_compare.base.escapes import shown
 
@@ -24,7 +25,7 @@ PRIVATE = 0o600
 OPENED = ("/dev/fd/", "/proc/self/fd/")
 NO_TMPFILE = (errno.EOPNOTSUPP, errno.EISDIR, errno.EINVAL)
 NEW_FILE = os.O_CREAT | os.O_EXCL | os.O_RDWR | os.O_NOFOLLOW | os.O_CLOEXEC
-KINDS = {
+FILE_KINDS = {
     stat.S_IFREG: "file",
     stat.S_IFDIR: "directory",
     stat.S_IFIFO: "FIFO",
@@ -46,7 +47,7 @@ def given_descriptor(path: str) -> int | None:
 
 
 def file_kind(mode: int) -> str:
-    return "a " + KINDS.get(stat.S_IFMT(mode), "device")
+    return "a " + FILE_KINDS.get(stat.S_IFMT(mode), "device")
 
 
 def refuse_other_kinds(mode: int) -> None:
@@ -107,7 +108,7 @@ def open_trusted(path: str, what: str) -> int:
         with open_directory(os.path.dirname(path) or ".") as directory:
             status = os.fstat(descriptor)
             is_owned = status.st_uid in (0, os.geteuid())
-            if not directory.is_safe() or not is_owned or status.st_mode & 0o022:
+            if not directory.is_safe() or not is_owned or status.st_mode & OTHERS_WRITE:
                 raise Fault(Status.DEVICE, f"other users can write {what} {shown(path)}")
         return descriptor
     except BaseException:

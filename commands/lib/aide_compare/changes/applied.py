@@ -13,10 +13,10 @@ from heapq import merge
 from itertools import groupby
 from typing import IO
 
+from aide_compare.base.database import ABSENT
 from aide_compare.base.escapes import shown
 from aide_compare.base.files import BLOCK, nameless
 from aide_compare.base.paths import escaped, key_of_path, path_of
-from aide_compare.changes.entries import ABSENT
 from aide_compare.changes.ordered import OrderedDatabase, usr_of
 from aide_compare.changes.signed import Signed, open_package, tar_of
 from aide_compare.compare.kept_open import NEW, OLD, EntryReader, SidedEntry, key_of_entry

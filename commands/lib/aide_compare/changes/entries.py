@@ -7,15 +7,16 @@ import stat
 from contextlib import suppress
 from typing import Dict, List, NamedTuple, Optional, Set
 
+from aide_compare.base.database import ABSENT
+from aide_compare.base.directories import OTHERS_WRITE
 from aide_compare.base.paths import unescaped
 from aide_compare.lines.attributes import DIGEST_COLUMNS as DIGESTS
 
-ABSENT = b"0"
-OTHERS_WRITE = 0o022
-SET_ID = 0o6000
-# Bits of the column `attr`: that the rule of an entry asked for its user, and for its group too.
-USER = 1 << 3
-OWNER = 1 << 3 | 1 << 4
+ROOT = 0  # The number of root, and of its group.
+# Bits of the column `attr`: that the rule of an entry asked for its user, and for its group.
+HAS_USER = 1 << 3
+HAS_GROUP = 1 << 4
+HAS_BOTH = HAS_USER | HAS_GROUP
 # Bits there that are no attributes, but say what the rule allows.
 SPECIAL = 1 << 26 | 1 << 27 | 1 << 28 | 1 << 29 | 1 << 40 | 1 << 41
 
@@ -107,7 +108,7 @@ class Entry:
     @property
     def owner(self) -> Optional[int]:
         """The number of its user; None if its rule did not ask for that."""
-        if not self.bits & USER or "uid" not in self.places:
+        if not self.bits & HAS_USER or "uid" not in self.places:
             return None
         return self.number("uid")
 
@@ -131,8 +132,8 @@ class Entry:
     def is_plain(self) -> bool:
         """Whether it is root's, nobody else can write it, and nothing beyond its mode gives a right
         to anybody. The mode of a link says nothing."""
-        is_roots = (self.number("uid"), self.number("gid")) == (0, 0)
-        if self.bits & OWNER != OWNER or not is_roots:
+        is_roots = (self.number("uid"), self.number("gid")) == (ROOT, ROOT)
+        if self.bits & HAS_BOTH != HAS_BOTH or not is_roots:
             return False
         if self.is_link:
             return True
@@ -175,8 +176,8 @@ def owner_of(old: Optional[Entry], new: Optional[Entry]) -> Optional[int]:
     """Whose change it is: root's, if root's entry is among the two."""
     owners = [entry.owner for entry in (old, new) if entry]
     known = [owner for owner in owners if owner is not None]
-    if 0 in known:
-        return 0
+    if ROOT in known:
+        return ROOT
     if not known or len(known) < len(owners):
         return None
     return min(known)

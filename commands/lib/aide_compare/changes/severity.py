@@ -8,20 +8,16 @@ import stat
 from collections.abc import Callable, Iterator
 from typing import NamedTuple, Optional, Tuple
 
+from aide_compare.base.database import ABSENT, RUN_BITS, SET_ID
 from aide_compare.base.ending import Fault, Status
 from aide_compare.base.escapes import shown
 from aide_compare.base.files import lines_of
 from aide_compare.base.paths import MAX_PATH, Pattern, Table, pattern_of
 from aide_compare.base.words import SEVERITIES
-from aide_compare.changes.entries import ABSENT, SET_ID, Entry
+from aide_compare.changes.entries import HAS_GROUP, HAS_USER, ROOT, Entry
 
-ROOT = 0
 ALL_WRITE = 0o002
 GROUP_WRITE = 0o020
-RUN_BITS = 0o111
-# Bits of the column `attr`: the rule of an entry asked for its user, or for its group.
-HAS_USER = 1 << 3
-HAS_GROUP = 1 << 4
 # Columns that say who may do what with an entry. Flags do not: a directory that grows gets one.
 RIGHTS = ("perm", "uid", "gid", "acl", "xattrs", "selinux", "capabilities")
 HERE = os.path.dirname(os.path.abspath(__file__))
@@ -32,6 +28,7 @@ SHIPPED = (
 )
 OTHERWISE = "medium"
 RANKS = 1000  # Of each severity.
+MAX_REMEMBERED = 1 << 12
 # Stands for a program in a directory of which the rights changed.
 PROGRAM = Entry([b"100755"], {"perm": 0})
 
@@ -87,8 +84,7 @@ def gains_set_id(old: Side, new: Side) -> bool:
 
 
 def has_capabilities(entry: Side) -> bool:
-    """Whether a file has capabilities. Of a link AIDE reads those of the file that it points to."""
-    return entry is not None and not entry.is_link and entry.field("capabilities") != ABSENT
+    return entry is not None and entry.has_capabilities
 
 
 def gains_capabilities(old: Side, new: Side) -> bool:
@@ -228,7 +224,6 @@ Names = Tuple[Weight, Callable[[bytes], object]]
 # The bit of each test in a number that says which hold.
 BITS = {word: 1 << place for place, word in enumerate(TESTS)}
 TESTED = ("attr", *RIGHTS)
-MAX_REMEMBERED = 1 << 12
 MAX_DIRECTORIES = 1 << 8
 OTHER_WEIGHT = Weight(OTHERWISE, SEVERITIES.index(OTHERWISE) * RANKS)
 

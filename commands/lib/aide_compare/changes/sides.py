@@ -4,13 +4,12 @@ from __future__ import annotations
 from operator import itemgetter, ne
 from typing import Callable, Dict, FrozenSet, List, NamedTuple, Optional, Tuple
 
-from aide_compare.base.database import fields_in
+from aide_compare.base.database import SET_ID, fields_in
 from aide_compare.base.ending import Fault, Status
 from aide_compare.base.escapes import shown
 from aide_compare.changes.entries import (
     CONTENT,
     OTHER_TARGET,
-    SET_ID,
     Entry,
     Sides,
     differences,

@@ -19,14 +19,14 @@ from collections.abc import Callable, Iterator, Mapping, Sequence
 from functools import lru_cache
 from typing import NamedTuple
 
-from aide_compare.base.database import MAX_LINE, PATH_COLUMN, Kind, Layout, fields_in
+from aide_compare.base.database import ABSENT, MAX_LINE, PATH_COLUMN, RUN_BITS, SET_ID
+from aide_compare.base.database import Kind, Layout, fields_in
 from aide_compare.base.ending import Fault, Status, failing
 from aide_compare.base.escapes import shown
-from aide_compare.base.files import BLOCK, lines_in, nameless, reopened, trusted_text
+from aide_compare.base.files import BLOCK, MAX_LINES, lines_in, nameless, reopened, trusted_text
 from aide_compare.base.paths import Pattern, Table, pattern_of, unescaped
 from aide_compare.base.words import counted
 
-MAX_LINES = 10000
 MAX_TEXT = 200  # Characters of a path, a pattern or a reason that is told.
 AHEAD = 1 << 13
 # The directory of a path, as far as nothing of it is escaped: a / may be.
@@ -34,9 +34,6 @@ DIRECTORY = re.compile(rb"(/[^%\s]{0,4095})/")
 PATH_FIRST = (PATH_COLUMN,)
 # A line that also leaves out programs begins so: the reason is between the brackets.
 PROGRAMS = rb"programs\(([^()]*[^() \t][^()]*)\)[ \t]+(/.*)"
-ABSENT = b"0"
-RUN_BITS = 0o111
-SET_ID = 0o6000
 ANY_BITS = 0o777
 MEASURES_CAPABILITIES = 1 << 37  # A bit of the column `attr`.
 # What decides on what is reported. No list can silence itself.

@@ -11,19 +11,13 @@ from aide_compare.hosts.hosts_text import ORDERS, Report, canary_lines, headline
 from aide_compare.hosts.hosts_text import names_of
 from aide_compare.hosts.shares import Selection
 from aide_compare.lines.change import Fields, change_of
-from aide_compare.show.page_heading import Beginning, CountRow, counts_line, number
+from aide_compare.show.page_heading import MAX_PAGE, RESERVE, Beginning, CountRow
+from aide_compare.show.page_heading import counts_line, number
 from aide_compare.show.page_items import encoded, entry_of, head_of, item, table
 
-# Of a page, and of each of its lists of hosts.
-MAX_PAGE = 20000000
-MAX_LIST = 1500000
-RESERVE = 8000  # For what a page has beside its changes.
+MAX_LIST = 1500000  # Of each list of hosts.
 MAX_CAUSE = 1000
 MAX_COMMAND = 4000
-REMARK = (
-    '<p class="remark">This page has no room for %s more changes, %s of them high. '
-    "This command prints all: <code>%s</code></p>\n"
-)
 # The counts of a page, and where the summary has them.
 COUNTS = (("hosts", "hosts"), ("differ", "differ"), ("not compared", "not_compared"))
 
@@ -55,7 +49,9 @@ def head(report: Report, left_out: int, high: int) -> bytes:
         remarks += f'<p class="remark">{escape(shown_note(line, MAX_CAUSE))}</p>\n'
     if left_out:
         command = escape(shown_note(report.command, MAX_COMMAND))
-        remarks = REMARK % (number(left_out), number(high), command)
+        what = f"{number(left_out)} more changes, {number(high)} of them high"
+        how = f"This command prints all: <code>{command}</code>"
+        remarks = f'<p class="remark">This page has no room for {what}. {how}</p>\n'
     for title, lines in host_lists(report.hosts).items():
         remarks += host_list(title, lines)
     outcome = "No changes are listed"

@@ -17,9 +17,10 @@ from aide_compare.base.files import given_descriptor
 from aide_compare.base.words import KINDS, SEVERITIES, counted
 from aide_compare.changes.finding import Finding
 from aide_compare.changes.judged import Judged
+from aide_compare.changes.recorded import Read
 from aide_compare.compare.state import State
 from aide_compare.lines.change import Change, Counts
-from aide_compare.show.brief import Read, entry_words
+from aide_compare.show.brief import entry_words
 from aide_compare.show.changes import Limits, Shares
 from aide_compare.show.listing import Listing, most_of
 

@@ -11,14 +11,15 @@ directory.
 from __future__ import annotations
 
 import stat
-from typing import Callable, Iterator, List, Optional, Tuple
+from typing import Iterator, List, Optional, Tuple
 
 from aide_compare.base.escapes import guarded, shown
 from aide_compare.base.files import file_kind
 from aide_compare.base.words import KINDS, SEVERITIES, counted, date_of, minute_of
-from aide_compare.changes.entries import Entry, differences
+from aide_compare.changes.entries import ROOT, Entry, differences
 from aide_compare.changes.finding import Finding
 from aide_compare.changes.judged import Judged
+from aide_compare.changes.recorded import Read
 from aide_compare.lines.attributes import DIGEST_COLUMNS
 from aide_compare.lines.change import Counts, Standing
 from aide_compare.show.changes import Limits, Shares
@@ -27,7 +28,6 @@ from aide_compare.show.listing import (
     GROUP_OF_OWNERS,
     HIGH,
     OF_ROOT,
-    ROOT,
     Listing,
     group_of_owner,
     most_of,
@@ -65,8 +65,6 @@ OTHERS = {
 }
 # What is named only if nothing else has changed.
 ALONE = {"inode": "another inode", "bcount": "blocks"}
-
-Read = Callable[[Finding], Tuple[Optional[Entry], Optional[Entry]]]
 
 
 def _value(entry: Entry, column: str) -> str:

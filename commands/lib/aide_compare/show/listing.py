@@ -8,6 +8,7 @@ from heapq import nlargest, nsmallest
 from typing import Any, Callable, Dict, Iterator, List, NamedTuple, Optional, Tuple
 
 from aide_compare.base.words import KINDS, SEVERITIES
+from aide_compare.changes.entries import ROOT
 from aide_compare.changes.finding import (
     HAS_OWNER,
     IS_FILE,
@@ -20,7 +21,6 @@ from aide_compare.changes.finding import (
 # Of each directory so many come before what all directories have more.
 FIRST_FEW = 5
 FIRST_USER = 1000  # The first number of a user who is no service, as in login.defs(5).
-ROOT = 0
 HIGH = 0  # Its place in SEVERITIES.
 # Whose a finding is: root's, nobody's who is known, a service's, or another user's.
 GROUP_OF_OWNERS = (0, 0, 1, 2)

@@ -16,7 +16,7 @@ from aide_compare.base.files import BLOCK, private_file
 from aide_compare.base.words import KINDS, SEVERITIES
 from aide_compare.lines.change import Change, Counts, Standing
 from aide_compare.lines.reader import Reader
-from aide_compare.show.page_heading import entries, head, number, part_of
+from aide_compare.show.page_heading import MAX_PAGE, RESERVE, entries, head, number, part_of
 from aide_compare.show.page_items import (
     NAMES,
     STANDINGS,
@@ -39,10 +39,6 @@ CHOICES = {
     "severity": SEVERITIES,
     "attribute": list(dict.fromkeys(NAMES.values())),
 }
-# The most bytes of a page. Values get what heads leave, or an eighth if there are so many entries
-# that a browser has enough to do with their heads.
-MAX_BYTES = 20000000
-RESERVE = 8000
 BESIDE_GROUP = 200
 # So many entries are elements of a page with a script, also where the script does not run. A
 # browser that runs it gets the others as text, of which it makes elements when it shows them.
@@ -60,7 +56,7 @@ OTHERS = "other packages"
 # In the private file, between the head of an entry and the line of its values, if that is there.
 VALUES = b"\0"
 # A line says the path too, and has a member of each value for people.
-MAX_LINES = 2 * MAX_BYTES
+MAX_LINES = 2 * MAX_PAGE
 # What is beside the head of an item, and beside its values.
 ITEM = len(item(b"", b""))
 OPENING = len(item(b"", b"-"))
@@ -158,7 +154,7 @@ class Groups:
         self.standings[part] += 1
         rooms = self.rooms.get(part)
         if rooms is None:
-            rooms = Rooms(Room(MAX_BYTES), Room(MAX_LINES))
+            rooms = Rooms(Room(MAX_PAGE), Room(MAX_LINES))
             self.rooms[part] = rooms
         if not rooms.heads.reserve(len(text)):
             return
@@ -199,6 +195,8 @@ class Groups:
         groups = sorted(self.groups.values(), key=Group.order)
         headings = [group.heading() for group in groups]
         limit -= sum(map(len, headings)) + len(groups) * BESIDE_GROUP
+        # Values get what heads leave, or an eighth if there are so many entries that a browser has
+        # enough to do with their heads.
         for_tables = limit - self.size
         if self.size > limit // 2:
             for_tables = limit // 8
@@ -283,8 +281,8 @@ def page(
     controls = part_of("controls.html") if has_script else ""
     controls += '<div id="content" tabindex="-1" data-order="importance">\n'
     beginning = head(reader, counts, name, script, [])
-    limit = MAX_BYTES - RESERVE - len(beginning) - len(controls)
-    groups.write(lists, limit, MAX_ELEMENTS if has_script else MAX_BYTES)
+    limit = MAX_PAGE - RESERVE - len(beginning) - len(controls)
+    groups.write(lists, limit, MAX_ELEMENTS if has_script else MAX_PAGE)
     yield head(reader, counts, name, script, groups.notes())
     yield encoded(controls)
     lists.seek(0)

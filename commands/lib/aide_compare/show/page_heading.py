@@ -23,6 +23,9 @@ KNOWN = frozenset(
 )
 DATE = re.compile("[0-9]{4}-[0-9]{2}-[0-9]{2}T[0-9]{2}:[0-9]{2}:[0-9]{2}Z")
 SKIP = '<a class="skip" href="#content">Skip to the entries</a>\n'
+# The most bytes of a page, and what is kept free for what it has beside its lists.
+MAX_PAGE = 20000000
+RESERVE = 8000
 MAX_MEMBERS = 20
 MAX_LETTERS = 5000
 HINT = (
@@ -67,19 +70,19 @@ class Beginning(NamedTuple):
         if self.script:
             policy += f"; script-src 'sha256-{digest_of(self.script)}'"
             script = f"<script>{self.script}</script>\n"
-        text = part_of("page.html") % {
-            "title": escape(self.title),
-            "heading": self.heading,
-            "style": style,
-            "policy": policy,
-            "script": script,
-            "skip": self.skip,
-            "outcome": self.outcome,
-            "counts": self.counts,
-            "remarks": self.remarks,
-            "facts": self.facts,
-            "about": self.about,
-        }
+        text = part_of("page.html").format(
+            title=escape(self.title),
+            heading=self.heading,
+            style=style,
+            policy=policy,
+            script=script,
+            skip=self.skip,
+            outcome=self.outcome,
+            counts=self.counts,
+            remarks=self.remarks,
+            facts=self.facts,
+            about=self.about,
+        )
         return text.encode("utf-8", "backslashreplace")
 
 
