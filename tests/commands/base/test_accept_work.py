@@ -13,6 +13,7 @@ from aide_compare.base.ending import Fault
 from aide_compare.base.files import in_memory
 from aide_compare.commands import accept_work
 from aide_compare.compare.comparison import Request
+from aide_compare.compare.kept_open import Merged
 from aide_compare.compare.unpack import Copy
 
 
@@ -42,10 +43,10 @@ class AcceptWorkTest(ModuleTest):
         offer: Any = SimpleNamespace(copy=new)
         request = accept_work.AcceptRequest("new.db", "old.db", "", (), False, 1 << 20)
         counts = Counter[str]()
-        with mock.patch.object(accept_work, "keep_open", return_value=(merged, counts)):
+        with mock.patch.object(accept_work, "keep_open", return_value=Merged(merged, counts)):
             with mock.patch.object(accept_work, "refuse_unsound") as refuse:
                 got = accept_work.merge(request, offer, baseline)
-        self.expect("the merged one", got, accept_work.Merged(merged, counts))
+        self.expect("the merged one", got, Merged(merged, counts))
         self.expect(
             "what is read", refuse.mock_calls, [mock.call(new, mock.ANY), mock.call(merged)]
         )

@@ -14,7 +14,6 @@ from unittest import mock
 
 from tests.commands.base.calls import OTHER, ModuleTest
 
-from aide_compare.base import rights
 from aide_compare.base.ending import Fault
 from aide_compare.base.files import in_memory
 from aide_compare.base.processes import in_child
@@ -98,7 +97,7 @@ class BaselineTest(ModuleTest):
         large = in_memory(b"")
         self.addCleanup(os.close, large)
         os.ftruncate(large, 50_000_000)
-        with mock.patch.object(rights, "with_rights_of", side_effect=Fault(18, "late")) as call:
+        with mock.patch.object(baseline, "with_rights_of", side_effect=Fault(18, "late")) as call:
             self.fails(18, "late", replace, self.base, large)
         self.expect("the seconds that it may take", call.call_args[0][2], 70)
         os.mkdir(self.path("second"))

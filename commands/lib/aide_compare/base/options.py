@@ -11,6 +11,7 @@ from aide_compare.base.kinds import (
     address,
     alarm_limit,
     any_text,
+    digest_digits,
     duration,
     pattern,
     server,
@@ -76,19 +77,22 @@ BEFORE = Option(
     is_single=True,
 )
 STATE = Option("--state", "the state file, with the result of a comparison", metavar="FILE")
+# The most bytes of a database unpacked, and of a report, unless an option says another number.
+MAX_DATABASE_BYTES = 1 << 40
+MAX_REPORT_BYTES = 1 << 30
 MAX_SIZE = Option(
     "--max-size",
     "refuse a database of more bytes unpacked (1024G)",
     metavar="SIZE",
     kind=size,
-    default=1 << 40,
+    default=MAX_DATABASE_BYTES,
 )
 MAX_REPORT = Option(
     "--max-report",
     "refuse a longer report (1G)",
     metavar="SIZE",
     kind=size,
-    default=1 << 30,
+    default=MAX_REPORT_BYTES,
 )
 # Of databases; a result has an age too, with an option of the same name.
 MAX_AGE = Option(
@@ -131,6 +135,13 @@ KEEP_OPEN = Option(
     metavar="PATTERN",
     kind=pattern,
     is_repeated=True,
+)
+SHA256 = Option(
+    "--sha256",
+    "the SHA-256 in the report or mail that was read: 16 to 64 hexadecimal digits, or all of it in"
+    " base64",
+    metavar="DIGEST",
+    kind=digest_digits,
 )
 ALARM = Option(
     "--alarm",

@@ -66,7 +66,7 @@ def end() -> None:
     _terminal = None
 
 
-def tell(step: str, count: int, size: int) -> None:
+def update(step: str, count: int, size: int) -> None:
     """Writes how far the work is, if it is time for that."""
     global _due, _is_shown
     if _terminal is not None and time.monotonic() >= _due:
@@ -88,7 +88,7 @@ def watching(databases: Sequence[int]) -> Callable[[int], Callable[[], None]] | 
             with suppress(OSError, ValueError, IndexError), open(f"/proc/{process}/io") as counts:
                 count = int(counts.readline().split()[1])
                 number = min(count // whole + 1, MAX_PASSES)
-                tell(f"comparing: pass {number} of at most {MAX_PASSES}", count % whole, whole)
+                update(f"comparing: pass {number} of at most {MAX_PASSES}", count % whole, whole)
 
         return look
 

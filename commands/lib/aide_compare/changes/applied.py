@@ -29,11 +29,11 @@ STRONG = ("sha256", "sha512")
 # The digits of a mode before the last four of them, by the type of a member.
 TYPES = {tarfile.REGTYPE: b"10", tarfile.DIRTYPE: b"4", tarfile.SYMTYPE: b"12"}
 
-# Fields of an entry by the names of their columns.
-Fields = dict[str, bytes]
+# The fields of an entry by the names of their columns.
+FieldsByColumn = dict[str, bytes]
 
 
-def content_of(file: IO[bytes]) -> Fields:
+def content_of(file: IO[bytes]) -> FieldsByColumn:
     """The size of a file, and two digests: a strong one says what a content is."""
     hashes = {name: hashlib.new(name) for name in STRONG}
     while block := file.read(BLOCK):
@@ -43,10 +43,10 @@ def content_of(file: IO[bytes]) -> Fields:
     return {**digests, "size": b"%d" % file.tell()}
 
 
-def members_of(file: IO[bytes]) -> Iterator[tuple[bytes, Fields]]:
+def members_of(file: IO[bytes]) -> Iterator[tuple[bytes, FieldsByColumn]]:
     """The path of each member of a tar file with its fields; none for a device."""
     with tarfile.open(fileobj=file, mode="r:", encoding="utf-8") as tar:
-        seen: dict[str, Fields] = {}
+        seen: dict[str, FieldsByColumn] = {}
         while member := tar.next():
             tar.members = []  # type: ignore[attr-defined] # Otherwise all of them stay in memory.
             fields = seen.get(member.linkname, {}) if member.islnk() else {}
@@ -69,9 +69,9 @@ class Upgrades:
     def __init__(self, old: Copy, directories: Sequence[str]) -> None:
         self.moved = usr_of(OrderedDatabase(old.fd, "old"))
         self.directories = directories
-        self.files: dict[bytes, Fields] = {}
+        self.files: dict[bytes, FieldsByColumn] = {}
 
-    def take(self, own: str, signed: Signed, sums: Fields) -> str:
+    def take(self, own: str, signed: Signed, sums: FieldsByColumn) -> str:
         """Takes the files of a package, and those that dpkg keeps of it by its own name. Returns
         why nothing was taken: its file is missing, or the host has digests of another version."""
         version = shown(signed["Version"], 100)
@@ -89,7 +89,7 @@ class Upgrades:
             self._put(path, kept[path])
         return ""
 
-    def _take_files(self, files: IO[bytes]) -> Fields:
+    def _take_files(self, files: IO[bytes]) -> FieldsByColumn:
         """Takes the files of a package. Returns what its list is then."""
         listed = io.BytesIO()
         for path, fields in members_of(files):
@@ -99,33 +99,36 @@ class Upgrades:
         listed.seek(0)
         return {"perm": b"100644", "uid": ABSENT, "gid": ABSENT, **content_of(listed)}
 
-    def _put(self, path: bytes, fields: Fields) -> None:
+    def _put(self, path: bytes, fields: FieldsByColumn) -> None:
         """Two packages that have a path in two forms leave it as it is."""
         key = key_of_path(path)
         self.files[key] = fields if self.files.get(key, fields) == fields else {}
 
 
-def fits(entry: Fields, content: Fields) -> bool:
+def fits(entry: FieldsByColumn, content: FieldsByColumn) -> bool:
     """Whether an entry has a strong digest of a content, and no other one."""
     found = [name for name in STRONG if entry.get(name, ABSENT) != ABSENT]
     return bool(found) and all(entry[name] == content.get(name) for name in found)
 
 
-def type_of(fields: Fields) -> bytes:
+def type_digits(fields: FieldsByColumn) -> bytes:
+    """The digits of the mode that say the type, as in TYPES."""
     return fields.get("perm", ABSENT)[:-4]
 
 
-def with_content(entry: Fields, new: Fields) -> Fields:
+def with_content(entry: FieldsByColumn, new: FieldsByColumn) -> FieldsByColumn:
     """An entry with the content of another one, or its target. What was not measured stays so."""
     changed = dict(entry)
+    is_directory = type_digits(entry) == TYPES[tarfile.DIRTYPE]
     for column in entry:
         has_digest = column in DIGEST_COLUMNS and entry[column] != ABSENT
-        if has_digest or column in ("size", "lname") and type_of(entry) != TYPES[tarfile.DIRTYPE]:
+        has_size = column in ("size", "lname") and not is_directory
+        if has_digest or has_size:
             changed[column] = new.get(column, ABSENT)
     return changed
 
 
-def new_entry(path: bytes, likely: Fields, new: Fields) -> Fields:
+def new_entry(path: bytes, likely: FieldsByColumn, new: FieldsByColumn) -> FieldsByColumn:
     """The entry of a new file: measured as another one with its mode, and with no right beyond
     that."""
     more = dict(name=escaped(path), lcount=b"1", capabilities=ABSENT, xattrs=ABSENT)
@@ -138,14 +141,14 @@ def upgraded(old: Copy, upgrades: Upgrades) -> int:
     target = nameless()
     file = open(os.dup(target), "wb", BLOCK)
     reader = EntryReader(old, file.write)
-    last: dict[bytes, Fields] = {}
+    last: dict[bytes, FieldsByColumn] = {}
     came = (SidedEntry(key, NEW, b"") for key in sorted(upgrades.files))
     for key, group in groupby(merge(reader.entries(OLD), came), key_of_entry):
         new = upgrades.files.get(key, {})
         entry = reader.fields(next(group).line)
         if entry:
             last[entry.get("perm", ABSENT)] = entry
-            if new and type_of(new) == type_of(entry):
+            if new and type_digits(new) == type_digits(entry):
                 entry = with_content(entry, new)
         elif new.get("perm") in last:
             entry = new_entry(path_of(key), last[new["perm"]], new)

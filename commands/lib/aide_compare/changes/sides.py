@@ -23,8 +23,8 @@ NOWHERE = (1 << 64) - 1
 # The columns that are no difference of two entries by themselves.
 BESIDE = frozenset(("name", "attr"))
 
-Fields = List[bytes]
-FieldsOfRights = Callable[[Fields], Tuple[bytes, ...]]
+EntryFields = List[bytes]
+FieldsOfRights = Callable[[EntryFields], Tuple[bytes, ...]]
 
 
 def is_content(old: Optional[Entry], new: Optional[Entry]) -> bool:
@@ -97,8 +97,8 @@ class BothDatabases:
                 f"the databases are not those of the lines: {shown(path, 300)} is not {kind} there"
             )
             raise Fault(Status.DATABASE, text)
-        old: Optional[Fields] = None
-        new: Optional[Fields] = None
+        old: Optional[EntryFields] = None
+        new: Optional[EntryFields] = None
         old_at = NOWHERE
         new_at = NOWHERE
         if old_place is not None:
@@ -118,7 +118,7 @@ class BothDatabases:
             known.has_content and self._is_content(known, old, new),
         )
 
-    def _known(self, old: Optional[Fields], new: Optional[Fields]) -> Known:
+    def _known(self, old: Optional[EntryFields], new: Optional[EntryFields]) -> Known:
         of_old, of_new = self.rights
         fields = (old and of_old(old), new and of_new(new))
         known = self.known.get(fields)
@@ -128,7 +128,7 @@ class BothDatabases:
                 self.known[fields] = known
         return known
 
-    def _entries(self, old: Optional[Fields], new: Optional[Fields]) -> Sides:
+    def _entries(self, old: Optional[EntryFields], new: Optional[EntryFields]) -> Sides:
         return Sides(
             Entry(old, self.old.columns) if old else None,
             Entry(new, self.new.columns) if new else None,
@@ -149,7 +149,9 @@ class BothDatabases:
             has_content=has_content,
         )
 
-    def _is_content(self, known: Known, old: Optional[Fields], new: Optional[Fields]) -> bool:
+    def _is_content(
+        self, known: Known, old: Optional[EntryFields], new: Optional[EntryFields]
+    ) -> bool:
         """Whether nothing but a content came or changed, if it can be by the rights."""
         if old is None or new is None:
             return True

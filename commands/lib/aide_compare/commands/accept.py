@@ -7,8 +7,7 @@ from typing import NamedTuple, Optional
 
 from aide_compare.base.ending import Fault, Status, say, tell
 from aide_compare.base.escapes import shown
-from aide_compare.base.kinds import digest_digits
-from aide_compare.base.options import KEEP_OPEN, MAX_SIZE, STATE, TRUSTED, Option
+from aide_compare.base.options import KEEP_OPEN, MAX_SIZE, SHA256, STATE, TRUSTED, Option
 from aide_compare.base.parser import Parser
 from aide_compare.base.words import KINDS, date_of
 from aide_compare.commands.accept_question import (
@@ -31,14 +30,6 @@ that is a link is refused.
 Status: 0 NEW is the baseline; 15 bad arguments; 18 a file cannot be read or written; 22 out of
 memory; 24 refused: NEW is another database, or no sound one, or a part of it cannot stay
 open."""
-MAX_BYTES = 1 << 40
-SHA256 = Option(
-    "--sha256",
-    "the SHA-256 in the report or mail that was read: 16 to 64 hexadecimal digits, or all of it in"
-    " base64",
-    metavar="DIGEST",
-    kind=digest_digits,
-)
 TRUSTED_ONLY = Option(
     "--trusted-only",
     "only the silent changes: the same, and those of the trusted pair; all others stay open",
@@ -127,11 +118,10 @@ def own_parser() -> Parser:
     usage = f"{NAME} [OPTIONS] [NEW BASELINE]"
     parser = Parser(NAME, DESCRIPTION, "do not print what was done", epilog=EPILOG, usage=usage)
     state = "print the time and the counts of the comparison from this file"
-    size = "refuse a database of more bytes unpacked (1024G)"
     parser.add(
         SHA256,
         STATE._replace(help=f"{state} ({DAILY}); it decides nothing"),
-        MAX_SIZE._replace(default=MAX_BYTES, help=size),
+        MAX_SIZE,
         KEEP_OPEN,
         TRUSTED_ONLY,
         TRUSTED,

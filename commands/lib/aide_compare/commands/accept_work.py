@@ -4,7 +4,6 @@ from __future__ import annotations
 
 import gzip
 import os
-from collections import Counter
 from collections.abc import Iterator, Sequence
 from contextlib import suppress
 from typing import NamedTuple, Optional
@@ -17,9 +16,9 @@ from aide_compare.base.paths import Pattern, key_of_path
 from aide_compare.base.processes import in_child
 from aide_compare.base.rights import become, entry_of
 from aide_compare.base.words import TRUSTED_SIDES, counted
-from aide_compare.compare.baseline import Baseline, owners
+from aide_compare.compare.baseline import Baseline, Owners, owners
 from aide_compare.compare.comparison import Request
-from aide_compare.compare.kept_open import Listed, Patterns, keep_open
+from aide_compare.compare.kept_open import Listed, Merged, Patterns, keep_open
 from aide_compare.compare.soundness import refuse_unsound
 from aide_compare.compare.unpack import (
     GZIP,
@@ -79,35 +78,11 @@ class Offer:
         return target
 
 
-class Owner(NamedTuple):
-    """The user and the group that a file belongs to."""
-
-    user: int
-    group: int
-
-    def names(self) -> str:
-        """Their names, or their numbers."""
-        import grp
-
-        group = str(self.group)
-        with suppress(KeyError):
-            group = grp.getgrgid(self.group).gr_name
-        return shown(f"{entry_of(self.user).pw_name}:{group}", 200)
-
-
 class Former(NamedTuple):
     """What was the baseline before."""
 
     sha256: str  # "" if it cannot be read.
-    owner: Owner
-
-
-class Merged(NamedTuple):
-    """The new database with the former entries of what stays open, and how many these are by their
-    kinds."""
-
-    copy: Copy
-    counts: Counter[str]
+    owner: Owners
 
 
 class Accepted(NamedTuple):
@@ -117,7 +92,7 @@ class Accepted(NamedTuple):
     former: Optional[Former]  # None if there was no baseline.
     sha256: str  # Of the baseline now.
     merged: Optional[Merged]  # None if nothing stays open.
-    owner: Optional[Owner]  # Of the baseline, None if nothing was written.
+    owner: Optional[Owners]  # Of the baseline, None if nothing was written.
 
     @property
     def is_replaced(self) -> bool:
@@ -127,7 +102,7 @@ class Accepted(NamedTuple):
 def former_of(baseline: Baseline, max_size: int) -> Optional[Former]:
     if baseline.former is None:
         return None
-    owner = Owner(*owners(baseline.former.status))
+    owner = owners(baseline.former.status)
     descriptor = baseline.reading()
     if descriptor is None:
         return Former("", owner)
@@ -209,12 +184,12 @@ def merge(request: AcceptRequest, offer: Offer, baseline: Baseline) -> Merged:
         answers = [patterns(key), listed(key)]
         return any(answers)
 
-    copy, counts = keep_open(old, offer.copy, stays_open)
+    merged = keep_open(old, offer.copy, stays_open)
     for unused in patterns.unused():
         text = f"refused: nothing that differs is kept open by {shown(unused.text, 200)}"
         raise Fault(Status.DATABASE, text)
-    refuse_unsound(copy)
-    return Merged(copy, counts)
+    refuse_unsound(merged.copy)
+    return merged
 
 
 def accept(request: AcceptRequest) -> Accepted:
@@ -241,5 +216,5 @@ def accept(request: AcceptRequest) -> Accepted:
         refuse_unsound(offer.copy)
     owner = None
     if former is None or former.sha256 != sha256:
-        owner = Owner(*baseline.replace(source))
+        owner = baseline.replace(source)
     return Accepted(offer, former, sha256, merged, owner)

@@ -16,7 +16,7 @@ from aide_compare.base.processes import limit_memory
 from aide_compare.base.replacement import replace_by_copy
 from aide_compare.base.rights import give_up
 from aide_compare.base.words import counted
-from aide_compare.changes.applied import INFO, Fields, Upgrades, content_of, fits, upgraded
+from aide_compare.changes.applied import INFO, FieldsByColumn, Upgrades, content_of, fits, upgraded
 from aide_compare.changes.signed import newest_of
 from aide_compare.compare.kept_open import OLD, EntryReader
 from aide_compare.compare.soundness import refuse_unsound
@@ -36,7 +36,7 @@ KEYRING = Option("--keyring", f"its keys ({DEBIANS_KEYRING})", metavar="FILE", i
 OUTPUT = Option("--output", "replace FILE; by OLD if nothing can be applied", metavar="FILE")
 
 # Entries of a database, by their paths.
-Night = dict[str, Fields]
+Night = dict[str, FieldsByColumn]
 
 
 def kept_in(copy: Copy, keyrings: Collection[str]) -> Night:

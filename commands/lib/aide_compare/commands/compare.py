@@ -24,7 +24,13 @@ from aide_compare.commands.compare_task import (
 )
 from aide_compare.compare.comparison import Comparison
 from aide_compare.compare.work import report_of
-from aide_compare.show.told import coloured, no_difference, tell, wants_colours, with_names
+from aide_compare.show.told import (
+    coloured,
+    no_difference,
+    tell_comparison,
+    wants_colours,
+    with_names,
+)
 
 if TYPE_CHECKING:
     from aide_compare.changes.judged import Judged
@@ -105,7 +111,7 @@ class Printer(Reporter):
         """Says why nothing was compared, or what was said of it before the report."""
         progress.end()
         if comparison.has_failed or not self.has_told:
-            tell(comparison, self.request.is_quiet, self.request.is_verbose)
+            tell_comparison(comparison, self.request.is_quiet, self.request.is_verbose)
         return b""
 
     def _brief(self, comparison: Comparison, judged: Optional[Judged]) -> bytes:
@@ -122,7 +128,7 @@ class Printer(Reporter):
     def _tell_beside(self, comparison: Comparison, is_brief: bool) -> None:
         """Says what is not in a report: it names only the descriptors of the databases."""
         self.has_told = True
-        tell(comparison, self.request.is_quiet, self.request.is_verbose)
+        tell_comparison(comparison, self.request.is_quiet, self.request.is_verbose)
         if self.request.is_quiet or not comparison.differs:
             return
         for side, copy in comparison.copies.items():

@@ -6,13 +6,12 @@ from collections.abc import Sequence
 from typing import NamedTuple
 
 from aide_compare.base.ending import Fault, Status, tell
-from aide_compare.base.kinds import digest_digits
-from aide_compare.base.options import KEEP_OPEN, MAX_SIZE, Option
+from aide_compare.base.options import KEEP_OPEN, MAX_DATABASE_BYTES, MAX_SIZE, SHA256, Option
 from aide_compare.base.parser import Parser, add_option
 from aide_compare.base.paths import Pattern
 from aide_compare.base.processes import limit_memory
 from aide_compare.commands import accept
-from aide_compare.commands.accept_work import AcceptRequest as BaselineRequest
+from aide_compare.commands.accept_work import AcceptRequest
 from aide_compare.compare.soundness import refuse_unsound
 from aide_compare.compare.unpack import copy_database
 from aide_compare.hosts.adding import keep_first
@@ -35,15 +34,9 @@ FIRST = Option(
     "for a HOST without a baseline: print the SHA-256 of what was fetched, and accept it. Compare"
     " it with that on HOST: zcat -f /var/lib/aide/aide.db.new | sha256sum",
 )
-SHA256 = Option(
-    "--sha256",
-    "the SHA-256 of the unpacked database that was read, or its first 16 digits or more",
-    metavar="DIGEST",
-    kind=digest_digits,
-)
 
 
-class AcceptRequest(NamedTuple):
+class HostAcceptRequest(NamedTuple):
     """What the options of `hosts accept` ask for."""
 
     host: str
@@ -70,23 +63,23 @@ def accept_first(directory: HostDirectory, max_size: int, is_quiet: bool) -> int
     return Status.OK
 
 
-def accept_next(directory: HostDirectory, request: AcceptRequest) -> int:
+def accept_next(directory: HostDirectory, request: HostAcceptRequest) -> int:
     """The command aide-compare accept does the work. The state of the host knows when it was
     compared."""
     has_state = os.path.lexists(directory.state_path)
     reported = accept.reported_in(directory.state_path if has_state else None)
-    next_baseline = BaselineRequest(
+    next_baseline = AcceptRequest(
         new=directory.file(NEW),
         baseline=directory.file(BASELINE),
         digest=request.digest,
         keep_open=request.keep_open,
         only_trusted=False,
-        max_size=accept.MAX_BYTES,
+        max_size=MAX_DATABASE_BYTES,
     )
     return accept.run(next_baseline, reported, request.is_quiet)
 
 
-def request_of(arguments: Sequence[str]) -> AcceptRequest:
+def request_of(arguments: Sequence[str]) -> HostAcceptRequest:
     quiet = "do not print what was done"
     usage = f"{NAME} --first | --sha256 DIGEST [OPTIONS] HOST"
     parser = Parser(NAME, DESCRIPTION, quiet, epilog=EPILOG, usage=usage)
@@ -96,13 +89,14 @@ def request_of(arguments: Sequence[str]) -> AcceptRequest:
     parser.add(MAX_SIZE._replace(default=MAX_BASELINE, help=size))
     which = parser.add_mutually_exclusive_group(required=True)
     add_option(which, FIRST)
-    add_option(which, SHA256)
+    digest = "the SHA-256 of the unpacked database that was read, or its first 16 digits or more"
+    add_option(which, SHA256._replace(help=digest))
     text = "with --sha256: all but the changes of these paths; see aide-compare accept"
     parser.add(KEEP_OPEN._replace(help=text))
     args = parser.parse(arguments)
     if args.first and args.keep_open:
         raise Fault(Status.USAGE, "--keep-open goes with --sha256", f"try: {NAME} --help")
-    return AcceptRequest(
+    return HostAcceptRequest(
         host=args.host,
         store=args.store,
         seconds=args.time,

@@ -55,7 +55,7 @@ was compared; more if a host was not. 15 if arguments or a host's name are wrong
 command itself fails."""
 
 
-class CompareRequest(NamedTuple):
+class HostsCompareRequest(NamedTuple):
     """What the options of `hosts compare` ask for."""
 
     hosts_file: str  # Or the name of the one host.
@@ -187,7 +187,7 @@ def results_beside(canary: str, hosts: Sequence[str], settings: Settings) -> Ite
     yield from results(others, settings._replace(trusted=pair))
 
 
-def compare_all(request: CompareRequest, hosts: Sequence[str]) -> int:
+def compare_all(request: HostsCompareRequest, hosts: Sequence[str]) -> int:
     """Prints a line for each host and the summary; returns the greatest status."""
     is_quiet = request.is_quiet
     color = request.color
@@ -275,7 +275,7 @@ def own_parser() -> Parser:
     return parser
 
 
-def request_of(arguments: Sequence[str]) -> CompareRequest:
+def request_of(arguments: Sequence[str]) -> HostsCompareRequest:
     args = own_parser().parse(arguments)
     settings = Settings(
         store=args.store,
@@ -293,10 +293,10 @@ def request_of(arguments: Sequence[str]) -> CompareRequest:
         raise Fault(Status.USAGE, "--one goes with neither --share nor --canary")
     part = args.share or (1, 1)
     canary = args.canary or ""
-    return CompareRequest(args.file, args.one, part, settings, canary, args.quiet, args.color)
+    return HostsCompareRequest(args.file, args.one, part, settings, canary, args.quiet, args.color)
 
 
-def hosts_to_compare(request: CompareRequest) -> list[str]:
+def hosts_to_compare(request: HostsCompareRequest) -> list[str]:
     """The hosts of the file that are in the share. The canary has to be in the file: otherwise no
     report would list what is silent beside it."""
     names = hosts_of(request.hosts_file)

@@ -17,6 +17,7 @@ from aide_compare.base.replacement import replace
 from aide_compare.base.directories import closed_after, open_directory
 from aide_compare.base.options import ALARM, NOT_SILENT, TO, Option
 from aide_compare.base.parser import Parser
+from aide_compare.base.program import MAX_DIFFERENT
 from aide_compare.base.words import counted
 from aide_compare.commands.setup_machine import (
     DEBIANS,
@@ -25,7 +26,7 @@ from aide_compare.commands.setup_machine import (
     aides_user,
     example,
     next_time,
-    run,
+    run_shown,
     says_yes,
     status_of,
 )
@@ -43,7 +44,6 @@ TIMER = "aide-compare.timer"
 DATABASE_STARTS = (b"\x1f\x8b", b"@@begin_db", b"#")
 SECONDS_OF_INIT = 6 * 3600
 SECONDS_OF_COMPARISON = 600
-LAST_DIFFERENCE = 7  # Of the statuses of a comparison, the last one that is an answer.
 MAX_DEFAULTS = 1 << 16
 # What a mail looks like.
 SUBJECT = "    Subject: aide on {host}: 3 open (1 high), 41 recorded of 512 changes"
@@ -115,9 +115,9 @@ class Machine:
         """Lets AIDE write the first database. What it writes elsewhere than on Debian gets the
         baseline's name."""
         if self.is_debian:
-            run(["aideinit", "-y"], SECONDS_OF_INIT)
+            run_shown(["aideinit", "-y"], SECONDS_OF_INIT)
             return
-        run(["aide", "--init"], SECONDS_OF_INIT)
+        run_shown(["aide", "--init"], SECONDS_OF_INIT)
         with open_directory(PATHS.databases) as directory:
             if not directory.is_safe():
                 raise Fault(Status.DEVICE, f"other users can write in {PATHS.databases}")
@@ -208,7 +208,7 @@ class Machine:
         else:
             tell("a test mail")
         try:
-            run(words)
+            run_shown(words)
         except Fault:
             advice = "install a mail system, or go on with --no-mail"
             raise Fault(Status.DEVICE, f"the test mail was not sent; {advice}")
@@ -224,7 +224,7 @@ class Machine:
 
     def job(self) -> Step:
         if self.has_timer:
-            make = partial(run, ["systemctl", "enable", "--now", TIMER])
+            make = partial(run_shown, ["systemctl", "enable", "--now", TIMER])
             return Step(f"the timer {TIMER}", self.has_job(), make)
         return Step(PATHS.cron_job, self.has_job(), make_cron_job)
 
@@ -264,7 +264,7 @@ def make_without() -> None:
 
 def make_signed() -> None:
     replace(PATHS.signed, example("aide/signed.conf"))
-    run(["systemctl", "daemon-reload"])
+    run_shown(["systemctl", "daemon-reload"])
 
 
 def make_cron_job() -> None:
@@ -290,7 +290,7 @@ def check(machine: Machine) -> int:
     """Says what is missing, and changes nothing."""
     missing = [step.title for step in machine.steps() if not step.is_done]
     status = machine.comparison()
-    if status is not None and status > LAST_DIFFERENCE:
+    if status is not None and status > MAX_DIFFERENT:
         missing.append(f"a comparison: it ends with status {status}")
     elif status is not None:
         found = "differences: aide-compare" if status else "no difference"

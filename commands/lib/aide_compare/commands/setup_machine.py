@@ -12,8 +12,7 @@ from typing import NamedTuple
 
 from aide_compare.base.ending import Fault, Status, failing, tell
 from aide_compare.base.files import read_file
-from aide_compare.base.processes import run as run_program
-from aide_compare.base.processes import run_here
+from aide_compare.base.processes import run, run_here
 from aide_compare.base.program import Drain
 
 HERE = os.path.dirname(os.path.realpath(__file__))
@@ -72,7 +71,7 @@ def example(name: str) -> bytes:
     raise Fault(Status.DEVICE, f"the example {name} did not come with this command")
 
 
-def run(words: Sequence[str], seconds: int = SECONDS) -> None:
+def run_shown(words: Sequence[str], seconds: int = SECONDS) -> None:
     """Runs a program of the system, whose status has to be 0. It is shown first, and writes where
     this command writes."""
     tell("    " + " ".join(words))
@@ -109,7 +108,7 @@ def next_time(timer: str) -> str:
     takers = {1: Drain(MAX_ANSWER, answer.extend).take}
     deadline = time.monotonic() + QUESTION_SECONDS
     with suppress(Fault, OSError):
-        run_program(words, takers, environment=ENVIRONMENT, deadline=deadline)
+        run(words, takers, environment=ENVIRONMENT, deadline=deadline)
     date = answer.decode("ascii", "replace").strip()
     if DATE.fullmatch(date):
         return date

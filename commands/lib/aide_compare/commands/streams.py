@@ -133,7 +133,7 @@ def write_of_databases(request: StreamRequest, writer: Writer) -> int:
     """Compares, and writes what is made of the changes. Returns the status of the comparison."""
     from aide_compare.compare.work import compare
     from aide_compare.show.judgement import judge
-    from aide_compare.show.told import tell
+    from aide_compare.show.told import tell_comparison
 
     comparison = compare(work_request(request))
     judged = None
@@ -142,7 +142,7 @@ def write_of_databases(request: StreamRequest, writer: Writer) -> int:
         reviewed = judge(comparison)
         comparison = reviewed.comparison
         judged = reviewed.judged
-    tell(comparison, request.is_quiet, request.is_verbose)
+    tell_comparison(comparison, request.is_quiet, request.is_verbose)
     if is_cut:
         text = f"the changes have more than {comparison.request.max_report} bytes"
         raise Fault(Status.DEVICE, text)

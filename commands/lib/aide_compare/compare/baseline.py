@@ -18,6 +18,7 @@ from aide_compare.base.escapes import shown
 from aide_compare.base.files import copy_file, is_locked, new_file, refuse_other_kinds, reopened
 from aide_compare.base.files import unlink
 from aide_compare.base.replacement import exchange
+from aide_compare.base.rights import entry_of, with_rights_of
 
 FILE_MODES = 0o666
 FIRST_MODE = 0o600
@@ -39,6 +40,15 @@ class Owners(NamedTuple):
 
     user: int
     group: int
+
+    def names(self) -> str:
+        """Their names, or their numbers."""
+        import grp
+
+        group = str(self.group)
+        with suppress(KeyError):
+            group = grp.getgrgid(self.group).gr_name
+        return shown(f"{entry_of(self.user).pw_name}:{group}", 200)
 
 
 def identity(status: os.stat_result) -> Identity:
@@ -141,8 +151,6 @@ class Baseline:
         for."""
         if self.user is None:
             return work()
-        from aide_compare.base.rights import with_rights_of
-
         seconds = SECONDS_FOR_WORK + os.fstat(source).st_size // BYTES_A_SECOND
         return with_rights_of(self.user, work, seconds, (self.directory, source))
 

@@ -8,6 +8,7 @@ from typing import TYPE_CHECKING, NamedTuple
 
 from aide_compare.base.ending import Fault, ReaderGone, Status, fault_of
 from aide_compare.base.escapes import shown, shown_lines
+from aide_compare.base.options import MAX_DATABASE_BYTES, MAX_REPORT_BYTES
 from aide_compare.base.program import Answer
 from aide_compare.base.words import TRUSTED_SIDES
 from aide_compare.compare.configuration import DEFAULTS, NONE, Texts
@@ -19,8 +20,6 @@ from aide_compare.lines.reader import EndCounts
 if TYPE_CHECKING:
     from aide_compare.compare.exclusions import Exclusions, LeftOut
 
-MAX_SIZE = 1 << 40
-MAX_REPORT = 1 << 30
 MAX_ERROR = 5000
 MAX_NAME = 4000
 
@@ -35,8 +34,8 @@ class Request(NamedTuple):
     configuration: str | None = None  # None: none for two paths, otherwise that of AIDE.
     before: str = ""  # The text of -B.
     after: str = ""  # The text of -A.
-    max_size: int = MAX_SIZE  # Of a database, unpacked.
-    max_report: int = MAX_REPORT  # Of the lines or the report.
+    max_size: int = MAX_DATABASE_BYTES  # Of a database, unpacked.
+    max_report: int = MAX_REPORT_BYTES  # Of the lines or the report.
     max_age: int = 0  # Of the new database in seconds; 0 for any.
     exclusions: Exclusions | None = None
     trusted: Sequence[str] = ()  # The paths of a trusted pair, or none.

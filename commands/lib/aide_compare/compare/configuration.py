@@ -77,10 +77,10 @@ def without_includes(path: str) -> ReadConfiguration:
                 raise failure(errno.EAGAIN, "it has no bytes now")
             text = block
     includes = re.findall(INCLUDES, text)
-    return ReadConfiguration(re.sub(INCLUDES, b"", text), _notes_of(includes, path))
+    return ReadConfiguration(re.sub(INCLUDES, b"", text), _notes_on_includes(includes, path))
 
 
-def _notes_of(includes: list[bytes], path: str) -> list[str]:
+def _notes_on_includes(includes: list[bytes], path: str) -> list[str]:
     """A line that says that lines were passed over; none without any."""
     if not includes:
         return []

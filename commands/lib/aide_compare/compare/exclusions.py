@@ -44,7 +44,7 @@ DIGESTS = (b"sha512", b"sha256", b"sha3_512", b"sha3_256")
 STAYING = "a program, a set-ID bit, capabilities, a device, no mode, or a file of aide-compare"
 
 # The fields of an entry by the names of their columns.
-Fields = Mapping[bytes, bytes]
+EntryFields = Mapping[bytes, bytes]
 
 
 class Exclusion(NamedTuple):
@@ -153,7 +153,7 @@ def number(text: bytes, base: int, digits: bytes) -> int:
     return int(text, base)
 
 
-def mode_of(entry: Fields) -> int:
+def mode_of(entry: EntryFields) -> int:
     return number(entry.get(b"perm", ABSENT), 8, rb"[0-7]{1,7}")
 
 
@@ -161,7 +161,7 @@ def is_program(mode: int) -> bool:
     return stat.S_ISREG(mode) and bool(mode & RUN_BITS)
 
 
-def has_capabilities(entry: Fields) -> bool:
+def has_capabilities(entry: EntryFields) -> bool:
     """Whether an entry has capabilities, or is a program of which nobody has asked for them."""
     mode = mode_of(entry)
     if entry.get(b"capabilities", ABSENT) != ABSENT:
@@ -170,7 +170,7 @@ def has_capabilities(entry: Fields) -> bool:
     return is_program(mode) and not attributes & MEASURES_CAPABILITIES
 
 
-def why_kept(path: bytes, entry: Fields) -> Kept | None:
+def why_kept(path: bytes, entry: EntryFields) -> Kept | None:
     """Why no line leaves an entry out; None if a line may. What could give somebody a right
     stays."""
     mode = mode_of(entry)
@@ -188,7 +188,7 @@ def why_kept(path: bytes, entry: Fields) -> Kept | None:
     return None
 
 
-def is_text_of(entry: Fields, text: bytes) -> bool:
+def is_text_of(entry: EntryFields, text: bytes) -> bool:
     """Whether the digests of an entry are those of a text. One without a known digest says
     nothing."""
     for column in DIGESTS:
@@ -261,7 +261,7 @@ class LeftOut:
             return True
         return self._keeps_entry(dict(zip(columns, fields)))
 
-    def _keeps_entry(self, entry: Fields) -> bool:
+    def _keeps_entry(self, entry: EntryFields) -> bool:
         path = unescaped(entry[PATH_COLUMN])
         text = self.rules.lists.get(path)
         if text is not None and not is_text_of(entry, text):
@@ -275,7 +275,7 @@ class LeftOut:
         self.counts[line] += 1
         return False
 
-    def _line_for(self, path: bytes, entry: Fields) -> Exclusion | None:
+    def _line_for(self, path: bytes, entry: EntryFields) -> Exclusion | None:
         """The line that leaves out an entry, if one may."""
         if why_kept(path, entry) is not None:
             return None

@@ -223,7 +223,7 @@ def _column_names(database: int, numbers: list[int]) -> list[str]:
     return names
 
 
-def notes_of(skipped: Mapping[str, list[str]]) -> Iterator[str]:
+def column_notes(skipped: Mapping[str, list[str]]) -> Iterator[str]:
     """A line for each column, with the side if it is one of a single database."""
     for name in dict.fromkeys(name for names in skipped.values() for name in names):
         sides = [side for side, names in skipped.items() if name in names]

@@ -107,7 +107,7 @@ def _raw_blocks(opened: Opened, limit: int) -> Iterator[bytes]:
         count += len(block)
         if count > 2 * limit + (1 << 20):
             raise opened.too_large(limit)
-        progress.tell(f"reading the {words_of_side(opened.side)} database", count, opened.size)
+        progress.update(f"reading the {words_of_side(opened.side)} database", count, opened.size)
         yield block
 
 

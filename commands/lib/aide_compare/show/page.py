@@ -253,17 +253,17 @@ class Groups:
         self.valued += 1
         return values
 
-    def notes(self) -> List[str]:
+    def remarks(self) -> List[str]:
         """What the lists leave out."""
-        notes: List[str] = []
+        remarks: List[str] = []
         total = sum(self.standings.values())
         if self.listed < total:
             first = f"This page has room for {entries(self.listed)} of {number(total)}."
-            notes.append(f"{first} The counts are those of all.")
+            remarks.append(f"{first} The counts are those of all.")
         if self.valued < self.listed:
             first = f"Values are on this page of the first {entries(self.valued)} only"
-            notes.append(f"{first}: it stays below 20 MB.")
-        return notes
+            remarks.append(f"{first}: it stays below 20 MB.")
+        return remarks
 
 
 def page(
@@ -283,7 +283,7 @@ def page(
     beginning = head(reader, counts, name, script, [])
     limit = MAX_PAGE - RESERVE - len(beginning) - len(controls)
     groups.write(lists, limit, MAX_ELEMENTS if has_script else MAX_PAGE)
-    yield head(reader, counts, name, script, groups.notes())
+    yield head(reader, counts, name, script, groups.remarks())
     yield encoded(controls)
     lists.seek(0)
     while block := lists.read(BLOCK):

@@ -197,13 +197,13 @@ def title_of(summary: Fields, title: bytes) -> str:
     return "File changes"
 
 
-def head(reader: Reader, counts: Counts, title: bytes, script: str, notes: List[str]) -> bytes:
-    """The beginning of the page of a report. `counts` are the Counts of its changes, the notes say
-    what is missing."""
+def head(reader: Reader, counts: Counts, title: bytes, script: str, left_out: List[str]) -> bytes:
+    """The beginning of the page of a report. `counts` are the Counts of its changes, and
+    `left_out` says what is missing."""
     summary = reader.summary
     text = title_of(summary, title)
     kinds = ", ".join(f"{number(count)} {kind}" for kind, count in zip(KINDS, reader.counts.kinds))
-    remarks = [*left_out_remark(summary), *column_remarks(summary), *notes]
+    remarks = [*left_out_remark(summary), *column_remarks(summary), *left_out]
     outcome = '<p class="outcome">No differences between the two databases</p>\n'
     numbers = ""
     skip = ""

@@ -43,7 +43,7 @@ VARIOUS = Various("various")
 STANDINGS = tuple(reversed(Standing))
 LETTERS = re.compile("[A-Za-z?!<>=:.+ -]{18}")
 PERMISSIONS = re.compile("[0-7]{4}")
-MAX_NOTE = 4000
+MAX_TEXT = 4000
 COLUMNS = '<table><tr><th scope="col">Attribute<th scope="col">Old<th scope="col">New'
 
 
@@ -119,18 +119,18 @@ def entries_of(
             raise Refused(reader.number, refused) from None
 
 
-def _notes(texts: Texts) -> Texts:
-    return {label: shown_note(text, MAX_NOTE) for label, text in texts.items() if label in NOTED}
+def _shown_texts(texts: Texts) -> Texts:
+    return {label: shown_note(text, MAX_TEXT) for label, text in texts.items() if label in NOTED}
 
 
-def notes_of(entry: PageEntry) -> SideTexts:
+def texts_in_place(entry: PageEntry) -> SideTexts:
     """What people read in place of the values of both sides: what the lines say, or else what the
     values mean."""
     change = entry.change
     texts = SideTexts(change.old_texts, change.new_texts)
     if not any(texts):
         texts = texts_of(change._replace(old=entry.old))
-    return SideTexts(_notes(texts.old), _notes(texts.new))
+    return SideTexts(_shown_texts(texts.old), _shown_texts(texts.new))
 
 
 def value_text(value: Value) -> str:
@@ -142,18 +142,18 @@ def value_text(value: Value) -> str:
     return shown_value(exact_bytes(value or b""))
 
 
-def cell(value: Value, note: Optional[str] = None) -> str:
+def cell(value: Value, in_place: Optional[str] = None) -> str:
     """A value. If people read something else in its place, that opens and shows the exact one."""
     if value is VARIOUS:
         return f'<td class="none">{VARIOUS}'
     if value is None:
         return '<td class="none">none'
-    if note is None and isinstance(value, str) and value.isascii() and value.isalnum():
+    if in_place is None and isinstance(value, str) and value.isascii() and value.isalnum():
         return f"<td>{value}"  # A digest, as most values are.
     text = value_text(value)
-    if not note or note == text:
+    if not in_place or in_place == text:
         return f"<td>{escape(text)}"
-    return f"<td><details><summary>{escape(note)}</summary>{escape(text)}</details>"
+    return f"<td><details><summary>{escape(in_place)}</summary>{escape(text)}</details>"
 
 
 def table(entry: PageEntry) -> str:
@@ -162,9 +162,9 @@ def table(entry: PageEntry) -> str:
     layout = layout_of(entry)
     if not layout.names:
         return ""
-    notes = notes_of(entry)
-    rows = [_row(entry, notes, label) for label in layout.others]
-    digests = [_row(entry, notes, label) for label in layout.digests]
+    texts = texts_in_place(entry)
+    rows = [_row(entry, texts, label) for label in layout.others]
+    digests = [_row(entry, texts, label) for label in layout.digests]
     text = f"{COLUMNS}{''.join(rows + digests[:1])}</table>"
     if len(digests) > 1:
         others = counted(len(digests) - 1, "other digest")
@@ -178,9 +178,9 @@ def table_of(line: bytes) -> bytes:
     return encoded(table(entry_of(change_of(json.loads(line)))))
 
 
-def _row(entry: PageEntry, notes: SideTexts, label: str) -> str:
-    old = cell(entry.old.get(label), notes.old.get(label))
-    new = cell(entry.new.get(label), notes.new.get(label))
+def _row(entry: PageEntry, texts: SideTexts, label: str) -> str:
+    old = cell(entry.old.get(label), texts.old.get(label))
+    new = cell(entry.new.get(label), texts.new.get(label))
     return f'<tr><th scope="row">{label}{old}{new}'
 
 
@@ -188,19 +188,19 @@ def facts_of(entry: PageEntry) -> str:
     """Permissions, owner and size of an entry that is there on one side only, as people read them;
     "" of a changed one."""
     if entry.change.kind == "added":
-        return _facts(entry.new, notes_of(entry).new)
+        return _facts(entry.new, texts_in_place(entry).new)
     if entry.change.kind == "removed":
-        return _facts(entry.old, notes_of(entry).old)
+        return _facts(entry.old, texts_in_place(entry).old)
     return ""
 
 
-def _facts(values: Values, notes: Texts) -> str:
+def _facts(values: Values, in_place: Texts) -> str:
     if any(value is VARIOUS for value in values.values()):
         return VARIOUS
     texts: Texts = {}
     for label in ("UID", "GID", "Perm", "Size"):
         if values.get(label) is not None:
-            texts[label] = notes.get(label) or value_text(values[label])
+            texts[label] = in_place.get(label) or value_text(values[label])
     owner = ":".join(texts[label] for label in ("UID", "GID") if label in texts)
     facts = [texts.get("Perm", ""), owner]
     if "Size" in texts:

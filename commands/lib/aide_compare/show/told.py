@@ -150,7 +150,7 @@ def _ours(texts: Iterable[str]) -> list[str]:
     return [f"aide-compare: {guarded(text)}" for text in texts]
 
 
-def tell(comparison: Comparison, quiet: bool = False, verbose: bool = False) -> None:
+def tell_comparison(comparison: Comparison, quiet: bool = False, verbose: bool = False) -> None:
     """Writes them to standard error. If that cannot be written, nothing else changes."""
     with suppress(OSError):
         write_all(2, told_of(comparison, quiet, verbose).encode("utf-8", "backslashreplace"))
