@@ -305,6 +305,10 @@ class ArchiveTest(CommandTest):
         words = (source, "--output=nowhere/made.db", "host-old.db", "gone.db")
         self.refused(18, None, ARCHIVE, *words)
         self.assertFalse(os.path.lexists(self.path("nowhere")), "no directory is made")
+        self.write("made.db", b"of another night\n")
+        self.set_names("changes.signed", GPGV=("sh", "-c", "kill -9 $PPID"))
+        place.ask("--output", "made.db")
+        self.assertEqual(self.read("made.db"), old, "also of a run that is killed")
 
     def test_user(self) -> None:
         """Root may give up its privileges first, and the file is the user's then."""

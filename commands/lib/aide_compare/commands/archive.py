@@ -102,15 +102,14 @@ def main(arguments: list[str]) -> int:
     limit_memory(MAX_MEMORY)
     old = copy_database("old", args.databases[0], args.max_size)
     keyrings = [os.path.realpath(path) for path in args.keyring or [DEBIANS_KEYRING]]
-    made = old.fd
-    try:
-        new = copy_database("new", args.databases[1], args.max_size)
-        refuse_unsound(new, old)
-        upgrades = upgrades_of([old, new], directories, keyrings)
-        made = upgraded(old, upgrades)
-    finally:
-        if args.output:
-            replace_by_copy(args.output, made, PRIVATE, "the database")
+    if args.output:  # However this command ends, the database of another night is gone.
+        replace_by_copy(args.output, old.fd, PRIVATE, "the database")
+    new = copy_database("new", args.databases[1], args.max_size)
+    refuse_unsound(new, old)
+    upgrades = upgrades_of([old, new], directories, keyrings)
+    made = upgraded(old, upgrades)
+    if args.output:
+        replace_by_copy(args.output, made, PRIVATE, "the database")
     if not args.quiet:
         say(f"applied: {counted(len(upgrades.files), 'file')}")
     if not args.output:
