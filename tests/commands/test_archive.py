@@ -305,6 +305,7 @@ class ArchiveTest(CommandTest):
         words = (source, "--output=nowhere/made.db", "host-old.db", "gone.db")
         self.refused(18, None, ARCHIVE, *words)
         self.assertFalse(os.path.lexists(self.path("nowhere")), "no directory is made")
+        self.not_made(b"--output is one of the databases", 15, "--output", "./host-new.db")
         self.write("made.db", b"of another night\n")
         self.set_names("changes.signed", GPGV=("sh", "-c", "kill -9 $PPID"))
         place.ask("--output", "made.db")

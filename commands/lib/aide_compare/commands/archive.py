@@ -97,6 +97,8 @@ def main(arguments: list[str]) -> int:
     directories = vars(args)["from"]
     if len(args.databases) != 2 or not directories:
         raise Fault(Status.USAGE, "name OLD and NEW, and --from", f"try: {NAME} --help")
+    if args.output and os.path.realpath(args.output) in map(os.path.realpath, args.databases):
+        raise Fault(Status.USAGE, "--output is one of the databases, which would be replaced")
     if args.user:
         give_up(args.user)
     limit_memory(MAX_MEMORY)
