@@ -54,6 +54,7 @@ class Built:
         self.files: Dict[bytes, Tuple[bytes, int]] = {}
         self.links: Dict[bytes, bytes] = {}
         self.fields = ""
+        self.more = 0  # Bytes of a last part, which dpkg passes over.
 
     def file(self, path: bytes, content: bytes, mode: int = 0o644) -> Built:
         self.files[path] = content, mode
@@ -90,7 +91,9 @@ class Built:
         subprocess.run(
             [*words, sandbox.path("mirror/" + file_name)], check=True, capture_output=True
         )
-        data = sandbox.read("mirror/" + file_name)
+        part = f"{'_more':16}{0:<12}{0:<6}{0:<6}{0:<8}{self.more:<10}`\n".encode()
+        data = sandbox.read("mirror/" + file_name) + part + bytes(self.more)
+        sandbox.write("mirror/" + file_name, data)
         digest = hashlib.sha256(data).hexdigest()
         self.fields = f"{control}Filename: {file_name}\nSize: {len(data)}\nSHA256: {digest}\n"
 

@@ -81,9 +81,6 @@ class ArchiveTest(CommandTest):
         place.new.file(INFO + b"tool.md5sums", b"sums of 2")
         place.new.file(INFO + b"lib:amd64.list", b"/.\n/lib\n/lib/multi\n/lib/multi/lib.so\n")
         place.expect(answer, "trusted", INFO + b"tool.md5sums", INFO + b"lib:amd64.list")
-        self.write("trusted.db", answer.output)
-        both = self.call("aide-compare", "-q", "host-old.db", "trusted.db")
-        self.assertIn(both.status, range(1, 8), "the programs read it")
 
     def test_differs(self) -> None:
         """Nothing else agrees: another content, owner, mode, or a right that the package gives."""
@@ -153,8 +150,12 @@ class ArchiveTest(CommandTest):
         place.expect(answer, "trusted", TOOL)
 
     def test_sources(self) -> None:
-        """Packed indexes, and what apt keeps of indexes and packages."""
+        """Packed indexes, and what apt keeps of indexes and packages. These may be larger than the
+        memory that the command takes."""
         place = self.place
+        place.built[0].more = 64 << 20
+        place.built[0].build(self)
+        self.set_names("commands.archive", MAX_MEMORY=64 << 20)
         for ending in (".gz", ".xz"):
             place.sign(ending=ending)
             place.expect(place.ask(), "trusted", TOOL)
@@ -202,7 +203,7 @@ class ArchiveTest(CommandTest):
         self.write(package, whole[:-1] + bytes([whole[-1] ^ 1]))
         self.not_made(b"tool_2_amd64.deb is not as it was signed")
         self.write(package, whole + b"more")
-        self.not_made(b"has more than")
+        self.not_made(b"tool_2_amd64.deb is not as it was signed")
 
     def test_expired(self) -> None:
         line = "Valid-Until: Sat, 01 Jan %d 00:00:00 UTC\n"

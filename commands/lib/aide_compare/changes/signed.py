@@ -14,9 +14,9 @@ from itertools import chain
 from typing import IO
 
 from aide_compare.base.directories import closed_after
-from aide_compare.base.ending import Fault, Status, say
+from aide_compare.base.ending import Fault, Status, failing, say, write_all
 from aide_compare.base.escapes import shown
-from aide_compare.base.files import in_memory, nameless, read_file
+from aide_compare.base.files import BLOCK, in_memory, nameless, open_regular, read_file
 from aide_compare.base.processes import Taker, run
 from aide_compare.base.program import Drain
 from aide_compare.changes.packages import is_less
@@ -71,6 +71,20 @@ def read_signed(path: str, limit: int, digest: str) -> bytes:
     return data
 
 
+def copy_signed(path: str, size: int, digest: str) -> int:
+    """A private copy of a file that has this size and digest. It may be larger than memory."""
+    copy = nameless()
+    content = sha256()
+    with closed_after(open_regular(path)) as file, failing(f"cannot copy {shown(path)}"):
+        while size >= 0 and (block := os.read(file, BLOCK)):
+            size -= len(block)
+            content.update(block)
+            write_all(copy, block)
+    if size != 0 or content.hexdigest() != digest:
+        raise Fault(Status.DEVICE, f"{shown(path)} is not as it was signed")
+    return copy
+
+
 def packages_of(release: str, keys: int) -> Iterator[Signed]:
     """The packages of the indexes that an InRelease file names, as far as they are there: below its
     directory, or beside it with its name before theirs, as apt keeps them."""
@@ -116,7 +130,7 @@ def open_package(signed: Signed, directories: Sequence[str]) -> int | None:
     path = next(filter(os.path.isfile, paths), None)
     if path is None:
         return None
-    return in_memory(read_signed(path, int(signed["Size"]), signed["SHA256"]))
+    return copy_signed(path, int(signed["Size"]), signed["SHA256"])
 
 
 def tar_of(package: int, part: str) -> IO[bytes]:
