@@ -10,7 +10,7 @@ import subprocess
 from typing import Any, Dict, List
 
 from tests.commands import mail
-from tests.commands.sandbox import HERE, NOBODY, Answer, CommandTest
+from tests.commands.sandbox import NOBODY, Answer, CommandTest
 from tests.commands.signed_archive import (
     ARCHIVE,
     CONFIGURATION,
@@ -26,17 +26,12 @@ from tests.commands.signed_archive import (
     make_keys,
     upgraded,
 )
+from tests.lib.scratch import read
 from tests.oracle.database import first_fault
 
 PROGRAMS = ("gpg", "gpgv", "dpkg-deb")
 APPLIED = b"applied: 21 files\n"
 MISSING = b"tool: the file of 2, the newest"
-
-
-def read(name: str) -> str:
-    """An example that comes with the commands."""
-    with open(os.path.join(HERE, "contrib", name), encoding="utf-8") as file:
-        return file.read()
 
 
 class ArchiveTest(CommandTest):
@@ -231,10 +226,10 @@ class ArchiveTest(CommandTest):
         """The words of the daily unit and of cron's job: the night of a signed upgrade mails what
         the archive does not have, and without the archive all of it."""
         mail.take_mail(self)
-        unit = read("aide/signed.conf")
+        unit = read("contrib/aide/signed.conf")
         (line,) = re.findall("^ExecStartPre=-/usr/local/bin/aide-compare (.*)$", unit, re.M)
         (trusted,) = re.findall('^Environment="TRUSTED=(.*)"$', unit, re.M)
-        job = read("cron/aide-compare.cron.daily").replace("\\\n", "")
+        job = read("contrib/cron/aide-compare.cron.daily").replace("\\\n", "")
         job = job.replace("$directory", "/var/lib/aide-compare/daily").replace('"', "")
         for words in (line.split()[1:], trusted.split()):
             self.assertIn(" ".join(words).split("--")[-1], " ".join(job.split()), "cron's words")

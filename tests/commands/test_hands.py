@@ -7,17 +7,16 @@ import shlex
 import signal
 from typing import Any
 
+from tests.lib.scratch import read
 from tests.lib.waiting import is_alive, until
 
 from . import mail
 from . import test_standings as standings
-from .sandbox import CommandTest, HERE, NOBODY, Texts
+from .sandbox import CommandTest, NOBODY, Texts
 
 TOOL, NAGIOS = "aide-compare", "check_aide_compare"
 LONG_HEAD = b"@@begin_db\n@@db_spec name attr perm uid gid size\n"
 COUNTED = ("added", "removed", "changed", "left_out_old", "left_out_new", *standings.COUNTS)
-SYSTEMD = os.path.join(HERE, "contrib", "systemd")
-CRON = os.path.join(HERE, "contrib", "cron", "aide-compare.cron.daily")
 NIGHT = ("o.db", "n.db")
 # A program in place of the proved one, which notes whose rights it has.
 NOTES = 'case $1 in -E) echo "$(id -u) $$" >> %s;; esac\n%s\nexec %s "$@"'
@@ -25,15 +24,15 @@ NOTES = 'case $1 in -E) echo "$(id -u) $$" >> %s;; esac\n%s\nexec %s "$@"'
 
 def started(unit: str) -> list[str]:
     """The words that a unit starts, without the program. A variable that is empty is no word."""
-    with open(os.path.join(SYSTEMD, unit), encoding="ascii") as file:
-        line = next(line for line in file if line.startswith("ExecStart="))
+    lines = read(f"contrib/systemd/{unit}").splitlines()
+    line = next(line for line in lines if line.startswith("ExecStart="))
     return shlex.split(line.partition("=")[2].replace("$TRUSTED", ""))[1:]
 
 
 def started_by_cron() -> list[str]:
     """The options that cron's job gives a mail."""
-    with open(CRON, encoding="ascii") as file:
-        line = next(line for line in file if line.startswith("/usr/local/bin/aide-compare mail"))
+    lines = read("contrib/cron/aide-compare.cron.daily").splitlines()
+    line = next(line for line in lines if line.startswith("/usr/local/bin/aide-compare mail"))
     words = shlex.split(line.replace('"$@"', ""))
     return words[words.index("--max-age") :]
 

@@ -5,8 +5,9 @@ from __future__ import annotations
 import os
 import time
 
+from tests.lib.scratch import read
+
 from .mail import COUNTS, SUBJECT, MailTest, body, call, logging, sent, subject, take_mail
-from .sandbox import HERE
 
 # Not in the unit that sends mail: set-ID programs fail below filters.
 FILTERS = (
@@ -124,9 +125,7 @@ class QueueTest(MailTest):
         interpreter are no success."""
         units = {}
         for name in ("aide-compare-mail", "aide-compare"):
-            path = os.path.join(HERE, "contrib", "systemd", name + ".service")
-            with open(path, encoding="utf-8") as file:
-                units[name] = file.read().splitlines()
+            units[name] = read(f"contrib/systemd/{name}.service").splitlines()
         sending, daily = units["aide-compare-mail"], units["aide-compare"]
         self.assertFalse([line for line in sending if line.startswith(tuple(FILTERS))])
         self.assertLessEqual(set(SENDING), set(sending))

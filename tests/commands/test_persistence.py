@@ -7,13 +7,12 @@ this mode, a link with its target, other columns, another content, or a removal.
 """
 from __future__ import annotations
 
-import os
 from typing import Any, Dict, List, NamedTuple, Tuple
 
 from tests.commands import mail
 from tests.commands.made_up import Host, Night, standings_of
-from tests.commands.sandbox import CommandTest, HERE
 from tests.commands.test_nights import database_of, read_night
+from tests.lib.scratch import read
 
 ONE, EVIL = b"one\n", b"evil\n"
 NIGHT = "n3-rotate"
@@ -35,12 +34,11 @@ class Mark(NamedTuple):
 def marks() -> List[Mark]:
     found = []
     severity = form = ""
-    with open(os.path.join(HERE, "tests", "nights", "persistence.txt"), encoding="utf-8") as file:
-        for line in file.read().splitlines():
-            if line.startswith("@@ "):
-                _, severity, form = line.split(" ")
-            else:
-                found.append(Mark(line.encode(), severity, form))
+    for line in read("tests/nights/persistence.txt").splitlines():
+        if line.startswith("@@ "):
+            _, severity, form = line.split(" ")
+        else:
+            found.append(Mark(line.encode(), severity, form))
     return found
 
 
@@ -102,12 +100,10 @@ def fill(night: Night, text: str) -> None:
             night.entries[fields[0].encode()] = dict(zip(night.columns, fields))
 
 
-class PersistenceTest(CommandTest):
+class PersistenceTest(mail.MailTest):
     def setUp(self) -> None:
         super().setUp()
-        mail.take_mail(self)
-        with open(os.path.join(HERE, "contrib", "aide", "debian.without"), "rb") as file:
-            self.write("without", file.read())
+        self.write("without", read("contrib/aide/debian.without"))
 
     def body(self, wanted: List[Mark]) -> List[str]:
         """The lines of the mail of a night with these marks."""

@@ -7,7 +7,9 @@ import hashlib
 import os
 import re
 
-from .sandbox import Answer, CommandTest, END, HEAD, HERE, NOBODY, sha256
+from tests.lib.scratch import read
+
+from .sandbox import Answer, CommandTest, END, HEAD, NOBODY, sha256
 
 TOOL = "aide-compare compare --report -v"
 LOGS = b"# Logs\n\n  /var/log/**  \n/etc/*.bak\n"
@@ -248,12 +250,10 @@ class WithoutTest(CommandTest):
     def test_shipped(self) -> None:
         """The shipped file is read. What programs write each night is left out, and nothing that
         anything runs or obeys."""
-        shipped = os.path.join(HERE, "contrib", "aide", "debian.without")
         hidden, seen = (text.encode().split() for text in (HIDDEN, SEEN))
         paths = sorted(hidden + seen, key=lambda path: path.split(b"/"))
         text = files(dict.fromkeys(paths, 1))
-        with open(shipped, "rb") as file:
-            self.write("list", file.read())
+        self.write("list", read("contrib/aide/debian.without"))
         self.assertEqual(set(self.seen(text, "--exclude-from", "list")), set(seen))
 
     def test_settings(self) -> None:

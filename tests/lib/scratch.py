@@ -6,6 +6,12 @@ import tempfile
 TOP = os.path.dirname(os.path.dirname(os.path.dirname(os.path.abspath(__file__))))
 
 
+def read(name):
+    """The text of a file of this repository."""
+    with open(os.path.join(TOP, name), encoding="utf-8") as file:
+        return file.read()
+
+
 class Scratch:
     def make(self, prefix="aide-test-"):
         os.umask(0o022)  # Others have to read what root makes here, whatever umask the caller has.

@@ -5,8 +5,9 @@ import re
 import shutil
 
 from tests.lib.program_test import slow
+from tests.lib.scratch import read
 from tests.oracle.configuration import BOOL_OPTIONS, LEVELS, SET_OPTIONS
-from tests.packaging.installation import HERE, InstallTest, texts, tree
+from tests.packaging.installation import InstallTest, texts, tree
 
 BASH = "share/bash-completion/completions/aide-compare"
 ZSH = "share/zsh/site-functions/_aide-compare"
@@ -61,8 +62,8 @@ def options(trial, words):
 
 def options_of_program():
     """The program has no help; its page has its options."""
-    with open(os.path.join(HERE, "man", "aide-compare-program.8")) as file:
-        found = re.findall(r"^\.It Fl (\w)(?: Ar \w+)? , Fl -([\w-]+)", file.read(), re.M)
+    form = r"^\.It Fl (\w)(?: Ar \w+)? , Fl -([\w-]+)"
+    found = re.findall(form, read("man/aide-compare-program.8"), re.M)
     return ["-" + short for short, _ in found] + ["--" + long for _, long in found]
 
 

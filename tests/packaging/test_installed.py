@@ -10,6 +10,7 @@ import shutil
 
 from tests.lib.program_test import slow
 from tests.lib.programs import lines_program_of
+from tests.lib.scratch import read
 from tests.packaging.installation import HERE, InstallTest, texts, tree
 from tests.packaging.test_completions import HOSTS, SUBCOMMANDS
 from tests.packaging.test_install import DOCUMENTS
@@ -160,12 +161,10 @@ class InstalledTest(InstallTest):
     def test_version(self) -> None:
         """Whatever else names a version agrees with VERSION."""
         self.assertRegex(self.version, r"\A\d+\.\d+\.\d+\Z")
-        with open(os.path.join(HERE, "CHANGELOG.md")) as file:
-            self.assertIn(self.version, re.findall(r"^## (\S+)", file.read(), re.M))
+        self.assertIn(self.version, re.findall(r"^## (\S+)", read("CHANGELOG.md"), re.M))
         wanted = {f"aide-compare-{self.version}-x86_64", f"aide-compare_{self.version}-1_amd64"}
         for name in ("README.md", "docs/RECIPES.md", "docs/MONITORING.md"):
-            with open(os.path.join(HERE, name)) as file:
-                found = re.findall(r"aide-compare[_-]\d[\w.-]*?(?:-x86_64|_amd64)", file.read())
+            found = re.findall(r"aide-compare[_-]\d[\w.-]*?(?:-x86_64|_amd64)", read(name))
             self.assertLessEqual(set(found), wanted, name)
 
     def test_unproved(self) -> None:

@@ -21,10 +21,9 @@ import os
 import re
 from typing import NamedTuple
 
-from tests.lib.scratch import TOP
+from tests.lib.scratch import TOP, read
 
 RECIPES = ("docs/RECIPES.md", "docs/HOSTS.md", "docs/MONITORING.md")
-MARKDOWN = ("README.md", "examples/README.md", *RECIPES)
 MANUALS = sorted(
     os.path.relpath(path, TOP) for path in glob.glob(os.path.join(TOP, "man", "*.[1-8]"))
 )
@@ -46,11 +45,6 @@ class Block(NamedTuple):
     def values(self, word: str) -> list[str]:
         """What stands behind a word in the marks."""
         return [mark[len(word) + 1 :] for mark in self.marks if mark.startswith(word + " ")]
-
-
-def read(name: str) -> str:
-    with open(os.path.join(TOP, name), encoding="utf-8") as file:
-        return file.read()
 
 
 def plain(line: str) -> str:

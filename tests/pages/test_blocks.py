@@ -10,8 +10,8 @@ import subprocess
 import sys
 import unittest
 
-from tests.lib.scratch import TOP
-from tests.pages.blocks import MANUALS, Block, blocks_of, plain, read
+from tests.lib.scratch import TOP, read
+from tests.pages.blocks import MANUALS, Block, blocks_of, plain
 from tests.pages.machine import HOSTS, STORE, MachineTest
 
 HEAD = "@@begin_db\n@@db_spec name perm size atime inode\n"

@@ -14,13 +14,13 @@ import unittest
 from typing import Any
 
 from tests.lib.program_test import ProgramTest, ScratchTest
-from tests.lib.scratch import TOP
+from tests.lib.scratch import TOP, read
 from tests.oracle import configuration
 from tests.oracle.attributes import ATTRIBUTES, EMPTY_NAMES, GROUPS
 from tests.oracle.configuration import LEVELS, OLDER_OPTIONS, WITHOUT_EFFECT
 from tests.oracle.database import BYTE_LIMIT, COLUMN_LIMIT, LINE_LIMIT
 from tests.oracle.session import CONFIGURATION_LIMIT, CONFIGURATION_WORDS, DATABASE_WORDS
-from tests.pages.blocks import MANUALS, read
+from tests.pages.blocks import MANUALS
 
 PAGE, CONF_PAGE = read("man/aide-compare-program.8"), read("man/aide-compare.conf.5")
 # The kind of value that each option has.

@@ -9,7 +9,7 @@ import re
 import shutil
 import unittest
 
-from tests.pages.blocks import read
+from tests.lib.scratch import read
 from tests.pages.machine import HEAD, example
 from tests.pages.recipes import BEFORE, INTRUDER, NEW, OLD, RecipesTest, of_sizes, recipes
 

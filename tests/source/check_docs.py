@@ -23,6 +23,7 @@ import subprocess
 import sys
 
 from tools.lib.arguments import parser_of
+from tests.lib.scratch import read
 from tests.lib.tally import Tally
 from tests.pages.blocks import blocks_of
 from tools.source import headline_page, public_specs
@@ -52,11 +53,6 @@ class Kinds(Tally):
             if not self.kinds.get(kind):
                 self.is_so(kind, "nothing was found to check", False)
         return self.status()
-
-
-def read(name):
-    with open(os.path.join(TOP, name), encoding="utf-8") as file:
-        return file.read()
 
 
 def tracked():

@@ -7,12 +7,12 @@ the number of imports. Prints what fails and, at the end, `N passed, M failed`.
 """
 import ast
 import collections
-import os
 import sys
 
 from tools.lib.arguments import parser_of
+from tests.lib.scratch import read
 from tests.lib.tally import Tally
-from tests.source.check_docs import TOP, tracked
+from tests.source.check_docs import tracked
 
 PACKAGE = "aide_compare"
 ROOT = "commands/lib/" + PACKAGE + "/"
@@ -89,8 +89,7 @@ def main():
     found = modules()
     trees = {}
     for name, path in found.items():
-        with open(os.path.join(TOP, path), encoding="utf-8") as file:
-            trees[name] = ast.parse(file.read(), path)
+        trees[name] = ast.parse(read(path), path)
     unknown = sorted(name for name in found if layer_of(name) not in LAYERS)
     graph = {
         name: sorted(set(imports(tree, found)) - {name})

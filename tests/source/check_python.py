@@ -12,12 +12,12 @@ A checker that is not installed is said, and not counted. Prints what fails and,
 from __future__ import annotations
 
 import ast
-import os
 import shutil
 import subprocess
 from collections.abc import Iterator
 from typing import NamedTuple
 
+from tests.lib.scratch import read
 from tests.lib.tally import Tally
 from tests.source.check_docs import TOP, tracked
 from tools.lib.arguments import parser_of
@@ -60,8 +60,7 @@ def sources() -> list[Source]:
     found = []
     for name in sorted(tracked()):
         if name.startswith(COMMANDS) and name.endswith(".py") or name == FRONT:
-            with open(os.path.join(TOP, name), encoding="utf-8") as file:
-                text = file.read()
+            text = read(name)
             found.append(Source(name, text.split("\n"), ast.parse(text, name)))
     return found
 

@@ -15,6 +15,7 @@ import subprocess
 import sys
 
 from tools.lib.arguments import parser_of
+from tests.lib.scratch import read
 from tests.lib.tally import Tally
 from tests.source.check_docs import TOP, tracked
 
@@ -36,8 +37,7 @@ def scripts():
     """The files of Python, each with its text."""
     for name in sorted(tracked()):
         try:
-            with open(os.path.join(TOP, name), encoding="utf-8") as file:
-                text = file.read()
+            text = read(name)
         except (UnicodeDecodeError, OSError):
             continue
         if is_python(name, text):

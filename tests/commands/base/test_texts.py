@@ -9,6 +9,7 @@ import sys
 
 from tests.commands.base import TOP
 from tests.commands.base.calls import ModuleTest
+from tests.lib.scratch import read
 from tests.oracle.configuration import BOOL_OPTIONS, SET_OPTIONS
 
 from aide_compare import VERSION
@@ -136,8 +137,7 @@ class TextsTest(ModuleTest):
             "--max-size",
         ):
             self.fails(15, "", parser.parse, refused.split())
-        with open(os.path.join(TOP, "VERSION")) as file:
-            self.assertEqual(VERSION, file.read().strip())
+        self.assertEqual(VERSION, read("VERSION").strip())
 
     def test_state(self) -> None:
         good = state.State(
