@@ -6,7 +6,6 @@ from typing import Any, Dict, List, Tuple
 
 from tests.commands import mail
 from tests.commands.made_up import MORE_ACL, Host, Package, acl_of, time_of
-from tests.commands.sandbox import CommandTest
 from tests.commands.test_standings import NAGIOS, TOOL
 
 ONE, TWO = b"one", b"two"
@@ -81,11 +80,7 @@ def foreign(version: str, before: bytes) -> Host:
     return host
 
 
-class SilencedTest(CommandTest):
-    def setUp(self) -> None:
-        super().setUp()
-        mail.take_mail(self)
-
+class SilencedTest(mail.MailTest):
     def counts(self, host: Host) -> Dict[str, int]:
         """The counts in the state of a comparison of two nights."""
         host.write(self)

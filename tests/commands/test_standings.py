@@ -109,11 +109,7 @@ def is_mailed(sandbox: CommandTest, host: Host, *words: str) -> bool:
     return mail.sent(sandbox) is not None
 
 
-class StandingsTest(CommandTest):
-    def setUp(self) -> None:
-        super().setUp()
-        mail.take_mail(self)
-
+class StandingsTest(mail.MailTest):
     def test_places(self) -> None:
         """The brief, the state and standard error say the same; the report is what it is without
         them."""

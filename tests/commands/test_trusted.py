@@ -58,11 +58,7 @@ def put(sandbox: CommandTest, with_marks: bool = True) -> Tuple[Host, Host]:
     return host, canary
 
 
-class TrustedTest(CommandTest):
-    def setUp(self) -> None:
-        super().setUp()
-        mail.take_mail(self)
-
+class TrustedTest(mail.MailTest):
     def test_standings(self) -> None:
         """Changes that the canary has too are silent, all others are not."""
         host, _ = put(self)

@@ -5,6 +5,7 @@ import shutil
 import subprocess
 import threading
 
+from tests.lib.program_test import ProgramTest, ScratchTest
 from tests.lib.tally import run
 
 FOLDER = os.path.join(os.path.dirname(os.path.abspath(__file__)), "..", "program")
@@ -44,6 +45,19 @@ def built(name, folder):
     return None, faults or [
         "no C compiler is here, neither one of %s nor that of the toolchain" % ", ".join(NAMES)
     ]
+
+
+class PreloadTest(ScratchTest, ProgramTest):
+    """A test with one of these libraries."""
+
+    source = ""
+
+    def setUp(self) -> None:
+        super().setUp()
+        self.directory = os.fsencode(self.root)
+        self.library, faults = built(self.source, self.directory)
+        if self.library is None:
+            self.fail("\n".join(faults))
 
 
 def run_with(library, program, words, form, variable, **settings):

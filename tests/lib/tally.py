@@ -1,6 +1,5 @@
 """Running a program and counting what comes out as wanted: what all trials of the built program
 share."""
-import os
 import subprocess
 import sys
 from concurrent.futures import ThreadPoolExecutor
@@ -100,20 +99,3 @@ def side_by_side(jobs, work, items):
     with ThreadPoolExecutor(jobs) as pool:
         for result in pool.map(work, items):
             yield result
-
-
-def program_of(path):
-    """The whole path of the program that is tried."""
-    path = os.path.abspath(path)
-    if not os.access(path, os.X_OK):
-        sys.exit("%s is not an executable file" % path)
-    return path.encode()
-
-
-def lines_program_of(program):
-    """The whole path of the program of lines that goes with a program `aide`: in the folder of its
-    own crate, or beside it."""
-    folder, name = os.path.split(os.path.abspath(os.fsdecode(program)))
-    if folder.endswith("/crates/aide/out"):
-        folder = os.path.join(folder, "../../aide_lines/out")
-    return os.fsdecode(program_of(os.path.join(folder, "aide_lines" + name[len("aide") :])))

@@ -102,8 +102,7 @@ class RecipesTest(MachineTest):
 
     def put_host(self, name: str, text: str | bytes, baseline: str | None) -> None:
         """What a host sends, and its baseline."""
-        data = text if isinstance(text, bytes) else text.encode()
-        self.write(f"/remote/{name}/aide.db.new", data)
+        self.write(f"/remote/{name}/aide.db.new", text)
         if baseline is not None:
             self.write(f"/var/lib/aide-compare/hosts/{name}/aide.db", baseline, 0o600)
 

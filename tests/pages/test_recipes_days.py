@@ -11,6 +11,7 @@ import re
 import time
 
 from tests.lib.program_test import slow
+from tests.lib.scratch import Scratch
 from tests.pages.machine import BASELINE, NEWEST, NOBODY, STATE, STORE, example
 from tests.pages.recipes import INTRUDER, NEW, NIGHT, STORED, Day, RecipesTest, begin, no_comparison
 
@@ -27,6 +28,8 @@ def of_texts(texts: dict[str, str]) -> str:
 
 @slow
 class DaysTest(RecipesTest):
+    contents = Scratch.read  # The bytes of a file.
+
     def test_days(self) -> None:
         begin(self)
         Day(self, None).ask_all()
@@ -69,10 +72,6 @@ class DaysTest(RecipesTest):
         self.assertEqual(wrong[0], 24, wrong)
         digest = self.digest_of_state(STORE + "/states/www")
         self.assertEqual(self.shell(f"DIGEST={digest}; {self.text('accept host')}")[0], 0)
-
-    def contents(self, name: str) -> bytes:
-        with open(self.path(name), "rb") as file:
-            return file.read()
 
     def is_private(self) -> None:
         """Nobody else can read a database or what was compared; everyone may read the state."""

@@ -23,17 +23,15 @@ The library is built by a C compiler of the machine or by that of the toolchain;
 test fails.
 """
 import os
-import shutil
 import struct
-import tempfile
 from collections import Counter, namedtuple
 
-from tests.lib.program_test import ProgramTest, new_seed, slow
+from tests.lib.program_test import new_seed, slow
 from tests.lib.scratch import TOP
 from tests.program import cases, refusal_rows
 from tests.program.configurations import refused as refused_configurations
 from tests.oracle.session import NO_MEMORY, USAGE, Answer, refused
-from tests.lib.preload import built, run_with
+from tests.lib.preload import PreloadTest, run_with
 from tests.program.random_sessions import make_session, make_session_beside
 from tests.program.real_files.test_examples import LEVELS, folders_of_aide, words_at
 from tests.program.real_files.folder import NEW, OLD, SKIPPING, names
@@ -323,15 +321,8 @@ def try_in_memory(refuser, stored, jobs, tally):
 
 
 @slow
-class FailedAllocationsTest(ProgramTest):
-    def setUp(self) -> None:
-        super().setUp()
-        directory = tempfile.mkdtemp(prefix="aide-failed-allocations-")
-        self.addCleanup(shutil.rmtree, directory, True)
-        self.directory = os.fsencode(directory)
-        self.library, faults = built("fail_allocation.c", self.directory)
-        if self.library is None:
-            self.fail("\n".join(faults))
+class FailedAllocationsTest(PreloadTest):
+    source = "fail_allocation.c"
 
     def test_report(self) -> None:
         known = list(sessions(self.directory, new_seed(), SESSIONS))

@@ -12,14 +12,12 @@ The library is built by a C compiler of the machine or by that of the toolchain;
 test fails.
 """
 import os
-import shutil
 import struct
-import tempfile
 from collections import Counter, namedtuple
 
-from tests.lib.program_test import ProgramTest, slow
+from tests.lib.program_test import slow
 from tests.oracle.session import BAD_DEVICE, Answer, refused
-from tests.lib.preload import built, run_with
+from tests.lib.preload import PreloadTest, run_with
 from tests.program.real_files.folder import NEW, OLD, SKIPPING, Folder, names
 from tests.lib.tally import difference, side_by_side, wanted, wanted_lines
 
@@ -240,15 +238,8 @@ def try_calls(stumbler, top, jobs, tally):
 
 
 @slow
-class FailedCallsTest(ProgramTest):
-    def setUp(self) -> None:
-        super().setUp()
-        directory = tempfile.mkdtemp(prefix="aide-failed-calls-")
-        self.addCleanup(shutil.rmtree, directory, True)
-        self.directory = os.fsencode(directory)
-        self.library, faults = built("fail_call.c", self.directory)
-        if self.library is None:
-            self.fail("\n".join(faults))
+class FailedCallsTest(PreloadTest):
+    source = "fail_call.c"
 
     def test_report(self) -> None:
         try_calls(

@@ -39,6 +39,7 @@ FOUR = [
     HEAD + b"/a 100644 3 %s\n/b 100644 3 %s\n@@end_db\n" % DIGESTS,
     HEAD + b"/c 100644 4 %s\n@@end_db\n" % DIGESTS[1],
 ]
+REFUSED = Answer(b"", USAGE_LINE + b"\n", 15)
 RUNS = 60
 VALIDATOR = Validator(schema_of_lines())
 
@@ -155,10 +156,8 @@ class TrustedTest(LinesProgramTest):
         """Each way to name a pair, and to name less or more than one."""
         with Folder() as folder:
             folder_of(folder, FOUR)
-            old, new = [b"--trusted-old", folder.at("trusted_old")], [
-                b"--trusted-new",
-                folder.at("trusted_new"),
-            ]
+            old = [b"--trusted-old", folder.at("trusted_old")]
+            new = [b"--trusted-new", folder.at("trusted_new")]
             compared = folder.words()
             for label, words, status in (
                 ("a pair", compared + old + new, 7),
@@ -188,9 +187,7 @@ class TrustedTest(LinesProgramTest):
             ):
                 self.ends(label, words, status)
                 if status == 15:
-                    self.check(
-                        label, run(self.lines_program, words), Answer(b"", USAGE_LINE + b"\n", 15)
-                    )
+                    self.check(label, run(self.lines_program, words), REFUSED)
 
     def test_refused(self) -> None:
         """The program of the report refuses both options."""
@@ -201,11 +198,7 @@ class TrustedTest(LinesProgramTest):
                 folder.words_beside()[:5],
                 [b"-D"] + folder.words_beside()[1:],
             ):
-                self.check(
-                    "a report beside a pair",
-                    run(self.program, words),
-                    Answer(b"", USAGE_LINE + b"\n", 15),
-                )
+                self.check("a report beside a pair", run(self.program, words), REFUSED)
 
     def four(self, four):
         with Folder() as folder:
@@ -233,15 +226,10 @@ class TrustedTest(LinesProgramTest):
             first = [at for at in range(4) if faulty >> at & 1][0]
             with Folder() as folder:
                 folder_of(folder, four)
-                want = Answer(
-                    b"",
-                    b"aide: %s database:%d: no @@end_db\n"
-                    % (NAMES[first], four[first].count(b"\n") + 1),
-                    24,
-                )
-                self.check(
-                    "faults %s" % bin(faulty), run(self.lines_program, folder.words_beside()), want
-                )
+                place = NAMES[first], four[first].count(b"\n") + 1
+                want = Answer(b"", b"aide: %s database:%d: no @@end_db\n" % place, 24)
+                answer = run(self.lines_program, folder.words_beside())
+                self.check("faults %s" % bin(faulty), answer, want)
                 self.ends("faults %s, by the definitions" % bin(faulty), folder.words_beside(), 24)
                 for at in range(4):
                     if faulty >> at & 1:

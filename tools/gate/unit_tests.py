@@ -16,7 +16,7 @@ from tests.lib import signals
 from tests.lib.programs import VARIABLE
 from tests.lib.scratch import TOP
 from tests.lib.tally import side_by_side
-from tools.lib.arguments import executable, parser_of
+from tools.lib.arguments import add_program, parser_of
 
 # What a machine may lack. A test that is skipped for another reason has failed.
 EXPECTED = re.compile(
@@ -86,12 +86,7 @@ def judged(module: str, status: int, text: str) -> tuple[int, int]:
 
 def main() -> int:
     parser = parser_of("tools.gate.unit_tests", __doc__)
-    parser.add_argument(
-        "program",
-        metavar="PROGRAM",
-        type=executable,
-        help="the built program, crates/aide/out/aide",
-    )
+    add_program(parser)
     parser.add_argument(
         "modules",
         metavar="MODULE",

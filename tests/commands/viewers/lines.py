@@ -7,7 +7,7 @@ import os
 import subprocess
 from typing import Any
 
-from tests.lib.tally import lines_program_of
+from tests.lib.programs import lines_program_of
 
 from aide_compare.lines.reader import Reader
 from aide_compare.show.added import added_lines
@@ -30,7 +30,7 @@ def run(words: list[str], text: bytes = b"", **more: Any) -> tuple[int, bytes, b
 
 def proved_lines(program: bytes, configuration: str) -> bytes:
     """The lines that aide_lines, which is beside a program, writes."""
-    words = [lines_program_of(program), "-E", "-c", "/dev/null", "-A", configuration]
+    words = [lines_program_of(os.fsdecode(program)), "-E", "-c", "/dev/null", "-A", configuration]
     return subprocess.run(words, check=False, capture_output=True).stdout
 
 
