@@ -264,13 +264,11 @@ class TrustedTest(LinesProgramTest):
                         answer, _ = fed_four(self, folder, texts)
                         line = b"aide: the %s database changed while it was read\n" % name
                         is_told = (answer.errors, answer.status) == (line, 18)
-                        is_cut = whole.output.startswith(answer.output) and len(
-                            answer.output
-                        ) < len(whole.output)
+                        is_short = len(answer.output) < len(whole.output)
+                        is_cut = is_short and whole.output.startswith(answer.output)
                         is_right = is_told and is_cut if other != text else answer == whole
-                        self.holds(
-                            "%s, the %s one changes" % (label, name.decode()), is_right, answer
-                        )
+                        what = "%s, the %s one changes" % (label, name.decode())
+                        self.holds(what, is_right, answer)
 
     @slow
     def test_replaced(self) -> None:
@@ -288,19 +286,14 @@ class TrustedTest(LinesProgramTest):
         """Trusted databases with lines of the greatest length, and one byte longer."""
         for at in (2, 3):
             for more, status in ((0, 7), (1, 24)):
-                path = (
-                    b"/" + b"z" * (LINE_LIMIT - 1 - len(b" 100644 1 0") + more) + b" 100644 1 0\n"
-                )
-                four = (
-                    FOUR[:at] + [FOUR[at].replace(b"@@end_db", path + b"@@end_db")] + FOUR[at + 1 :]
-                )
+                fields = b" 100644 1 0\n"
+                line = b"/".ljust(LINE_LIMIT + more - len(fields) + 1, b"z") + fields
+                four = list(FOUR)
+                four[at] = four[at].replace(b"@@end_db", line + b"@@end_db")
                 with Folder() as folder:
                     folder_of(folder, four)
-                    self.ends(
-                        "a line of %d bytes, %s" % (len(path) - 1, FILES[at]),
-                        folder.words_beside(),
-                        status,
-                    )
+                    label = "a line of %d bytes, %s" % (len(line) - 1, FILES[at])
+                    self.ends(label, folder.words_beside(), status)
 
     def test_outputs(self) -> None:
         with Folder() as folder:
