@@ -72,15 +72,8 @@ class Tally:
 
     def holds(self, label, good, got=""):
         """Counts a condition; `got` is what is printed if it does not hold."""
-        self.add(
-            label,
-            []
-            if good
-            else [
-                "does not hold%s"
-                % (" " + (got if isinstance(got, str) else repr(got)))[:2000].rstrip()
-            ],
-        )
+        text = got if isinstance(got, str) else repr(got)
+        self.add(label, [] if good else [f"does not hold {text[:2000]}".rstrip()])
 
     def status(self):
         """Prints the last line, and returns the status of the process. A run in which nothing was

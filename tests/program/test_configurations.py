@@ -201,9 +201,7 @@ class ConfigurationsTest(ConfigurationTest):
                     self.agree(shown(text), words, answer)
                     shown_of.append(detail_names(answer))
                 got = shown_of[0] & shown_of[1]
-                self.add(
-                    shown(text), [] if got == set(names_shown) else ["forced are %r" % sorted(got)]
-                )
+                self.holds(shown(text), got == set(names_shown), sorted(got))
 
     def test_levels(self) -> None:
         """Whether a report of each level has lists and details."""
@@ -215,10 +213,7 @@ class ConfigurationsTest(ConfigurationTest):
                 b"\nf < p             : /c\n" in answer.output,
                 b"\nDetailed information" in answer.output,
             )
-            self.add(
-                shown(level),
-                [] if got == (has_lists, has_details) else ["lists and details: %r" % (got,)],
-            )
+            self.holds(shown(level), got == (has_lists, has_details), got)
             self.agree(shown(level), words, answer)
 
     def test_paths(self) -> None:

@@ -282,11 +282,8 @@ def faults_in_memory(alone, onwards, free):
     faults = []
     if is_felt and not refused_call(alone):
         faults.append("no call told of it: %r" % alone.answer.errors)
-    faults += (
-        []
-        if alone.own == 1 and not alone.others
-        else ["%d refused, %d of others" % (alone.own, alone.others)]
-    )
+    if alone.own != 1 or alone.others:
+        faults.append("%d refused, %d of others" % (alone.own, alone.others))
     faults += difference(alone.answer, free.answer._replace(errors=alone.answer.errors))
     is_told = refused_call(onwards if not is_felt else alone)
     if is_felt and onwards.answer.errors != alone.answer.errors:

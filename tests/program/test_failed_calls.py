@@ -208,10 +208,8 @@ def try_session(stumbler, label, words, files, jobs, tally):
     sides = len(files) - 1
     known = 1 + sides * min(OPENINGS.get(label, 0), stumbler.most_openings)
     is_right = most <= sides and left == 0 and (label not in OPENINGS or openings == known)
-    tally.add(
-        label + ", openings",
-        [] if is_right else ["%d, %d at a time, %d left" % (openings, most, left)],
-    )
+    counted = "%d, %d at a time, %d left" % (openings, most, left)
+    tally.holds(label + ", openings", is_right, counted)
     session, counts = Session(words, whole, calls, files), Counter(call.kind for call in calls)
     tasks = [
         (kind, number, way)
@@ -231,10 +229,7 @@ def try_calls(stumbler, top, jobs, tally):
     counts = Counter()
     for label, words, files in stumbler.sessions(top):
         counts.update(try_session(stumbler, label, words, files, jobs, tally))
-    tally.add(
-        "calls of each kind",
-        [] if all(counts[kind] > 1 for kind in KINDS) else ["are %r" % (counts,)],
-    )
+    tally.holds("calls of each kind", all(counts[kind] > 1 for kind in KINDS), counts)
 
 
 @slow

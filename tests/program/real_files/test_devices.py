@@ -118,16 +118,11 @@ class DevicesTest(ProgramTest):
                 is_whole = b"".join(parts) == folder.wanted().errors and all(
                     part.endswith(b"\n") for part in parts
                 )
-                self.add(
-                    "writes of whole lines, " + label, [] if is_whole else ["wrote %r" % parts]
-                )
+                self.holds("writes of whole lines, " + label, is_whole, parts)
             folder.pair(OLD, names(20000))
             parts, want = written(folder, self.program, "stdout"), folder.wanted().output
             is_good = b"".join(parts) == want and len(parts) < len(want) / LEAST_PAGE
-            self.add(
-                "writes of pages",
-                [] if is_good else ["wrote %d parts of %d bytes" % (len(parts), len(want))],
-            )
+            self.holds("writes of pages", is_good, (len(parts), len(want)))
 
     def test_files(self) -> None:
         """Databases exchanged, missing, a folder, a device, the same file twice."""

@@ -65,15 +65,9 @@ def counted(output):
 class ExamplesTest(ProgramTest):
     def test_made_by_hand(self) -> None:
         answer = run(self.program, words_for(EXAMPLES))
-        faults = (
-            []
-            if (answer.output, answer.errors, answer.status) == (HEAD, b"", 7)
-            else ["gave %r" % (answer,)]
-        )
-        self.add("examples", faults)
-        self.check(
-            "examples, checked", run(self.program, [b"-D"] + words_for(EXAMPLES)[1:]), (b"", b"", 0)
-        )
+        self.check("examples", answer, (HEAD, b"", 7))
+        answer = run(self.program, [b"-D"] + words_for(EXAMPLES)[1:])
+        self.check("examples, checked", answer, (b"", b"", 0))
 
     def test_written_by_aide(self) -> None:
         """Databases that AIDE has written: its counts and status, nothing skipped, and the
@@ -83,17 +77,9 @@ class ExamplesTest(ProgramTest):
             label = "examples/" + os.path.basename(folder)
             status, counts = told_by_aide(folder)
             answer = run(self.program, words_for(folder))
-            known, given = (status, counts, b""), (
-                answer.status,
-                counted(answer.output),
-                answer.errors,
-            )
-            self.add(
-                label,
-                []
-                if given == known
-                else ["wanted status, counts and errors %r, has %r" % (known, given)],
-            )
+            given = (answer.status, counted(answer.output), answer.errors)
+            with self.subTest(label):
+                self.assertEqual(given, (status, counts, b""))
             for options in (
                 "report_level=%s\nreport_grouped=%s" % (level, yes)
                 for level in LEVELS

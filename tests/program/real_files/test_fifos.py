@@ -114,13 +114,8 @@ class FifosTest(ProgramTest):
                 want = folder.wanted()
                 answer, openings = fed_pair(self.program, folder, [old], [new])
                 self.check("databases through FIFOs", answer, want)
-                label = "openings of databases"
-                self.add(
-                    label,
-                    []
-                    if openings == wanted
-                    else ["%r: wanted %r, are %r" % (options, wanted, openings)],
-                )
+                is_right = openings == wanted
+                self.holds("openings of databases", is_right, (options, wanted, openings))
 
     def test_changes(self) -> None:
         """A database that is another one, cut or damaged, from its second or a later opening on."""

@@ -123,12 +123,9 @@ class OutsideTest(ProgramTest):
         fine = kinds_by_limit(self.program, range(born - COARSE, works + COARSE, PAGE))
         for kinds in (coarse, fine):
             for most, kind in sorted(kinds.items()):
-                self.add("little memory", [] if kind in KINDS else ["%d kB gave %s" % (most, kind)])
+                self.holds("little memory", kind in KINDS, "%d kB gave %s" % (most, kind))
         seen = set(KINDS) & set(fine.values())
-        self.add(
-            "little memory, all answers",
-            [] if len(seen) == len(KINDS) else ["saw only %r" % (seen,)],
-        )
+        self.holds("little memory, all answers", len(seen) == len(KINDS), seen)
 
     def test_descriptors(self) -> None:
         """So few descriptors that not both databases can be open: of four, three are taken."""
