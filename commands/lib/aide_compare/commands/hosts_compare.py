@@ -25,7 +25,7 @@ from aide_compare.compare.unpack import Copy
 from aide_compare.hosts.canary import failed_note, keep_note, trusted_pair, used_note
 from aide_compare.hosts.fetching import fetch
 from aide_compare.hosts.host_comparison import MAX_JUDGED, MAX_KEPT, Settings, compare
-from aide_compare.hosts.hosts_read import differs, hosts_of, read_host
+from aide_compare.hosts.hosts_read import hosts_of, read_host
 from aide_compare.hosts.hosts_text import WHY, not_listed
 from aide_compare.hosts.store import (
     ERRORS,
@@ -230,10 +230,10 @@ def print_changes(name: str, store: str, seconds: int) -> None:
     host = read_host(name, store, seconds, 0, show)
     with closed_after(open_regular(f"{store}/hosts/{name}/{ERRORS}")) as errors:
         copy_file(errors, 2)
-    if differs(host):
-        if host["report"] in WHY:
+    if host.differs:
+        if host.report in WHY:
             say(not_listed(host))
-        say(f"to accept it: aide-compare hosts accept --sha256 {host['new_sha256']} {name}")
+        say(f"to accept it: aide-compare hosts accept --sha256 {host.new_sha256} {name}")
 
 
 def share(text: str) -> tuple[int, int]:

@@ -17,12 +17,11 @@ from aide_compare.base.parser import Parser, add_option
 from aide_compare.base.paths import Pattern
 from aide_compare.base.program import FRONT, find_installed
 from aide_compare.hosts.canary import notes_in
-from aide_compare.hosts.findings import GROUPS
-from aide_compare.hosts.host_changes import SameChanges
+from aide_compare.hosts.host_changes import Found, SameChanges
 from aide_compare.hosts.hosts_page import page
-from aide_compare.hosts.hosts_read import CUT, UNREADABLE, differs, hosts_of, is_silent, read_host
-from aide_compare.hosts.hosts_text import Change, Report, headline, report_lines, short_lines
-from aide_compare.hosts.shares import rank_of
+from aide_compare.hosts.hosts_read import hosts_of, read_host
+from aide_compare.hosts.hosts_text import Report, headline, report_lines, short_lines
+from aide_compare.hosts.reported import CUT, UNREADABLE, Host, SharedChange, Summary
 from aide_compare.hosts.store import HOSTS_FILE, SECONDS, STORE, share_of
 from aide_compare.lines.change import Fields, bytes_of
 from aide_compare.lines.reader import ENCODE
@@ -31,7 +30,6 @@ from aide_compare.mail.sending import alert, deliver, way_out
 from aide_compare.show.told import severity_in_colour
 
 NAME = "aide-compare hosts report"
-FORMAT = 3
 GREATEST = 10**12
 # The page that a mail may have. It leaves out what has no room, and says how much.
 MAX_MAILED_PAGE = 500000
@@ -99,9 +97,8 @@ def is_wanted(fields: Fields, patterns: Sequence[Pattern]) -> bool:
     return any(wanted.matches(pieces) for wanted in patterns)
 
 
-def read_hosts(names: Sequence[str], request: ReportRequest) -> tuple[list[Fields], SameChanges]:
-    """The objects of all hosts, which are read one after the other, and the changes that are asked
-    for."""
+def read_hosts(names: Sequence[str], request: ReportRequest) -> tuple[list[Host], SameChanges]:
+    """All hosts, which are read one after the other, and the changes that are asked for."""
     changes = SameChanges()
     hosts = []
     for number, name in enumerate(names):
@@ -115,23 +112,22 @@ def read_hosts(names: Sequence[str], request: ReportRequest) -> tuple[list[Field
     return hosts, changes
 
 
-def sort_key(fields: Fields, order: str, by_severity: bool) -> bytes:
+def sort_key(found: Found, order: str, by_severity: bool) -> bytes:
     """What a change is sorted by: of each severity those of root come first. Those with one key
     stay in the order of paths."""
     rank = 0
     if by_severity:
-        rank = rank_of(fields.get("severity", "")) * GROUPS + fields["owners"]
+        rank = found.rank
     place = 0
     if order == "rare":
-        place = fields["hosts"]
+        place = found.hosts
     elif order == "common":
-        place = GREATEST - fields["hosts"]
+        place = GREATEST - found.hosts
     return b"%d%012d" % (rank, place)
 
 
 class HostsReport:
-    """The report: the summary, the objects of the hosts, and those of the changes in a private
-    file.
+    """The report: the summary, the hosts, and the objects of the changes in a private file.
 
     In that file each change has a line: the numbers of the hosts that may pay for it, a tab, and
     its object.
@@ -142,57 +138,50 @@ class HostsReport:
         self.command = command_text(command_words(request))
         self.body = private_file()
         by_severity = request.format != "json" or request.order != "path"
-        changes = same_changes.objects(names, request.max_hosts)
+        changes = same_changes.found(names, request.max_hosts)
         count = self._sort(changes, request.order, by_severity)
-        self.worst = max(int(host["status"]) for host in self.hosts)
+        self.worst = max(host.status for host in self.hosts)
         # Silent differences are no reason for a mail.
-        self.is_alarm = any(differs(host) or host["status"] > 7 for host in self.hosts)
-        differ = [host for host in self.hosts if differs(host)]
-        self.summary: Fields = {
-            "record": "summary",
-            "format": FORMAT,
-            "hosts": len(names),
-            "unchanged": sum(host["status"] == 0 for host in self.hosts),
-            "differ": len(differ),
-            "silent": sum(map(is_silent, self.hosts)),
-            "not_compared": sum(host["status"] > 7 for host in self.hosts),
-            "cut": sum(host["report"] == CUT for host in differ),
-            "not_listed": sum(host["report"] == UNREADABLE for host in differ),
-            "changes": count,
-            "order": request.order,
-            "lines": 1 + len(names) + count,
-        }
-        notes = notes_in(request.stores)
-        if notes:
-            self.summary["canary"] = notes
+        self.is_alarm = any(host.differs or host.status > 7 for host in self.hosts)
+        self.summary = Summary(
+            hosts=len(names),
+            unchanged=sum(host.status == 0 for host in self.hosts),
+            differ=sum(host.differs for host in self.hosts),
+            silent=sum(host.is_silent for host in self.hosts),
+            not_compared=sum(host.status > 7 for host in self.hosts),
+            cut=sum(host.report == CUT for host in self.hosts),
+            not_listed=sum(host.report == UNREADABLE for host in self.hosts),
+            changes=count,
+            order=request.order,
+            canary=notes_in(request.stores),
+        )
 
-    def _sort(self, changes: Iterator[Change], order: str, by_severity: bool) -> int:
+    def _sort(self, changes: Iterator[Found], order: str, by_severity: bool) -> int:
         """Writes the changes in an order, and within it in that of paths. Returns how many."""
         sorter = LineSorter()
         count = 0
-        for fields, payers in changes:
-            key = sort_key(fields, order, by_severity)
-            del fields["owners"]
-            numbers = ",".join(map(str, payers)).encode()
-            sorter.put(b"%s\t%s\t%s\n" % (key, numbers, ENCODE(fields).encode()))
+        for found in changes:
+            key = sort_key(found, order, by_severity)
+            numbers = ",".join(map(str, found.payers)).encode()
+            sorter.put(b"%s\t%s\t%s\n" % (key, numbers, ENCODE(found.fields).encode()))
             count += 1
         for line in sorter.lines():
             self.body.write(line.partition(b"\t")[2])
         self.body.flush()
         return count
 
-    def changes(self) -> Iterator[Change]:
+    def changes(self) -> Iterator[SharedChange]:
         self.body.seek(0)
         for line in self.body:
             numbers, _, text = line.partition(b"\t")
-            yield json.loads(text), [int(number) for number in numbers.split(b",")]
+            yield SharedChange(json.loads(text), [int(number) for number in numbers.split(b",")])
 
     def report(self) -> Report:
         return Report(self.summary, self.hosts, self.changes, self.command)
 
     def json(self) -> Iterator[bytes]:
         """Yields the lines of JSON."""
-        for fields in [self.summary, *self.hosts]:
+        for fields in (self.summary.fields(), *(host.fields() for host in self.hosts)):
             yield ENCODE(fields).encode() + b"\n"
         self.body.seek(0)
         for line in self.body:

@@ -15,8 +15,9 @@ from aide_compare.base.words import TRUSTED_SIDES
 from aide_compare.compare.state import State, read_state
 from aide_compare.compare.unpack import Copy, copy_database
 from aide_compare.hosts.host_comparison import MAX_BASELINE
-from aide_compare.hosts.hosts_read import WHOLE, changes_of, differs, host_of
-from aide_compare.hosts.store import BASELINE, LINES, NEW, HostDirectory
+from aide_compare.hosts.hosts_read import KeptChanges, host_of
+from aide_compare.hosts.reported import WHOLE
+from aide_compare.hosts.store import BASELINE, NEW, HostDirectory
 
 # A line in the store for the reports that follow.
 NOTE = "canary"
@@ -27,10 +28,11 @@ def refuse_cut(directory: HostDirectory, state: State) -> None:
     """A Fault if not all changes of the canary are kept: what is missing there would be told
     nowhere."""
     host = host_of(directory.host, state.status, state.error, state)
-    if not differs(host):
+    if not host.differs:
         return
-    listed = sum(1 for _ in changes_of(host, directory.file(LINES)))
-    if host["report"] != WHOLE:
+    kept = KeptChanges(directory, host)
+    listed = sum(1 for _ in kept)
+    if kept.report != WHOLE:
         raise directory.fault(f"only {listed} of its changes are listed, so it says too little")
 
 

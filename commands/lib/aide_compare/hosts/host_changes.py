@@ -16,6 +16,8 @@ from typing import NamedTuple
 from aide_compare.base.line_sorter import LineSorter
 from aide_compare.base.paths import key_of
 from aide_compare.base.words import SIDES
+from aide_compare.hosts.findings import GROUPS
+from aide_compare.hosts.shares import rank_of
 from aide_compare.lines.attributes import FORMS
 from aide_compare.lines.change import Fields, bytes_of
 from aide_compare.lines.reader import ENCODE
@@ -39,6 +41,15 @@ def label_of(name: str) -> str:
 def without(side: Fields, labels: Iterable[str]) -> Fields:
     """A side without the values of some attributes."""
     return {name: value for name, value in side.items() if label_of(name) not in labels}
+
+
+class Found(NamedTuple):
+    """The same change on some hosts."""
+
+    fields: Fields  # Its object in the report.
+    rank: int  # Of each severity the changes of root have the least.
+    hosts: int  # How many have it.
+    payers: Sequence[int]  # The numbers of those that have the fewest changes.
 
 
 class SameChanges:
@@ -84,17 +95,19 @@ class SameChanges:
             self.seen.add(mark)
         return str(ENCODE(fields)).encode()
 
-    def objects(self, names: Sequence[str], max_names: int) -> Iterator[tuple[Fields, list[int]]]:
-        """Yields the objects of all changes in the order of their paths, each with at most so many
-        of the names of its hosts, and the numbers of those of its hosts that have the fewest
-        changes."""
+    def found(self, names: Sequence[str], max_names: int) -> Iterator[Found]:
+        """Yields all changes in the order of their paths, each with at most so many of the names of
+        its hosts."""
         for _, lines in groupby(self.sorter.lines(), lambda line: line[: line.index(b"\t")]):
             change = merged(lines)
             hosts = change.hosts
-            change.fields["hosts"] = len(hosts)
-            change.fields["names"] = [names[host] for host in hosts[:max_names]]
+            fields = change.fields
+            owners: int = fields.pop("owners")
+            rank = rank_of(fields.get("severity", "")) * GROUPS + owners
+            fields["hosts"] = len(hosts)
+            fields["names"] = [names[host] for host in hosts[:max_names]]
             payers = heapq.nsmallest(MAX_PAYERS, hosts, key=lambda host: self.counts[host])
-            yield change.fields, payers
+            yield Found(fields, rank, len(hosts), payers)
 
 
 class Merged(NamedTuple):

@@ -8,9 +8,8 @@ from typing import Iterator, Sequence
 from aide_compare.base.escapes import shown_note
 from aide_compare.base.files import private_file
 from aide_compare.hosts.hosts_text import ORDERS, Report, canary_lines, headline, host_lists
-from aide_compare.hosts.hosts_text import names_of
+from aide_compare.hosts.reported import SharedChange
 from aide_compare.hosts.shares import Selection
-from aide_compare.lines.change import Fields, change_of
 from aide_compare.show.page_heading import MAX_PAGE, RESERVE, Beginning, CountRow
 from aide_compare.show.page_heading import counts_line, number
 from aide_compare.show.page_items import encoded, entry_of, head_of, item, table
@@ -18,8 +17,6 @@ from aide_compare.show.page_items import encoded, entry_of, head_of, item, table
 MAX_LIST = 1500000  # Of each list of hosts.
 MAX_CAUSE = 1000
 MAX_COMMAND = 4000
-# The counts of a page, and where the summary has them.
-COUNTS = (("hosts", "hosts"), ("differ", "differ"), ("not compared", "not_compared"))
 
 
 def host_list(title: str, lines: Sequence[str]) -> str:
@@ -55,39 +52,44 @@ def head(report: Report, left_out: int, high: int) -> bytes:
     for title, lines in host_lists(report.hosts).items():
         remarks += host_list(title, lines)
     outcome = "No changes are listed"
-    if summary["changes"]:
-        outcome = f"{number(summary['changes'])} different changes, {ORDERS[summary['order']]}"
+    if summary.changes:
+        outcome = f"{number(summary.changes)} different changes, {ORDERS[summary.order]}"
     title = headline(summary)
+    rows = (
+        CountRow("hosts", summary.hosts),
+        CountRow("differ", summary.differ),
+        CountRow("not compared", summary.not_compared),
+    )
     return Beginning(
         title=title,
         heading=escape(title),
         outcome=f'<p class="outcome">{outcome}</p>\n',
-        counts=counts_line(CountRow(word, summary[key]) for word, key in COUNTS),
+        counts=counts_line(rows),
         remarks=remarks,
     ).encoded()
 
 
-def item_of(fields: Fields, hosts: int) -> bytes:
+def item_of(shared: SharedChange, hosts: int) -> bytes:
     """A change. Its kind, its path and its hosts are seen at once, its values on demand."""
-    entry = entry_of(change_of(fields), fields.get("old_various", ()))
-    where = f"on {number(fields['hosts'])} of {number(hosts)} hosts: {names_of(fields)}"
+    entry = entry_of(shared.change, shared.various)
+    where = f"on {number(shared.hosts)} of {number(hosts)} hosts: {shared.names_text()}"
     inner = table(entry)
-    if fields.get("per_host"):
-        inner += f'<p class="hint">Of each host: {escape(", ".join(fields["per_host"]))}</p>'
+    if shared.per_host:
+        inner += f'<p class="hint">Of each host: {escape(", ".join(shared.per_host))}</p>'
     return item(encoded(head_of(entry, where)), encoded(inner))
 
 
 def page(report: Report, limit: int = 0) -> Iterator[bytes]:
     """Yields the page, of at most so many bytes. The most severe changes have room first."""
-    count = report.summary["changes"]
+    count = report.summary.changes
     limit = limit or MAX_PAGE
     room = max(limit - len(head(report, count, count)) - RESERVE, 0)
-    selection = Selection(room, report.summary["differ"])
+    selection = Selection(room, report.summary.differ)
     items = private_file()
     ends = [0]
-    for fields, payers in report.changes():
-        text = item_of(fields, report.summary["hosts"])
-        selection.offer(fields.get("severity", ""), payers, len(text))
+    for shared in report.changes():
+        text = item_of(shared, report.summary.hosts)
+        selection.offer(shared.severity, shared.payers, len(text))
         items.write(text)
         ends.append(ends[-1] + len(text))
     yield head(report, sum(selection.left_out.values()), selection.left_out["high"])

@@ -1,8 +1,5 @@
 """The hosts of a file, and what the store knows of each: its state, and the changes in the lines
-that were kept of it.
-
-A host is an object as the report in JSON has it.
-"""
+that were kept of it."""
 from __future__ import annotations
 
 import errno
@@ -14,18 +11,16 @@ from aide_compare.base.ending import Fault, Status, reason
 from aide_compare.base.escapes import shown
 from aide_compare.base.files import open_regular, read_file, read_whole
 from aide_compare.base.directories import closed_after
-from aide_compare.base.words import KINDS, SEVERITIES, age_in_words, date_of
+from aide_compare.base.words import SEVERITIES, age_in_words, date_of
 from aide_compare.compare.state import State, read_state
 from aide_compare.hosts.findings import Findings
+from aide_compare.hosts.reported import CUT, UNREADABLE, WHOLE, Host
 from aide_compare.hosts.store import LINES, HostDirectory, check_name
 from aide_compare.lines.change import Fields
 from aide_compare.lines.reader import Refused
 
 MEMBERS = frozenset("kind path path_hex summary type old new severity owners".split())
 MAX_LIST = 16 << 20
-WHOLE = "whole"
-CUT = "cut"
-UNREADABLE = "unreadable"
 # What a disk says of a place that is damaged, and a file system of the network of a file that is
 # gone there.
 DAMAGED = (errno.EIO, errno.EBADMSG, errno.EUCLEAN, errno.ESTALE)
@@ -45,36 +40,23 @@ def hosts_of(path: str) -> list[str]:
     return names
 
 
-def host_of(name: str, status: int, error: str, state: State | None = None) -> Fields:
-    """The object of a host: its status, and why it was not compared or what its state says, if
-    there is one."""
-    host: Fields = {"record": "host", "host": shown(name, 200), "status": int(status)}
+def host_of(name: str, status: int, error: str, state: State | None = None) -> Host:
+    """A host with its status, and why it was not compared or what its state says, if there is
+    one."""
+    host = Host(shown(name, 200), int(status))
     if state:
-        host["time"] = date_of(state.time)
+        host = host._replace(date=date_of(state.time))
     if status > 7:
-        host["error"] = error.removeprefix(f"{name}: ")
-        return host
+        return host._replace(error=error.removeprefix(f"{name}: "))
     assert state is not None  # A host is compared only where a state says so.
-    host.update(zip(KINDS, state.counts or (None, None, None)))
-    host["new_sha256"] = state.new_sha256
-    host.update(told=None, high=None)
+    host = host._replace(counts=state.counts, new_sha256=state.new_sha256)
     counts = state.standings
-    if counts:
-        host.update(told=counts.told, high=counts.of_severity(SEVERITIES[0]))
-    return host
+    if counts is None:
+        return host
+    return host._replace(told=counts.told, high=counts.of_severity(SEVERITIES[0]))
 
 
-def is_silent(host: Fields) -> bool:
-    """Whether it differs, but only by changes that nobody has to read."""
-    return 1 <= int(host["status"]) <= 7 and host["told"] == 0
-
-
-def differs(host: Fields) -> bool:
-    """Whether it has changes that somebody has to read."""
-    return 1 <= int(host["status"]) <= 7 and host["told"] != 0
-
-
-def host_in(directory: HostDirectory, max_age: int) -> Fields:
+def host_in(directory: HostDirectory, max_age: int) -> Host:
     """The host by its state. One that is too old says nothing of today."""
     if not os.path.lexists(directory.state_path):
         raise directory.fault("was never compared")
@@ -87,33 +69,38 @@ def host_in(directory: HostDirectory, max_age: int) -> Fields:
     return host_of(directory.host, state.status, state.error, state)
 
 
-def changes_of(host: Fields, path: str) -> Iterator[Fields]:
-    """Yields the objects of the changes in the lines that were kept.
+class KeptChanges:
+    """The changes in the lines that were kept of a host: by iteration the object of each, once;
+    then how many are `listed`, and what the lines are, as the `report` of a Host says it."""
 
-    The host gets what these are, one of the words above, and how many are listed.
-    """
-    host.update(report=UNREADABLE, listed=0)
-    try:
-        with closed_after(open_regular(path)) as descriptor:
-            findings = Findings(descriptor)
-            for fields in findings:
-                host["listed"] = findings.listed
-                yield {name: value for name, value in fields.items() if name in MEMBERS}
-            if findings.told != host["told"]:  # They are the lines of another run.
-                return
-            host["report"] = WHOLE if findings.listed == findings.told else CUT
-    except (Fault, Refused):
-        pass
-    except OSError as error:
-        # No room for what is read, for one, is no fault of this host.
-        if error.errno not in DAMAGED:
-            raise
-        host["report"] = UNREADABLE
+    def __init__(self, directory: HostDirectory, host: Host) -> None:
+        self.path = directory.file(LINES)
+        self.told = host.told
+        self.report = UNREADABLE
+        self.listed = 0
+
+    def __iter__(self) -> Iterator[Fields]:
+        try:
+            with closed_after(open_regular(self.path)) as descriptor:
+                findings = Findings(descriptor)
+                for fields in findings:
+                    self.listed = findings.listed
+                    yield {name: value for name, value in fields.items() if name in MEMBERS}
+                if findings.told == self.told:  # Otherwise they are the lines of another run.
+                    self.report = CUT
+                    if findings.listed == findings.told:
+                        self.report = WHOLE
+        except (Fault, Refused):
+            pass
+        except OSError as error:
+            # No room for what is read, for one, is no fault of this host.
+            if error.errno not in DAMAGED:
+                raise
 
 
 def read_host(
     name: str, store: str, seconds: int, max_age: int, take: Callable[[Fields], None]
-) -> Fields:
+) -> Host:
     """Reads what a store keeps of a host, and gives each change to `take`. No run is at work on the
     host then."""
     directory = None
@@ -127,10 +114,12 @@ def read_host(
     if directory is None:
         return host
     try:
-        if differs(host):
-            for fields in changes_of(host, directory.file(LINES)):
-                take(fields)
-        return host
+        if not host.differs:
+            return host
+        kept = KeptChanges(directory, host)
+        for fields in kept:
+            take(fields)
+        return host._replace(report=kept.report, listed=kept.listed)
     finally:
         directory.close()
 

@@ -10,10 +10,9 @@ from typing import Callable, Iterable, Iterator, NamedTuple, Sequence
 
 from aide_compare.base.escapes import guarded, shown
 from aide_compare.base.words import KINDS, SEVERITIES, counted
-from aide_compare.hosts.hosts_read import CUT, UNREADABLE, differs
+from aide_compare.hosts.reported import CUT, UNREADABLE, Host, SharedChange, Summary
 from aide_compare.hosts.shares import Selection, rank_of
 from aide_compare.lines.attributes import STRENGTH
-from aide_compare.lines.change import Fields, bytes_of, change_of
 from aide_compare.show.changes import values_in
 
 MAX_ROWS = 80
@@ -49,49 +48,47 @@ WORDS = {
 # What is said only if nothing else is.
 LESSER_WORDS = {"Size": "size", "Linkcount": "links", "Inode": "inode", "Bcount": "blocks"}
 
-Change = tuple[Fields, list[int]]
-
 
 class Report(NamedTuple):
     """What a text or a page is made of."""
 
-    summary: Fields
-    hosts: list[Fields]
-    changes: Callable[[], Iterable[Change]]  # Each call begins anew.
+    summary: Summary
+    hosts: list[Host]
+    changes: Callable[[], Iterable[SharedChange]]  # Each call begins anew.
     command: str  # The command that prints the whole text.
 
 
-def headline(summary: Fields) -> str:
-    hosts = counted(summary["hosts"], "host")
-    return f"aide on {hosts}: {summary['differ']} differ, {summary['not_compared']} not compared"
+def headline(summary: Summary) -> str:
+    hosts = counted(summary.hosts, "host")
+    return f"aide on {hosts}: {summary.differ} differ, {summary.not_compared} not compared"
 
 
-def others_line(summary: Fields) -> str:
+def others_line(summary: Summary) -> str:
     """How many hosts there is nothing to say of, as in "90 without differences, 9 with silent
     ones"."""
-    line = f"{summary['unchanged']} without differences"
-    if summary["silent"]:
-        line += f", {summary['silent']} with silent ones"
+    line = f"{summary.unchanged} without differences"
+    if summary.silent:
+        line += f", {summary.silent} with silent ones"
     return line
 
 
-def canary_lines(summary: Fields) -> list[str]:
+def canary_lines(summary: Summary) -> list[str]:
     """Beside which host the others were compared, or why they were not; nothing without a
     canary."""
-    lines = [f"{line[:1].upper()}{line[1:]}" for line in summary.get("canary", ())]
-    return [*lines, ""] if lines else []
+    if not summary.canary:
+        return []
+    return [*(f"{line[:1].upper()}{line[1:]}" for line in summary.canary), ""]
 
 
-def not_listed(host: Fields) -> str:
-    total = "?" if host["told"] is None else host["told"]
-    why = WHY[host["report"]]
-    line = f"{host['host']}: {why}; {host['listed']} of {total} changes are listed"
-    if host["high"]:
-        line += f"; {host['high']} of all are high"
+def not_listed(host: Host) -> str:
+    total = "?" if host.told is None else str(host.told)
+    line = f"{host.name}: {WHY[host.report]}; {host.listed} of {total} changes are listed"
+    if host.high:
+        line += f"; {host.high} of all are high"
     return line
 
 
-def host_lists(hosts: Iterable[Fields]) -> dict[str, list[str]]:
+def host_lists(hosts: Iterable[Host]) -> dict[str, list[str]]:
     """The lists of hosts, each with its title.
 
     Those that were not compared and why, those of which not all is listed, and all that differ.
@@ -100,14 +97,14 @@ def host_lists(hosts: Iterable[Fields]) -> dict[str, list[str]]:
     cut: list[str] = []
     differ: list[str] = []
     for host in hosts:
-        if host["status"] > 7:
-            missing.append(f"{host['host']}: {host['error']}")
-        elif differs(host):
+        if host.status > 7:
+            missing.append(f"{host.name}: {host.error}")
+        elif host.differs:
             counts = "no counts are known"
-            if host["added"] is not None:
-                counts = ", ".join(f"{kind} {host[kind]}" for kind in KINDS)
-            differ.append(f"{host['host']}: {counts}")
-            if host["report"] in WHY:
+            if host.counts is not None:
+                counts = ", ".join(f"{kind} {count}" for kind, count in zip(KINDS, host.counts))
+            differ.append(f"{host.name}: {counts}")
+            if host.report in WHY:
                 cut.append(not_listed(host))
     return {
         "Not compared": missing,
@@ -116,44 +113,34 @@ def host_lists(hosts: Iterable[Fields]) -> dict[str, list[str]]:
     }
 
 
-def names_of(fields: Fields) -> str:
-    """The hosts that have a change, the first ones by their names."""
-    names = ", ".join(fields["names"])
-    more = fields["hosts"] - len(fields["names"])
-    if more:
-        names += f" and {more} more"
-    return names
-
-
-def change_lines(fields: Fields, hosts: int) -> Iterator[str]:
+def change_lines(shared: SharedChange, hosts: int) -> Iterator[str]:
     """The lines of a change in the whole text.
 
     The path stands last in its line, so that no path can look like another line's words. An old
     value that is not the same on all hosts is not shown.
     """
-    path = shown(bytes_of(fields, "path"))
-    entry = fields.get("type", "Entry")
-    yield f"{fields['kind']} on {fields['hosts']} of {hosts} hosts: {entry} {path}"
-    yield f"    on {names_of(fields)}"
-    if "severity" in fields:
-        yield f"    {fields['severity']}"
-    values = list(value_texts(fields))
-    if values or fields.get("summary"):
-        yield "    " + (", ".join(values) or shown(fields["summary"], 18))
-    if fields.get("per_host"):
-        yield "    of each host: " + ", ".join(fields["per_host"])
+    change = shared.change
+    where = f"on {shared.hosts} of {hosts} hosts"
+    yield f"{change.kind} {where}: {change.type} {shown(change.path)}"
+    yield f"    on {shared.names_text()}"
+    if shared.severity:
+        yield f"    {shared.severity}"
+    values = list(value_texts(shared))
+    if values or change.letters:
+        yield "    " + (", ".join(values) or shown(change.letters, 18))
+    if shared.per_host:
+        yield "    of each host: " + ", ".join(shared.per_host)
     yield ""
 
 
-def value_texts(fields: Fields) -> Iterator[str]:
+def value_texts(shared: SharedChange) -> Iterator[str]:
     """The attributes of a change with their values."""
-    various = fields.get("old_various", ())
-    for label, old, new in values_in(change_of(fields), various):
-        if label in various:
+    for label, old, new in values_in(shared.change, shared.various):
+        if label in shared.various:
             old = "(various)"
-        if fields["kind"] == "added":
+        if shared.change.kind == "added":
             yield f"{label} {new}"
-        elif fields["kind"] == "removed":
+        elif shared.change.kind == "removed":
             yield f"{label} {old}"
         else:
             yield f"{label} {old or 'none'} -> {new or 'none'}"
@@ -175,12 +162,12 @@ def report_lines(report: Report) -> Iterator[str]:
     yield ""
     for title, lines in host_lists(report.hosts).items():
         yield from listed(title, lines)
-    if summary["changes"]:
-        order = ORDERS[summary["order"]]
-        yield f"{counted(summary['changes'], 'different change')}, {order}:"
+    if summary.changes:
+        order = ORDERS[summary.order]
+        yield f"{counted(summary.changes, 'different change')}, {order}:"
         yield ""
-    for fields, _ in report.changes():
-        yield from change_lines(fields, summary["hosts"])
+    for shared in report.changes():
+        yield from change_lines(shared, summary.hosts)
 
 
 def shortened(text: str, width: int) -> str:
@@ -193,31 +180,34 @@ def shortened(text: str, width: int) -> str:
 
 def beginning(text: str, width: int) -> str:
     """A text in so many columns, without its end if it is longer."""
-    return text if len(text) <= width else text[: width - 3] + "..."
+    if len(text) <= width:
+        return text
+    return text[: width - 3] + "..."
 
 
-def short_names(fields: Fields) -> str:
+def short_names(shared: SharedChange) -> str:
     """The hosts of a change in few columns, such as "www1, www2 +35"."""
-    count: int = fields["hosts"]
-    for number in range(min(len(fields["names"]), count), 0, -1):
-        text = ", ".join(fields["names"][:number]) + more_hosts(count - number)
+    for number in range(min(len(shared.names), shared.hosts), 0, -1):
+        text = ", ".join(shared.names[:number]) + more_hosts(shared.hosts - number)
         if len(text) <= NAMES_WIDTH:
             return text
-    more = more_hosts(count - 1)
-    return shortened(fields["names"][0], NAMES_WIDTH - len(more)) + more
+    more = more_hosts(shared.hosts - 1)
+    return shortened(shared.names[0], NAMES_WIDTH - len(more)) + more
 
 
 def more_hosts(count: int) -> str:
-    return f" +{count}" if count > 0 else ""
-
-
-def what_changed(fields: Fields) -> str:
-    """What has changed of an entry, in few words; of one that came its mode."""
-    if fields["kind"] == "removed":
+    if count <= 0:
         return ""
-    change = change_of(fields)
-    texts = {label: new for label, _, new in values_in(change, fields.get("old_various", ()))}
-    if fields["kind"] == "added":
+    return f" +{count}"
+
+
+def what_changed(shared: SharedChange) -> str:
+    """What has changed of an entry, in few words; of one that came its mode."""
+    change = shared.change
+    if change.kind == "removed":
+        return ""
+    texts = {label: new for label, _, new in values_in(change, shared.various)}
+    if change.kind == "added":
         return texts.get("Perm") or ""
     words = [word for label, word in WORDS.items() if label in texts]
     if any(label in texts for label in STRENGTH):
@@ -226,14 +216,14 @@ def what_changed(fields: Fields) -> str:
     return ", ".join(words) or "times"
 
 
-def short_line(fields: Fields) -> str:
+def short_line(shared: SharedChange) -> str:
     """The line of a change in a short text."""
-    begin = f"  {short_names(fields):<{NAMES_WIDTH}}  {fields['kind']:<7}  "
+    begin = f"  {short_names(shared):<{NAMES_WIDTH}}  {shared.change.kind:<7}  "
     width = MAX_COLUMNS - len(begin)
-    what = shortened(what_changed(fields), width // 2)
+    what = shortened(what_changed(shared), width // 2)
     if what:
         what = ": " + what
-    path = shown(bytes_of(fields, "path"), MAX_LETTERS)
+    path = shown(shared.change.path, MAX_LETTERS)
     return begin + shortened(path, width - len(what)) + what
 
 
@@ -252,21 +242,17 @@ def short_list(title: str, lines: Sequence[str], rows: int) -> Iterator[str]:
     yield ""
 
 
-def severity_of(fields: Fields) -> str:
-    return SEVERITIES[rank_of(fields.get("severity", ""))]
+def severity_of(shared: SharedChange) -> str:
+    """Its severity; the highest one if nobody knows it."""
+    return SEVERITIES[rank_of(shared.severity)]
 
 
 def selection_of(report: Report, rows: int) -> Selection:
     """The Selection of a text that has so many rows for changes."""
-    selection = Selection(rows, report.summary["differ"])
-    for fields, payers in report.changes():
-        selection.offer(fields.get("severity", ""), payers)
+    selection = Selection(rows, report.summary.differ)
+    for shared in report.changes():
+        selection.offer(shared.severity, shared.payers)
     return selection
-
-
-def numbered(report: Report) -> Iterator[tuple[int, Fields]]:
-    """The changes with their places."""
-    return enumerate(fields for fields, _ in report.changes())
 
 
 def left_out_lines(report: Report, selection: Selection) -> Iterator[str]:
@@ -280,7 +266,7 @@ def left_out_lines(report: Report, selection: Selection) -> Iterator[str]:
     ]
     yield f"Left out: {counted(total, 'more change')}, {', '.join(counts)}."
     host = max(selection.left_out_by, key=selection.left_out_by.__getitem__)
-    name = shortened(report.hosts[host]["host"], MAX_COLUMNS - 30)
+    name = shortened(report.hosts[host].name, MAX_COLUMNS - 30)
     yield f"Of these {selection.left_out_by[host]} on {name}."
 
 
@@ -296,13 +282,13 @@ def short_lines(report: Report) -> Iterator[str]:
     selection = selection_of(report, MAX_ROWS - len(head) - 2 * len(SEVERITIES) - 6)
     places = selection.in_order()
     wanted = set(places)
-    chosen = {place: fields for place, fields in numbered(report) if place in wanted}
+    chosen = {place: shared for place, shared in enumerate(report.changes()) if place in wanted}
     yield from head
     for severity, group in groupby((chosen[place] for place in places), key=severity_of):
         yield f"{severity.capitalize()}:"
         yield from map(short_line, group)
         yield ""
     yield from left_out_lines(report, selection)
-    if summary["changes"]:
+    if summary.changes:
         yield "All changes with their values:"
         yield "  " + report.command

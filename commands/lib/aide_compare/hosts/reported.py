@@ -1,0 +1,111 @@
+"""What the report of many hosts has, as values: the summary, the hosts, and the changes that some
+of them have. Each has an object in the report in JSON."""
+from __future__ import annotations
+
+from collections.abc import Sequence
+from functools import cached_property
+from typing import NamedTuple
+
+from aide_compare.base.words import KINDS
+from aide_compare.lines.change import Change, Fields, change_of
+
+FORMAT = 3
+# What the lines are that were kept of a host.
+WHOLE = "whole"
+CUT = "cut"
+UNREADABLE = "unreadable"
+
+
+class Summary(NamedTuple):
+    """How many hosts and changes there are."""
+
+    hosts: int
+    unchanged: int
+    differ: int  # By changes that somebody has to read.
+    silent: int  # By others alone.
+    not_compared: int
+    cut: int  # Of those that differ.
+    not_listed: int
+    changes: int
+    order: str
+    canary: Sequence[str]  # What the runs have noted of their canaries.
+
+    def fields(self) -> Fields:
+        """Its object."""
+        numbers = self._asdict()
+        canary = numbers.pop("canary")
+        lines = 1 + self.hosts + self.changes
+        fields: Fields = {"record": "summary", "format": FORMAT, **numbers, "lines": lines}
+        if canary:
+            fields["canary"] = canary
+        return fields
+
+
+class Host(NamedTuple):
+    """What the store knows of a host."""
+
+    name: str  # As it may be shown.
+    status: int
+    date: str = ""  # When it was compared; "" if it never was.
+    error: str = ""  # Why it was not compared; "" if it was.
+    counts: tuple[int, int, int] | None = None  # By KINDS; None if they are not known.
+    new_sha256: str = ""
+    told: int | None = None  # How many changes somebody has to read; None if nobody has judged.
+    high: int | None = None  # How many of them have the severity high.
+    report: str = ""  # What its lines are: one of the words above; "" if they were not read.
+    listed: int = 0  # How many changes these have.
+
+    @property
+    def is_silent(self) -> bool:
+        """Whether it differs, but only by changes that nobody has to read."""
+        return 1 <= self.status <= 7 and self.told == 0
+
+    @property
+    def differs(self) -> bool:
+        """Whether it has changes that somebody has to read."""
+        return 1 <= self.status <= 7 and self.told != 0
+
+    def fields(self) -> Fields:
+        """Its object."""
+        fields: Fields = {"record": "host", "host": self.name, "status": self.status}
+        if self.date:
+            fields["time"] = self.date
+        if self.status > 7:
+            fields["error"] = self.error
+            return fields
+        fields.update(zip(KINDS, self.counts or (None, None, None)))
+        fields.update(new_sha256=self.new_sha256, told=self.told, high=self.high)
+        if self.report:
+            fields.update(report=self.report, listed=self.listed)
+        return fields
+
+
+class SharedChange:
+    """A change that `hosts` of all have: the `names` of the first ones, and the numbers of those
+    that may pay for its room.
+
+    `various` are the attributes whose old values are not the same on all of them, `per_host` those
+    whose values are of each host and are not kept.
+    """
+
+    def __init__(self, fields: Fields, payers: Sequence[int]) -> None:
+        self._fields = fields
+        self.payers = payers
+        self.hosts: int = fields["hosts"]
+        self.names: Sequence[str] = fields["names"]
+        self.severity: str = fields.get("severity", "")
+        self.various: Sequence[str] = fields.get("old_various", ())
+        self.per_host: Sequence[str] = fields.get("per_host", ())
+
+    @cached_property
+    def change(self) -> Change:
+        """The change itself, which is made only of those that are shown."""
+        return change_of(self._fields)
+
+    def names_text(self) -> str:
+        """The hosts that have it, the first ones by their names."""
+        names = ", ".join(self.names)
+        more = self.hosts - len(self.names)
+        if more:
+            names += f" and {more} more"
+        return names
