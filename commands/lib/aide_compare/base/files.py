@@ -51,7 +51,7 @@ def file_kind(mode: int) -> str:
 
 
 def refuse_other_kinds(mode: int) -> None:
-    """A failure if a file is no regular one, such as a device, a link or a FIFO."""
+    """A failure if a file, by its `st_mode`, is no regular one: a device, a link, a FIFO."""
     if stat.S_ISREG(mode):
         return
     text = f"it is {file_kind(mode)}, not a regular file"

@@ -66,7 +66,7 @@ class LineSorter:
         self.runs[-MERGED:] = [_run(merge(*self.runs[-MERGED:], key=_key_of))]
 
     def lines(self) -> Iterable[bytes]:
-        """Yields all lines in order."""
+        """Yields all lines in order, once: after this none can be put."""
         self._end_run()
         while len(self.runs) > MERGED:
             self._merge_last()

@@ -191,6 +191,21 @@ CRITICAL = Option(
     kind=alarm_limit,
 )
 USER = Option("--user", "drop privileges to this user first", metavar="NAME")
+# Where the databases of many hosts are kept, and how long a host may take.
+STORE = "/var/lib/aide-compare"
+HOST_STORE = Option(
+    "--store",
+    f"where the databases are kept ({STORE})",
+    metavar="DIR",
+    default=STORE,
+)
+HOST_TIME = Option(
+    "--time",
+    "the most time for a host (10m)",
+    metavar="TIME",
+    kind=duration,
+    default=600,
+)
 NO_DEFAULTS = Option("--no-defaults", "do not read the defaults in /etc/aide-compare")
 
 # The options of a comparison that may stand in the file of defaults, those of a mail, and those of

@@ -43,7 +43,8 @@ class Answer(NamedTuple):
 
 
 class Tail:
-    """Takes blocks, and keeps the last bytes: of lines, the last one says what was counted."""
+    """Takes blocks, and keeps their last bytes, at most `limit`: of lines, the last one says what
+    was counted."""
 
     def __init__(self, limit: int) -> None:
         self.limit = limit
@@ -60,7 +61,7 @@ class Tail:
 
 
 class Drain:
-    """Takes blocks: the first bytes go to `keep`, up to a limit, and all are counted."""
+    """Takes blocks: the first bytes, at most `limit`, go to `keep`, and all are counted."""
 
     def __init__(self, limit: int, keep: Taker) -> None:
         self.limit = limit

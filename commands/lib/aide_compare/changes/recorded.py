@@ -156,6 +156,8 @@ class Matcher:
             self._match(findings, asked)
 
     def _match(self, findings: Findings, asked: Asked) -> None:
+        """Notes those of some findings that are recorded or were made, after the records were asked
+        for them, for the sources of compiled files and for the targets of links."""
         sources = {path: source for path in asked if (source := source_of(path)) is not None}
         wanted = {*asked, *map(self.usr, sources.values())}
         for path, place in asked.items():

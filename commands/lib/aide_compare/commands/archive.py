@@ -5,6 +5,7 @@ from __future__ import annotations
 import io
 import os
 from collections.abc import Collection, Sequence
+from typing import NamedTuple, Optional
 
 from aide_compare.base.ending import Fault, Status, say
 from aide_compare.base.escapes import shown
@@ -34,6 +35,20 @@ removed and older packages are named, not applied."""
 FROM = Option("--from", "signed indexes, or packages", metavar="DIR", is_repeated=True)
 KEYRING = Option("--keyring", f"its keys ({DEBIANS_KEYRING})", metavar="FILE", is_repeated=True)
 OUTPUT = Option("--output", "replace FILE; by OLD if nothing can be applied", metavar="FILE")
+
+
+class ArchiveRequest(NamedTuple):
+    """What the options ask for."""
+
+    old: str
+    new: str
+    directories: Sequence[str]  # With the signed indexes and packages.
+    keyrings: Sequence[str]
+    output: Optional[str]
+    max_size: int
+    user: Optional[str]
+    is_quiet: bool
+
 
 # Entries of a database, by their paths.
 Night = dict[str, FieldsByColumn]
@@ -68,18 +83,24 @@ def keys_of(path: str, nights: Sequence[Night]) -> bytes:
     return text
 
 
-def upgrades_of(copies: list[Copy], directories: list[str], keyrings: list[str]) -> Upgrades:
+def say_unpaired(why: str, night: Night, other: Night) -> None:
+    """Names the packages that one night has and the other has not."""
+    for name in sorted({name_of(path) for path in night.keys() - other.keys()}):
+        say(f"not applied, {why}: {shown(name)}")
+
+
+def upgrades_of(old_copy: Copy, new_copy: Copy, request: ArchiveRequest) -> Upgrades:
     """The upgrades between two databases. Each package that is not applied is told."""
-    old, new = (kept_in(copy, keyrings) for copy in copies)
+    keyrings = [os.path.realpath(path) for path in request.keyrings]
+    old = kept_in(old_copy, keyrings)
+    new = kept_in(new_copy, keyrings)
     keys = in_memory(b"".join(keys_of(path, (old, new)) for path in keyrings))
-    told = ("not applied, it is new", new, old), ("not applied, it was removed", old, new)
-    for why, there, missing in told:
-        for name in sorted({name_of(path) for path in there.keys() - missing.keys()}):
-            say(f"{why}: {shown(name)}")
+    say_unpaired("it is new", new, old)
+    say_unpaired("it was removed", old, new)
     changed = [path for path in sorted(old.keys() & new.keys()) if old[path] != new[path]]
     sums = {name_of(path): new[path] for path in changed if path.endswith(SUMS)}
-    newest = newest_of(directories, keys, sums) if sums else {}
-    upgrades = Upgrades(copies[0], directories)
+    newest = newest_of(request.directories, keys, sums) if sums else {}
+    upgrades = Upgrades(old_copy, request.directories)
     for own, entry in sums.items():
         reasons = [upgrades.take(own, signed, entry) for signed in newest.get(own, ())]
         if not reasons:
@@ -89,31 +110,45 @@ def upgrades_of(copies: list[Copy], directories: list[str], keyrings: list[str])
     return upgrades
 
 
-def main(arguments: list[str]) -> int:
+def request_of(arguments: Sequence[str]) -> ArchiveRequest:
     parser = Parser(NAME, DESCRIPTION, "say only what is not applied")
     parser.add_operand("databases", "OLD NEW", "two databases of one host", nargs="*")
     parser.add(FROM, KEYRING, OUTPUT, MAX_SIZE, USER)
     args = parser.parse(arguments)
-    directories = vars(args)["from"]
+    directories: Sequence[str] = getattr(args, "from")
     if len(args.databases) != 2 or not directories:
         raise Fault(Status.USAGE, "name OLD and NEW, and --from", f"try: {NAME} --help")
-    if args.output and os.path.realpath(args.output) in map(os.path.realpath, args.databases):
+    output = args.output
+    if output and os.path.realpath(output) in map(os.path.realpath, args.databases):
         raise Fault(Status.USAGE, "--output is one of the databases, which would be replaced")
-    if args.user:
-        give_up(args.user)
+    return ArchiveRequest(
+        old=args.databases[0],
+        new=args.databases[1],
+        directories=directories,
+        keyrings=args.keyring or [DEBIANS_KEYRING],
+        output=output,
+        max_size=args.max_size,
+        user=args.user,
+        is_quiet=args.quiet,
+    )
+
+
+def main(arguments: Sequence[str]) -> int:
+    request = request_of(arguments)
+    if request.user:
+        give_up(request.user)
     limit_memory(MAX_MEMORY)
-    old = copy_database("old", args.databases[0], args.max_size)
-    keyrings = [os.path.realpath(path) for path in args.keyring or [DEBIANS_KEYRING]]
-    if args.output:  # However this command ends, the database of another night is gone.
-        replace_by_copy(args.output, old.fd, PRIVATE, "the database")
-    new = copy_database("new", args.databases[1], args.max_size)
+    old = copy_database("old", request.old, request.max_size)
+    if request.output:  # However this command ends, the database of another night is gone.
+        replace_by_copy(request.output, old.fd, PRIVATE, "the database")
+    new = copy_database("new", request.new, request.max_size)
     refuse_unsound(new, old)
-    upgrades = upgrades_of([old, new], directories, keyrings)
+    upgrades = upgrades_of(old, new, request)
     made = upgraded(old, upgrades)
-    if args.output:
-        replace_by_copy(args.output, made, PRIVATE, "the database")
-    if not args.quiet:
+    if request.output:
+        replace_by_copy(request.output, made, PRIVATE, "the database")
+    if not request.is_quiet:
         say(f"applied: {counted(len(upgrades.files), 'file')}")
-    if not args.output:
+    if not request.output:
         copy_file(made, 1)
     return Status.OK

@@ -6,7 +6,15 @@ from collections.abc import Sequence
 from typing import NamedTuple
 
 from aide_compare.base.ending import Fault, Status, tell
-from aide_compare.base.options import KEEP_OPEN, MAX_DATABASE_BYTES, MAX_SIZE, SHA256, Option
+from aide_compare.base.options import (
+    HOST_STORE,
+    HOST_TIME,
+    KEEP_OPEN,
+    MAX_DATABASE_BYTES,
+    MAX_SIZE,
+    SHA256,
+    Option,
+)
 from aide_compare.base.parser import Parser, add_option
 from aide_compare.base.paths import Pattern
 from aide_compare.base.processes import limit_memory
@@ -21,7 +29,6 @@ from aide_compare.hosts.store import (
     MAX_MEMORY,
     NEW,
     HostDirectory,
-    add_store_options,
 )
 
 NAME = "aide-compare hosts accept"
@@ -83,7 +90,7 @@ def request_of(arguments: Sequence[str]) -> HostAcceptRequest:
     quiet = "do not print what was done"
     usage = f"{NAME} --first | --sha256 DIGEST [OPTIONS] HOST"
     parser = Parser(NAME, DESCRIPTION, quiet, epilog=EPILOG, usage=usage)
-    add_store_options(parser)
+    parser.add(HOST_STORE, HOST_TIME)
     parser.add_operand("host", "HOST", "its name for ssh")
     size = "the most bytes of a first database, unpacked (4G)"
     parser.add(MAX_SIZE._replace(default=MAX_BASELINE, help=size))

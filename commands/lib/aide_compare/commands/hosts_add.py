@@ -9,7 +9,7 @@ from typing import NamedTuple, Sequence
 
 from aide_compare.base.ending import Fault, Status, tell, write_all
 from aide_compare.base.replacement import NewFile
-from aide_compare.base.options import Option
+from aide_compare.base.options import HOST_STORE, HOST_TIME, Option
 from aide_compare.base.parser import Parser
 from aide_compare.base.processes import limit_memory
 from aide_compare.base.words import counted
@@ -19,7 +19,6 @@ from aide_compare.hosts.store import (
     HOSTS_FILE,
     MAX_MEMORY,
     HostDirectory,
-    add_store_options,
 )
 
 NAME = "aide-compare hosts add"
@@ -44,7 +43,7 @@ class AddRequest(NamedTuple):
 
 def request_of(arguments: Sequence[str]) -> AddRequest:
     parser = Parser(NAME, DESCRIPTION, epilog=EPILOG, usage=f"{NAME} [OPTIONS] HOST")
-    add_store_options(parser)
+    parser.add(HOST_STORE, HOST_TIME)
     text = f"the file that gets the name of HOST ({HOSTS_FILE})"
     parser.add(Option("--hosts-file", text, metavar="FILE", default=HOSTS_FILE))
     parser.add_operand("host", "HOST", "its name for ssh")

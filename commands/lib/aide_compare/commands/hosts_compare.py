@@ -15,7 +15,15 @@ from aide_compare.base.escapes import guarded, shown
 from aide_compare.base.files import copy_file, open_regular
 from aide_compare.base.directories import closed_after
 from aide_compare.base.kinds import duration, matching
-from aide_compare.base.options import CONFIG, EXCLUDE_FROM, MAX_SIZE, NOT_SILENT, Option
+from aide_compare.base.options import (
+    CONFIG,
+    EXCLUDE_FROM,
+    HOST_STORE,
+    HOST_TIME,
+    MAX_SIZE,
+    NOT_SILENT,
+    Option,
+)
 from aide_compare.base.parser import Parser
 from aide_compare.base.processes import limit_memory, start_child
 from aide_compare.base.words import counted
@@ -32,7 +40,6 @@ from aide_compare.hosts.store import (
     HOSTS_FILE,
     MAX_MEMORY,
     HostDirectory,
-    add_store_options,
     check_name,
     share_of,
 )
@@ -249,7 +256,7 @@ def own_parser() -> Parser:
     quiet = "only hosts with changes that are not silent, or not compared, and a summary"
     usage = f"{NAME} [OPTIONS] [HOSTS-FILE]"
     parser = Parser(NAME, DESCRIPTION, quiet, epilog=EPILOG, usage=usage)
-    add_store_options(parser)
+    parser.add(HOST_STORE, HOST_TIME)
     jobs = matching(r"[1-9][0-9]{0,2}", "a number from 1 to 999", int)
     part = matching(
         r"[1-9][0-9]{0,5}/[1-9][0-9]{0,5}", "a part of all of them: 1/10 to 10/10", share

@@ -4,10 +4,11 @@ from __future__ import annotations
 from collections.abc import Sequence
 
 from aide_compare.base.ending import Status
+from aide_compare.base.options import HOST_STORE, HOST_TIME
 from aide_compare.base.parser import Parser
 from aide_compare.base.processes import limit_memory
 from aide_compare.hosts.fetching import fetch
-from aide_compare.hosts.store import MAX_MEMORY, HostDirectory, add_store_options
+from aide_compare.hosts.store import MAX_MEMORY, HostDirectory
 
 NAME = "aide-compare hosts fetch"
 DESCRIPTION = "Fetches the newest database of HOST by ssh into DIR/hosts/HOST/aide.db.new."
@@ -18,7 +19,7 @@ Status: 0 fetched; 15 bad arguments; 18 nothing was fetched, and what was fetche
 
 def main(arguments: Sequence[str]) -> int:
     parser = Parser(NAME, DESCRIPTION, epilog=EPILOG, usage=f"{NAME} [OPTIONS] HOST")
-    add_store_options(parser)
+    parser.add(HOST_STORE, HOST_TIME)
     parser.add_operand("host", "HOST", "its name for ssh")
     args = parser.parse(arguments)
     limit_memory(MAX_MEMORY)

@@ -11,8 +11,18 @@ from aide_compare.base import progress
 from aide_compare.base.ending import Fault, Status, write_blocks
 from aide_compare.base.files import private_file
 from aide_compare.base.line_sorter import LineSorter
-from aide_compare.base.kinds import Server, duration, matching, pattern
-from aide_compare.base.options import ATTACH_PAGE, MAIL_TIME, RESULT_AGE, SMTP, TO, Option
+from aide_compare.base.kinds import Server, matching, pattern
+from aide_compare.base.options import (
+    ATTACH_PAGE,
+    HOST_STORE,
+    HOST_TIME,
+    MAIL_TIME,
+    RESULT_AGE,
+    SMTP,
+    STORE,
+    TO,
+    Option,
+)
 from aide_compare.base.parser import Parser, add_option
 from aide_compare.base.paths import Pattern
 from aide_compare.base.program import FRONT, find_installed
@@ -22,7 +32,7 @@ from aide_compare.hosts.hosts_page import page
 from aide_compare.hosts.hosts_read import hosts_of, read_host
 from aide_compare.hosts.hosts_text import Report, headline, report_lines, short_lines
 from aide_compare.hosts.reported import CUT, UNREADABLE, Host, SharedChange, Summary
-from aide_compare.hosts.store import HOSTS_FILE, SECONDS, STORE, share_of
+from aide_compare.hosts.store import HOSTS_FILE, share_of
 from aide_compare.lines.change import Fields, bytes_of
 from aide_compare.lines.reader import ENCODE
 from aide_compare.mail.message import build, clean, within
@@ -240,12 +250,12 @@ def own_parser() -> Parser:
     age = "a host that was compared longer ago counts as not compared (26h; 0: no limit)"
     wait = "how long to wait for a run over a host (10m)"
     parser.add(
-        Option("--store", stores, metavar="DIR", is_repeated=True),
+        HOST_STORE._replace(help=stores, default=None, is_repeated=True),
         Option("--order", orders, choices=("path", "rare", "common")),
         Option("--only-path", paths, metavar="PATTERN", kind=pattern, is_repeated=True),
         Option("--max-hosts", named, metavar="N", kind=count, default=20),
         RESULT_AGE._replace(help=age),
-        Option("--time", wait, metavar="TIME", kind=duration, default=SECONDS),
+        HOST_TIME._replace(help=wait),
     )
     form = parser.add_mutually_exclusive_group()
     formats = "text (the default), brief: 80 lines, json: an object a line, or page: for a browser"

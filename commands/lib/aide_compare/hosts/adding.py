@@ -173,7 +173,8 @@ def keep(directory: HostDirectory, offer: Offer, settings: SshSettings, hosts_fi
 
 
 def keep_first(directory: HostDirectory, part: NewFile | None = None) -> None:
-    """Makes what was fetched, or what a part has, the first baseline."""
+    """Makes what was fetched the first baseline. `part` has it if it has no name in the directory
+    yet."""
     if part is not None:
         part.put(NEW)
         directory.remove(CAUSE)

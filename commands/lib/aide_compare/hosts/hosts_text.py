@@ -146,7 +146,7 @@ def value_texts(shared: SharedChange) -> Iterator[str]:
             yield f"{label} {old or 'none'} -> {new or 'none'}"
 
 
-def listed(title: str, lines: Sequence[str]) -> Iterator[str]:
+def list_lines(title: str, lines: Sequence[str]) -> Iterator[str]:
     """A list with its title; nothing if it is empty."""
     if lines:
         yield title + ":"
@@ -161,7 +161,7 @@ def report_lines(report: Report) -> Iterator[str]:
     yield f"{headline(summary)}, {others_line(summary)}"
     yield ""
     for title, lines in host_lists(report.hosts).items():
-        yield from listed(title, lines)
+        yield from list_lines(title, lines)
     if summary.changes:
         order = ORDERS[summary.order]
         yield f"{counted(summary.changes, 'different change')}, {order}:"

@@ -13,15 +13,10 @@ from contextlib import ExitStack, closing, suppress
 from aide_compare.base.ending import Fault, Status, failing, reason, say, write_all
 from aide_compare.base.directories import closed_after, open_directory
 from aide_compare.base.files import copy_file, is_locked, open_regular, read_file, unlink
-from aide_compare.base.kinds import duration
-from aide_compare.base.options import Option
-from aide_compare.base.parser import Parser
 from aide_compare.base.replacement import NewFile, replace
 from aide_compare.compare.state import State
 
-STORE = "/var/lib/aide-compare"
 HOSTS_FILE = "/etc/aide-compare/hosts"
-SECONDS = 600
 # What a process may take of memory for one host, beside what it has when its work begins.
 MAX_MEMORY = 64 << 20
 MAX_CAUSE = 5000
@@ -38,16 +33,6 @@ NAME_FORM = (
     "no two dots together, and at most 200 characters"
 )
 DISK_FULL = (errno.ENOSPC, errno.EDQUOT, errno.EFBIG)
-
-
-def add_store_options(parser: Parser) -> None:
-    """The options that say where a host is kept, and how long it may take."""
-    store = f"where the databases are kept ({STORE})"
-    time = "the most time for a host (10m)"
-    parser.add(
-        Option("--store", store, metavar="DIR", default=STORE),
-        Option("--time", time, metavar="TIME", kind=duration, default=SECONDS),
-    )
 
 
 def check_name(host: str) -> str:
