@@ -4,11 +4,13 @@ from __future__ import annotations
 import io
 import os
 import random
+import tarfile
 
-from tests.commands.base.calls import ModuleTest
+from tests.commands.base.calls import ModuleTest, outcome
 
 from aide_compare.base.files import in_memory
 from aide_compare.base.paths import key_of_path
+from aide_compare.changes.applied import members_of
 from aide_compare.changes.ordered import OrderedDatabase
 from aide_compare.compare.exclusions import (
     Exclusions,
@@ -58,6 +60,14 @@ class EntriesTest(ModuleTest):
                     entry = ordered.entry_at(got[path])
                     self.assertIsNotNone(entry, path)
                     self.expect("an entry", entry and entry.field("name"), path)
+
+    def test_members(self) -> None:
+        """A member of a package that is read without end is refused."""
+        for kind, size in ((tarfile.GNUTYPE_SPARSE, 0), (tarfile.REGTYPE, -1)):
+            member = tarfile.TarInfo("./a")
+            member.type, member.size = kind, size
+            file = io.BytesIO(member.tobuf(tarfile.GNU_FORMAT) + bytes(1024))
+            self.expect_fault(repr(kind), outcome(lambda: list(members_of(file))), 18)
 
     def test_free_trees(self) -> None:
         """Lines of trees that no line means stay, together; a list in such a tree is still looked

@@ -14,6 +14,7 @@ from itertools import groupby
 from typing import IO
 
 from aide_compare.base.database import ABSENT
+from aide_compare.base.ending import Fault, Status
 from aide_compare.base.escapes import shown
 from aide_compare.base.files import BLOCK, nameless
 from aide_compare.base.paths import escaped, key_of_path, path_of
@@ -49,6 +50,8 @@ def members_of(file: IO[bytes]) -> Iterator[tuple[bytes, FieldsByColumn]]:
         seen: dict[str, FieldsByColumn] = {}
         while member := tar.next():
             tar.members = []  # type: ignore[attr-defined] # Otherwise all of them stay in memory.
+            if member.size < 0 or member.issparse():  # Read without end; dpkg knows neither.
+                raise Fault(Status.DEVICE, "dpkg does not know a member of a signed package")
             fields = seen.get(member.linkname, {}) if member.islnk() else {}
             if member.type in TYPES:
                 mode = TYPES[member.type] + b"%04o" % (member.mode & 0o7777)
