@@ -161,6 +161,11 @@ class SetupTest(CommandTest):
     def test_again(self) -> None:
         """A second run passes over what is there, and what an administrator wrote stays."""
         self.call(TOOL, "--to", "a@example.org")
+        reader = b"\nThen a@example.org gets a mail if a change is not silent"
+        self.set_up("the reader as before", ("--no-mail",), 0, b"All was there already.", reader)
+        for words in (("--to", "b@example.org"), ("--alarm", "any")):
+            told = f"stays as it is; write there: {' '.join(words)}\n".encode()
+            self.expect("other options", self.call(TOOL, *words), 18, None, told)
         self.write(DEFAULTS, "--attach-page\n")
         self.set_up("setup again, for root's mail", (), 0, b"a test mail\n")
         self.set_up("setup again, without a word", ("-q",), 0)

@@ -12,7 +12,7 @@ from typing import NamedTuple
 
 from aide_compare.base.ending import Fault, Status, tell
 from aide_compare.base.escapes import shown
-from aide_compare.base.files import read_file, reopened
+from aide_compare.base.files import reopened
 from aide_compare.base.replacement import replace
 from aide_compare.base.directories import closed_after, open_directory
 from aide_compare.base.options import ALARM, NOT_SILENT, TO, Option
@@ -26,6 +26,7 @@ from aide_compare.commands.setup_machine import (
     aides_user,
     example,
     next_time,
+    options_there,
     run_shown,
     says_yes,
     status_of,
@@ -44,7 +45,6 @@ TIMER = "aide-compare.timer"
 DATABASE_STARTS = (b"\x1f\x8b", b"@@begin_db", b"#")
 SECONDS_OF_INIT = 6 * 3600
 SECONDS_OF_COMPARISON = 600
-MAX_DEFAULTS = 1 << 16
 # What a mail looks like.
 SUBJECT = "    Subject: aide on {host}: 3 open (1 high), 41 recorded of 512 changes"
 MAIL = (
@@ -58,8 +58,7 @@ DEFAULTS_TEXT = """\
 # Options of aide-compare, aide-compare mail and check_aide_compare, one a line. See
 # aide-compare-setup(8).
 --max-age 50h
---weekly Mon
-"""
+--weekly Mon"""
 # What aide-compare archive reads. What a newer package replaces goes again.
 APT_TEXT = b"""\
 // Packages stay for aide-compare archive. See aide-compare-setup(8).
@@ -67,7 +66,6 @@ Binary::apt::APT::Keep-Downloaded-Packages "true";
 Unattended-Upgrade::Keep-Debs-After-Install "true";
 APT::Periodic::AutocleanInterval "7";
 """
-ANY_CHANGE = "# With this line silent changes are mailed too.\n--alarm any\n"
 
 
 class SetupRequest(NamedTuple):
@@ -177,18 +175,19 @@ class Machine:
         done = "All was there already."
         if count:
             done = f"Done: {counted(count, 'step')} now."
-        reader = shown(self.request.address or "root")
-        cause = "if anything differs" if self.mails_any_change() else "if a change is not silent"
+        options = options_there()
+        reader = shown(options.get("--to", "root"))
+        is_any = options.get("--alarm") == "any"
+        cause = "if anything differs" if is_any else "if a change is not silent"
         mail = f"Then {reader} gets a mail {cause}, or if nothing was compared:"
         first = f"The first comparison runs {self.next_run()}."
         example = [SUBJECT.format(host=shown(os.uname().nodename)), *MAIL]
         return ["", done, first, mail, "", *example, "", "To compare now: aide-compare"]
 
-    def mails_any_change(self) -> bool:
-        """Whether the file of options asks for a mail of silent changes too."""
-        with suppress(Fault, OSError):
-            return b"\n--alarm any\n" in read_file(PATHS.defaults, MAX_DEFAULTS)
-        return False
+    def options_asked(self) -> dict[str, str]:
+        """The options of each day that the command line asks for."""
+        asked = {"--to": self.request.address, "--alarm": self.request.alarm}
+        return {name: value for name, value in asked.items() if value not in ("", NOT_SILENT)}
 
     def comparison(self) -> int | None:
         """The status of a comparison of now, which prints why it fails; None without databases, or
@@ -213,14 +212,13 @@ class Machine:
             advice = "install a mail system, or go on with --no-mail"
             raise Fault(Status.DEVICE, f"the test mail was not sent; {advice}")
 
-    def defaults(self) -> bytes:
-        """The administrator's file of options, as it is at first."""
-        text = DEFAULTS_TEXT
-        if self.request.address:
-            text += f"--to {self.request.address}\n"
-        if self.request.alarm != NOT_SILENT:
-            text += ANY_CHANGE
-        return text.encode()
+    def write_options(self) -> None:
+        """Writes the administrator's file of options, as it is at first."""
+        lines = [" ".join(words) for words in self.options_asked().items()]
+        if os.path.lexists(PATHS.defaults):
+            text = f"{PATHS.defaults} stays as it is; write there: {shown(', '.join(lines))}"
+            raise Fault(Status.DEVICE, text)
+        replace(PATHS.defaults, "\n".join([DEFAULTS_TEXT, *lines, ""]).encode())
 
     def job(self) -> Step:
         if self.has_timer:
@@ -239,8 +237,9 @@ class Machine:
             keep = partial(replace, PATHS.apt, APT_TEXT)
             yield Step(title, os.path.lexists(PATHS.apt), keep)
         title = f"options of each day: {PATHS.defaults}"
-        write = partial(replace, PATHS.defaults, self.defaults())
-        yield Step(title, os.path.lexists(PATHS.defaults), write)
+        has_all = self.options_asked().items() <= options_there().items()
+        has_options = os.path.lexists(PATHS.defaults) and has_all
+        yield Step(title, has_options, self.write_options)
         directory = os.path.join(PATHS.own_directory, DAILY)
         title = f"a directory of {user}'s: {directory}"
         yield Step(title, self.owns(directory), self.make_directory)

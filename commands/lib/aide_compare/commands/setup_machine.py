@@ -12,6 +12,7 @@ from typing import NamedTuple
 
 from aide_compare.base.ending import Fault, Status, failing, tell
 from aide_compare.base.files import read_file
+from aide_compare.base.parser import DEFAULTS_LINE
 from aide_compare.base.processes import run, run_here
 from aide_compare.base.program import Drain
 
@@ -46,6 +47,7 @@ MAX_ANSWER = 1000
 ENVIRONMENT = {"PATH": PROGRAM_PATH, "LC_ALL": "C.UTF-8", "HOME": "/root"}
 AIDES_USER = "_aide"
 MAX_EXAMPLE = 1 << 20
+MAX_DEFAULTS = 1 << 16
 SECONDS = 600
 DATE = re.compile("[A-Za-z0-9 :+-]{10,60}")
 
@@ -113,3 +115,12 @@ def next_time(timer: str) -> str:
     if DATE.fullmatch(date):
         return date
     return ""
+
+
+def options_there() -> dict[str, str]:
+    """The options of each day, which an administrator may have changed."""
+    with suppress(Fault, OSError):
+        lines = os.fsdecode(read_file(PATHS.defaults, MAX_DEFAULTS)).split("\n")
+        found = (re.fullmatch(DEFAULTS_LINE, line.strip()) for line in lines)
+        return {match.group(1): match.group(2) or "" for match in found if match}
+    return {}
