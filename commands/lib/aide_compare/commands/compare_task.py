@@ -128,7 +128,8 @@ def exclusions_of(request: CompareRequest) -> Optional[Exclusions]:
     paths = request.exclude_from
     if not paths and request.reads_defaults:
         usual = administrators_file("without")
-        paths = [usual] if usual else []
+        if usual:
+            paths = [usual]
     if not paths and not request.exclude:
         return None
     from aide_compare.compare.exclusions import read_exclusions

@@ -148,6 +148,14 @@ def check(request: MailRequest, databases: Sequence[str]) -> None:
         raise Fault(Status.USAGE, "with --send-queue or --test no databases are compared")
 
 
+class Defaults(NamedTuple):
+    """The administrator's defaults, as words of a command line."""
+
+    own: Sequence[str]  # Those of a mail.
+    others: Sequence[str]  # Those of a comparison.
+    fault: Optional[Fault]  # Why they cannot be read; then there are none.
+
+
 def own_defaults(words: Sequence[str]) -> list[str]:
     """The defaults of a mail. A command by hand keeps no number of quiet runs."""
     options = words[: end_of_options(words)]
@@ -155,26 +163,27 @@ def own_defaults(words: Sequence[str]) -> list[str]:
     return defaults_for([row for row in MAIL_DEFAULTS if keeps_state or row != WEEKLY], words)
 
 
+def read_defaults(words: Sequence[str]) -> Defaults:
+    """The defaults before the words of a command line."""
+    try:
+        return Defaults(own_defaults(words), defaults_for(COMPARISON_DEFAULTS, words), None)
+    except Fault as fault:
+        return Defaults((), (), fault)
+
+
 def request_of(words: Sequence[str]) -> MailRequest:
     """What the options ask for, with the administrator's defaults before them. A fault in the
     defaults costs no mail, and the mail says it."""
-    own: list[str] = []
-    others: list[str] = []
-    refusal: Optional[Fault] = None
+    defaults = read_defaults(words)
+    why = defaults.fault
     try:
-        own = own_defaults(words)
-        others = defaults_for(COMPARISON_DEFAULTS, words)
-    except Fault as fault:
-        refusal = fault
-    why = refusal
-    try:
-        request = parsed([*own, *others, *words])
-    except Fault as fault:
-        request = parsed([*others, *words])
+        request = parsed([*defaults.own, *defaults.others, *words])
+    except Fault as fault:  # It is in the defaults of a mail, or comes again without them.
+        request = parsed([*defaults.others, *words])
         why = fault
     if why:
         say(why.text)
         request = request._replace(default_fault=why.text)
-    if refusal and not isinstance(request.comparison, Fault):
-        return request._replace(comparison=refusal)
+    if defaults.fault and not isinstance(request.comparison, Fault):
+        return request._replace(comparison=defaults.fault)
     return request
