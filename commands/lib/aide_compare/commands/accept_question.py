@@ -2,14 +2,13 @@
 from __future__ import annotations
 
 import os
-import sys
-import termios
 from collections.abc import Sequence
 
-from aide_compare.base.ending import Fault, Status, tell, write_all
-from aide_compare.base.escapes import guarded, shown
+from aide_compare.base.ending import Fault, Status, tell
+from aide_compare.base.escapes import shown
 from aide_compare.base.options import COMPARISON_DEFAULTS, TRUSTED
 from aide_compare.base.parser import defaults_for
+from aide_compare.base.terminal import answer_to
 from aide_compare.base.words import minute_of
 from aide_compare.commands.compare import Printer
 from aide_compare.commands.compare_task import Task, compare_request
@@ -18,7 +17,6 @@ from aide_compare.compare.state import State
 from aide_compare.compare.work import named_databases
 
 YES = ("y", "yes")
-MAX_ANSWER = 100
 
 
 def can_ask() -> bool:
@@ -44,13 +42,6 @@ def compared(new: str, baseline: str, trusted: Sequence[str]) -> State:
     if ended.state is None or ended.status > 7:
         raise Fault(Status(ended.status), "nothing was compared, so nothing is accepted")
     return ended.state
-
-
-def answer_to(question: str) -> str:
-    """What a person types after a question. What was typed before it was there does not count."""
-    termios.tcflush(0, termios.TCIFLUSH)
-    write_all(1, guarded(question).encode("utf-8", "backslashreplace"))
-    return sys.stdin.readline(MAX_ANSWER).strip().lower()
 
 
 def wanted_after_question(new: str, baseline: str, trusted: Sequence[str]) -> State:

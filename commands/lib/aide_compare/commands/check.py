@@ -109,7 +109,8 @@ def level_of(request: CheckRequest, state: State) -> Level:
     return Level.OK
 
 
-def answer_to(request: CheckRequest) -> Answer:
+def answer_of(request: CheckRequest) -> Answer:
+    """What the check says of the state that is asked for."""
     if not os.path.lexists(request.state):
         text = f"there is no {shown(request.state)}; aide-compare --state writes it"
         return Answer(Level.UNKNOWN, text)
@@ -142,7 +143,7 @@ def request_of(arguments: list[str]) -> CheckRequest:
 def main(arguments: Sequence[str]) -> int:
     """Every failure of the check itself is UNKNOWN, since 1 and 2 say what was found."""
     try:
-        answer = answer_to(request_of(list(arguments)))
+        answer = answer_of(request_of(list(arguments)))
     except Done:
         return Level.UNKNOWN
     except (Fault, MemoryError, OSError) as error:

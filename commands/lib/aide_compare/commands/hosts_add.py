@@ -3,15 +3,15 @@ host from then on."""
 from __future__ import annotations
 
 import os
-import termios
 from contextlib import closing
 from typing import NamedTuple, Sequence
 
-from aide_compare.base.ending import Fault, Status, tell, write_all
+from aide_compare.base.ending import Fault, Status, tell
 from aide_compare.base.replacement import NewFile
 from aide_compare.base.options import HOST_STORE, HOST_TIME, Option
 from aide_compare.base.parser import Parser
 from aide_compare.base.processes import limit_memory
+from aide_compare.base.terminal import answer_to
 from aide_compare.base.words import counted
 from aide_compare.hosts import adding
 from aide_compare.hosts.store import (
@@ -28,7 +28,6 @@ and asks. After yes the key is in known_hosts, the database is the baseline, and
 file of hosts."""
 EPILOG = """Status: 0 HOST is watched; 15 bad arguments, or no terminal; 18 nothing was fetched;
 24 the answer was no, there is a baseline of HOST already, or it sent no sound database."""
-MAX_ANSWER = 100
 
 
 class AddRequest(NamedTuple):
@@ -77,14 +76,6 @@ def way_in(fault: Fault, settings: adding.SshSettings) -> list[str]:
     return ["put the line above into /root/.ssh/authorized_keys there, and run this again"]
 
 
-def answer_is_yes(host: str) -> bool:
-    """What was typed before the question does not count."""
-    termios.tcflush(0, termios.TCIFLUSH)
-    write_all(1, f"Is it the same? Then {host} is watched from now on. yes or no: ".encode())
-    answer = os.read(0, MAX_ANSWER)
-    return answer.strip().lower() == b"yes"
-
-
 def main(arguments: Sequence[str]) -> int:
     request = request_of(arguments)
     if not os.isatty(0):
@@ -101,7 +92,8 @@ def main(arguments: Sequence[str]) -> int:
         except Fault as fault:
             raise Fault(fault.status, fault.text, *way_in(fault, settings))
         show(directory.host, offer)
-        if not answer_is_yes(directory.host):
+        question = f"Is it the same? Then {directory.host} is watched from now on. yes or no: "
+        if answer_to(question) != "yes":
             raise Fault(Status.DATABASE, "the answer was not yes: nothing was added")
         adding.keep(directory, offer, settings, request.hosts_file)
     if not request.is_quiet:

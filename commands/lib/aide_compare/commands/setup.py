@@ -285,7 +285,7 @@ def take_steps(machine: Machine) -> None:
         tell(*machine.summary(count))
 
 
-def check(machine: Machine) -> int:
+def tell_missing(machine: Machine) -> int:
     """Says what is missing, and changes nothing."""
     missing = [step.title for step in machine.steps() if not step.is_done]
     status = machine.comparison()
@@ -338,6 +338,6 @@ def main(arguments: Sequence[str]) -> int:
         raise Fault(Status.USAGE, text)
     machine = Machine(request)
     if request.is_check:
-        return check(machine)
+        return tell_missing(machine)
     take_steps(machine)
     return Status.OK

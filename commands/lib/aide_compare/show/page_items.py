@@ -20,7 +20,7 @@ from aide_compare.base.escapes import PLAIN, shown_note, shown_path, shown_value
 from aide_compare.base.words import counted
 from aide_compare.lines.attributes import FORMS, STRENGTH
 from aide_compare.lines.change import Change, Standing, Texts, Value, Values, change_of
-from aide_compare.lines.decoded import NOTED, SideTexts, exact_bytes, texts_of
+from aide_compare.lines.decoded import MAX_TEXT, NOTED, SideTexts, exact_bytes, texts_of
 from aide_compare.lines.reader import Reader, Refused
 from aide_compare.show.added import judged_changes
 
@@ -43,7 +43,6 @@ VARIOUS = Various("various")
 STANDINGS = tuple(reversed(Standing))
 LETTERS = re.compile("[A-Za-z?!<>=:.+ -]{18}")
 PERMISSIONS = re.compile("[0-7]{4}")
-MAX_TEXT = 4000
 COLUMNS = '<table><tr><th scope="col">Attribute<th scope="col">Old<th scope="col">New'
 
 
