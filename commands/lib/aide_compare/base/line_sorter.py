@@ -24,8 +24,8 @@ def _key_of(line: bytes) -> bytes:
     return line[: line.index(b"\t")]
 
 
-def _run(lines: Iterable[bytes]) -> IO[bytes]:
-    """A private file with these lines, open at its beginning."""
+def _written_run(lines: Iterable[bytes]) -> IO[bytes]:
+    """A private file with these lines, which are in order, open at its beginning."""
     with failing(f"cannot sort in {shown(private_directory())}"):
         run = open(nameless(), "w+b", BLOCK)
         run.writelines(lines)
@@ -53,7 +53,7 @@ class LineSorter:
         """What is held becomes a run. Each 16 runs become one, each 16 of such one again, and so
         on, so that few are left."""
         self.held.sort(key=_key_of)
-        self.runs.append(_run(self.held))
+        self.runs.append(_written_run(self.held))
         self.held = []
         self.remaining = MAX_HELD
         self.count += 1
@@ -63,7 +63,7 @@ class LineSorter:
             carried //= MERGED
 
     def _merge_last(self) -> None:
-        self.runs[-MERGED:] = [_run(merge(*self.runs[-MERGED:], key=_key_of))]
+        self.runs[-MERGED:] = [_written_run(merge(*self.runs[-MERGED:], key=_key_of))]
 
     def lines(self) -> Iterable[bytes]:
         """Yields all lines in order, once: after this none can be put."""

@@ -30,7 +30,7 @@ def databases_of_aide() -> tuple[str, str]:
     return new, old
 
 
-def compared(new: str, baseline: str, trusted: Sequence[str]) -> State:
+def compare_and_print(new: str, baseline: str, trusted: Sequence[str]) -> State:
     """Compares as aide-compare does, with the same defaults and privileges, and prints what
     differs."""
     words = ["--", baseline, new]
@@ -46,7 +46,7 @@ def compared(new: str, baseline: str, trusted: Sequence[str]) -> State:
 
 def wanted_after_question(new: str, baseline: str, trusted: Sequence[str]) -> State:
     """The State of a comparison whose new database a person wants who has seen its changes."""
-    state = compared(new, baseline, trusted)
+    state = compare_and_print(new, baseline, trusted)
     line = f"New database: {shown(new)}"
     if state.new_written is not None:
         line += f", written {minute_of(state.new_written)}"

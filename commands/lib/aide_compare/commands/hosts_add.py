@@ -50,8 +50,8 @@ def request_of(arguments: Sequence[str]) -> AddRequest:
     return AddRequest(args.host, args.store, args.time, args.hosts_file, args.quiet)
 
 
-def show(host: str, offer: adding.Offer) -> None:
-    """What the host has answered with, and where the true values are."""
+def tell_offer(host: str, offer: adding.Offer) -> None:
+    """Says what the host has answered with, and where the true values are."""
     if offer.key:
         tell(f"{host} has this key, which was not known here:")
         tell(f"    {adding.key_words(offer.key)}")
@@ -91,7 +91,7 @@ def main(arguments: Sequence[str]) -> int:
             offer = adding.offered(directory, settings, part)
         except Fault as fault:
             raise Fault(fault.status, fault.text, *way_in(fault, settings))
-        show(directory.host, offer)
+        tell_offer(directory.host, offer)
         question = f"Is it the same? Then {directory.host} is watched from now on. yes or no: "
         if answer_to(question) != "yes":
             raise Fault(Status.DATABASE, "the answer was not yes: nothing was added")
