@@ -162,7 +162,8 @@ class SetupTest(CommandTest):
         """A second run passes over what is there, and what an administrator wrote stays."""
         self.call(TOOL, "--to", "a@example.org")
         reader = b"\nThen a@example.org gets a mail if a change is not silent"
-        self.set_up("the reader as before", ("--no-mail",), 0, b"All was there already.", reader)
+        again = self.set_up("setup again", ("--no-mail",), 0, b"All was there already.", reader)
+        self.assertEqual(again.output.count(b": is there"), 9, again)
         for words in (("--to", "b@example.org"), ("--alarm", "any")):
             told = f"stays as it is; write there: {' '.join(words)}\n".encode()
             self.expect("other options", self.call(TOOL, *words), 18, None, told)
@@ -170,8 +171,6 @@ class SetupTest(CommandTest):
         self.set_up("setup again, for root's mail", (), 0, b"a test mail\n")
         self.set_up("setup again, without a word", ("-q",), 0)
         self.assertEqual(self.calls()[-2:], [f"mail --test --user {NOBODY_NAME}"] * 2)
-        again = self.set_up("setup without a mail", ("--no-mail",), 0, b": is there")
-        self.assertEqual(again.output.count(b": is there"), 9, again)
         self.assertEqual(self.read(DEFAULTS), b"--attach-page\n")
 
     def test_cron(self) -> None:

@@ -6,7 +6,7 @@ import os
 import random
 import tarfile
 
-from tests.commands.base.calls import ModuleTest, outcome
+from tests.commands.base.calls import ModuleTest
 
 from aide_compare.base.files import in_memory
 from aide_compare.base.paths import key_of_path
@@ -66,8 +66,8 @@ class EntriesTest(ModuleTest):
         for kind, size in ((tarfile.GNUTYPE_SPARSE, 0), (tarfile.REGTYPE, -1)):
             member = tarfile.TarInfo("./a")
             member.type, member.size = kind, size
-            file = io.BytesIO(member.tobuf(tarfile.GNU_FORMAT) + bytes(1024))
-            self.expect_fault(repr(kind), outcome(lambda: list(members_of(file))), 18)
+            file = io.BytesIO(member.tobuf(tarfile.GNU_FORMAT))
+            self.fails(18, "dpkg does not know", list, members_of(file))
 
     def test_free_trees(self) -> None:
         """Lines of trees that no line means stay, together; a list in such a tree is still looked
