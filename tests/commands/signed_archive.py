@@ -12,7 +12,7 @@ import subprocess
 import time
 from typing import Callable, Dict, List, Tuple
 
-from tests.commands.made_up import Night
+from tests.commands.made_up import MORE_ACL, Night, acl_of
 from tests.commands.sandbox import Answer, CommandTest
 from tests.oracle.agreement import same_as
 from tests.oracle.database import database_of
@@ -184,7 +184,8 @@ def upgraded(sandbox: CommandTest) -> Place:
         night.directory(b"/usr/lib/multi").file(LIBRARY, content).directory(b"/usr/share/tool")
         night.file(b"/usr/share/tool/gone", ONE).file(CONFIGURATION, content)
         # A new file is measured as the one before it, and gets none of its rights.
-        night.file(b"/usr/share/tool/a", ONE, capabilities=base64.b64encode(b"x").decode())
+        right = base64.b64encode(b"x").decode()
+        night.file(b"/usr/share/tool/a", ONE, capabilities=right, acl=acl_of(MORE_ACL))
     del place.new.entries[b"/usr/share/tool/gone"]
     place.new.link(b"/usr/bin/alias", b"tool", size=4)
     place.new.link(b"/usr/bin/zero", b"0", lname="00", size=1)

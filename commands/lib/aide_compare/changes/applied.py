@@ -18,6 +18,7 @@ from aide_compare.base.ending import Fault, Status
 from aide_compare.base.escapes import shown
 from aide_compare.base.files import BLOCK, nameless
 from aide_compare.base.paths import escaped, key_of_path, path_of
+from aide_compare.changes.entries import Entry
 from aide_compare.changes.ordered import OrderedDatabase, usr_of
 from aide_compare.changes.signed import Signed, open_package, tar_of
 from aide_compare.compare.kept_open import NEW, OLD, EntryReader, SidedEntry, key_of_entry
@@ -119,6 +120,12 @@ def type_digits(fields: FieldsByColumn) -> bytes:
     return fields.get("perm", ABSENT)[:-4]
 
 
+def has_access_list(entry: FieldsByColumn) -> bool:
+    """Whether an access list gives a right beyond the mode."""
+    columns = {"perm": 0, "acl": 1}
+    return Entry([entry.get(name, ABSENT) for name in columns], columns).has_access_list
+
+
 def with_content(entry: FieldsByColumn, new: FieldsByColumn) -> FieldsByColumn:
     """An entry with the content of another one, or its target. What was not measured stays so."""
     changed = dict(entry)
@@ -150,7 +157,8 @@ def upgraded(old: Copy, upgrades: Upgrades) -> int:
         new = upgrades.files.get(key, {})
         entry = reader.fields(next(group).line)
         if entry:
-            last[entry.get("perm", ABSENT)] = entry
+            if not has_access_list(entry):  # A new file gets no right from another one.
+                last[entry.get("perm", ABSENT)] = entry
             if new and type_digits(new) == type_digits(entry):
                 entry = with_content(entry, new)
         elif new.get("perm") in last:
