@@ -83,10 +83,10 @@ def keys_of(path: str, nights: Sequence[Night]) -> bytes:
     return text
 
 
-def say_unpaired(why: str, night: Night, other: Night) -> None:
+def say_unpaired(words: str, night: Night, other: Night) -> None:
     """Names the packages that one night has and the other has not."""
     for name in sorted({name_of(path) for path in night.keys() - other.keys()}):
-        say(f"not applied, {why}: {shown(name)}")
+        say(f"{words}: {shown(name)}")
 
 
 def upgrades_of(old_copy: Copy, new_copy: Copy, request: ArchiveRequest) -> Upgrades:
@@ -95,8 +95,8 @@ def upgrades_of(old_copy: Copy, new_copy: Copy, request: ArchiveRequest) -> Upgr
     old = kept_in(old_copy, keyrings)
     new = kept_in(new_copy, keyrings)
     keys = in_memory(b"".join(keys_of(path, (old, new)) for path in keyrings))
-    say_unpaired("it is new", new, old)
-    say_unpaired("it was removed", old, new)
+    say_unpaired("not applied, it is new", new, old)
+    say_unpaired("not applied, it was removed", old, new)
     changed = [path for path in sorted(old.keys() & new.keys()) if old[path] != new[path]]
     sums = {name_of(path): new[path] for path in changed if path.endswith(SUMS)}
     newest = newest_of(request.directories, keys, sums) if sums else {}
