@@ -26,6 +26,8 @@ MAX_ALL = 256 << 20
 MAX_LOG = 4 << 20
 MAX_FILES = 200000
 MAX_COMPARED = 500
+# Of all paths that are asked for at once. Each takes some 120 bytes of memory.
+MAX_MEMBERS = 500000
 MAX_STARTS = 3
 PIECE = 1 << 16
 READ_ONLY = os.O_RDONLY | os.O_NOFOLLOW | os.O_NONBLOCK | os.O_CLOEXEC
@@ -50,12 +52,28 @@ class Member(NamedTuple):
     link: Optional[bytes] = None
 
 
+# By the paths that are asked for.
 Members = Dict[bytes, List[Member]]
 Wanted = Set[bytes]
 # Of a paragraph of dpkg's status.
 Fields = Dict[bytes, bytes]
 # The kinds of the recorded changes of each package.
 Kinds = Dict[str, Set[str]]
+
+
+class Found:
+    """What records say of paths, as it is read. Whoever writes them may say it again and again."""
+
+    def __init__(self) -> None:
+        self.members: Members = {}
+        self.count = 0
+
+    def add(self, path: bytes, member: Member) -> None:
+        self.count += 1
+        if self.count > MAX_MEMBERS:
+            text = f"the packages' records say more than {MAX_MEMBERS} times what has changed"
+            raise Fault(Status.DEVICE, text)
+        self.members.setdefault(path, []).append(member)
 
 
 class Named:
@@ -154,12 +172,12 @@ class Dpkg:
         self.remaining = MAX_ALL
         lines = self._read("diversions").split(b"\n")
         diverted = {usr(path): usr(to) for path, to in zip(lines[::3], lines[1::3])}
-        members: Members = {}
+        found = Found()
 
         def take(path: bytes, member: Member) -> None:
             path = usr(path)
             for place in {path, diverted.get(path, path)} & wanted:
-                members.setdefault(place, []).append(member)
+                found.add(place, member)
 
         asked = _spellings({*wanted, *(old for old, to in diverted.items() if to in wanted)})
         for base, listed in self._lists_with(asked):
@@ -173,7 +191,7 @@ class Dpkg:
                 take(path, Member(package, "md5", bytes.fromhex(digits.decode())))
         for package, path, digits in self._conffiles_with(asked):
             take(path, Member(package, "md5", bytes.fromhex(digits.decode())))
-        return members
+        return found.members
 
     def known_paths(self) -> Iterator[Iterable[bytes]]:
         """All paths of which the records say something, some at once."""

@@ -10,7 +10,16 @@ from aide_compare.base.ending import Fault, Status, failing
 from aide_compare.base.processes import run
 from aide_compare.changes import packages
 from aide_compare.changes.finding import Findings
-from aide_compare.changes.packages import Dpkg, Kinds, Member, Members, Named, Wanted, words_of
+from aide_compare.changes.packages import (
+    Dpkg,
+    Found,
+    Kinds,
+    Member,
+    Members,
+    Named,
+    Wanted,
+    words_of,
+)
 
 RPM = "/usr/bin/rpm"
 RPM_DATABASES = ("/usr/lib/sysimage/rpm", "/var/lib/rpm")
@@ -56,7 +65,7 @@ class Rpm:
     def members(self, wanted: Wanted, usr: Callable[[bytes], bytes]) -> Members:
         """What rpm says of the wanted paths. Of a file that it did not write itself it says the
         path."""
-        members: Members = {}
+        found = Found()
         package = ""
         column = ""
         for line in self._lines():
@@ -68,8 +77,8 @@ class Rpm:
                 member = Member(package)
                 if fields[4] == b"0":  # rpm has written it.
                     member = Member(package, column, digest_in(fields[2]), fields[3])
-                members.setdefault(usr(fields[1]), []).append(member)
-        return members
+                found.add(usr(fields[1]), member)
+        return found.members
 
     def known_paths(self) -> Iterator[Iterable[bytes]]:
         """All paths of which rpm has said something."""
