@@ -181,6 +181,12 @@ class SetupTest(CommandTest):
         mode = os.stat(self.path("root/etc/cron.daily/aide-compare")).st_mode
         self.assertEqual(stat.S_IMODE(mode), 0o755, "a job that cron runs")
         self.assertIn(b"--alarm any\n", self.read(DEFAULTS), "all changes are mailed")
+        self.write("root/run/systemd/system/keep", "")
+        said = b"is there beside the timer; remove it, or go on with --cron\n"
+        self.expect("cron's job and the timer", self.call(TOOL), 18, None, said)
+        said = b"the timer is there beside the job of cron; systemctl disable --now"
+        self.write("calls/log", "enable --now aide-compare.timer\n")
+        self.expect("the timer and cron's job", self.call(TOOL, "--cron"), 18, None, said)
 
     def test_other_system(self) -> None:
         """A system of rpm: AIDE is root's, has another configuration, and no command that makes the

@@ -24,7 +24,9 @@ from aide_compare.commands.setup_machine import (
     OTHERS,
     PATHS,
     aides_user,
-    example,
+    make_cron_job,
+    make_signed,
+    make_without,
     next_time,
     options_there,
     run_shown,
@@ -161,6 +163,15 @@ class Machine:
             for state in ("is-enabled", "is-active")
         )
 
+    def refuse_other_job(self) -> None:
+        """With two jobs each mail would come twice."""
+        if self.has_timer and os.path.lexists(PATHS.cron_job):
+            text = f"{PATHS.cron_job} is there beside the timer; remove it, or go on with --cron"
+            raise Fault(Status.DEVICE, text)
+        if self.request.wants_cron and says_yes(["systemctl", "is-enabled", "--quiet", TIMER]):
+            text = f"the timer is there beside the job of cron; systemctl disable --now {TIMER}"
+            raise Fault(Status.DEVICE, text)
+
     def next_run(self) -> str:
         """When the job runs next, as far as systemd says it."""
         if not self.has_timer:
@@ -246,6 +257,7 @@ class Machine:
         if self.is_debian and self.has_timer:
             title = f"upgrades to signed packages are silent: {PATHS.signed}"
             yield Step(title, os.path.lexists(PATHS.signed), make_signed)
+        self.refuse_other_job()
         yield self.job()
         self.send_test()
         baseline = os.path.join(PATHS.databases, self.names.baseline)
@@ -255,19 +267,6 @@ class Machine:
             path = os.path.join(PATHS.databases, name)
             is_given = self.owns(path) or not os.path.lexists(path)
             yield Step(f"{path} is {user}'s", is_given, partial(self.give, name))
-
-
-def make_without() -> None:
-    replace(PATHS.without, example("aide/debian.without"))
-
-
-def make_signed() -> None:
-    replace(PATHS.signed, example("aide/signed.conf"))
-    run_shown(["systemctl", "daemon-reload"])
-
-
-def make_cron_job() -> None:
-    replace(PATHS.cron_job, example("cron/aide-compare.cron.daily"), 0o755)
 
 
 def take_steps(machine: Machine) -> None:

@@ -1,5 +1,5 @@
-"""What setup finds on a machine: where its files are, AIDE's user, and the programs of the
-system."""
+"""What setup finds on a machine: where its files are, AIDE's user, and the programs of the system;
+and the examples that it puts there."""
 from __future__ import annotations
 
 import os
@@ -15,6 +15,7 @@ from aide_compare.base.files import read_file
 from aide_compare.base.parser import DEFAULTS_LINE
 from aide_compare.base.processes import run, run_here
 from aide_compare.base.program import Drain
+from aide_compare.base.replacement import replace
 
 HERE = os.path.dirname(os.path.realpath(__file__))
 # Where the package, packaging/install and the repository have the examples.
@@ -80,6 +81,19 @@ def run_shown(words: Sequence[str], seconds: int = SECONDS) -> None:
     status = status_of(words, seconds)
     if status:
         raise Fault(Status.DEVICE, f"{words[0]} ended with status {status}")
+
+
+def make_without() -> None:
+    replace(PATHS.without, example("aide/debian.without"))
+
+
+def make_signed() -> None:
+    replace(PATHS.signed, example("aide/signed.conf"))
+    run_shown(["systemctl", "daemon-reload"])
+
+
+def make_cron_job() -> None:
+    replace(PATHS.cron_job, example("cron/aide-compare.cron.daily"), 0o755)
 
 
 def status_of(words: Sequence[str], seconds: int) -> int:
