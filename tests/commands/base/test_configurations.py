@@ -106,6 +106,7 @@ class ConfigurationsTest(ModuleTest):
         }
         for name, wanted in names.items():
             with mock.patch.object(configuration.os, "uname", lambda: mock.Mock(nodename=name)):
-                defined, moved = texts.defining_host()
+                defined = texts.defining_host()
             line = b"@@define HOSTNAME " + wanted + b"\n"
-            self.expect("the name of a machine %r" % name, (defined.before, moved), (line, 1))
+            got = (defined.texts.before, defined.moved)
+            self.expect("the name of a machine %r" % name, got, (line, 1))

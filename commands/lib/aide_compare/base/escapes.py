@@ -26,8 +26,12 @@ BLANK = "\\040"
 BLANK_LETTERS = "\u115f\u1160\u2800\u3164\uffa0"
 
 
+# Each byte as a backslash and three octal digits.
+_OCTAL = [f"\\{byte:03o}" for byte in range(256)]
+
+
 def _escaped(data: bytes) -> str:
-    return "".join(f"\\{byte:03o}" for byte in data)
+    return "".join([_OCTAL[byte] for byte in data])
 
 
 @lru_cache(maxsize=None)

@@ -209,12 +209,13 @@ class Weight(NamedTuple):
     rank: int
 
 
-class Rights(NamedTuple):
+class Rights:
     """What the rights of an entry on both sides mean: the bits of the tests that hold, and whether
     somebody has other rights on the programs in it, a directory."""
 
-    held: int
-    opens_programs: bool
+    def __init__(self, held: int, opens_programs: bool) -> None:
+        self.held = held
+        self.opens_programs = opens_programs
 
 
 # A weight, and a test of the names in a directory that have it.
@@ -228,13 +229,14 @@ MAX_DIRECTORIES = 1 << 8
 OTHER_WEIGHT = Weight(OTHERWISE, SEVERITIES.index(OTHERWISE) * RANKS)
 
 
-class Row(NamedTuple):
+class Row:
     """One pattern of a line: the weight, by the level and the line's place in the table, and the
     bits of the tests, which all have to hold."""
 
-    weight: Weight
-    tests: int
-    pattern: Pattern
+    def __init__(self, weight: Weight, tests: int, pattern: Pattern) -> None:
+        self.weight = weight
+        self.tests = tests
+        self.pattern = pattern
 
 
 class Severity:

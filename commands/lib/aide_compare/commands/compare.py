@@ -162,11 +162,12 @@ class Printer(Reporter):
             write_all(1, text.partition(b"\n")[0] + b"\n")
 
 
-def task_of(arguments: Sequence[str]) -> tuple[Task, Printer]:
+def task_of(request: CompareRequest, arguments: Sequence[str]) -> tuple[Task, Printer]:
     """The comparison that arguments ask for with the administrator's defaults before them, and who
-    prints it."""
-    words = [*defaults_for(COMPARISON_DEFAULTS, arguments), *arguments]
-    request = compare_request(words)
+    prints it. `request` is what the arguments alone ask for."""
+    defaults = defaults_for(COMPARISON_DEFAULTS, arguments)
+    if defaults:
+        request = compare_request([*defaults, *arguments])
     printer = Printer(request, arguments)
     if not request.is_quiet:
         progress.begin(2)
@@ -180,7 +181,7 @@ def main(arguments: Sequence[str]) -> int:
     if own_request.user:
         give_up(own_request.user)
     try:
-        task, printer = task_of(arguments)
+        task, printer = task_of(own_request, arguments)
     except Fault as fault:
         keep_failure(own_request.state, fault)
         raise

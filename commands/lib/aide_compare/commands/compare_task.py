@@ -180,12 +180,13 @@ class Reporter:
         return b""
 
 
-class Ended(NamedTuple):
+class Ended:
     """How a comparison has ended."""
 
-    status: int
-    state: Optional[State]  # None if nobody wants it.
-    message: bytes  # The mail that is sent of it.
+    def __init__(self, status: int, state: Optional[State], message: bytes) -> None:
+        self.status = status
+        self.state = state  # None if nobody wants it.
+        self.message = message  # The mail that is sent of it.
 
 
 class Task:

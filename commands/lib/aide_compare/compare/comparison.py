@@ -61,14 +61,15 @@ class Refusal(Fault):
         self.hints = hints
 
 
-class Lines(NamedTuple):
+class Lines:
     """The lines of the program, in a private file, and what the first and the last of them say."""
 
-    fd: int
-    size: int  # Of all lines; the file has no more than a request allows.
-    is_cut: bool
-    summary: Fields
-    end: EndCounts
+    def __init__(self, fd: int, size: int, is_cut: bool, summary: Fields, end: EndCounts) -> None:
+        self.fd = fd
+        self.size = size  # Of all lines; the file has no more than a request allows.
+        self.is_cut = is_cut
+        self.summary = summary
+        self.end = end
 
 
 class Comparison(NamedTuple):

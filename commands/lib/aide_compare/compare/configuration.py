@@ -41,12 +41,13 @@ MAX_MISSPELT = 5
 MAX_ASKED = 20
 
 
-class Named(NamedTuple):
+class Named:
     """How a configuration names a database."""
 
-    side: str
-    option: str
-    lines: bytes  # What matches those that may name it, wherever they stand.
+    def __init__(self, side: str, option: str, lines: bytes) -> None:
+        self.side = side
+        self.option = option
+        self.lines = lines  # What matches those that may name it, wherever they stand.
 
 
 OLD = Named("old", "database_in", rb"(?m)^[ \t]*database(?:_in)?[ \t]*=[^\n]*")
@@ -56,11 +57,12 @@ NEW = Named("new", "database_new", rb"(?m)^[ \t]*database_new[ \t]*=[^\n]*")
 Settings = Mapping[str, Any]
 
 
-class ReadConfiguration(NamedTuple):
+class ReadConfiguration:
     """The text of a configuration, and what was passed over in it."""
 
-    text: bytes
-    notes: list[str]
+    def __init__(self, text: bytes, notes: list[str]) -> None:
+        self.text = text
+        self.notes = notes
 
 
 def without_includes(path: str) -> ReadConfiguration:
@@ -97,19 +99,21 @@ def host_name() -> bytes:
     return re.sub(OTHER_BYTES, b"", os.fsencode(os.uname().nodename))
 
 
-class Defining(NamedTuple):
+class Defining:
     """Texts that define a name, and by how many lines this moves those of the first text."""
 
-    texts: Texts
-    moved: int
+    def __init__(self, texts: Texts, moved: int) -> None:
+        self.texts = texts
+        self.moved = moved
 
 
-class Group(NamedTuple):
+class Group:
     """A group of attributes that a line defines, with a name like that of an option."""
 
-    where: str
-    number: int
-    name: bytes
+    def __init__(self, where: str, number: int, name: bytes) -> None:
+        self.where = where
+        self.number = number
+        self.name = name
 
     def words(self) -> str:
         from difflib import get_close_matches

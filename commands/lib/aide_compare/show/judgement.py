@@ -1,7 +1,7 @@
 """The changes of a comparison, judged and written for people and for programs."""
 from __future__ import annotations
 
-from typing import NamedTuple, Optional
+from typing import Optional
 
 from aide_compare.base import progress
 from aide_compare.base.ending import why_of
@@ -12,11 +12,12 @@ from aide_compare.lines.reader import Refused, reader_over
 from aide_compare.show.brief import brief
 
 
-class Reviewed(NamedTuple):
+class Reviewed:
     """A comparison with the standings of its changes, and these; None if they are not known."""
 
-    comparison: Comparison
-    judged: Optional[Judged]
+    def __init__(self, comparison: Comparison, judged: Optional[Judged]) -> None:
+        self.comparison = comparison
+        self.judged = judged
 
 
 def judge(comparison: Comparison, is_of_host: bool = True) -> Reviewed:

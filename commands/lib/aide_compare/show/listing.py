@@ -2,7 +2,6 @@
 each are in memory, and those that are listed are read again."""
 from __future__ import annotations
 
-import re
 from array import array
 from heapq import nlargest, nsmallest
 from typing import Any, Callable, Dict, Iterator, List, NamedTuple, Optional, Tuple
@@ -28,6 +27,7 @@ OF_ROOT = 0
 # A code has the severity, the owner, the kind and whether it is a file, and is below this one, of
 # what is not listed.
 NOT_LISTED = 255
+MARK = b"\xfe"  # No code of a finding.
 ADDED = KINDS.index("added")
 # The last bits of a code: the kind, and whether it is a file.
 FORMS = 2 * len(KINDS)
@@ -66,14 +66,15 @@ def _codes(level: int, group: int, is_added: bool) -> bytes:
     )
 
 
-class Most(NamedTuple):
+class Most:
     """The greatest of some counts, each with its place, and of the others their sum, how many they
     are, and in how many rows."""
 
-    first: List[Tuple[int, int]]
-    total: int
-    others: int
-    rows: int
+    def __init__(self, first: List[Tuple[int, int]], total: int, others: int, rows: int) -> None:
+        self.first = first
+        self.total = total
+        self.others = others
+        self.rows = rows
 
 
 def most_of(counts: array[int], width: int, limit: int, name: Callable[[int], Any]) -> Most:
@@ -140,9 +141,12 @@ class Listing:
 
     def places(self, level: int, group: int, is_added: bool) -> Iterator[int]:
         """The places of a severity and a group of owners, in the order of paths."""
-        codes = re.compile(b"[" + re.escape(_codes(level, group, is_added)) + b"]")
-        for match in codes.finditer(self.codes):
-            yield match.start()
+        codes = _codes(level, group, is_added)
+        marked = self.codes.translate(bytes.maketrans(codes, MARK * len(codes)))
+        place = marked.find(MARK)
+        while place >= 0:
+            yield place
+            place = marked.find(MARK, place + 1)
 
     def size(self, level: int, group: int) -> int:
         """How many there are of a severity and a group of owners."""
