@@ -133,12 +133,13 @@ def server(text: str) -> Server:
     return Server(name, int(port))
 
 
-class AlarmLimit(NamedTuple):
+class AlarmLimit:
     """From where on a check is WARNING or CRITICAL: a number of changes that are not silent, or, if
     that is 0, the least severity of one."""
 
-    changes: int
-    severity: str
+    def __init__(self, changes: int, severity: str) -> None:
+        self.changes = changes
+        self.severity = severity
 
 
 def alarm_limit(text: str) -> AlarmLimit:

@@ -5,7 +5,7 @@ from __future__ import annotations
 import os
 import re
 from collections.abc import Sequence
-from typing import NamedTuple, Optional
+from typing import Optional
 
 from aide_compare.base.ending import Fault, Status, tell, write_all
 from aide_compare.base.escapes import guarded, shown
@@ -49,23 +49,33 @@ CHANGES = {
 }
 
 
-class StatusRequest(NamedTuple):
+class StatusRequest:
     """What the options ask for."""
 
-    state: str
-    max_age: int
-    format: str  # One of FORMATS.
-    output: str  # Of prometheus: a file, or STDOUT.
-    is_quiet: bool
-    color: str
+    def __init__(
+        self,
+        state: str,
+        max_age: int,
+        format: str,
+        output: str,
+        is_quiet: bool,
+        color: str,
+    ) -> None:
+        self.state = state
+        self.max_age = max_age
+        self.format = format  # One of FORMATS.
+        self.output = output  # Of prometheus: a file, or STDOUT.
+        self.is_quiet = is_quiet
+        self.color = color
 
 
-class Metric(NamedTuple):
+class Metric:
     """A number for Prometheus; None if it is not known."""
 
-    name: str
-    help: str
-    value: Optional[int]
+    def __init__(self, name: str, help: str, value: Optional[int]) -> None:
+        self.name = name
+        self.help = help
+        self.value = value
 
     def text(self) -> str:
         name = f"aide_compare_{self.name}"

@@ -1,19 +1,20 @@
 """The result of a comparison in words, as its state file has it."""
 from __future__ import annotations
 
-from typing import NamedTuple, Optional
+from typing import Optional
 
 from aide_compare.base.words import SEVERITIES, age_in_words, minute_of
 from aide_compare.compare.state import State, not_compared
 from aide_compare.lines.change import Counts, Standing
 
 
-class KindCounts(NamedTuple):
+class KindCounts:
     """How many entries were added, removed and changed, as a text each."""
 
-    added: str
-    removed: str
-    changed: str
+    def __init__(self, added: str, removed: str, changed: str) -> None:
+        self.added = added
+        self.removed = removed
+        self.changed = changed
 
 
 def kind_counts(state: State, unknown: str) -> KindCounts:
