@@ -113,22 +113,28 @@ class Dpkg:
 
     def _read(self, name: str) -> bytes:
         """The bytes of a file; none if it is not there."""
-        return b"".join(self._pieces(name))
+        return b"".join(self._pieces(name, self.fd))
 
-    def _pieces(self, name: str) -> Iterator[bytes]:
+    @cached_property
+    def _info(self) -> int:
+        """The directory of what dpkg keeps of each package."""
+        with failing(f"cannot read {self.words}"):
+            return os.open("info", READ_ONLY | os.O_DIRECTORY, dir_fd=self.fd)
+
+    def _pieces(self, name: str, directory: int) -> Iterator[bytes]:
         """The bytes of a file in pieces of whole lines; none if it is not there."""
         try:
-            yield from self._read_pieces(name)
+            yield from self._read_pieces(name, directory)
         except FileNotFoundError:
             return
         except OSError as error:
             text = f"cannot read {self.words}: {shown(name)}: {reason(error)}"
             raise Fault(Status.DEVICE, text) from None
 
-    def _read_pieces(self, name: str) -> Iterator[bytes]:
+    def _read_pieces(self, name: str, directory: int) -> Iterator[bytes]:
         """The same, and a failure as the system tells it. It makes nothing that only a failure
         needs: there are some hundred lists, each of a few kilobytes."""
-        file = os.open(name, READ_ONLY, dir_fd=self.fd)
+        file = os.open(name, READ_ONLY, dir_fd=directory)
         try:
             size = self._size_of(file, name)
             limit = min(MAX_FILE, self.remaining)
@@ -198,7 +204,7 @@ class Dpkg:
         self.remaining = MAX_ALL
         yield self._read("diversions").split(b"\n")
         for name in self._lists():
-            for piece in self._pieces(f"info/{name}"):
+            for piece in self._pieces(name, self._info):
                 yield piece.split(b"\n")
         for paragraph in self.paragraphs:
             if b"Conffiles:" in paragraph:
@@ -210,7 +216,7 @@ class Dpkg:
         starts = _starts_of(asked)
         for name in self._lists():
             listed: Wanted = set()
-            for piece in self._pieces(f"info/{name}"):
+            for piece in self._pieces(name, self._info):
                 if any(map(piece.__contains__, starts)):
                     listed |= asked.intersection(piece.split(b"\n"))
             if listed:
@@ -218,7 +224,7 @@ class Dpkg:
 
     def _sums_of(self, base: bytes, paths: Wanted) -> Iterator[Tuple[bytes, bytes]]:
         """The digests of some paths, each with its path before it."""
-        for piece in self._pieces(f"info/{os.fsdecode(base)}.md5sums"):
+        for piece in self._pieces(f"{os.fsdecode(base)}.md5sums", self._info):
             for digits, name in re.findall(SUM, piece):
                 path = b"/" + name
                 if path in paths:
@@ -241,8 +247,7 @@ class Dpkg:
     def _lists(self) -> List[str]:
         """The names of the lists of packages, also of those of which only configuration is left."""
         with failing(f"cannot read {self.words}"):
-            with closed_after(os.open("info", READ_ONLY | os.O_DIRECTORY, dir_fd=self.fd)) as info:
-                names = [name for name in os.listdir(info) if name.endswith(LIST)]
+            names = [name for name in os.listdir(self._info) if name.endswith(LIST)]
         return sorted(names)[:MAX_FILES]
 
     def named(self, findings: Findings, _kinds: Kinds) -> Named:

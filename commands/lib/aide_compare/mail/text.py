@@ -21,7 +21,7 @@ from aide_compare.changes.recorded import Read
 from aide_compare.compare.state import State
 from aide_compare.lines.change import Change, Counts
 from aide_compare.show.brief import entry_words
-from aide_compare.show.changes import Limits, Shares
+from aide_compare.show.limits import Limits, Shares
 from aide_compare.show.listing import Listing, most_of
 
 WIDTH = 80

@@ -22,7 +22,7 @@ from aide_compare.changes.judged import Judged
 from aide_compare.changes.recorded import Read
 from aide_compare.lines.attributes import DIGEST_COLUMNS
 from aide_compare.lines.change import Counts, Standing
-from aide_compare.show.changes import Limits, Shares
+from aide_compare.show.limits import Limits, Shares
 from aide_compare.show.listing import (
     FORMS,
     GROUP_OF_OWNERS,

@@ -1,9 +1,7 @@
-"""A change as a text for people, with its values; and what keeps a list of changes from being
-filled by one directory or one user."""
+"""A change as a text for people, with its values."""
 from __future__ import annotations
 
-from collections import Counter
-from typing import Hashable, Iterable, Iterator, List, NamedTuple, Optional, Tuple
+from typing import Iterable, Iterator, NamedTuple, Optional
 
 from aide_compare.base.escapes import guarded, shown
 from aide_compare.lines.attributes import FORMS, STRENGTH
@@ -11,8 +9,6 @@ from aide_compare.lines.change import Change, Value
 from aide_compare.lines.decoded import texts_of
 
 MAX_VALUE = 200
-
-Limits = List[Tuple[Hashable, int]]
 
 
 def _shown(value: Value, text: Optional[str]) -> Optional[str]:
@@ -65,22 +61,3 @@ def change_lines(change: Change) -> Iterator[str]:
     yield f"{change.kind} {change.type}: {shown(change.path)}\n"
     for row in values_in(change):
         yield row.line(change.kind)
-
-
-class Shares:
-    """What has been listed, for each key: no more than its limit, so that nobody fills a list with
-    files of his own."""
-
-    def __init__(self) -> None:
-        self.listed: Counter[Hashable] = Counter()
-
-    def takes(self, limits: Limits) -> bool:
-        """Whether there is room for something by its keys and their limits, which then is taken."""
-        if not self.has_room(limits):
-            return False
-        self.listed.update(key for key, _ in limits)
-        return True
-
-    def has_room(self, limits: Limits) -> bool:
-        """Whether there is room for something by its keys and their limits."""
-        return all(self.listed[key] < limit for key, limit in limits)
