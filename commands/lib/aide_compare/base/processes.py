@@ -72,8 +72,7 @@ _limits_before: tuple[int, int] | None = None
 
 
 def limit_memory(limit: int) -> None:
-    """From now on this process can take so many bytes more. Programs that it starts have the limits
-    of before: they have bounds of their own."""
+    """Bounds this process to so many bytes more, and none of the programs that it starts."""
     global _limits_before
     _limits_before = resource.getrlimit(resource.RLIMIT_AS)
     bound_memory(limit)
