@@ -9,11 +9,10 @@ from unittest import mock
 
 from tests.commands.base.calls import ModuleTest
 
-from aide_compare.base.ending import Fault
-from aide_compare.changes import packages, recorded
+from aide_compare.changes import recorded
 from aide_compare.changes.entries import Entry
 from aide_compare.changes.finding import IS_CONTENT, IS_LINK
-from aide_compare.changes.packages import Found, Member
+from aide_compare.changes.packages import Member
 from aide_compare.changes.recorded import (
     AskedPlace,
     Contents,
@@ -63,15 +62,6 @@ class RecordedTest(ModuleTest):
             self.expect("not found", sum(lost) < 9, True)
         self.gives(False, sieve.may_have, b"/bin/1x")
         self.gives(True, sieve.may_have, COMPILED % b"")
-
-    def test_found(self) -> None:
-        """Records that say the same again and again are refused."""
-        found = Found()
-        with mock.patch.object(packages, "MAX_MEMBERS", 2):
-            for _ in range(2):
-                found.add(b"/a", Member("tool 1"))
-            self.assertRaises(Fault, found.add, b"/b", Member("tool 1"))
-        self.expect("what was found", found.members, {b"/a": [Member("tool 1")] * 2})
 
     def test_asked(self) -> None:
         """At most so many, or so many bytes of them, at once; only those of a content."""

@@ -1,0 +1,80 @@
+"""dpkg's records: what they say of paths, of which packages, and who may have written them."""
+from __future__ import annotations
+
+import os
+from types import SimpleNamespace
+from typing import Any
+from unittest import mock
+
+from tests.commands.base.calls import ModuleTest
+from tests.commands.made_up import Package
+
+from aide_compare.base.ending import Fault
+from aide_compare.changes import packages
+from aide_compare.changes.packages import Dpkg, Found, Member
+
+TOOL = Package("tool", "2", {b"/usr/bin/tool": b"2"}, {b"/etc/tool": b"2", b"/etc/more": b"2"})
+GONE = Package(
+    "gone", "1", {b"/usr/bin/gone": b"1"}, {b"/etc/gone": b"1"}, (), "deinstall ok config-files"
+)
+INFO = b"/var/lib/dpkg/info/"
+
+
+def same(path: bytes) -> bytes:
+    return path
+
+
+class PackagesTest(ModuleTest):
+    def setUp(self) -> None:
+        super().setUp()
+        for package in (TOOL, GONE):
+            self.write(f"dpkg/info/{package.name}.list", package.paths())
+            self.write(f"dpkg/info/{package.name}.md5sums", package.sums())
+        self.write("dpkg/status", TOOL.status() + b"\n" + GONE.status())
+
+    def dpkg(self) -> Dpkg:
+        return Dpkg(self.path("dpkg"))
+
+    def test_members(self) -> None:
+        """A package of which only configuration is left has nothing."""
+        asked = {b"/usr/bin/tool", b"/usr/bin/gone", b"/etc/gone", b"/etc/tool", b"/etc/none"}
+        members = self.dpkg().members(asked, same)
+        self.expect("the paths", sorted(members), [b"/etc/tool", b"/usr/bin/tool"])
+        for path, found in members.items():
+            kinds = [(member.package, member.column) for member in found]
+            self.expect(f"of {path!r}", kinds, [("tool 2", ""), ("tool 2", "md5")])
+        self.write("dpkg/info/tool.list", b"/usr/bin/tool\n")
+        known = {path for paths in self.dpkg().known_paths() for path in paths}
+        self.expect("all paths", asked - known, {b"/etc/none"})
+
+    def test_others(self) -> None:
+        """No record is read that others can write, and none but a regular file."""
+        for name in ("status", "info/tool.list"):
+            path = self.path(f"dpkg/{name}")
+            os.chmod(path, 0o664)
+            with self.subTest(name), self.assertRaisesRegex(Fault, "other users can write"):
+                self.dpkg().members({b"/usr/bin/tool"}, same)
+            os.chmod(path, 0o644)
+        path = self.path("dpkg/info/tool.list")
+        for put in (lambda: os.symlink("gone.list", path), lambda: os.mkfifo(path, 0o600)):
+            os.unlink(path)
+            put()
+            self.assertRaises(Fault, self.dpkg().members, {b"/usr/bin/tool"}, same)
+
+    def test_named(self) -> None:
+        """A package comes and goes with its list, and not with its digests."""
+        rows = [(INFO + b"tool.list", "added"), (INFO + b"new.list", "added")]
+        rows += [(INFO + b"old.list", "removed"), (INFO + b"other.md5sums", "removed")]
+        findings: Any = SimpleNamespace(below=lambda _directory: rows)
+        named = self.dpkg().named(findings, {})
+        self.expect("what came", named.came, ["tool 2", "new "])
+        self.expect("what went", named.removed, ["old"])
+
+    def test_bound(self) -> None:
+        """Records that say the same again and again are refused."""
+        found = Found()
+        with mock.patch.object(packages, "MAX_MEMBERS", 2):
+            for _ in range(2):
+                found.add(b"/a", Member("tool 1"))
+            self.assertRaises(Fault, found.add, b"/b", Member("tool 1"))
+        self.expect("what was found", found.members, {b"/a": [Member("tool 1")] * 2})
