@@ -101,6 +101,7 @@ def _test(piece: bytes) -> Callable[[bytes], object]:
 
 
 def _is_fixed(piece: bytes) -> bool:
+    """Whether a piece of a pattern has no wildcard."""
     return WILD.search(piece) is None
 
 

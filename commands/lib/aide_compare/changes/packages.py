@@ -69,9 +69,10 @@ class Found:
         self.count = 0
 
     def add(self, path: bytes, member: Member) -> None:
+        """Takes what records say of a path; a Fault if they have said too much."""
         self.count += 1
         if self.count > MAX_MEMBERS:
-            text = f"the packages' records say more than {MAX_MEMBERS} times what has changed"
+            text = f"packages' records name what has changed more than {MAX_MEMBERS} times"
             raise Fault(Status.DEVICE, text)
         self.members.setdefault(path, []).append(member)
 

@@ -139,7 +139,7 @@ def main(arguments: Sequence[str]) -> int:
         give_up(request.user)
     limit_memory(MAX_MEMORY)
     old = copy_database("old", request.old, request.max_size)
-    if request.output:  # However this command ends, the database of another night is gone.
+    if request.output:  # However this ends from here on, that of another night is gone.
         replace_by_copy(request.output, old.fd, PRIVATE, "the database")
     new = copy_database("new", request.new, request.max_size)
     refuse_unsound(new, old)

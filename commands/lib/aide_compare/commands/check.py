@@ -67,6 +67,7 @@ class Answer(NamedTuple):
 
 
 def changes_that_count(request: CheckRequest, counts: Counts) -> int:
+    """How many changes a limit that is a number counts."""
     if request.alarm == NOT_SILENT:
         return counts.told
     return counts.total
