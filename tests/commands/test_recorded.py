@@ -171,14 +171,14 @@ class RecordedTest(CommandTest):
         self.write("dpkg.log", log)
         lines = host.brief(self).split("\n")
         wanted = [
+            "Downgraded packages: fell 1, which was 2",
             "New packages: came 1",
             "Removed packages: went",
-            "Downgraded packages: fell 1, which was 2",
         ]
         self.assertEqual(lines[1:4], wanted, ("the packages", lines[:6]))
         os.remove(self.path("dpkg.log"))
         lines = host.brief(self).split("\n")
-        self.holds("without a log", lines[1:3] == wanted[:2] and not lines[3], lines[:6])
+        self.holds("without a log", lines[1:3] == wanted[1:] and not lines[3], lines[:6])
         host = Host()
         for number in range(60):
             name = f"new-{number:02}"

@@ -62,13 +62,19 @@ class PackagesTest(ModuleTest):
             self.assertRaises(Fault, self.dpkg().members, {b"/usr/bin/tool"}, same)
 
     def test_named(self) -> None:
-        """A package comes and goes with its list, and not with its digests."""
+        """A package comes and goes with its list. Beside a trusted pair one that is new or has
+        other digests is signed or not by its digests."""
         rows = [(INFO + b"tool.list", "added"), (INFO + b"new.list", "added")]
-        rows += [(INFO + b"old.list", "removed"), (INFO + b"other.md5sums", "removed")]
+        rows += [(INFO + b"new.md5sums", "added"), (INFO + b"old.list", "removed")]
+        rows += [(INFO + b"old.md5sums", "removed"), (INFO + b"other.md5sums", "changed")]
         findings: Any = SimpleNamespace(below=lambda _directory: rows)
-        named = self.dpkg().named(findings, {})
-        self.expect("what came", named.came, ["tool 2", "new "])
-        self.expect("what went", named.removed, ["old"])
+        named = self.dpkg().named(findings, {}, None).titled()
+        wanted = [("New packages", ["tool 2", "new "]), ("Removed packages", ["old"])]
+        self.expect("without a pair", named, wanted)
+        named = self.dpkg().named(findings, {}, {INFO + b"tool.md5sums"}).titled()
+        wanted[:1] = [("Unsigned packages", ["new ", "other "])]
+        wanted[1:1] = [("New signed packages", ["tool 2"])]
+        self.expect("beside a pair", named, wanted)
 
     def test_bound(self) -> None:
         """Records that say the same again and again are refused."""

@@ -5,18 +5,18 @@ package's records on this host have is grouped by the package, and the rest is o
 """
 from __future__ import annotations
 
-from typing import Iterator, NamedTuple
+from typing import Iterator, NamedTuple, Set
 
 from aide_compare.base.ending import Fault, Status
-from aide_compare.base.words import SEVERITIES
+from aide_compare.base.words import SEVERITIES, TRUSTED_SIDES
 from aide_compare.changes.entries import Sides
 from aide_compare.changes.finding import Finding, Findings
 from aide_compare.changes.ordered import usr_of
-from aide_compare.changes.packages import Dpkg, Named
+from aide_compare.changes.packages import INFO_DIRECTORY, Dpkg, Named
 from aide_compare.changes.recorded import Matcher
 from aide_compare.changes.rpm import Rpm
 from aide_compare.changes.sides import BothDatabases
-from aide_compare.lines.change import BY_PROOF, Counts
+from aide_compare.lines.change import BY_PROOF, Counts, Standing
 from aide_compare.lines.reader import Reader, Refused
 
 # Each takes some 20 bytes of memory, and its record and its path are in a private file. Of more
@@ -43,9 +43,14 @@ class Judged:
         self.by = ""
         self.silent = dict.fromkeys(BY_PROOF, 0)
         self.findings = Findings()
+        self.has_pair = TRUSTED_SIDES[1] in reader.summary
+        # Of dpkg's records: what is as in the trusted pair.
+        self.trusted: Set[bytes] = set()
         for kind, path, proof, key, _ in reader.outlines():
             if proof is not None:
                 self.silent[proof] += 1
+                if BY_PROOF[proof] is Standing.TRUSTED and path.startswith(INFO_DIRECTORY):
+                    self.trusted.add(path)
             else:
                 self.findings.add(self.databases.weighed(kind, path, key))
             if len(self.findings) > MAX_FINDINGS:
@@ -59,7 +64,8 @@ class Judged:
         matcher = Matcher(records, usr_of(self.databases.new), self.read)
         try:
             matcher.match(self.findings)
-            self.named = records.named(self.findings, matcher.kinds)
+            trusted = self.trusted if self.has_pair else None
+            self.named = records.named(self.findings, matcher.kinds, trusted)
         except BaseException:
             self.findings.forget_records()
             raise

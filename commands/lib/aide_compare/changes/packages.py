@@ -38,7 +38,8 @@ INSTALLED = b"\nStatus: install ok installed\n"
 CONFFILE = rb"(?m)^ ?(/.*?) ([0-9a-f]{32})(?: [a-z-]+)*$"
 SUM = rb"(?m)^([0-9a-f]{32})  ?(.+)$"
 INFO_DIRECTORY = b"/var/lib/dpkg/info"
-INFO = rb"/var/lib/dpkg/info/([A-Za-z0-9][A-Za-z0-9+.-]*)(:[a-z0-9-]+)?\.list"
+INFO = rb"(/var/lib/dpkg/info/([A-Za-z0-9][A-Za-z0-9+.-]*)(?::[a-z0-9-]+)?)\.(list|md5sums)"
+SUMS = b"md5sums"
 UPGRADE = rb"(?m)^[-0-9]+ [:0-9]+ upgrade ([^: \n]+)(?::[^ \n]*)? ([^ \n]+) ([^ \n]+)$"
 
 
@@ -78,12 +79,36 @@ class Found:
 
 
 class Named:
-    """The packages that came, went, or fell to an older version, with their versions."""
+    """The packages that people hear of first, with their versions."""
 
     def __init__(self) -> None:
-        self.came: List[str] = []
-        self.removed: List[str] = []
+        # New or changed, and not as in the trusted pair.
+        self.unsigned: List[str] = []
         self.downgraded: List[str] = []
+        self.came: List[str] = []
+        # New, and as in the trusted pair.
+        self.signed: List[str] = []
+        self.removed: List[str] = []
+
+    def add_new(self, words: str, sums: bytes, trusted: Optional[Set[bytes]]) -> None:
+        """Takes a new package, by the path of its digests."""
+        if trusted is None:
+            self.came.append(words)
+        elif sums in trusted:
+            self.signed.append(words)
+        else:
+            self.unsigned.append(words)
+
+    def titled(self) -> List[Tuple[str, List[str]]]:
+        """What is not empty, each with its title, in the order in which people read it."""
+        rows = [
+            ("Unsigned packages", self.unsigned),
+            ("Downgraded packages", self.downgraded),
+            ("New packages", self.came),
+            ("New signed packages", self.signed),
+            ("Removed packages", self.removed),
+        ]
+        return [(title, list(dict.fromkeys(names))) for title, names in rows if names]
 
 
 class Dpkg:
@@ -251,25 +276,31 @@ class Dpkg:
             names = [name for name in os.listdir(self._info) if name.endswith(LIST)]
         return sorted(names)[:MAX_FILES]
 
-    def named(self, findings: Findings, _kinds: Kinds) -> Named:
-        """The packages whose list came or went, and those of which dpkg's log says that their last
-        change was to an older version."""
+    def named(self, findings: Findings, _kinds: Kinds, trusted: Optional[Set[bytes]]) -> Named:
+        """The packages whose list came or went, those of which dpkg's log says that their last
+        change was to an older version, and those that are not as in a trusted pair: `trusted` are
+        the paths of the digests that are, None without a pair."""
         named = Named()
         count = 0
         for path, kind in findings.below(INFO_DIRECTORY):
             match = re.fullmatch(INFO, path)
-            name = match.group(1) if match else b""
+            if match is None:
+                continue
+            start, name, ending = match.groups()
             version = self._version_of(name) or b""
-            if match and kind == "added":
-                named.came.append(words_of(name, version))
-            elif match and kind == "removed":
+            words = words_of(name, version)
+            if ending == SUMS:
+                if kind != "removed" and trusted is not None:
+                    named.unsigned.append(words)
+            elif kind == "added":
+                named.add_new(words, start + b"." + SUMS, trusted)
+            elif kind == "removed":
                 named.removed.append(shown(name, 100))
-            elif match and name in self._versions_before and count < MAX_COMPARED:
+            elif name in self._versions_before and count < MAX_COMPARED:
                 count += 1
                 before = self._versions_before[name]
                 if is_less(version, before):
-                    was = shown(before, 100)
-                    named.downgraded.append(f"{words_of(name, version)}, which was {was}")
+                    named.downgraded.append(f"{words}, which was {shown(before, 100)}")
         return named
 
     @cached_property

@@ -4,7 +4,7 @@ from __future__ import annotations
 import io
 import os
 import time
-from typing import Callable, Iterable, Iterator, Optional
+from typing import Callable, Iterable, Iterator, Optional, Set
 
 from aide_compare.base.ending import Fault, Status, failing
 from aide_compare.base.processes import run
@@ -89,7 +89,7 @@ class Rpm:
         for line in io.BytesIO(self.text):
             yield line.rstrip(b"\n")
 
-    def named(self, _findings: Findings, kinds: Kinds) -> Named:
+    def named(self, _findings: Findings, kinds: Kinds, _trusted: Optional[Set[bytes]]) -> Named:
         """The packages of which each recorded path came. rpm keeps nothing of those that went."""
         named = Named()
         for name in sorted(name for name, found in kinds.items() if found == {"added"}):

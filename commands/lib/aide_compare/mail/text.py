@@ -197,14 +197,7 @@ def made_lines(listing: Listing) -> Iterator[str]:
 
 def group_lines(judged: Judged, listing: Listing) -> list[str]:
     """What packages' records of the host have; packages that came, went or fell are named first."""
-    lines = []
-    for title, names in (
-        ("Downgraded packages", judged.named.downgraded),
-        ("New packages", judged.named.came),
-        ("Removed packages", judged.named.removed),
-    ):
-        if names:
-            lines.append(names_line(title, names))
+    lines = [names_line(title, names) for title, names in judged.named.titled()]
     lines += package_lines(listing)
     lines += made_lines(listing)
     if not lines:

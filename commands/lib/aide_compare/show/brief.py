@@ -263,21 +263,15 @@ def silent_words(counts: Counts) -> str:
 
 
 def package_lines(judged: Judged) -> Iterator[str]:
-    """The packages that came, went, or fell to an older version, by name."""
-    titles = {
-        "New": judged.named.came,
-        "Removed": judged.named.removed,
-        "Downgraded": judged.named.downgraded,
-    }
-    for title, names in titles.items():
-        if names:
-            from textwrap import wrap
+    """The packages that people hear of first, by name."""
+    for title, names in judged.named.titled():
+        from textwrap import wrap
 
-            named = names[:MAX_NAMED]
-            if len(names) > MAX_NAMED:
-                named.append(f"and {len(names) - MAX_NAMED} more")
-            text = f"{title} packages: {', '.join(named)}"
-            yield from wrap(text, WIDTH, subsequent_indent="  ", break_on_hyphens=False)
+        named = names[:MAX_NAMED]
+        if len(names) > MAX_NAMED:
+            named.append(f"and {len(names) - MAX_NAMED} more")
+        text = f"{title}: {', '.join(named)}"
+        yield from wrap(text, WIDTH, subsequent_indent="  ", break_on_hyphens=False)
 
 
 def brief(judged: Judged) -> str:
