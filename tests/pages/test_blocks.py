@@ -238,13 +238,20 @@ class WordsTest(unittest.TestCase):
                 self.assertLessEqual(named, listed | more)
 
     def test_defaults(self) -> None:
-        """The page of a comparison names the options that the administrator's file may have."""
-        page = read("man/aide-compare-compare.1").partition(".Sh DEFAULTS\n")[2]
+        """The pages of a comparison and of its mail name the options that the administrator's file
+        may have."""
         code = (
             "import sys; sys.path.insert(0, sys.argv[1]); from aide_compare.base import options; "
-            "print(*(option.name for option in options.COMPARISON_DEFAULTS))"
+            "print(*(option.name for option in getattr(options, sys.argv[2])))"
         )
-        words = [sys.executable, "-c", code, os.path.join(TOP, "commands", "lib")]
-        done = subprocess.run(words, stdout=subprocess.PIPE, check=True, text=True)
-        text = page.partition("from there")[0].partition("\ntakes\n")[2]
-        self.assertEqual(named_in(text), set(done.stdout.split()))
+        for name, table, begin, end in (
+            ("compare", "COMPARISON_DEFAULTS", "\ntakes\n", "from there"),
+            ("mail", "MAIL_DEFAULTS", "also come\n", "\nis without"),
+        ):
+            library = os.path.join(TOP, "commands", "lib")
+            words = [sys.executable, "-c", code, library, table]
+            done = subprocess.run(words, stdout=subprocess.PIPE, check=True, text=True)
+            page = read(f"man/aide-compare-{name}.1").partition(".Sh DEFAULTS\n")[2]
+            text = page.partition(begin)[2].partition(end)[0]
+            with self.subTest(name):
+                self.assertEqual(named_in(text), set(done.stdout.split()))
