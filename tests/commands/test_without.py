@@ -246,6 +246,10 @@ class WithoutTest(CommandTest):
                 continue
             answer = self.compare("--exclude-from", f"{name}/logs")
             self.expect("a list " + name, answer, 18, b"", said)
+            link = self.path(f"link to a list {name}")
+            os.symlink(path, link)
+            answer = self.compare("--exclude-from", link)
+            self.expect(f"a link to a list {name}", answer, 18, b"", said)
 
     def test_shipped(self) -> None:
         """The shipped file is read. What programs write each night is left out, and nothing that

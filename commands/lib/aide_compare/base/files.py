@@ -9,8 +9,7 @@ import time
 from contextlib import suppress
 from io import BufferedRandom
 
-from aide_compare.base.directories import OTHERS_WRITE, PLACE, closed_after, failure
-from aide_compare.base.directories import open_directory, walked
+from aide_compare.base.directories import OTHERS_WRITE, PLACE, closed_after, failure, walked
 from aide_compare.base.ending import Fault, Status, failing, write_all
 from aide_compare.base.escapes import shown
 
@@ -69,17 +68,24 @@ def reopened(descriptor: int, flags: int) -> int:
         raise Fault(Status.DEVICE, text)
 
 
+def _opened(path: str | bytes, what: str) -> tuple[int, bool]:
+    """A descriptor of a regular file, to be read, and whether nobody else can put another file in
+    its place, wherever the links of the path lead."""
+    with failing(f"cannot open {what}{shown(path)}"):
+        end = walked(path)
+        with end.directory:
+            if end.file is None:
+                raise failure(errno.EISDIR, "it is a directory")
+            with closed_after(end.file):
+                refuse_other_kinds(os.fstat(end.file).st_mode)
+                descriptor = reopened(end.file, os.O_RDONLY | os.O_NONBLOCK | os.O_NOCTTY)
+                return descriptor, end.directory.is_safe()
+
+
 def open_regular(path: str | bytes, what: str = "") -> int:
     """A descriptor of a regular file, to be read; all else is a Fault at once. `what` is such as
     "the new database "."""
-    with failing(f"cannot open {what}{shown(path)}"):
-        end = walked(path)
-        end.directory.close()
-        if end.file is None:
-            raise failure(errno.EISDIR, "it is a directory")
-        with closed_after(end.file):
-            refuse_other_kinds(os.fstat(end.file).st_mode)
-            return reopened(end.file, os.O_RDONLY | os.O_NONBLOCK | os.O_NOCTTY)
+    return _opened(path, what)[0]
 
 
 def read_whole(descriptor: int, limit: int, what: str) -> bytes:
@@ -103,17 +109,13 @@ def read_file(path: str | bytes, limit: int, what: str = "") -> bytes:
 def open_trusted(path: str, what: str) -> int:
     """The same of a file of the administrator, such as "the rules". Only root and the caller may be
     able to change it."""
-    descriptor = open_regular(path, what + " ")
-    try:
-        with open_directory(os.path.dirname(path) or ".") as directory:
-            status = os.fstat(descriptor)
-            is_owned = status.st_uid in (0, os.geteuid())
-            if not directory.is_safe() or not is_owned or status.st_mode & OTHERS_WRITE:
-                raise Fault(Status.DEVICE, f"other users can write {what} {shown(path)}")
-        return descriptor
-    except BaseException:
+    descriptor, is_safe = _opened(path, what + " ")
+    status = os.fstat(descriptor)
+    is_owned = status.st_uid in (0, os.geteuid())
+    if not is_safe or not is_owned or status.st_mode & OTHERS_WRITE:
         os.close(descriptor)
-        raise
+        raise Fault(Status.DEVICE, f"other users can write {what} {shown(path)}")
+    return descriptor
 
 
 def trusted_text(path: str, what: str) -> bytes:
