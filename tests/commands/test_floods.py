@@ -101,7 +101,7 @@ class FloodsTest(CommandTest):
 
     def test_order(self) -> None:
         """The order of the lines: root's before a service's before others', the first few of each
-        folder, changed and removed before added; and the shares."""
+        folder, by rank, changed and removed before added; and the shares."""
         hostile = [entry(b"/home/anna/.ssh/%03d" % number, owner=1000) for number in range(250)]
         hostile += [entry(b"/home/bob/%03d/.ssh/x" % number, owner=1001) for number in range(90)]
         hostile += [entry(b"/opt/root/.ssh/%02d" % number) for number in range(30)]
@@ -113,12 +113,12 @@ class FloodsTest(CommandTest):
         roots = [
             "changed  /etc/passwd",
             "changed  /root/.ssh/authorized_keys",
-            "removed  /usr/bin/sudo",
-            "changed  /usr/sbin/sshd",
-            "added    /etc/cron.d/evil",
             *numbered("added    /opt/root/.ssh/%02d", 5),
             *numbered("added    /srv/.ssh/%02d", 5),
+            "added    /etc/cron.d/evil",
             "added    /usr/local/sbin/.x",
+            "removed  /usr/bin/sudo",
+            "changed  /usr/sbin/sshd",
             *numbered("added    /opt/root/.ssh/%02d", 5, 30),
             *numbered("added    /srv/.ssh/%02d", 5, 20),
         ]

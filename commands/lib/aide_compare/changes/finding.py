@@ -10,6 +10,8 @@ from typing import Dict, Iterable, Iterator, List, NamedTuple, Optional, Set, Tu
 from aide_compare.base.files import private_file
 from aide_compare.base.paths import key_of_path, path_of
 from aide_compare.base.words import KINDS, SEVERITIES
+from aide_compare.changes.importance import Importance, importance_of
+from aide_compare.changes.severity import Weight
 from aide_compare.changes.sides import NOWHERE, Weighed
 from aide_compare.lines.change import Counts, Standing
 
@@ -36,6 +38,17 @@ class Record(NamedTuple):
         if self.bits & IS_RECORDED:
             return Standing.RECORDED
         return Standing.OPEN
+
+    @property
+    def known_owner(self) -> Optional[int]:
+        if self.bits & HAS_OWNER:
+            return self.owner
+        return None
+
+    @property
+    def importance(self) -> Importance:
+        weight = Weight(SEVERITIES[self.level], self.rank)
+        return importance_of(weight, self.known_owner, KINDS[self.kind])
 
 
 FORM = struct.Struct("=QQQQIIHBBH")
@@ -237,7 +250,7 @@ class Findings:
             new_at=record.new_at,
             is_file=bool(record.bits & IS_FILE),
             is_link=bool(record.bits & IS_LINK),
-            owner=record.owner if record.bits & HAS_OWNER else None,
+            owner=record.known_owner,
         )
 
     def directory(self, number: int) -> bytes:

@@ -5,12 +5,13 @@ package's records on this host have is grouped by the package, and the rest is o
 """
 from __future__ import annotations
 
-from typing import Iterator, NamedTuple, Set
+from typing import Iterator, NamedTuple, Optional, Set
 
 from aide_compare.base.ending import Fault, Status
 from aide_compare.base.words import SEVERITIES, TRUSTED_SIDES
 from aide_compare.changes.entries import Sides
 from aide_compare.changes.finding import Finding, Findings
+from aide_compare.changes.importance import Importance
 from aide_compare.changes.ordered import usr_of
 from aide_compare.changes.packages import INFO_DIRECTORY, Dpkg, Named
 from aide_compare.changes.recorded import Matcher
@@ -31,6 +32,7 @@ class JudgedLine(NamedTuple):
     standing: str
     severity: str  # "" if it is silent.
     package: str  # "" if it is not recorded.
+    importance: Optional[Importance]  # None if it is silent.
 
 
 class Judged:
@@ -85,7 +87,7 @@ class Judged:
         waiting = self.findings.rows()
         for outline in reader.outlines():
             if outline.proof is not None:
-                yield JudgedLine(outline.line, BY_PROOF[outline.proof].value, "", "")
+                yield JudgedLine(outline.line, BY_PROOF[outline.proof].value, "", "", None)
                 continue
             record = next(waiting)
             yield JudgedLine(
@@ -93,4 +95,5 @@ class Judged:
                 record.standing.value,
                 SEVERITIES[record.level],
                 self.findings.packages[record.package],
+                record.importance,
             )

@@ -19,13 +19,13 @@ from aide_compare.base.files import BLOCK
 from aide_compare.base.paths import key_of_path
 from aide_compare.base.words import SEVERITIES
 from aide_compare.changes.entries import owner_of
+from aide_compare.changes.importance import group_of_owner
 from aide_compare.changes.ordered import OrderedDatabase
 from aide_compare.changes.severity import Severity
 from aide_compare.compare.comparison import Comparison
 from aide_compare.lines.change import Change, Counts, Fields, Standing, change_of
 from aide_compare.lines.reader import ENCODE, LINE_LIMIT, ODD, with_members
 from aide_compare.lines.reader import Reader, Refused, reader_over
-from aide_compare.show.listing import group_of_owner
 
 FORMAT = 1
 # What a line gets beside what aide_lines has written: its severity, and the group of its owner.

@@ -9,6 +9,7 @@ from __future__ import annotations
 import os
 import shlex
 from collections.abc import Iterable, Iterator, Sequence
+from itertools import islice
 from textwrap import wrap
 from typing import NamedTuple
 
@@ -105,9 +106,8 @@ def finding_line(finding: Finding, read: Read) -> str:
 def rest_line(listing: Listing, part: Part, listed: Sequence[int]) -> str:
     """How many are not listed, and where most of them are."""
     counts = listing.counts(1)
-    for is_added in (False, True):
-        for place in listing.places(part.level, part.owners, is_added):
-            counts[listing.directories[place]] += 1
+    for place in listing.places(part.level, part.owners):
+        counts[listing.directories[place]] += 1
     for place in listed:
         counts[listing.directories[place]] -= 1
     number, count = most_of(counts, 1, 1, listing.findings.directory).first[0]
@@ -124,7 +124,7 @@ def part_lines(listing: Listing, part: Part, room: int, read: Read) -> Iterator[
     limit = room
     if part.size > room:
         limit = room - 1
-    listed = listing.by_rank(part.level, part.owners, limit)
+    listed = list(islice(listing.in_order(part.level, part.owners), limit))
     for place in listed:
         yield finding_line(listing.findings.finding(place), read)
     if part.size > room:

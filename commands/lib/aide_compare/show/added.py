@@ -14,6 +14,7 @@ from aide_compare.lines.decoded import SideTexts, texts_of, texts_of_line, time_
 from aide_compare.lines.reader import ENCODE, Reader, with_members
 
 if TYPE_CHECKING:
+    from aide_compare.changes.importance import Importance
     from aide_compare.changes.judged import Judged
     from aide_compare.compare.comparison import Comparison
     from aide_compare.compare.unpack import Copy
@@ -81,16 +82,20 @@ def full_summary(summary: Fields, comparison: Comparison) -> Fields:
     return {**full_members(summary, comparison), **summary_of(summary, comparison)}
 
 
-def judged_changes(reader: Reader, judged: Optional[Judged]) -> Iterator[Tuple[bytes, Change]]:
-    """Yields the lines of a Reader and their changes, with the standings that these were judged to
-    have, if they were."""
+def judged_changes(
+    reader: Reader, judged: Optional[Judged]
+) -> Iterator[Tuple[bytes, Change, Optional[Importance]]]:
+    """Yields the lines of a Reader and their changes, with the standings and the places among
+    others that these were judged to have, if they were."""
     if judged is None:
-        yield from reader
+        for line, change in reader:
+            yield line, change, None
         return
-    for line, standing, severity, package in judged.lines(reader):
-        yield line, change_of(json.loads(line))._replace(
+    for line, standing, severity, package, importance in judged.lines(reader):
+        change = change_of(json.loads(line))._replace(
             standing=Standing(standing), severity=severity, package=package
         )
+        yield line, change, importance
 
 
 def marked_by_lines(reader: Reader, has_names: bool) -> Iterator[MarkedLine]:
@@ -107,8 +112,8 @@ def marked_by_lines(reader: Reader, has_names: bool) -> Iterator[MarkedLine]:
 def by_judgement(judged: Judged, reader: Reader, each: Fields, has_names: bool) -> Iterator[bytes]:
     """The lines that were judged, with their texts, their standings and severities, and `each`."""
     known: Dict[Tuple[str, str, str], bytes] = {}  # What lines get that stand alike.
-    for line, *marks in judged.lines(reader):
-        key = (marks[0], marks[1], marks[2])
+    for line, standing, severity, package, _ in judged.lines(reader):
+        key = (standing, severity, package)
         end = known.get(key)
         if end is None:
             named = zip(("standing", "severity", "package"), key)

@@ -2,9 +2,8 @@
 severe first, and then what is recorded, package by package. Which changes are listed, and in which
 order, is such that nobody but root can push root's changes out of sight.
 
-By severity; then root's changes, those of system users, and those of all others; then the first few
-of each directory, so that no directory stands before all others; then what was removed or changed,
-and what was added; then by path. All of root's with severity high are listed. Of all else each
+The order is that of changes/importance.py; of each severity and group of owners the first few of
+each directory come before all others. All of root's with severity high are listed. Of all else each
 directory and each owner has a share of the room, and what is left is counted, a line for each
 directory.
 """
@@ -18,20 +17,13 @@ from aide_compare.base.files import file_kind
 from aide_compare.base.words import KINDS, SEVERITIES, counted, date_of, minute_of
 from aide_compare.changes.entries import ROOT, Entry, differences
 from aide_compare.changes.finding import Finding
+from aide_compare.changes.importance import group_of_owner
 from aide_compare.changes.judged import Judged
 from aide_compare.changes.recorded import Read
 from aide_compare.lines.attributes import DIGEST_COLUMNS
 from aide_compare.lines.change import Counts, Standing
 from aide_compare.show.limits import Limits, Shares
-from aide_compare.show.listing import (
-    FORMS,
-    GROUP_OF_OWNERS,
-    HIGH,
-    OF_ROOT,
-    Listing,
-    group_of_owner,
-    most_of,
-)
+from aide_compare.show.listing import FORMS, HIGH, Listing, most_of
 
 # Lines of one severity for root's changes, for those of system users, and for those of all others.
 ROOMS = (200, 100, 100)
@@ -171,12 +163,12 @@ def _finding_line(finding: Finding, read: Read) -> str:
     return line
 
 
-def _taken(listing: Listing, place: int, level: int, shares: Shares) -> Optional[Finding]:
+def _taken(
+    listing: Listing, place: int, level: int, group: int, shares: Shares
+) -> Optional[Finding]:
     """The finding at a place, if there is room for it."""
-    owner = listing.owner(place)
-    group = GROUP_OF_OWNERS[owner]
     room: Limits = [(("group", group), ROOMS[group])]
-    if level == HIGH and owner == OF_ROOT:
+    if level == HIGH and listing.is_roots(place):
         room = [("roots", MAX_ROOTS)]
     if not shares.has_room(room):  # Most of many have none, and need not be read.
         return None
@@ -191,7 +183,7 @@ def _group_lines(
     for the other directories."""
     rest = listing.counts(FORMS)
     for place in listing.in_order(level, group):
-        finding = _taken(listing, place, level, shares)
+        finding = _taken(listing, place, level, group, shares)
         if finding is not None:
             yield _finding_line(finding, read)
         else:

@@ -8,11 +8,12 @@ from array import array
 from collections import Counter
 from html import escape
 from io import BufferedRandom
-from itertools import islice
+from itertools import groupby, islice
 from typing import TYPE_CHECKING, Dict, Iterator, List, NamedTuple, Optional, Set, Tuple
 
 from aide_compare.base.escapes import shown_note
 from aide_compare.base.files import BLOCK, private_file
+from aide_compare.base.line_sorter import LineSorter
 from aide_compare.base.words import KINDS, SEVERITIES
 from aide_compare.lines.change import Change, Counts, Standing
 from aide_compare.lines.reader import Reader
@@ -29,6 +30,7 @@ from aide_compare.show.page_items import (
 )
 
 if TYPE_CHECKING:
+    from aide_compare.changes.importance import Importance
     from aide_compare.changes.judged import Judged
 
 SCRIPTS = ("page_logic.js", "page_tree.js", "page.js")
@@ -100,6 +102,7 @@ class Group:
         self.standing = standing
         self.name = name
         self.count = 0
+        self.is_sorted = False  # Whether a sorter has the entries.
         self.places = array("Q")
 
     def order(self) -> Tuple[int, int, str]:
@@ -129,7 +132,8 @@ class Groups:
     """The entries of a report by their standing: first what is open, the severe of it at the front,
     then what is recorded, package by package, then what is silent. A file has the head of each
     entry, and the line that says its values, of which a table is made if there is room; of each
-    standing and severity no more than a page has."""
+    standing and severity no more than a page has. What is judged and open is put in its order
+    first, so that what has no room is what matters least."""
 
     def __init__(self) -> None:
         self.file = private_file()
@@ -141,17 +145,22 @@ class Groups:
         # By standing and severity: the room for them, and how many there are.
         self.rooms: Dict[Tuple[str, str], Rooms] = {}
         self.standings: Counter[Tuple[str, str]] = Counter()
+        self.opened = LineSorter()
         # How many entries are listed, and how many of them with all their values.
         self.listed = 0
         self.valued = 0
 
-    def add(self, line: bytes, entry: PageEntry) -> None:
+    def add(self, line: bytes, entry: PageEntry, importance: Optional[Importance]) -> None:
         text = encoded(head_of(entry))
         group = self._group_of(entry.change)
         group.count += 1
         self.size += len(text) + ITEM
         part = (entry.change.standing.value, entry.change.severity)
         self.standings[part] += 1
+        if importance is not None and entry.change.standing is Standing.OPEN:
+            group.is_sorted = True
+            self.opened.put(b"%d %d %05d %d\t%s%s%s" % (*importance, text, VALUES, line))
+            return
         rooms = self.rooms.get(part)
         if rooms is None:
             rooms = Rooms(Room(MAX_PAGE), Room(MAX_LINES))
@@ -201,6 +210,7 @@ class Groups:
         if self.size > limit // 2:
             for_tables = limit // 8
         rooms = Rooms(Room(limit - for_tables), Room(for_tables))
+        self.levels = groupby(self.opened.lines(), lambda line: line[:1])
         for group, heading in zip(groups, headings):
             file.write(heading)
             self._write_list(file, group, rooms, max_elements)
@@ -231,17 +241,26 @@ class Groups:
 
     def _items(self, group: Group, rooms: Rooms) -> Iterator[bytes]:
         """Yields items with their values, or without them, by the room that there is."""
+        for text in self._texts(group):
+            head, _, line = text[:-1].partition(VALUES)
+            if not rooms.heads.reserve(len(head) + ITEM):
+                return
+            self.listed += 1
+            yield item(head, self._values_of(line, rooms.values))
+
+    def _texts(self, group: Group) -> Iterator[bytes]:
+        """Yields what is kept of the entries of a group. Those that a sorter has come severity by
+        severity, as the groups do."""
+        if group.is_sorted:
+            _, lines = next(self.levels)
+            yield from (line.partition(b"\t")[2] for line in lines)
         here = -1
         for place in group.places:
             if place != here:
                 self.file.seek(place)
             text = self.file.readline()
             here = place + len(text)
-            head, _, line = text[:-1].partition(VALUES)
-            if not rooms.heads.reserve(len(head) + ITEM):
-                return
-            self.listed += 1
-            yield item(head, self._values_of(line, rooms.values))
+            yield text
 
     def _values_of(self, line: bytes, room: Room) -> bytes:
         """The values that a line says, b"" if there is no room for them."""
@@ -273,8 +292,8 @@ def page(
     groups = Groups()
     lists = private_file()
     name = os.fsencode(title)
-    for line, entry in entries_of(reader, judged):
-        groups.add(line, entry)
+    for line, entry, importance in entries_of(reader, judged):
+        groups.add(line, entry, importance)
     counts = groups.total()
     has_script = bool(groups.size) and not is_plain
     script = script_of() if has_script else ""

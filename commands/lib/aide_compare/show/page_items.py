@@ -25,6 +25,7 @@ from aide_compare.lines.reader import Reader, Refused
 from aide_compare.show.added import judged_changes
 
 if TYPE_CHECKING:
+    from aide_compare.changes.importance import Importance
     from aide_compare.changes.judged import Judged
 
 # The attributes in their order on a page: the digests at the end, the strongest first. The name of
@@ -106,14 +107,14 @@ def entry_of(change: Change, various: Iterable[str] = ()) -> PageEntry:
 
 def entries_of(
     reader: Reader, judged: Optional[Judged] = None
-) -> Iterator[Tuple[bytes, PageEntry]]:
-    """Yields each line of a change, and its PageEntry, with the standings of Judged if there is
-    one."""
-    for line, change in judged_changes(reader, judged):
+) -> Iterator[Tuple[bytes, PageEntry, Optional[Importance]]]:
+    """Yields each line of a change, and its PageEntry, with the standing and the place of Judged if
+    there is one."""
+    for line, change, importance in judged_changes(reader, judged):
         try:
             if not LETTERS.fullmatch(change.letters):
                 raise Refused(0, "a summary string has 18 letters")
-            yield line, entry_of(change)
+            yield line, entry_of(change), importance
         except Refused as refused:
             raise Refused(reader.number, refused) from None
 
