@@ -53,6 +53,21 @@ class HostsQuietTest(CommandTest):
         said = fleet.compare("--exclude-from", "none", self.hosts)
         self.assertEqual((said.status, said.output), (18, ""), "a missing file of paths")
 
+    def test_usual_list(self) -> None:
+        """The administrator's list and the lines of the defaults leave entries out on hosts too; a
+        trusted pair there is one of this machine."""
+        fleet = self.prepare(idle(5), idle(9))
+        self.write("etc/without", "/var/log/**\n")
+        said = fleet.compare("-q", self.hosts)
+        self.assertEqual(said, (0, "", ""), "the usual list")
+        self.assertEqual(fleet.compare("--no-defaults", self.hosts).status, 4)
+        os.remove(self.path("etc/without"))
+        self.write("etc/defaults", "--exclude /var/log/a\n--trusted none none\n--max-age 1s\n")
+        said = fleet.compare("-q", self.hosts)
+        self.assertEqual(said, (0, "", ""), "a line of the defaults")
+        said = fleet.compare("--exclude", "/x", "--no-defaults", self.hosts)
+        self.assertEqual(said.status, 4)
+
     def test_accept(self) -> None:
         """No first baseline of other bytes; a part of a database; and the counts are those of the
         host's own state."""

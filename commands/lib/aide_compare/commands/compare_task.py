@@ -123,18 +123,19 @@ def check_databases(databases: Sequence[str]) -> None:
         raise Fault(Status.USAGE, f"more than two databases: {shown(databases[-1], 200)}", TRY)
 
 
-def exclusions_of(request: CompareRequest) -> Optional[Exclusions]:
+def exclusions_of(
+    paths: Sequence[str], patterns: Sequence[str], reads_defaults: bool
+) -> Optional[Exclusions]:
     """The lines that leave entries out: those of the options, or those of the administrator."""
-    paths = request.exclude_from
-    if not paths and request.reads_defaults:
+    if not paths and reads_defaults:
         usual = administrators_file("without")
         if usual:
             paths = [usual]
-    if not paths and not request.exclude:
+    if not paths and not patterns:
         return None
     from aide_compare.compare.exclusions import read_exclusions
 
-    return read_exclusions(paths, request.exclude)
+    return read_exclusions(paths, patterns)
 
 
 def work_request(request: CompareRequest) -> Request:
@@ -142,6 +143,7 @@ def work_request(request: CompareRequest) -> Request:
     check_databases(request.databases)
     if [*request.databases, *request.trusted].count("-") > 1:
         raise Fault(Status.USAGE, "standard input has one database only")
+    excluded = exclusions_of(request.exclude_from, request.exclude, request.reads_defaults)
     wanted = Request(
         configuration=request.configuration,
         before=request.before,
@@ -149,7 +151,7 @@ def work_request(request: CompareRequest) -> Request:
         max_size=request.max_size,
         max_report=request.max_report,
         max_age=request.max_age,
-        exclusions=exclusions_of(request),
+        exclusions=excluded,
         trusted=request.trusted,
     )
     if not request.databases:

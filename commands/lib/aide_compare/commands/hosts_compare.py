@@ -17,17 +17,19 @@ from aide_compare.base.directories import closed_after
 from aide_compare.base.kinds import duration, matching
 from aide_compare.base.options import (
     CONFIG,
+    EXCLUDE,
     EXCLUDE_FROM,
     HOST_STORE,
     HOST_TIME,
     MAX_SIZE,
+    NO_DEFAULTS,
     NOT_SILENT,
     Option,
 )
-from aide_compare.base.parser import Parser
+from aide_compare.base.parser import Parser, defaults_for
 from aide_compare.base.processes import limit_memory, start_child
 from aide_compare.base.words import counted
-from aide_compare.compare.exclusions import read_exclusions
+from aide_compare.commands.compare_task import exclusions_of
 from aide_compare.compare.state import State, is_alarm
 from aide_compare.compare.unpack import Copy
 from aide_compare.hosts.canary import failed_note, keep_note, trusted_pair, used_note
@@ -57,9 +59,9 @@ PAUSE = 0.2  # A process that was ended may go on, in a call that does not retur
 DESCRIPTION = """\
 Fetches and compares the databases of the hosts of HOSTS-FILE, one name a line. Prints a line for
 each host as it ends: its name, its status and the counts. Then a summary."""
-EPILOG = """Status: the greatest of all hosts: 0; up to 7 if there are differences and each host
-was compared; more if a host was not. 15 if arguments or a host's name are wrong; 18 if the
-command itself fails."""
+EPILOG = """Exit status, the highest of all hosts: 0 no difference, 1 to 7 differences, above 7
+some host was not compared. 15 if arguments or a host's name are wrong; 18 if the command itself
+fails."""
 
 
 class HostsCompareRequest(NamedTuple):
@@ -274,6 +276,8 @@ def own_parser() -> Parser:
         Option("--canary", canary, metavar="HOST", kind=check_name),
         CONFIG._replace(help="a configuration of this machine (none)"),
         EXCLUDE_FROM,
+        EXCLUDE,
+        NO_DEFAULTS,
         MAX_SIZE._replace(default=0, help=size),
         Option("--same-for", same, metavar="TIME", kind=duration, default=SAME_FOR),
     )
@@ -283,13 +287,15 @@ def own_parser() -> Parser:
 
 
 def request_of(arguments: Sequence[str]) -> HostsCompareRequest:
-    args = own_parser().parse(arguments)
+    # Of the defaults only what is left out: a trusted pair there is one of this machine.
+    defaults = defaults_for((EXCLUDE_FROM, EXCLUDE), arguments)
+    args = own_parser().parse([*defaults, *arguments])
     settings = Settings(
         store=args.store,
         seconds=args.time,
         jobs=args.jobs,
         configuration=args.config,
-        exclusions=read_exclusions(args.exclude_from, []),
+        exclusions=exclusions_of(args.exclude_from, args.exclude, not args.no_defaults),
         max_size=args.max_size,
         same_for=args.same_for,
         fetches=not args.no_fetch,
