@@ -66,7 +66,10 @@ class CanaryTest(CommandTest):
         marked = "www3 5 added 1, removed 0, changed 5: 1 open (1 high) of 6 changes"
         self.assertIn(marked, lines)
         self.assertIn(f"www2 {SAME}5 changes, all silent", lines)
-        self.assertEqual(lines[-1], "4 hosts: 0 without differences, 4 with, 0 not compared")
+        self.assertEqual(
+            lines[-1],
+            "4 hosts: 2 differ, 0 not compared, 0 without differences, 2 with silent ones",
+        )
         quiet = self.compared(hosts, "-q", "--canary", "www1")
         self.assertEqual([line.split(" ")[0] for line in quiet[:-1]], ["www1", "www3"])
         self.assertIn("/hosts/www1/aide.db.new\n", hosts.state("www2"), "it names the pair")
@@ -82,6 +85,10 @@ class CanaryTest(CommandTest):
             self.assertIn("/usr/bin/mark", text)
         page = hosts.report("--format", "page").output
         self.assertIn(f'<p class="remark">{USED.strip()}</p>', page)
+        self.set_names("hosts.hosts_page", MAX_PAGE=1)
+        page = hosts.report("--format", "page").output
+        self.assertIn("This page has no room for 3 more changes", page)
+        self.assertIn(f'<p class="remark">{USED.strip()}</p>', page, "also without room")
         summary, _, changes = hosts.objects()
         self.assertEqual(summary["canary"], [NOTE])
         told = {(each["path"], tuple(each["names"])) for each in changes}

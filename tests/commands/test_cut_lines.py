@@ -29,7 +29,7 @@ class CutLinesTest(CommandTest):
         paths = [each["path"] for each in changes if "long" in each["names"]]
         self.assertEqual(len(paths), host["listed"], "all that is kept")
         self.assertIn("/zz/.ssh/authorized_keys", paths, "the severe one is kept")
-        self.assertEqual((host["told"], host["high"], summary["cut"]), (FLOOD + 1, 1, 1))
+        self.assertEqual((host["open"], host["high"], summary["cut"]), (FLOOD + 1, 1, 1))
         words = "long: its changes were cut; "
         words += f"{host['listed']} of {FLOOD + 1} changes are listed; 1 of all are high\n"
         self.assertIn(words, hosts.report().output)
@@ -120,7 +120,7 @@ class CutLinesTest(CommandTest):
         counts = [summary[name] for name in ("differ", "silent", "unchanged", "changes")]
         self.assertEqual(counts, [1, 1, 0, 1])
         self.assertEqual([each["path"] for each in changes], ["/d"], "only what is open")
-        self.assertEqual(found["calm"]["told"], 0)
+        self.assertEqual(found["calm"]["open"], 0)
         text = hosts.report("--format=brief").output
         first = (
             "aide on 2 hosts: 1 differ, 0 not compared\n0 without differences, 1 with silent ones\n"

@@ -44,7 +44,7 @@ class HostsQuietTest(CommandTest):
         fleet = self.prepare(idle(5), idle(9))
         said = fleet.compare(self.hosts)
         self.assertEqual(said.status, 4, said)
-        self.assertEqual(compared_of(said), "0 without differences, 8 with, 0 not compared\n")
+        self.assertEqual(compared_of(said), "8 differ, 0 not compared, 0 without differences\n")
         said = fleet.compare("-q", "--exclude-from", self.path("without"), self.hosts)
         self.assertEqual(said, (0, "", ""), "an idle night with what is left out")
         state = fleet.state("h07")
@@ -121,7 +121,7 @@ class HostsQuietTest(CommandTest):
         hosts = fleet.list_hosts("h02")
         said = fleet.compare(hosts)
         line = "h02 18 there is no baseline yet; see aide-compare hosts add --help\n"
-        summary = "1 host: 0 without differences, 0 with, 1 not compared\n"
+        summary = "1 host: 0 differ, 1 not compared, 0 without differences\n"
         self.assertEqual(said.output, line + summary)
         head = ["sh", "-c", '"$@" | head -n 1', "sh"]
         said = fleet.compare_one("h03", before=head)

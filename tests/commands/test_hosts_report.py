@@ -128,7 +128,7 @@ def four_hosts(sandbox: CommandTest) -> Hosts:
     texts["calm"] = (old, old)
     said = hosts.compared(texts)
     sandbox.assertEqual(said.status, 7, said)
-    sandbox.assertIn("5 hosts: 1 without differences, 4 with", said.output)
+    sandbox.assertIn("5 hosts: 4 differ, 0 not compared, 1 without differences\n", said.output)
     return hosts
 
 

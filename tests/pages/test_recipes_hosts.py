@@ -72,7 +72,7 @@ class HostsTest(RecipesTest):
         for name in REFUSED:
             self.assertEqual(told[name.replace(" ", "\\040")][0], "15")
         self.assertEqual(
-            summary, f"{count} hosts: 2 without differences, 2 with, {count - 4} not compared"
+            summary, f"{count} hosts: 2 differ, {count - 4} not compared, 2 without differences"
         )
         self.assertEqual(self.read(STORE + "/hosts/other/aide.db"), OLD)
         self.assertFalse(os.path.exists(self.path(STORE, "hosts/x")))

@@ -5,6 +5,8 @@ from typing import List, Tuple, Union
 
 from tests.commands.base.calls import ModuleTest
 
+from aide_compare.hosts.hosts_text import Report, short_lines
+from aide_compare.hosts.reported import Host, HostCounts, SharedChange, Summary
 from aide_compare.hosts.shares import Selection
 
 # Its severity and its hosts, and how much room it takes if that is not one line.
@@ -48,6 +50,19 @@ class SharesTest(ModuleTest):
             found = selected(room, changes)
             self.expect(label, sorted(found.in_order()), listed)
             self.expect(label, (found.left_out, found.left_out_by), (left_out, left_out_by))
+
+    def test_no_room(self) -> None:
+        """Nothing is listed if the texts above leave less than no room, as the notes of many
+        stores did."""
+        found = selected(-3, [("high", [0]), ("low", [1])])
+        self.expect("no room", (found.in_order(), found.left_out), ([], {"high": 1, "low": 1}))
+        notes = [f"canary w{number}: what differs there too" for number in range(70)]
+        summary = Summary(HostCounts(1, 0, 1, 0, 0), 0, 0, 1, "path", notes)
+        change = SharedChange({"kind": "added", "path": "/a", "hosts": 1, "names": ["w"]}, [0])
+        report = Report(summary, [Host("w", 1, open=1, high=0)], lambda: [change], "command")
+        lines = list(short_lines(report))
+        self.assertLess(len(lines), 20)
+        self.assertIn("And 67 more notes of canaries.", lines)
 
     def test_turns(self) -> None:
         """Of nine hosts with four changes each, the fourth ones of the last go first."""

@@ -28,7 +28,6 @@ from aide_compare.base.options import (
 )
 from aide_compare.base.parser import Parser, defaults_for
 from aide_compare.base.processes import limit_memory, start_child
-from aide_compare.base.words import counted
 from aide_compare.commands.compare_task import exclusions_of
 from aide_compare.compare.state import State, is_alarm
 from aide_compare.compare.unpack import Copy
@@ -37,6 +36,7 @@ from aide_compare.hosts.fetching import fetch
 from aide_compare.hosts.host_comparison import MAX_JUDGED, MAX_KEPT, Settings, compare
 from aide_compare.hosts.hosts_read import hosts_of, read_host
 from aide_compare.hosts.hosts_text import WHY, not_listed
+from aide_compare.hosts.reported import HostCounts
 from aide_compare.hosts.store import (
     ERRORS,
     HOSTS_FILE,
@@ -196,6 +196,15 @@ def results_beside(canary: str, hosts: Sequence[str], settings: Settings) -> Ite
     yield from results(others, settings._replace(trusted=pair))
 
 
+def counts_of(found: Sequence[HostResult]) -> HostCounts:
+    """How many hosts there are of each kind."""
+    unchanged = sum(result.status == 0 for result in found)
+    not_compared = sum(result.status > 7 for result in found)
+    differ = sum(result.is_alarm for result in found) - not_compared
+    silent = len(found) - unchanged - not_compared - differ
+    return HostCounts(len(found), unchanged, differ, silent, not_compared)
+
+
 def compare_all(request: HostsCompareRequest, hosts: Sequence[str]) -> int:
     """Prints a line for each host and the summary; returns the greatest status."""
     is_quiet = request.is_quiet
@@ -204,28 +213,15 @@ def compare_all(request: HostsCompareRequest, hosts: Sequence[str]) -> int:
         all_results = results_beside(request.canary, hosts, request.settings)
     else:
         all_results = results(hosts, request.settings)
-    unchanged = 0
-    differ = 0
-    not_compared = 0
-    worst = 0
-    has_alarm = False
-    count = 0
+    found = []
     for result in all_results:
-        count += 1
-        if result.status == 0:
-            unchanged += 1
-        elif result.status <= 7:
-            differ += 1
-        else:
-            not_compared += 1
-        worst = max(worst, result.status)
-        has_alarm = has_alarm or result.is_alarm
+        found.append(result._replace(text=""))
         if result.is_alarm or not is_quiet:
             tell(result.line(color))
-    if has_alarm or not is_quiet:
-        compared = f"{unchanged} without differences, {differ} with"
-        tell(f"{counted(count, 'host')}: {compared}, {not_compared} not compared")
-    return worst
+    if not is_quiet or any(result.is_alarm for result in found):
+        counts = counts_of(found)
+        tell(f"{counts.headline()}, {counts.others()}")
+    return max((result.status for result in found), default=0)
 
 
 def print_changes(name: str, store: str, seconds: int) -> None:

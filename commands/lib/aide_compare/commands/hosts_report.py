@@ -31,7 +31,7 @@ from aide_compare.hosts.host_changes import Found, SameChanges
 from aide_compare.hosts.hosts_page import page
 from aide_compare.hosts.hosts_read import hosts_of, read_host
 from aide_compare.hosts.hosts_text import Report, headline, report_lines, short_lines
-from aide_compare.hosts.reported import CUT, UNREADABLE, Host, SharedChange, Summary
+from aide_compare.hosts.reported import CUT, UNREADABLE, Host, HostCounts, SharedChange, Summary
 from aide_compare.hosts.store import HOSTS_FILE, share_of
 from aide_compare.lines.change import Fields, bytes_of
 from aide_compare.lines.reader import ENCODE
@@ -153,12 +153,15 @@ class HostsReport:
         self.worst = max(host.status for host in self.hosts)
         # Silent differences are no reason for a mail.
         self.is_alarm = any(host.differs or host.status > 7 for host in self.hosts)
-        self.summary = Summary(
+        counts = HostCounts(
             hosts=len(names),
             unchanged=sum(host.status == 0 for host in self.hosts),
             differ=sum(host.differs for host in self.hosts),
             silent=sum(host.is_silent for host in self.hosts),
             not_compared=sum(host.status > 7 for host in self.hosts),
+        )
+        self.summary = Summary(
+            counts=counts,
             cut=sum(host.report == CUT for host in self.hosts),
             not_listed=sum(host.report == UNREADABLE for host in self.hosts),
             changes=count,

@@ -45,10 +45,11 @@ def head(report: Report, left_out: int, high: int) -> bytes:
     for line in filter(None, canary_lines(summary)):
         remarks += f'<p class="remark">{escape(shown_note(line, MAX_CAUSE))}</p>\n'
     if left_out:
-        command = escape(shown_note(report.command, MAX_COMMAND))
+        line = report.command.replace(" \\\n     ", "")
+        command = escape(shown_note(line, MAX_COMMAND))
         what = f"{number(left_out)} more changes, {number(high)} of them high"
         how = f"This command prints all: <code>{command}</code>"
-        remarks = f'<p class="remark">This page has no room for {what}. {how}</p>\n'
+        remarks += f'<p class="remark">This page has no room for {what}. {how}</p>\n'
     for title, lines in host_lists(report.hosts).items():
         remarks += host_list(title, lines)
     outcome = "No changes are listed"
@@ -56,9 +57,9 @@ def head(report: Report, left_out: int, high: int) -> bytes:
         outcome = f"{number(summary.changes)} different changes, {ORDERS[summary.order]}"
     title = headline(summary)
     rows = (
-        CountRow("hosts", summary.hosts),
-        CountRow("differ", summary.differ),
-        CountRow("not compared", summary.not_compared),
+        CountRow("hosts", summary.counts.hosts),
+        CountRow("differ", summary.counts.differ),
+        CountRow("not compared", summary.counts.not_compared),
     )
     return Beginning(
         title=title,
@@ -84,11 +85,11 @@ def page(report: Report, limit: int = 0) -> Iterator[bytes]:
     count = report.summary.changes
     limit = limit or MAX_PAGE
     room = max(limit - len(head(report, count, count)) - RESERVE, 0)
-    selection = Selection(room, report.summary.differ)
+    selection = Selection(room, report.summary.counts.differ)
     items = private_file()
     ends = [0]
     for shared in report.changes():
-        text = item_of(shared, report.summary.hosts)
+        text = item_of(shared, report.summary.counts.hosts)
         selection.offer(shared.severity, shared.payers, len(text))
         items.write(text)
         ends.append(ends[-1] + len(text))

@@ -53,7 +53,7 @@ def host_of(name: str, status: int, error: str, state: State | None = None) -> H
     counts = state.standings
     if counts is None:
         return host
-    return host._replace(told=counts.told, high=counts.of_severity(SEVERITIES[0]))
+    return host._replace(open=counts.told, high=counts.of_severity(SEVERITIES[0]))
 
 
 def host_in(directory: HostDirectory, max_age: int) -> Host:
@@ -75,7 +75,7 @@ class KeptChanges:
 
     def __init__(self, directory: HostDirectory, host: Host) -> None:
         self.path = directory.file(LINES)
-        self.told = host.told
+        self.told = host.open
         self.report = UNREADABLE
         self.listed = 0
 

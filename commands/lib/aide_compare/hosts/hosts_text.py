@@ -17,9 +17,10 @@ from aide_compare.show.changes import values_in
 
 MAX_ROWS = 80
 MAX_COLUMNS = 80
-# Of a short text: the lines for hosts that were not compared, for those whose changes were cut, and
-# the columns for the names of the hosts of a change.
+# Of a short text: the lines for hosts that were not compared, for the canaries of stores, for hosts
+# whose changes were cut, and the columns for the names of the hosts of a change.
 MAX_MISSING = 12
+MAX_NOTES = 4
 MAX_CUT = 6
 NAMES_WIDTH = 18
 MAX_LETTERS = 400
@@ -59,29 +60,21 @@ class Report(NamedTuple):
 
 
 def headline(summary: Summary) -> str:
-    hosts = counted(summary.hosts, "host")
-    return f"aide on {hosts}: {summary.differ} differ, {summary.not_compared} not compared"
+    return f"aide on {summary.counts.headline()}"
 
 
-def others_line(summary: Summary) -> str:
-    """How many hosts there is nothing to say of, as in "90 without differences, 9 with silent
-    ones"."""
-    line = f"{summary.unchanged} without differences"
-    if summary.silent:
-        line += f", {summary.silent} with silent ones"
-    return line
-
-
-def canary_lines(summary: Summary) -> list[str]:
-    """Beside which host the others were compared, or why they were not; nothing without a
-    canary."""
-    if not summary.canary:
-        return []
-    return [*(f"{line[:1].upper()}{line[1:]}" for line in summary.canary), ""]
+def canary_lines(summary: Summary, limit: int = 0) -> list[str]:
+    """Beside which host the others were compared, or why they were not; nothing without a canary.
+    With a limit at most so many lines."""
+    lines = [f"{line[:1].upper()}{line[1:]}" for line in summary.canary]
+    if limit and len(lines) > limit:
+        left = len(lines) - limit + 1
+        lines = [*lines[: limit - 1], f"And {counted(left, 'more note')} of canaries."]
+    return [*lines, ""] if lines else []
 
 
 def not_listed(host: Host) -> str:
-    total = "?" if host.told is None else str(host.told)
+    total = "?" if host.open is None else str(host.open)
     line = f"{host.name}: {WHY[host.report]}; {host.listed} of {total} changes are listed"
     if host.high:
         line += f"; {host.high} of all are high"
@@ -158,7 +151,7 @@ def report_lines(report: Report) -> Iterator[str]:
     """Yields the lines of the whole text."""
     summary = report.summary
     yield from canary_lines(summary)
-    yield f"{headline(summary)}, {others_line(summary)}"
+    yield f"{headline(summary)}, {summary.counts.others()}"
     yield ""
     for title, lines in host_lists(report.hosts).items():
         yield from list_lines(title, lines)
@@ -167,7 +160,7 @@ def report_lines(report: Report) -> Iterator[str]:
         yield f"{counted(summary.changes, 'different change')}, {order}:"
         yield ""
     for shared in report.changes():
-        yield from change_lines(shared, summary.hosts)
+        yield from change_lines(shared, summary.counts.hosts)
 
 
 def shortened(text: str, width: int) -> str:
@@ -249,7 +242,7 @@ def severity_of(shared: SharedChange) -> str:
 
 def selection_of(report: Report, rows: int) -> Selection:
     """The Selection of a text that has so many rows for changes."""
-    selection = Selection(rows, report.summary.differ)
+    selection = Selection(rows, report.summary.counts.differ)
     for shared in report.changes():
         selection.offer(shared.severity, shared.payers)
     return selection
@@ -274,8 +267,8 @@ def short_lines(report: Report) -> Iterator[str]:
     """Yields the lines of the short text, at most MAX_ROWS of at most MAX_COLUMNS."""
     summary = report.summary
     lists = host_lists(report.hosts)
-    head = [beginning(line, MAX_COLUMNS) for line in canary_lines(summary)]
-    head += [headline(summary), others_line(summary), ""]
+    head = [beginning(line, MAX_COLUMNS) for line in canary_lines(summary, MAX_NOTES)]
+    head += [headline(summary), summary.counts.others(), ""]
     head += short_list("Not compared", lists["Not compared"], MAX_MISSING)
     head += short_list("Not all listed", lists["Not all changes are listed"], MAX_CUT)
     # A line for each severity with an empty one, what is left out, and the command at the end.

@@ -6,25 +6,43 @@ from collections.abc import Sequence
 from functools import cached_property
 from typing import NamedTuple
 
-from aide_compare.base.words import KINDS
+from aide_compare.base.words import KINDS, counted
 from aide_compare.lines.change import Change, Fields, change_of
 
-FORMAT = 3
+FORMAT = 4
 # What the lines are that were kept of a host.
 WHOLE = "whole"
 CUT = "cut"
 UNREADABLE = "unreadable"
 
 
-class Summary(NamedTuple):
-    """How many hosts and changes there are."""
+class HostCounts(NamedTuple):
+    """How many hosts there are, and how many of each kind."""
 
     hosts: int
     unchanged: int
     differ: int  # By changes that somebody has to read.
     silent: int  # By others alone.
     not_compared: int
-    cut: int  # Of those that differ.
+
+    def headline(self) -> str:
+        hosts = counted(self.hosts, "host")
+        return f"{hosts}: {self.differ} differ, {self.not_compared} not compared"
+
+    def others(self) -> str:
+        """How many hosts there is nothing to say of, as in "90 without differences, 9 with silent
+        ones"."""
+        line = f"{self.unchanged} without differences"
+        if self.silent:
+            line += f", {self.silent} with silent ones"
+        return line
+
+
+class Summary(NamedTuple):
+    """How many hosts and changes there are."""
+
+    counts: HostCounts
+    cut: int  # Of the hosts that differ.
     not_listed: int
     changes: int
     order: str
@@ -32,9 +50,10 @@ class Summary(NamedTuple):
 
     def fields(self) -> Fields:
         """Its object."""
-        numbers = self._asdict()
+        numbers = {**self.counts._asdict(), **self._asdict()}
+        del numbers["counts"]
         canary = numbers.pop("canary")
-        lines = 1 + self.hosts + self.changes
+        lines = 1 + self.counts.hosts + self.changes
         fields: Fields = {"record": "summary", "format": FORMAT, **numbers, "lines": lines}
         if canary:
             fields["canary"] = canary
@@ -50,7 +69,7 @@ class Host(NamedTuple):
     error: str = ""  # Why it was not compared; "" if it was.
     counts: tuple[int, int, int] | None = None  # By KINDS; None if they are not known.
     new_sha256: str = ""
-    told: int | None = None  # How many changes somebody has to read; None if nobody has judged.
+    open: int | None = None  # How many changes are not silent; None if nobody has judged.
     high: int | None = None  # How many of them have the severity high.
     report: str = ""  # What its lines are: one of the words above; "" if they were not read.
     listed: int = 0  # How many changes these have.
@@ -58,12 +77,12 @@ class Host(NamedTuple):
     @property
     def is_silent(self) -> bool:
         """Whether it differs, but only by changes that nobody has to read."""
-        return 1 <= self.status <= 7 and self.told == 0
+        return 1 <= self.status <= 7 and self.open == 0
 
     @property
     def differs(self) -> bool:
         """Whether it has changes that somebody has to read."""
-        return 1 <= self.status <= 7 and self.told != 0
+        return 1 <= self.status <= 7 and self.open != 0
 
     def fields(self) -> Fields:
         """Its object."""
@@ -74,7 +93,7 @@ class Host(NamedTuple):
             fields["error"] = self.error
             return fields
         fields.update(zip(KINDS, self.counts or (None, None, None)))
-        fields.update(new_sha256=self.new_sha256, told=self.told, high=self.high)
+        fields.update(new_sha256=self.new_sha256, open=self.open, high=self.high)
         if self.report:
             fields.update(report=self.report, listed=self.listed)
         return fields

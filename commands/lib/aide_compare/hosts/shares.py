@@ -69,7 +69,7 @@ class Selection:
             return
         heapq.heappush(self._listed, Listed([-part for part in key], cost, payer))
         self.remaining -= cost
-        while self.remaining < 0:
+        while self.remaining < 0 and self._listed:
             last = heapq.heappop(self._listed)
             self.remaining += last.cost
             self._end = last.key
