@@ -16,13 +16,20 @@ changed=%(changed)s
 old_sha256=
 new_sha256=%(digest)s
 old=%(old)s
-new=/n
+new=%(new)s
 old_written=
 new_written=
 error=%(error)s
 later=unknown
 """
-ZERO: dict[str, Any] = {"status": 0, "added": 0, "removed": 0, "changed": 0, "old": "/o"}
+ZERO: dict[str, Any] = {
+    "status": 0,
+    "added": 0,
+    "removed": 0,
+    "changed": 0,
+    "old": "/o",
+    "new": "/n",
+}
 NOTHING: dict[str, Any] = {"added": "", "removed": "", "changed": ""}
 
 

@@ -11,7 +11,7 @@ from aide_compare.base.ending import Fault, Status, tell, write_all
 from aide_compare.base.escapes import guarded, shown
 from aide_compare.base.files import given_descriptor
 from aide_compare.base.replacement import replace
-from aide_compare.base.options import RESULT_AGE, STATE, Option
+from aide_compare.base.options import RESULT_AGE, STATE, STORE, Option
 from aide_compare.base.parser import Parser
 from aide_compare.base.words import SEVERITIES, date_of, minute_of
 from aide_compare.compare.state import DAILY, KEYS, NUMBER, State, not_compared, read_state
@@ -31,6 +31,8 @@ Status: 0 written; 15 bad arguments; 18 the state cannot be read, or the result 
 written."""
 MAX_LINE = 8000
 STDOUT = "-"
+# The baseline of one of many hosts, which has a command of its own.
+HOST_BASELINE = r"(/.*)/hosts/([A-Za-z0-9][A-Za-z0-9._:@-]*)/aide\.db"
 FORMATS = ("text", "line", "json", "prometheus")
 # What Prometheus is told of each standing and of the entries.
 ENTRIES = {
@@ -134,6 +136,15 @@ def command_lines(state: State) -> list[str]:
         return []
     import shlex
 
+    host = re.fullmatch(HOST_BASELINE, state.old)
+    if host and state.new == f"{state.old}.new":
+        store = "" if host.group(1) == STORE else f"--store {shlex.quote(host.group(1))} "
+        name = host.group(2)
+        return [
+            "",
+            f"What differs:   echo {name} | aide-compare hosts report {store}-",
+            f"If it is right: aide-compare hosts accept {store}--sha256 {state.new_sha256} {name}",
+        ]
     old = shlex.quote(os.path.abspath(state.old))
     new = shlex.quote(os.path.abspath(state.new))
     return [
