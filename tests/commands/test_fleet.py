@@ -14,7 +14,7 @@ from typing import Any, NamedTuple
 
 from tests.lib.waiting import is_alive, until
 
-from .sandbox import CommandTest, END, NEW, OLD
+from .sandbox import CommandTest, END, NEW, OLD, sha256
 
 COMPARE = "aide-compare hosts compare"
 ROOM = 40 << 20
@@ -288,6 +288,12 @@ class FleetTest(CommandTest):
         mode = os.stat(self.path("store/hosts/fresh/aide.db")).st_mode & 0o777
         self.assertEqual(mode, 0o600)
         self.assertEqual(self.fleet.call(accept, "--first", "fresh").status, 24)
+        for words in (("--first", "other"), ("--sha256", sha256(OLD), "fresh")):
+            self.fleet.put("other", OLD, None)
+            self.fleet.call("aide-compare hosts fetch", words[-1])
+            said = self.fleet.call(accept, "--max-size", "50", *words)
+            self.assertEqual((said.status, said.output), (18, ""), (words, said))
+            self.assertIn("has more than 50 bytes", said.errors)
 
     def test_shared(self) -> None:
         """A store in which another user can write is refused, also by a link."""

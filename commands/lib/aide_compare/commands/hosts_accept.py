@@ -10,7 +10,6 @@ from aide_compare.base.options import (
     HOST_STORE,
     HOST_TIME,
     KEEP_OPEN,
-    MAX_DATABASE_BYTES,
     MAX_SIZE,
     SHA256,
     Option,
@@ -81,7 +80,7 @@ def accept_next(directory: HostDirectory, request: HostAcceptRequest) -> int:
         digest=request.digest,
         keep_open=request.keep_open,
         only_trusted=False,
-        max_size=MAX_DATABASE_BYTES,
+        max_size=request.max_size,
     )
     return accept.run(next_baseline, reported, request.is_quiet)
 
@@ -92,7 +91,7 @@ def request_of(arguments: Sequence[str]) -> HostAcceptRequest:
     parser = Parser(NAME, DESCRIPTION, quiet, epilog=EPILOG, usage=usage)
     parser.add(HOST_STORE, HOST_TIME)
     parser.add_operand("host", "HOST", "its name for ssh")
-    size = "the most bytes of a first database, unpacked (4G)"
+    size = "refuse a database of more bytes unpacked (4G)"
     parser.add(MAX_SIZE._replace(default=MAX_BASELINE, help=size))
     which = parser.add_mutually_exclusive_group(required=True)
     add_option(which, FIRST)
