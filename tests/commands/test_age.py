@@ -105,6 +105,29 @@ class AgeTest(CommandTest):
         with open(self.path("new.db"), "rb") as file:
             self.answered(7, b"Changed", DIFFER, *words, "old.db", "/dev/stdin", stdin=file)
 
+    def test_order(self) -> None:
+        """A new database that AIDE wrote before the old one is compared, and a note asks whether
+        the two were swapped. Their own times say it: a copy has another one as a file."""
+
+        def dated(text: bytes, time: str) -> bytes:
+            comment = f"# Time of generation was {time}\n".encode()
+            return text.replace(b"@@db_spec", comment + b"@@db_spec", 1)
+
+        said = b"the new database is older than the old one"
+        for old, new, is_older in (
+            ("2026-11-28 03:00:00", "2026-11-25 03:00:00", True),
+            ("2026-11-25 03:00:00", "2026-11-28 03:00:00", False),
+            ("2026-11-28 03:00:00", "2026-11-28 03:00:00", False),
+            ("2026-11-28 03:00:00 +0100", "2026-11-28 02:59:59 +0100", True),
+            ("2026-11-28 03:00:00 +0100", "2026-11-28 02:59:59 +0000", False),
+            ("2026-11-28 03:00:00", "2026-11-25 03:00:00 +0000", False),
+        ):
+            self.write("dated.db", dated(OLD, old))
+            self.write("late.db", dated(NEW, new))
+            answer = self.call(TOOL, "dated.db", "late.db")
+            self.assertEqual(answer.status, 7, answer)
+            self.assertEqual(said in answer.errors, is_older, (old, new, answer))
+
     def test_values(self) -> None:
         """What is no time leaves the state as it was."""
         self.write("state", b"as before\n")

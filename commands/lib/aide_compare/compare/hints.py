@@ -21,6 +21,8 @@ OPENING = (
 COLUMN = rb".* in column (\d+)$"
 SKIPPED = rb"(?m)^aide: (old|new) database: column ([0-9]{1,2}) skipped$"
 UNREADABLE = r"(?a)cannot open the (old|new) database ([\w/.+-]+): Permission denied"
+# The comment in which AIDE dates a database, before its first entry; the zone since 0.19.
+DATED = rb"(?m)^# Time of generation was ([0-9: -]{19})(| [+-][0-9]{4})$"
 ATTRIBUTES = "report_ignore_[a-z]+_attrs|report_force_attrs"
 BLOCK = 1 << 20
 MAX_HEAD = 1 << 16
@@ -231,3 +233,12 @@ def column_notes(skipped: Mapping[str, list[str]]) -> Iterator[str]:
         if len(sides) == 1:
             column += f" of the {sides[0]} database"
         yield f"{column} is not compared: the program does not know it"
+
+
+def order_notes(copies: Mapping[str, Copy]) -> Iterator[str]:
+    """A line if AIDE wrote the new database before the old one, as it has dated both. The times of
+    the files say nothing: accepting a database, or copying it, gives it another one."""
+    old, new = (re.search(DATED, os.pread(copies[side].fd, 1000, 0)) for side in ("old", "new"))
+    if old and new and old.group(2) == new.group(2) and new.group(1) < old.group(1):
+        times = f"{new.group(1).decode()}, and {old.group(1).decode()}"
+        yield f"the new database is older than the old one ({times}): were they swapped?"

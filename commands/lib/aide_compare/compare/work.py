@@ -18,7 +18,7 @@ from aide_compare.compare.asking import Question, ask_for_changes, defines_group
 from aide_compare.compare.comparison import Comparison, Lines, Refusal, Request
 from aide_compare.compare.configuration import URLS, Databases, Settings, Texts, databases_of
 from aide_compare.compare.configuration import options_in, without_includes
-from aide_compare.compare.hints import column_notes, hints_of, skipped_in
+from aide_compare.compare.hints import column_notes, hints_of, order_notes, skipped_in
 from aide_compare.compare.report import write_report
 from aide_compare.compare.unpack import Copy, Opened, copy_opened, open_database
 from aide_compare.lines.change import Fields
@@ -111,7 +111,7 @@ class Work:
     def _ended(self, lines: Lines | None, report: int | None) -> Comparison:
         skipped = skipped_in(self.answer.errors, self.compared)
         self.notes += self.given.misspelt(self.path, lambda name: defines_group(self.given, name))
-        self.notes += column_notes(skipped)
+        self.notes += [*column_notes(skipped), *order_notes(self.copies)]
         return self._comparison(lines, report)._replace(skipped=skipped)
 
     def _comparison(self, lines: Lines | None, report: int | None) -> Comparison:
