@@ -30,7 +30,12 @@ HOME = {
     "/var/lib/aide": "base",
 }
 ARCHIVE = "aide-compare archive"
-RELEASE = "Origin: Trial\nDate: {date}\n{more}SHA256:\n"
+RELEASE = "Origin: Trial\nSuite: {suite}\nCodename: trial\nDate: {date}\n{more}SHA256:\n"
+APTS_LISTS = b"/var/lib/apt/lists/"
+KEPT = b"/var/cache/apt/archives/"
+# What apt writes before the names of the indexes of a suite.
+SITE = "archive.example.org_dists_stable_"
+INDEXES = ("InRelease", "main_binary-amd64_Packages")
 
 
 def sums_of(version: str) -> bytes:
@@ -110,6 +115,8 @@ class Place:
             for path in (b"/", b"/usr", b"/usr/bin", b"/usr/share", b"/etc"):
                 night.directory(path)
             night.link(b"/lib", b"usr/lib")
+            for name in INDEXES:
+                night.file(APTS_LISTS + f"{SITE}{name}".encode())
             night.link(b"/usr/bin/alias", b"true")
             night.file(b"/usr/bin/true", ONE, 0o100755)
             night.file(b"/usr/bin/passwd", ONE, 0o104755)
@@ -120,11 +127,24 @@ class Place:
             night.file(INFO + name.encode() + b".list", sums_of(text))
             night.file(INFO + name.encode() + b".md5sums", sums_of(text))
 
+    def came(self, name: str, version: str) -> None:
+        """A package that dpkg has unpacked for the first time between the nights."""
+        self.listed(name, version)
+        for ending in (b".list", b".md5sums"):
+            del self.old.entries[INFO + name.encode() + ending]
+
     def package(self, built: Built) -> None:
         built.build(self.sandbox)
         self.built.append(built)
 
-    def sign(self, key: str = "gpg", more: str = "", ending: str = "", **changed: bytes) -> None:
+    def sign(
+        self,
+        key: str = "gpg",
+        more: str = "",
+        ending: str = "",
+        suite: str = "stable",
+        **changed: bytes,
+    ) -> None:
         """Writes the index and its signed text; `changed` is another index in place of the
         signed one."""
         index = "\n".join(built.fields for built in self.built).encode()
@@ -136,7 +156,7 @@ class Place:
         name = "main/binary-amd64/Packages" + ending
         self.sandbox.write(f"{SUITE}/{name}", changed.get("index", data))
         date = time.strftime("%a, %d %b %Y %H:%M:%S UTC", time.gmtime())
-        text = RELEASE.format(date=date, more=more)
+        text = RELEASE.format(date=date, more=more, suite=suite)
         text += f" {hashlib.sha256(data).hexdigest()} {len(data)} {name}\n"
         self.sandbox.write("release", text.encode())
         words = ["--yes", "--digest-algo", "SHA256", "--output", folder + "/InRelease"]
@@ -206,12 +226,16 @@ def make_keys(sandbox: CommandTest) -> None:
 
 def keep_as_apt(sandbox: CommandTest, place: Place) -> None:
     """Puts the indexes and the packages where apt keeps them."""
-    os.makedirs(sandbox.path("lists"))
     os.makedirs(sandbox.path("archives"))
-    before = "lists/archive.example.org_dists_stable_"
-    shutil.copy(sandbox.path(SUITE + "/InRelease"), sandbox.path(before + "InRelease"))
-    index = sandbox.path(SUITE + "/main/binary-amd64/Packages")
-    shutil.copy(index, sandbox.path(before + "main_binary-amd64_Packages"))
+    keep_indexes(sandbox, "lists/" + SITE)
     for built in place.built:
-        name = f"{built.name}_{built.version}_amd64.deb"
+        name = f"{built.name}_{built.version}_{built.architecture}.deb"
         shutil.copy(sandbox.path("mirror/pool/" + name), sandbox.path("archives/" + name))
+
+
+def keep_indexes(sandbox: CommandTest, before: str) -> None:
+    """Puts the indexes where apt keeps them, with this before their names."""
+    os.makedirs(os.path.dirname(sandbox.path(before)), exist_ok=True)
+    for name in INDEXES:
+        source = sandbox.path(f"{SUITE}/{name.replace('_', '/')}")
+        shutil.copy(source, sandbox.path(before + name))

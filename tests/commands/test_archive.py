@@ -10,24 +10,31 @@ import subprocess
 from typing import Any, Dict, List
 
 from tests.commands import mail
+from tests.commands.made_up import Package, write_records
 from tests.commands.sandbox import NOBODY, Answer, CommandTest
 from tests.commands.signed_archive import (
+    APTS_LISTS,
     ARCHIVE,
     CONFIGURATION,
     HOME,
+    INDEXES,
     INFO,
+    KEPT,
     LIBRARY,
     ODD,
+    ONE,
+    SITE,
     SUITE,
     TOOL,
     TWO,
     Built,
     keep_as_apt,
+    keep_indexes,
     make_keys,
     upgraded,
 )
 from tests.lib.scratch import read
-from tests.oracle.database import first_fault
+from tests.oracle.database import database_of, first_fault
 
 PROGRAMS = ("gpg", "gpgv", "dpkg-deb")
 APPLIED = b"applied: 21 files\n"
@@ -111,16 +118,17 @@ class ArchiveTest(CommandTest):
             place.expect(answer, "open", TOOL)
 
     def test_not_applied(self) -> None:
-        """New, removed and older packages are named, and nothing of them is applied."""
+        """Packages that are not signed are named first; then older ones, and what was removed or
+        was there before in part. Nothing of them is applied."""
         place = self.place
         rows = {
-            "came": "it is new: came",
-            "went": "it was removed: went",
-            "purged": "it is new: purged",
-            "late": "late: it is not 2, the newest one of the archive",
+            "local": "no signed index has it: local",
             "fell": "fell: it is not 2, the newest one of the archive",
-            "local": "local: no signed index has it",
+            "late": "late: it is not 2, the newest one of the archive",
             "lost": "lost: the file of 2, the newest one of the archive, is not there",
+            "bare": "it is new: bare",
+            "purged": "it is new: purged",
+            "went": "it was removed: went",
         }
         versions = {"late": "1", "fell": "3", "local": "1+own"}
         endings = (b".list", b".md5sums")
@@ -130,8 +138,9 @@ class ArchiveTest(CommandTest):
             if name != "local":
                 place.package(Built(name, "2").file(path, TWO, 0o755))
             place.new.file(path, TWO, 0o100755)
+        del place.new.entries[INFO + b"bare.md5sums"]
         for ending in endings:
-            del place.old.entries[INFO + b"came" + ending]
+            del place.old.entries[INFO + b"bare" + ending]
             del place.new.entries[INFO + b"went" + ending]
             place.new.entries[INFO + b"same" + ending] = place.old.entries[INFO + b"same" + ending]
         del place.old.entries[INFO + b"purged.md5sums"]  # dpkg keeps the list of a removed package.
@@ -139,8 +148,7 @@ class ArchiveTest(CommandTest):
         place.sign()
         answer = place.ask("-q")
         notes = [f"aide-compare archive: not applied, {line}\n".encode() for line in rows.values()]
-        self.expect("packages that are not applied", answer, 0, errors=notes)
-        self.assertEqual(answer.errors.count(b"\n"), len(rows), "nothing else is said")
+        self.expect("packages that are not applied", answer, 0, errors=b"".join(notes))
         place.expect(answer, "open", *(b"/usr/bin/" + name.encode() for name in (*rows, "same")))
         place.expect(answer, "trusted", TOOL)
 
@@ -157,9 +165,134 @@ class ArchiveTest(CommandTest):
         keep_as_apt(self, place)
         place.expect(self.applied(sources=("lists", "archives")), "trusted", TOOL)
         self.applied(sources=("lists",), told=MISSING)
-        kept = self.path("lists/archive.example.org_dists_stable_main_binary-amd64_Packages")
+        kept = self.path(f"lists/{SITE}main_binary-amd64_Packages")
         os.rename(kept, kept + ".lz4")
+        self.not_made(b"_Packages: No such file", sources=("lists", "archives"))
+        path = APTS_LISTS + f"{SITE}main_binary-amd64_Packages".encode()
+        del place.old.entries[path]
+        place.old.file(path + b".lz4")
         self.applied(sources=("lists",), told=b"_Packages.lz4; /usr/lib/apt/apt-helper")
+        os.rename(kept + ".lz4", kept)
+        place.expect(self.applied(sources=("lists", "archives")), "trusted", TOOL)
+
+    def test_known_indexes(self) -> None:
+        """Of apt's lists those count that the old database knows, all of them, and for the suite
+        for which they were signed. No other directory has indexes."""
+        place = self.place
+        place.sign()
+        keep_as_apt(self, place)
+        place.package(Built("tool", "3").file(TOOL, b"of another suite\n", 0o755))
+        place.sign(suite="sid")
+        keep_indexes(self, f"lists/{SITE.replace('stable', 'sid')}")
+        both = ("lists", "archives")
+        place.expect(self.applied(sources=both), "trusted", TOOL)
+        keep_indexes(self, f"lists/{SITE}")
+        self.not_made(b"is signed for another suite than stable", sources=both)
+        place.sign()
+        shutil.copytree(self.path(SUITE), self.path("mirror/dists/sid"))
+        self.not_made(b"is signed for another suite than sid", sources=("mirror/dists/sid",))
+        keep_indexes(self, f"lists/{SITE}")
+        for name in reversed(INDEXES):
+            os.rename(self.path(f"lists/{SITE}{name}"), self.path(f"archives/{SITE}{name}"))
+            self.not_made(f"{name}: No such file".encode(), sources=both)
+        shutil.copytree(self.path(SUITE), self.path("archives"), dirs_exist_ok=True)
+        os.makedirs(self.path("nothing"))
+        for sources in (("archives",), ("nothing",)):
+            self.not_made(b"--from names no signed index", sources=sources)
+        for name in INDEXES:
+            del place.old.entries[APTS_LISTS + f"{SITE}{name}".encode()]
+        self.not_made(b"--from names no signed index", sources=both)
+
+    def test_new(self) -> None:
+        """The files of a new package are signed, where nothing was before, but no set-ID program.
+        Its list is not: it is reported as new."""
+        place = self.place
+        files = (b"/usr/bin/came", b"/etc/xdg/came", b"/usr/share/tool/a", b"/usr/bin/ids")
+        came = Built("came", "2")
+        for path in files:
+            came.file(path, TWO, 0o644)
+            place.new.file(path, TWO)
+        came.file(b"/usr/bin/ids", TWO, 0o4755)
+        place.new.file(b"/usr/bin/ids", TWO, 0o104755).directory(b"/etc/xdg")
+        place.package(came)
+        place.came("came", "2")
+        place.sign()
+        answer = self.applied("-q", told=b"aide-compare archive: new, signed: came 2\n")
+        place.expect(answer, "trusted", *files[:2], b"/etc/xdg", INFO + b"came.md5sums")
+        place.expect(answer, "open", *files[2:], INFO + b"came.list")
+        package = Package("came", "2", {})
+        write_records(self, {"status": package.status(), "info/came.list": package.paths()})
+        place.came("foreign", "1")
+        self.write("made.db", self.applied(told=b"no signed index has it: foreign\n").output)
+        words = ("--trusted", "host-old.db", "made.db", "host-old.db", "host-new.db")
+        lines = self.call("aide-compare", *words).output.split(b"\n")
+        wanted = [b"Unsigned packages: foreign ", b"New signed packages: came 2"]
+        self.assertEqual([line.strip() for line in lines[1:3]], [line.strip() for line in wanted])
+
+    def test_kept_packages(self) -> None:
+        """Of the packages that apt keeps the signed ones are expected, and those that a newer one
+        has replaced may be gone."""
+        place = self.place
+        place.sign()
+        signed = self.read("mirror/pool/tool_2_amd64.deb")
+        names = (b"tool_2_amd64.deb", b"tool_9_amd64.deb", b"lib_2_i386.deb", b"lib_2_amd64.deb")
+        for name in names:
+            place.new.file(KEPT + name, signed)
+        gone = (b"tool_1%3a0_amd64.deb", b"tool_1_amd64.deb", b"tool_2_all.deb", b"other_1_all.deb")
+        for name in gone:
+            place.old.file(KEPT + name, ONE)
+        answer = self.applied(told=b"applied: 23 files\n")
+        place.expect(answer, "trusted", KEPT + names[0], KEPT + gone[1])
+        rest = (*names[1:], gone[0], *gone[2:])
+        place.expect(answer, "open", *(KEPT + name for name in rest))
+        place.new.file(KEPT + names[0], signed[:-1] + b"x")
+        place.expect(answer, "open", KEPT + names[0])
+
+    def test_links(self) -> None:
+        """A directory has the links that the subdirectories of packages make, and that are there
+        now. A file system that does not count them has one link for each."""
+        place = self.place
+        place.package(Built("came", "2").file(b"/usr/share/came/deep/file", TWO))
+        place.came("came", "2")
+        for path, old, new in (
+            (b"/usr/share", 7, 7),
+            (b"/usr/share/tool", 3, 3),
+            (b"/usr/share/tool/old", 2, None),
+            (b"/usr/share/tool/new", None, 2),
+            (b"/usr/share/came", None, 3),
+            (b"/usr/share/came/deep", None, 2),
+            (b"/usr/bin", 2, 3),
+        ):
+            for night, links in ((place.old, old), (place.new, new)):
+                if links is not None:
+                    night.directory(path, lcount=links)
+        place.sign()
+        wanted = {b"/usr/share": 8, b"/usr/share/tool": 3, b"/usr/share/tool/new": 2}
+        wanted.update({b"/usr/share/came": 3, b"/usr/share/came/deep": 2, b"/usr/bin": 2})
+        self.assertEqual(self.links_of(*wanted), wanted)
+        place.old.directory(b"/usr/share", lcount=1)
+        self.assertEqual(self.links_of(b"/usr/share"), {b"/usr/share": 1})
+        # What a package has, and is not there, explains no other directory.
+        del place.new.entries[b"/usr/share/tool/new"]
+        self.assertEqual(self.links_of(b"/usr/share/tool"), {b"/usr/share/tool": 2})
+
+    def links_of(self, *paths: bytes) -> Dict[bytes, int]:
+        """How many links directories have in what was made."""
+        entries = database_of(self.place.ask().output).entries
+        return {path: entries[path]["n"] for path in paths}
+
+    def test_limits(self) -> None:
+        """gpgv may print without end, or never end: both are ended, and nothing was made."""
+        self.place.sign()
+        old = self.place.old.database()
+        for number, words in (1, ("yes",)), (3, ("sh", "-c", "yes >&3")):
+            self.set_names("changes.signed", GPGV=words, MAX_RELEASE=1 << 20)
+            self.not_made(b"gpgv prints more than 1048576 bytes")
+        self.set_names("changes.signed", GPGV=("sleep", "1000"))
+        self.set_names("commands.archive", MAX_SECONDS=2)
+        self.write("made.db", b"of another night\n")
+        self.not_made(b"it took more than 2 seconds", 18, "--output=made.db")
+        self.assertEqual(self.read("made.db"), old)
 
     def test_unsigned(self) -> None:
         """What no trusted key has signed is refused; nothing is written then."""
@@ -258,18 +391,27 @@ class ArchiveTest(CommandTest):
         return word
 
     def test_architectures(self) -> None:
-        """A package of another architecture, or of an older version there, is not taken for it."""
+        """Only packages of the architecture of the machine's packages count, or of all."""
         place = self.place
         files = place.built
         place.built = []
         place.package(Built("tool", "2", "arm64").file(TOOL, b"of arm64\n", 0o755))
         place.package(Built("lib", "3", "i386").file(b"/lib/multi/lib.so", b"of i386\n"))
-        place.built += files
+        place.package(Built("data", "2", "all").file(b"/usr/share/tool/a", TWO))
+        foreign = place.built
+        place.built = foreign + files
+        place.listed("data", "2")
+        place.new.file(b"/usr/share/tool/a", TWO)
+        place.old.file(b"/usr/share/tool/a", ONE)
         place.sign()
-        answer = place.ask()
-        # Of two packages that have the digests of the host, neither decides on a path of both.
+        place.expect(place.ask(), "trusted", TOOL, ODD, LIBRARY, b"/usr/share/tool/a")
+        place.built = [*foreign, *files[1:]]
+        place.came("lib:arm64", "2")
+        place.new.file(TOOL, b"of arm64\n", 0o100755)
+        place.sign()
+        answer = self.applied(told=b"no signed index has it: lib:arm64\n")
+        self.assertIn(b"no signed index has it: tool\n", answer.errors)
         place.expect(answer, "open", TOOL)
-        place.expect(answer, "trusted", ODD, LIBRARY)
 
     def test_output(self) -> None:
         """A file is replaced by what was made; by the old database if that fails, so that nothing

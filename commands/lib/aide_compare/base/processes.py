@@ -78,6 +78,17 @@ def limit_memory(limit: int) -> None:
     bound_memory(limit)
 
 
+def limit_time(seconds: int) -> None:
+    """Ends this process by a Fault if it runs for longer. The programs that it has started end with
+    it."""
+
+    def end(_number: int, _frame: object) -> None:
+        raise Fault(Status.DEVICE, f"it took more than {seconds} seconds")
+
+    signal.signal(signal.SIGALRM, end)
+    signal.alarm(seconds)
+
+
 def _prepare_program(parent: int, places: Mapping[int, int]) -> None:
     """What the process of a program does before it becomes that: it has a group of its own, ends
     with its parent, has its descriptors by the numbers that they have there, and has bounds."""

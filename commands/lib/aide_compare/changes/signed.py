@@ -1,5 +1,8 @@
 """The packages of signed archives. Only what a signature leads to is believed: gpgv checks the one
-of an InRelease file, which has the digests of indexes, and these have the digests of packages."""
+of an InRelease file, which has the digests of indexes, and these have the digests of packages.
+
+Which indexes and architectures count is what the old database says, and the administrator by the
+names of directories. Nothing that the host has written since adds one."""
 from __future__ import annotations
 
 import gzip
@@ -7,11 +10,11 @@ import lzma
 import os
 import re
 import time
-from collections.abc import Callable, Collection, Iterator, Mapping, Sequence
+from collections import Counter
+from collections.abc import Callable, Collection, Iterable, Iterator, Mapping, Sequence
 from email.utils import parsedate_to_datetime
 from hashlib import sha256
-from itertools import chain
-from typing import IO
+from typing import IO, NamedTuple, Optional
 
 from aide_compare.base.directories import closed_after
 from aide_compare.base.ending import Fault, Status, failing, say, write_all
@@ -22,44 +25,69 @@ from aide_compare.base.program import Drain
 from aide_compare.changes.packages import is_less
 
 MAX_INDEX = 128 << 20
+MAX_RELEASE = 16 << 20
 MAX_UNPACKED = 4 << 30
-MAX_SECONDS = 600
 RELEASE = "InRelease"
+LISTS = "lists"  # What apt calls the directory of its indexes.
 FILE = "/proc/self/fd/4"
 KEYS = "--keyring=/proc/self/fd/5"
 GPGV = ("gpgv", "--status-fd=3", "--weak-digest=SHA1", "--output=-", KEYS, FILE)
 GOOD = re.compile(rb"^\[GNUPG:\] GOODSIG ", re.M)
 BAD = re.compile(rb"^\[GNUPG:\] (?:BADSIG|NODATA|UNEXPECTED|ERROR)\b", re.M)
 EXPIRES = re.compile(r"^Valid-Until: *(.+)$", re.M)
+SUITES = re.compile(r"^(?:Suite|Codename): *(.+)$", re.M)
 INDEX = re.compile(r"^ ([0-9a-f]{64}) +\d+ ([\w.+/-]*/binary-[\w-]+/Packages)(|\.xz|\.gz)$", re.M)
 Unpack = Callable[[bytes], bytes]
 UNPACK: dict[str, Unpack] = {"": bytes, ".xz": lzma.decompress, ".gz": gzip.decompress}
 FIELD = re.compile(r"^(Package|Version|Architecture|Filename|SHA256|Size): *(.*)$", re.M)
+ALL = "all"
 ENVIRONMENT = {"PATH": "/usr/bin:/bin", "LC_ALL": "C", "HOME": "/"}
 
 # What an index has of a package, by the names of its fields, and the path of the InRelease file.
 Signed = dict[str, str]
 
 
+class Release(NamedTuple):
+    """A signed file that names indexes: its path, its suite, and the names of the indexes beside
+    it that count; None for those below its directory, of which all do."""
+
+    path: str
+    suite: str
+    indexes: Optional[Collection[str]]
+
+
 def run_tool(words: Sequence[str], takers: Mapping[int, Taker], files: Sequence[int]) -> int:
     """The status of a program of the system, whose descriptors from 4 on are these files."""
-    deadline = time.monotonic() + MAX_SECONDS
-    return run(words, takers, dict(enumerate(files, 4)), ENVIRONMENT, deadline)
+    return run(words, takers, dict(enumerate(files, 4)), ENVIRONMENT)
 
 
-def signed_text(path: str, keys: int) -> str:
-    """The text of an InRelease file that one of the keys has signed."""
+def taker_of(text: bytearray) -> Taker:
+    """Takes what gpgv prints, which may be endless."""
+
+    def take(block: bytes) -> None:
+        text.extend(block)
+        if len(text) > MAX_RELEASE:
+            raise Fault(Status.DEVICE, f"gpgv prints more than {MAX_RELEASE} bytes")
+
+    return take
+
+
+def signed_text(release: Release, keys: int) -> str:
+    """The text of an InRelease file that one of the keys has signed for its suite."""
+    name = shown(release.path)
     text = bytearray()
     lines = bytearray()
-    with closed_after(in_memory(read_file(path, MAX_INDEX, "the signed file "))) as file:
+    with closed_after(in_memory(read_file(release.path, MAX_RELEASE, "the signed file "))) as file:
         # Its status says nothing: it also fails if one key of many is missing.
-        run_tool(GPGV, {1: text.extend, 3: lines.extend}, [file, keys])
+        run_tool(GPGV, {1: taker_of(text), 3: taker_of(lines)}, [file, keys])
     if not GOOD.search(lines) or BAD.search(lines):
-        raise Fault(Status.DEVICE, f"gpgv finds no key of the keyrings that signed {shown(path)}")
+        raise Fault(Status.DEVICE, f"gpgv finds no key of the keyrings that signed {name}")
     signed = text.decode("utf-8", "surrogateescape")
+    if release.suite not in SUITES.findall(signed):
+        raise Fault(Status.DEVICE, f"{name} is signed for another suite than {release.suite}")
     expires = EXPIRES.search(signed)
     if expires and parsedate_to_datetime(expires.group(1)).timestamp() < time.time():
-        raise Fault(Status.DEVICE, f"{shown(path)} was valid until {shown(expires.group(1))}")
+        raise Fault(Status.DEVICE, f"{name} was valid until {shown(expires.group(1))}")
     return signed
 
 
@@ -85,45 +113,101 @@ def copy_signed(path: str, size: int, digest: str) -> int:
     return copy
 
 
-def packages_of(release: str, keys: int) -> Iterator[Signed]:
-    """The packages of the indexes that an InRelease file names, as far as they are there: below its
-    directory, or beside it with its name before theirs, as apt keeps them."""
-    before = release[: -len(RELEASE)]
+def releases_of(directories: Iterable[str], known: Collection[str]) -> list[Release]:
+    """The InRelease files of directories: that of a suite of a mirror, which whoever names it
+    trusts; and of apt's lists those that the old database knows. Of all else only packages are
+    read."""
+    releases = []
+    for directory in [os.path.normpath(path) for path in directories]:
+        _, is_mirror, suite = directory.rpartition("/dists/")
+        if is_mirror:
+            path = os.path.join(directory, RELEASE)
+            releases.append(Release(path, suite.split("/")[0], None))
+        if is_mirror or os.path.basename(directory) != LISTS:
+            continue
+        for name in sorted(known):
+            start, is_suite, suite = name.removesuffix("_" + RELEASE).rpartition("_dists_")
+            if is_suite and name.endswith("_" + RELEASE):
+                path = os.path.join(directory, name)
+                releases.append(Release(path, suite.split("_")[0], known))
+    return releases
+
+
+def has_index(release: Release, path: str) -> bool:
+    """Whether an index is read: if a mirror has it, or if the old database knows it, which must be
+    there then. apt may pack it (GzipIndexes)."""
+    if release.indexes is None:
+        return os.path.isfile(path)
+    name = os.path.basename(path)
+    if name in release.indexes or f"{name}.lz4" not in release.indexes:
+        return name in release.indexes
+    if not os.path.isfile(path):
+        say(f"not read: {shown(path)}.lz4; /usr/lib/apt/apt-helper cat-file unpacks it")
+    return os.path.isfile(path)
+
+
+def packages_of(release: Release, keys: int) -> Iterator[Signed]:
+    """The packages of the indexes that an InRelease file names: below its directory, or beside it
+    with its name before theirs, as apt keeps them."""
+    before = release.path[: -len(RELEASE)]
     for digest, name, ending in INDEX.findall(signed_text(release, keys)):
-        path = before + (name if before.endswith("/") else name.replace("/", "_")) + ending
-        if os.path.isfile(path):
+        path = before + (name if release.indexes is None else name.replace("/", "_")) + ending
+        if has_index(release, path):
             index = UNPACK[ending](read_signed(path, MAX_INDEX, digest))
             for paragraph in index.decode("utf-8", "surrogateescape").split("\n\n"):
-                yield {**dict(FIELD.findall(paragraph)), RELEASE: release}
-        elif not ending and os.path.isfile(f"{path}.lz4"):  # apt packs it with its GzipIndexes.
-            say(f"not read: {shown(path)}.lz4; /usr/lib/apt/apt-helper cat-file unpacks it")
+                yield {**dict(FIELD.findall(paragraph)), RELEASE: release.path}
 
 
-def newest_of(
-    directories: Sequence[str], keys: int, wanted: Collection[str]
-) -> dict[str, list[Signed]]:
-    """The newest version of each wanted package in the signed indexes of these directories, in each
-    architecture. dpkg's own name of a package has its architecture only if there may be several."""
-    newest: dict[str, list[Signed]] = {}
-    files = [os.path.join(each, name) for each in directories for name in sorted(os.listdir(each))]
-    releases = filter(lambda file: file.endswith(RELEASE), files)
-    for signed in chain.from_iterable(packages_of(release, keys) for release in releases):
-        name = signed.get("Package", "")
-        for own in {name, f"{name}:{signed.get('Architecture')}"}.intersection(wanted):
-            known = newest.setdefault(own, [])
+def file_name(signed: Signed) -> str:
+    """apt's name for the file of a package."""
+    version = signed["Version"].replace(":", "%3a")
+    return f"{signed['Package']}_{version}_{signed['Architecture']}.deb"
+
+
+class Catalog:
+    """What signed indexes have of wanted packages, by dpkg's own names of these: the newest
+    version. And what they have of wanted files, by apt's names.
+
+    dpkg's own name of a package has its architecture only if there may be several. Otherwise it is
+    of the machine's, which most of its packages with such a name have, or of all."""
+
+    def __init__(self, machine: Collection[str], owns: Collection[str], files: Collection[str]):
+        counts = Counter(own.partition(":")[2] for own in machine if ":" in own)
+        self.architectures = {*counts, ALL}
+        self.native = {ALL, *(name for name, _ in counts.most_common(1))}
+        self.owns = set(owns)
+        self.files = set(files)
+        self.newest: dict[str, list[Signed]] = {}
+        self.signed_files: dict[str, Signed] = {}
+
+    def read(self, releases: Iterable[Release], keys: int) -> None:
+        for release in releases:
+            for signed in packages_of(release, keys):
+                if signed.get("Architecture") in self.architectures:
+                    self._take(signed)
+
+    def _take(self, signed: Signed) -> None:
+        if self.files and file_name(signed) in self.files:
+            self.signed_files[file_name(signed)] = signed
+        owns = {f"{signed['Package']}:{signed['Architecture']}"}
+        if signed["Architecture"] in self.native:
+            owns.add(signed["Package"])
+        for own in owns & self.owns:
+            known = self.newest.setdefault(own, [])
             if known and is_less(known[0]["Version"], signed["Version"]):
                 known.clear()
             if not known or known[0]["Version"] == signed["Version"]:
                 known.append(signed)
-    return newest
+
+    def supersedes(self, own: str, version: str) -> bool:
+        """Whether a signed package is newer than this version."""
+        return any(is_less(version, signed["Version"]) for signed in self.newest.get(own, ()))
 
 
 def open_package(signed: Signed, directories: Sequence[str]) -> int | None:
     """A private copy of the file of a package: in a directory by apt's name for it, or where its
     mirror has it. None if it is nowhere, a Fault if it is another."""
-    version = signed["Version"].replace(":", "%3a")
-    file = f"{signed['Package']}_{version}_{signed['Architecture']}.deb"
-    paths = [os.path.join(directory, file) for directory in directories]
+    paths = [os.path.join(directory, file_name(signed)) for directory in directories]
     mirror, is_mirror, _ = signed[RELEASE].rpartition("/dists/")
     if is_mirror and ".." not in signed["Filename"].split("/"):
         paths.append(os.path.join(mirror, signed["Filename"]))

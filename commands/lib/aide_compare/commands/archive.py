@@ -1,10 +1,9 @@
-"""aide-compare archive: the database that the old one would be after upgrades to packages of a
-signed archive."""
+"""aide-compare archive: the database to expect after upgrades to packages of a signed archive."""
 from __future__ import annotations
 
 import io
 import os
-from collections.abc import Collection, Sequence
+from collections.abc import Collection, Container, Iterable, Sequence
 from typing import NamedTuple, Optional
 
 from aide_compare.base.ending import Fault, Status, say
@@ -12,29 +11,47 @@ from aide_compare.base.escapes import shown
 from aide_compare.base.files import PRIVATE, copy_file, in_memory, trusted_text
 from aide_compare.base.options import MAX_SIZE, USER, Option
 from aide_compare.base.parser import Parser
-from aide_compare.base.paths import path_of
-from aide_compare.base.processes import limit_memory
+from aide_compare.base.paths import key_of_path, path_of
+from aide_compare.base.processes import limit_memory, limit_time
 from aide_compare.base.replacement import replace_by_copy
 from aide_compare.base.rights import give_up
 from aide_compare.base.words import counted
-from aide_compare.changes.applied import INFO, FieldsByColumn, Upgrades, content_of, fits, upgraded
-from aide_compare.changes.signed import newest_of
+from aide_compare.changes.applied import INFO, KEPT, FieldsByColumn, Upgrades
+from aide_compare.changes.applied import content_of, fits, upgraded
+from aide_compare.changes.signed import Catalog, releases_of
 from aide_compare.compare.kept_open import OLD, EntryReader
 from aide_compare.compare.soundness import refuse_unsound
 from aide_compare.compare.unpack import Copy, copy_database
 
 NAME = "aide-compare archive"
 DEBIANS_KEYRING = "/usr/share/keyrings/debian-archive-keyring.gpg"
-SUMS = ".md5sums"
+APTS_LISTS = "/var/lib/apt/lists"
 ARMOR = b"-----BEGIN PGP"  # As apt also takes it.
 MAX_MEMORY = 512 << 20
+MAX_SECONDS = 1800
 DESCRIPTION = """\
-Writes the database that OLD would be after upgrades to packages of a signed archive, which
-dpkg has unpacked before NEW. A comparison takes OLD and this database as a trusted pair. New,
-removed and older packages are named, not applied."""
-FROM = Option("--from", "signed indexes, or packages", metavar="DIR", is_repeated=True)
-KEYRING = Option("--keyring", f"its keys ({DEBIANS_KEYRING})", metavar="FILE", is_repeated=True)
-OUTPUT = Option("--output", "replace FILE; by OLD if nothing can be applied", metavar="FILE")
+Writes the database to expect now: OLD, with the files of every new or upgraded package as the
+signed archive has them. A comparison takes OLD and this database as a trusted pair."""
+USAGE = f"{NAME} [OPTIONS] --from DIR ... OLD NEW"
+ADVICE = (
+    f"it has to name MIRROR/dists/SUITE, or a directory called lists with what the old database has"
+    f" in {APTS_LISTS}"
+)
+FROM = Option(
+    "--from",
+    "a suite of a mirror (MIRROR/dists/SUITE), apt's lists, or a directory of packages",
+    metavar="DIR",
+    is_repeated=True,
+)
+KEYRING = Option(
+    "--keyring",
+    f"the keys that must have signed the indexes ({DEBIANS_KEYRING})",
+    metavar="FILE",
+    is_repeated=True,
+)
+OUTPUT = Option(
+    "--output", "write to FILE; a copy of OLD if nothing can be applied", metavar="FILE"
+)
 
 
 class ArchiveRequest(NamedTuple):
@@ -50,24 +67,36 @@ class ArchiveRequest(NamedTuple):
     is_quiet: bool
 
 
-# Entries of a database, by their paths.
-Night = dict[str, FieldsByColumn]
+# Entries of a database, by their paths or by the names of packages.
+Entries = dict[str, FieldsByColumn]
 
 
-def kept_in(copy: Copy, keyrings: Collection[str]) -> Night:
-    """What a database has of keyrings, and of the lists and digests of packages."""
-    reader = EntryReader(copy)
-    night: Night = {}
-    for key, _, line in reader.entries(OLD):
-        path = os.fsdecode(path_of(key))
-        if path in keyrings or path.startswith(INFO) and path.endswith((".list", SUMS)):
-            night[path] = reader.fields(line)
-    return night
+class Night:
+    """What a database has of keyrings; of the lists and digests of packages, by dpkg's own names of
+    these; of the files of packages that apt keeps; and the names of apt's indexes."""
 
-
-def name_of(path: str) -> str:
-    """dpkg's own name of a package, by the path of its list or of its digests."""
-    return os.path.splitext(os.path.basename(path))[0]
+    def __init__(self, copy: Copy, keyrings: Collection[str]) -> None:
+        self.keyrings: Entries = {}
+        self.lists: Entries = {}
+        self.sums: Entries = {}
+        self.files: Entries = {}
+        self.indexes: set[str] = set()
+        reader = EntryReader(copy)
+        for key, _, line in reader.entries(OLD):
+            path = os.fsdecode(path_of(key))
+            directory, name = os.path.split(path)
+            own, ending = os.path.splitext(name)
+            if path in keyrings:
+                self.keyrings[path] = reader.fields(line)
+            elif directory + "/" == INFO and ending == ".list":
+                self.lists[own] = reader.fields(line)
+            elif directory + "/" == INFO and ending == ".md5sums":
+                self.sums[own] = reader.fields(line)
+            elif directory + "/" == KEPT and ending == ".deb":
+                self.files[name] = reader.fields(line)
+            elif directory == APTS_LISTS:
+                self.indexes.add(name)
+        self.whole = self.lists.keys() & self.sums.keys()
 
 
 def keys_of(path: str, nights: Sequence[Night]) -> bytes:
@@ -77,41 +106,86 @@ def keys_of(path: str, nights: Sequence[Night]) -> bytes:
         why = f"the keyring {shown(path)} is a text, which gpgv does not read"
         raise Fault(Status.DEVICE, why, "gpg --dearmor makes a keyring of it")
     content = content_of(io.BytesIO(text))
-    found = [night.get(path) for night in nights]
+    found = [night.keyrings.get(path) for night in nights]
     if any(found) and not all(entry and fits(entry, content) for entry in found):
         raise Fault(Status.DEVICE, f"the keyring {shown(path)} is not as both databases have it")
     return text
 
 
-def say_unpaired(words: str, night: Night, other: Night) -> None:
-    """Names the packages that one night has and the other has not."""
-    for name in sorted({name_of(path) for path in night.keys() - other.keys()}):
+def say_each(words: str, names: Iterable[str]) -> None:
+    for name in sorted(names):
         say(f"{words}: {shown(name)}")
 
 
-def upgrades_of(old_copy: Copy, new_copy: Copy, request: ArchiveRequest) -> Upgrades:
-    """The upgrades between two databases. Each package that is not applied is told."""
-    keyrings = [os.path.realpath(path) for path in request.keyrings]
-    old = kept_in(old_copy, keyrings)
-    new = kept_in(new_copy, keyrings)
-    keys = in_memory(b"".join(keys_of(path, (old, new)) for path in keyrings))
-    say_unpaired("not applied, it is new", new, old)
-    say_unpaired("not applied, it was removed", old, new)
-    changed = [path for path in sorted(old.keys() & new.keys()) if old[path] != new[path]]
-    sums = {name_of(path): new[path] for path in changed if path.endswith(SUMS)}
-    newest = newest_of(request.directories, keys, sums) if sums else {}
-    upgrades = Upgrades(old_copy, request.directories)
-    for own, entry in sums.items():
-        reasons = [upgrades.take(own, signed, entry) for signed in newest.get(own, ())]
-        if not reasons:
-            reasons = ["no signed index has it"]
+def changed(old: Entries, new: Entries) -> Entries:
+    """The new entries that the old database has otherwise, or not at all."""
+    return {name: entry for name, entry in new.items() if old.get(name) != entry}
+
+
+def own_of(file: str) -> tuple[str, str]:
+    """Whose file this is by apt's name for it: dpkg's name with the architecture; and its
+    version."""
+    name, _, rest = file.removesuffix(".deb").partition("_")
+    version, _, architecture = rest.rpartition("_")
+    return f"{name}:{architecture}", version.replace("%3a", ":")
+
+
+def take_files(upgrades: Upgrades, catalog: Catalog, gone: Iterable[str]) -> None:
+    """Takes the files of packages that apt keeps, and that a newer one has replaced."""
+    for signed in catalog.signed_files.values():
+        upgrades.keep(signed)
+    for file in gone:
+        if catalog.supersedes(*own_of(file)):
+            upgrades.gone.add(key_of_path(os.fsencode(KEPT + file)))
+
+
+def take_packages(
+    upgrades: Upgrades, catalog: Catalog, sums: Entries, came: Container[str]
+) -> None:
+    """Takes the packages that have these digests now. Each that is not applied is named, those that
+    are not signed first, and then each new one."""
+    say_each("not applied, no signed index has it", sums.keys() - catalog.newest.keys())
+    for own, candidates in sorted(catalog.newest.items()):
+        if own not in sums:
+            continue
+        is_new = own in came
+        reasons = [upgrades.take(own, signed, sums[own], is_new) for signed in candidates]
         if all(reasons):
             say(f"not applied, {shown(own)}: {reasons[-1]}")
+        elif is_new:
+            say(f"new, signed: {shown(own)} {shown(candidates[0]['Version'], 100)}")
+
+
+def upgrades_of(old_copy: Copy, new_copy: Copy, request: ArchiveRequest) -> Upgrades:
+    """What signed packages have brought between two databases."""
+    keyrings = [os.path.realpath(path) for path in request.keyrings]
+    old = Night(old_copy, keyrings)
+    new = Night(new_copy, keyrings)
+    keys = in_memory(b"".join(keys_of(path, (old, new)) for path in keyrings))
+    releases = releases_of(request.directories, old.indexes)
+    if not releases:
+        raise Fault(Status.DEVICE, "--from names no signed index", ADVICE)
+    # dpkg keeps the list of a package of which it has left the configuration.
+    came = new.whole - old.lists.keys() - old.sums.keys()
+    halves = (new.lists.keys() - old.lists.keys()) | (new.sums.keys() - old.sums.keys())
+    sums = changed(old.sums, new.sums)
+    sums = {own: sums[own] for own in sums.keys() & (came | old.whole & new.whole)}
+    gone = old.files.keys() - new.files.keys()
+    owns = {*sums, *(own_of(file)[0] for file in gone)}
+    catalog = Catalog(old.lists, owns, changed(old.files, new.files))
+    if catalog.owns or catalog.files:
+        catalog.read(releases, keys)
+    upgrades = Upgrades(old_copy, request.directories)
+    take_packages(upgrades, catalog, sums, came)
+    take_files(upgrades, catalog, gone)
+    removed = (old.lists.keys() - new.lists.keys()) | (old.sums.keys() - new.sums.keys())
+    say_each("not applied, it is new", halves - came)
+    say_each("not applied, it was removed", removed)
     return upgrades
 
 
 def request_of(arguments: Sequence[str]) -> ArchiveRequest:
-    parser = Parser(NAME, DESCRIPTION, "say only what is not applied")
+    parser = Parser(NAME, DESCRIPTION, "say only what is new or not applied", usage=USAGE)
     parser.add_operand("databases", "OLD NEW", "two databases of one host", nargs="*")
     parser.add(FROM, KEYRING, OUTPUT, MAX_SIZE, USER)
     args = parser.parse(arguments)
@@ -138,13 +212,14 @@ def main(arguments: Sequence[str]) -> int:
     if request.user:
         give_up(request.user)
     limit_memory(MAX_MEMORY)
+    limit_time(MAX_SECONDS)
     old = copy_database("old", request.old, request.max_size)
     if request.output:  # However this ends from here on, that of another night is gone.
         replace_by_copy(request.output, old.fd, PRIVATE, "the database")
     new = copy_database("new", request.new, request.max_size)
     refuse_unsound(new, old)
     upgrades = upgrades_of(old, new, request)
-    made = upgraded(old, upgrades)
+    made = upgraded(old, new, upgrades)
     if request.output:
         replace_by_copy(request.output, made, PRIVATE, "the database")
     if not request.is_quiet:

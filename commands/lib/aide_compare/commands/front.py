@@ -41,7 +41,8 @@ usage: aide-compare [compare] [OPTIONS] [OLD NEW]
   status     the last result: for you,   sort     put a database into path order
              logs and Prometheus         setup    make this machine ready
   accept     make a database the         version  the program, whether proved
-             baseline                    archive  one after signed upgrades
+             baseline
+  archive    the database to expect after signed upgrades
   hosts      fetch, compare, accept and report: the same for many hosts
   help WORD  the options of a subcommand
 
