@@ -24,27 +24,45 @@ LOG, SPACE, GONE = b"/var/log", b"/var/log/x%20y", b"/var/log/z"
 OLD = files({b"/etc/a": 1, LOG: 1, SPACE: 1, GONE: 1})
 NEW = files({b"/etc/a": 2, b"/etc/a.bak": 1, LOG: 1, SPACE: 2})
 
-# What an entry gives: its attr, mode and capabilities, and whether it stays under a line, and under
+# What an entry gives: its mode, owner and capabilities, and whether it stays under a line, and under
 # one that means programs too.
-CAPS = 36 | 1 << 37
 RIGHTS = [
-    ("a file", CAPS, b"100644", b"0", False, False),
-    ("a file whose capabilities were not measured", 36, b"100666", b"0", False, False),
-    ("a folder, with a set-group-ID bit", CAPS, b"42755", b"0", False, False),
-    ("a link", CAPS, b"120777", b"0", False, False),
-    ("a link to a file with capabilities", CAPS, b"120777", b"AAA=", False, False),
-    ("a device that nobody may open", CAPS, b"20000", b"0", False, False),
-    ("a program", CAPS, b"100755", b"0", True, False),
-    ("a program of one user", CAPS, b"100100", b"0", True, False),
-    ("a program whose capabilities were not measured", 36, b"100755", b"0", True, True),
-    ("a set-user-ID file", CAPS, b"104755", b"0", True, True),
-    ("a set-group-ID file that nobody may execute", CAPS, b"102644", b"0", True, True),
-    ("a FIFO with a set-user-ID bit", CAPS, b"14644", b"0", True, True),
-    ("a file with capabilities", CAPS, b"100644", b"AAA=", True, True),
-    ("a device", CAPS, b"60600", b"0", True, True),
-    ("a device of characters", CAPS, b"20001", b"0", True, True),
-    ("no mode", CAPS, b"0", b"0", True, True),
-    ("a mode without a type", CAPS, b"644", b"0", True, True),
+    ("a file", b"100644", 0, b"0", False, False),
+    ("a file that all can write", b"100666", 0, b"0", False, False),
+    ("a directory, with a set-group-ID bit", b"42755", 0, b"0", False, False),
+    ("a directory of another user", b"40755", 1000, b"0", False, False),
+    ("a link", b"120777", 0, b"0", False, False),
+    ("a link to a file with capabilities", b"120777", 0, b"AAA=", False, False),
+    ("a device that nobody may open", b"20000", 0, b"0", False, False),
+    ("a program", b"100755", 0, b"0", True, False),
+    ("a program of one user", b"100100", 0, b"0", True, False),
+    ("a set-user-ID file", b"104755", 0, b"0", True, True),
+    ("a set-group-ID file that nobody may execute", b"102644", 0, b"0", True, True),
+    ("a FIFO with a set-user-ID bit", b"14644", 0, b"0", True, True),
+    ("a directory with a set-user-ID bit", b"44755", 0, b"0", True, True),
+    ("a directory that its group can write", b"40775", 0, b"0", True, True),
+    ("a directory that all can write", b"40757", 0, b"0", True, True),
+    (
+        "a directory that all can write, and whose names are their owners'",
+        b"41777",
+        0,
+        b"0",
+        True,
+        True,
+    ),
+    ("a file with capabilities", b"100644", 0, b"AAA=", True, True),
+    ("a device", b"60600", 0, b"0", True, True),
+    ("a device of characters", b"20001", 0, b"0", True, True),
+    (
+        "a device of another user, who may give himself a permission",
+        b"60000",
+        1000,
+        b"0",
+        True,
+        True,
+    ),
+    ("no mode", b"0", 0, b"0", True, True),
+    ("a mode without a type", b"644", 0, b"0", True, True),
 ]
 
 # What the shipped list leaves out: logs of every mail system, and what programs note below /run.
@@ -53,10 +71,16 @@ HIDDEN = """
     /var/log/exim4/mainlog /var/log/exim4/paniclog /var/log/exim4/rejectlog.1 /var/log/cups/access_log
     /var/log/samba/log.smbd /var/log/sysstat/sa27 /var/log/postgresql/x.log /var/log/journal/a/system.journal
     /var/lib/aide/aide.db /var/lib/aide-compare/daily/state /var/lib/apt/periodic/update-stamp
-    /var/cache/man/index.db /run/crond.pid /run/exim4/exim.pid /run/agetty.reload
+    /var/cache/man/index.db /var/cache/man/pt_BR/index.db /var/cache/apt/pkgcache.bin
+    /var/cache/ldconfig/aux-cache /var/cache/fontconfig/3830d5c3ddfd-le64.cache-8
+    /var/backups/dpkg.status.0 /var/backups/dpkg.status.1.gz /var/backups/alternatives.tar.6.gz
+    /var/backups/apt.extended_states.0 /run/adduser /root/.bash_history /root/.lesshst
+    /home/anna/.bash_history /home/anna/.viminfo /home/anna/.sudo_as_admin_successful
+    /run/crond.pid /run/exim4/exim.pid /run/agetty.reload
     /run/systemd/sessions/1 /run/systemd/journal/kernel-seqnum /run/udev/data/b8:0
 """
-# Accounts, keys, programs, settings of aide-compare, and what something below /run obeys.
+# Accounts, keys, programs, settings of aide-compare, what apt runs as root or a program loads from
+# /var/cache, what is in homes there, and what something below /run obeys.
 SEEN = """
     /etc/passwd /etc/cron.d/x /usr/bin/ls /var/lib/dpkg/status /var/spool/cron/crontabs/root /var/log
     /root/.ssh/authorized_keys /var/lib/aide-compare /boot/vmlinuz /etc/aide-compare/without
@@ -67,6 +91,15 @@ SEEN = """
     /run/systemd/system-generators/x /run/udev/rules.d/x.rules /run/tmpfiles.d/x.conf
     /run/modprobe.d/x.conf /run/modules-load.d/x.conf /run/sysctl.d/x.conf /run/polkit-1/rules.d/x.rules
     /run/user/1000/systemd/user/x.service /run/sudo/x /run/resolvconf/resolv.conf /run/systemd
+    /var/cache/apt/archives/openssl_3.0.17-1_amd64.deb /var/cache/apt/archives /var/cache/apt/archives/x/Packages
+    /var/cache/apparmor/26b63962.0/usr.sbin.tcpdump /var/cache/bind/db.example /var/cache/z.sh
+    /var/cache/dictionaries-common/emacsen-ispell-default.el /var/cache/debconf/config.dat
+    /var/cache/man/.forward /var/cache/man/.ssh/authorized_keys /var/cache/man/de/.x/index.db
+    /var/backups/.forward /var/backups/shadow.bak /var/backups/.ssh/authorized_keys
+    /var/lib/aide-compare/hosts/www/aide.db /var/lib/aide-compare/daily
+    /var/log/.x /var/log/apt/.x/y /dev/shm/.x /run/.x.pid /run/user/0/gnupg/.x
+    /root/.bashrc /root/.profile /root/.vimrc /root/.lesskey /home/anna/.ssh/rc /home/anna/.bash_logout
+    /home/anna/x/.bash_history
 """
 
 
@@ -176,8 +209,10 @@ class WithoutTest(CommandTest):
     def test_rights(self) -> None:
         """What gives rights is never left out, and neither is what has no mode or comes from a
         database without modes."""
-        head = b"@@begin_db\n@@db_spec name attr perm size capabilities\n"
-        lines = [b"/a/%02d %d %s 1 %s\n" % (number, *row[1:4]) for number, row in enumerate(RIGHTS)]
+        head = b"@@begin_db\n@@db_spec name attr perm uid size capabilities\n"
+        lines = [
+            b"/a/%02d 44 %s %d 1 %s\n" % (number, *row[1:4]) for number, row in enumerate(RIGHTS)
+        ]
         text = head + b"".join(lines) + END
         self.write("marked", b"programs( a reason ) /a/**\n")
         for column, words in ((4, ["--exclude", "/a/**"]), (5, ["--exclude-from", "marked"])):
@@ -193,6 +228,37 @@ class WithoutTest(CommandTest):
         text = b"@@begin_db\n@@db_spec name size\n/a/x 1\n" + END
         self.assertEqual(self.seen(text, "--exclude", "/a/**"), [b"/a/x"], "no modes")
 
+    def test_capabilities(self) -> None:
+        """AIDE takes the bit of capabilities out of the entry of each file that has none. So a line
+        means programs too in a database that has the column, and in no other."""
+        rows: list[tuple[bytes, bytes, list[bytes]]] = [
+            (b"size capabilities", b"1 0", []),
+            (b"size", b"1", [b"/a/x"]),
+        ]
+        for columns, fields, seen in rows:
+            head = b"@@begin_db\n@@db_spec name attr perm %s\n" % columns
+            text = head + b"/a/x 36 100755 %s\n" % fields + END
+            self.assertEqual(self.seen(text, "--exclude", "programs(why) /a/**"), seen, columns)
+
+    def test_hidden_names(self) -> None:
+        """As in a shell, no wildcard stands for a dot at the beginning of a name."""
+        names = [b"/a/.x", b"/a/.x/y", b"/a/b/.x", b"/a/b/.x/.y", b"/a/b/x.y"]
+        text = files(dict.fromkeys(names, 1))
+        rows: list[tuple[str, list[bytes]]] = [
+            ("/a/**", [b"/a/b/x.y"]),
+            ("/**/.x", [b"/a/.x", b"/a/b/.x"]),
+            ("/a/.*", [b"/a/.x"]),
+            ("/a/[.]x", []),
+            ("/a/?x", []),
+            ("/a/**/.x/**", [b"/a/.x/y"]),
+            ("/a/b/.x/.*", [b"/a/b/.x/.y"]),
+            ("/**/.*/.y", [b"/a/b/.x/.y"]),
+            ("/a/b/.x/.y", [b"/a/b/.x/.y"]),
+        ]
+        for pattern, left_out in rows:
+            wanted = [name for name in names if name not in left_out]
+            self.assertEqual(self.seen(text, "--exclude", pattern), wanted, pattern)
+
     def test_run_bits(self) -> None:
         """A file that only its owner, its group or others may run is a program too, and stays."""
         for mode, seen in ((0o100644, []), *((mode, [b"/a/x"]) for mode in (0o744, 0o654, 0o645))):
@@ -203,7 +269,7 @@ class WithoutTest(CommandTest):
         """The mark needs a reason. A line that means programs too does so beside a line that does
         not, in either order."""
         head = HEAD.replace(b"size", b"size capabilities")
-        self.write("program.db", head + b"/a/x %d 100755 1 0\n" % CAPS + END)
+        self.write("program.db", head + b"/a/x 36 100755 1 0\n" + END)
         for text, status in (
             (b"/a/*\nprograms(why) /a/x", 0),
             (b"programs(why)  /a/x\n/a/*", 0),
