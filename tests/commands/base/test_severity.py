@@ -133,10 +133,13 @@ SHIPPED = {
         /run/tmpfiles.d/x.conf /run/modprobe.d/x.conf /run/polkit-1/rules.d/0.rules
         /run/systemd/transient/x.service /run/systemd/user/x.service
         /usr/lib/python3/dist-packages/x.pth /run/user/1000/systemd/user/x.service
-        /etc/rc2.d/S01x /var/lib/dpkg/info/x.postinst
+        /etc/rc2.d/S01x /var/lib/dpkg/info/x.postinst /etc/sysctl.d/x.conf /etc/ssl/openssl.cnf
+        /etc/default/x /etc/exim4/x /etc/perl/x.pm /usr/local/lib/site_perl/x.pm /etc/hosts
+        /usr/lib/x86_64-linux-gnu/gconv/gconv-modules.d/x.conf /usr/lib/tmpfiles.d/x.conf
+        /usr/share/polkit-1/actions/x.policy /usr/share/git-core/templates/hooks/x
         """,
     "medium": """
-        /usr/bin/x /opt/x /srv/x /usr/local/lib/libm.a /etc/ssl/openssl.cnf
+        /usr/bin/x /opt/x /srv/x /usr/local/lib/libm.a
         /usr/local/lib/python3.11/libm.so /usr/lib/x86_64-linux-gnu/perl/libm.so
         """,
     "low": """
@@ -144,6 +147,15 @@ SHIPPED = {
         /run/systemd/units/x /var/backups/x
         """,
 }
+PROGRAMS = (
+    *(b"/usr/bin/x", b"/var/log/x", b"/run/x", b"/var/cache/x", b"/usr/lib/x/x", b"/opt/x/x"),
+    *(b"/srv/x", b"/usr/share/doc/x", b"/home/anna/x"),
+)
+CERTIFICATES = (
+    b"/etc/ssl/certs/x.pem",
+    b"/usr/share/ca-certificates/mozilla/x.crt",
+    b"/usr/local/share/ca-certificates/x.crt",
+)
 TABLE = b"low added,link /opt/*\nhigh any /opt/*\n"
 
 
@@ -172,9 +184,17 @@ class SeverityTest(ModuleTest):
             for path in paths.split():
                 level = table.of(os.fsencode(path), None, entry(FILE)).level
                 self.expect(f"a file {path}", level, wanted)
-        for program in (b"/usr/bin/x", b"/var/log/x", b"/run/x", b"/var/cache/x"):
+        for program in PROGRAMS:
             level = table.of(program, None, entry(PROGRAM)).level
             self.expect(f"a program {program.decode()}", level, "high")
+
+    def test_certificates(self) -> None:
+        """A certificate of an authority that went gives nobody a right; another one does."""
+        table = Severity()
+        for path in CERTIFICATES:
+            self.expect("a removed one", table.of(path, entry(FILE), None).level, "low")
+            self.expect("an added one", table.of(path, None, entry(FILE)).level, "high")
+            self.expect("another one", table.of(path, entry(FILE), entry(FILE)).level, "high")
 
     def test_order(self) -> None:
         """Rights come first, then what logs in, starts or loads code, then programs, then all
