@@ -1,5 +1,5 @@
-"""Many hosts beside a canary: what it has too is silent on the others, and is told on the canary.
-If it fails, the others are compared all the same."""
+"""Many hosts beside a canary: what changed there too is silent on the others, and is reported on the
+canary. If it fails, the others are compared all the same."""
 from __future__ import annotations
 
 import os
@@ -172,6 +172,16 @@ class CanaryTest(CommandTest):
         self.assertTrue(lines[0].startswith("www1 0 "), lines)
         self.assertFalse([line for line in lines if "was not used" in line])
         self.assertIn(f"www2 {SAME}2 open (2 high) of 5 changes", lines)
+
+    def test_always_there(self) -> None:
+        """What the canary always had accounts for nothing on a host that gets it."""
+        hosts = self.fleet()
+        hosts.put("www1", database(True, 51, EVIL), database(True, 1, EVIL))
+        hosts.put("www2", database(True, 52, EVIL), database(False, 2))
+        lines = self.compared(hosts, "--canary", "www1")
+        self.assertEqual(lines[0], f"www1 {SAME}5 changes, all silent")
+        got = "www2 5 added 1, removed 0, changed 5: 3 open (3 high) of 6 changes"
+        self.assertIn(got, lines)
 
     def test_jobs(self) -> None:
         """Jobs of any number give the same."""

@@ -129,6 +129,19 @@ class StandingsTest(mail.MailTest):
         want = "1 change, all silent\n\n1 change is silent: 1 same\n\n"
         self.assertEqual(silent().brief(self), want, "all is silent")
 
+    def test_unexplained(self) -> None:
+        """A directory with one link more, and devices that were made again, are not the same."""
+        host = silent()
+        links = (b"/srv", {"lcount": 5}, {"lcount": 6})
+        null = (b"/dev/null", {"inode": 4}, {"inode": 9})
+        disk = (b"/dev/sda", {"inode": 5}, {"inode": 9})
+        for mode, (path, old, new) in ((0o40755, links), (0o20666, null), (0o60660, disk)):
+            host.old.directory(path, mode, **old)
+            host.new.directory(path, mode, **new)
+        found = standings_of(host.ask(self)[1], ("standing",))
+        opened = dict.fromkeys((b"/srv", b"/dev/null", b"/dev/sda"), "open")
+        self.assertEqual(found, {b"/srv/same": "same", **opened})
+
     def test_lines(self) -> None:
         """The lines of aide-compare json have the standing of each change, and the last one all
         counts. What is silent has no severity."""

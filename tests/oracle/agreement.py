@@ -1,10 +1,11 @@
 """What accounts for a change: the old entry, that of a trusted machine, or nothing."""
 from .attributes import ATTRIBUTES
 
-# What each machine has of its own. The size and the link count of a directory follow from the names
-# in it.
+# What each machine has of its own. The size of a directory depends on the file system.
 OWN = frozenset(["a", "m", "c", "i", "b"])
-OWN_OF_DIRECTORIES = OWN | {"s", "n"}
+OWN_OF_DIRECTORIES = OWN | {"s"}
+# Character and block devices.
+DEVICES = (0o02, 0o06)
 DIGESTS = frozenset(attribute.name for attribute in ATTRIBUTES if isinstance(attribute.form, tuple))
 # The digests of at least 256 bits by which two files may be the same. The ways to attack GOST are
 # known.
@@ -38,9 +39,9 @@ def same_kept(first, second, kind):
 
 def agree(first, second):
     """Whether two entries differ only in what each machine has of its own, and in digests that one
-    lacks."""
+    lacks. Devices never agree, since no database has their numbers."""
     kind = type_bits(first)
-    if kind is None or kind != type_bits(second):
+    if kind is None or kind in DEVICES or kind != type_bits(second):
         return False
     common = [name for name in DIGESTS if name in first and name in second]
     if any(first[name] != second[name] for name in common):
@@ -52,13 +53,22 @@ def agree(first, second):
     return same_kept(first, second, kind)
 
 
+def both_agree(first, second):
+    """Whether both entries are there and agree."""
+    return first is not None and second is not None and agree(first, second)
+
+
 def same_as(old, new, trusted_old=None, trusted_new=None):
     """What accounts for a change: 'old', 'trusted' or None. An argument is an entry, or None for no
-    entry."""
-    if old is not None and new is not None and agree(old, new):
+    entry.
+
+    A trusted machine accounts only for what happened there too: an entry that is not as it was
+    there, or one that went.
+    """
+    if both_agree(old, new):
         return "old"
-    if new is not None and trusted_new is not None and agree(new, trusted_new):
+    if both_agree(new, trusted_new) and not both_agree(trusted_old, trusted_new):
         return "trusted"
-    if old is not None and new is None and trusted_old is not None and trusted_new is None:
+    if new is None and trusted_new is None and both_agree(old, trusted_old):
         return "trusted"
     return None

@@ -152,6 +152,22 @@ class TrustedTest(LinesProgramTest):
                 for line in (first, entry, last):
                     self.add(f"the schema at {line}", VALIDATOR.faults(line))
 
+    def test_what_happened(self) -> None:
+        """A trusted machine accounts for what happened there, and not for what it always had."""
+        for label, *entries, accounts in line_rows.TRUSTED:
+            four = [
+                database(line_rows.PAIR_COLUMNS, b" ".join(fields)) if fields else EMPTY
+                for fields in entries
+            ]
+            with Folder() as folder:
+                folder_of(folder, four)
+                answer = run(self.lines_program, folder.words_beside())
+                self.check(label, answer, wanted_lines(folder.words_beside()))
+            _, entry, last = (json.loads(line) for line in answer.output.splitlines())
+            counts = (entry.get("same_as"), last["same_as_trusted"], last["others"])
+            want = ("trusted", 1, 0) if accounts else (None, 0, 1)
+            self.holds(label, counts == want, counts)
+
     def test_words(self) -> None:
         """Each way to name a pair, and to name less or more than one."""
         with Folder() as folder:

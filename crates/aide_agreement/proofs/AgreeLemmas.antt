@@ -1,6 +1,6 @@
 -- Two entries agree by how they differ.
 use Rattle.std.proofs.Common.{◌≡◌, Bool, true, false, refl, sym, ap, ◌∙◌}
-use Rattle.std.specs.Prelude.{◌||◌, ◌&&◌, not, Option, Some, None}
+use Rattle.std.specs.Prelude.{◌||◌, ◌&&◌, not, Some, None}
 use Rattle.std.specs.List.{list_any}
 use Rattle.aide_attr.specs.Attr.{all_attrs}
 use Rattle.aide_attr.specs.Difference.{Sides, sides_of}

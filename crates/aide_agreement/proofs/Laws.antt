@@ -1,9 +1,9 @@
 -- Laws of agreement, and of what accounts for a change.
-use Rattle.std.proofs.Common.{◌≡◌, ◌∙◌, ℕ, Bool, true, false, List, refl, sym, ap, inl, inr}
+use Rattle.std.proofs.Common.{◌≡◌, ◌∙◌, Bool, true, false, refl, sym, ap, inl, inr}
 use Rattle.std.specs.Prelude.{◌||◌, ◌&&◌, not, Option, Some, None, IsSome, if◌then◌else◌, is_some}
 use Rattle.std.specs.List.{list_any}
 use Rattle.aide_attr.specs.Attr.{all_attrs}
-use Rattle.aide_attr.specs.Difference.{Sides, is_added, is_changed, is_removed, is_reported, is_same}
+use Rattle.aide_attr.specs.Difference.{Sides, is_added, is_affected, is_changed, is_removed, is_reported, is_same}
 use Rattle.aide_attr.specs.Set.{has}
 use Rattle.aide_attr.specs.declared.attr.Attr.{Attr}
 use Rattle.aide_attr.specs.declared.attr.Attr.TheVariants.{Ftype, Lname}
@@ -11,18 +11,18 @@ use Rattle.aide_attr.specs.declared.delta.Ignore.{Ignore}
 use Rattle.aide_attr.specs.declared.file_type.FileType.{FileType}
 use Rattle.aide_attr.specs.declared.file_type.FileType.TheVariants as kinds
 use Rattle.aide_attr.proofs.WalkLemmas.{bool_cases}
-use Rattle.aide_entry.specs.Attributes.{Attributes, Value, link_value, sides_between, type_in}
-use Rattle.aide_agreement.specs.Account.{Pair, is_as_old, is_as_trusted, same_as}
-use Rattle.aide_agreement.specs.Agreement.{agree, agree_by, has_target, is_alone, is_shared, shares_content, strays}
+use Rattle.aide_entry.specs.Attributes.{Attributes, Value, sides_between, type_in}
+use Rattle.aide_agreement.specs.Account.{IsUnaccounted, Pair, is_as_old, is_as_trusted, same_as}
+use Rattle.aide_agreement.specs.Agreement.{agree, agree_by, has_target, is_shared, shares_content, strays}
 use Rattle.aide_agreement.specs.Meaning.{Agrees, HasTarget, HaveSameDigests, SaysContent, SharesDigest}
-use Rattle.aide_agreement.specs.Own.{is_digest, is_directory, is_own, is_strong}
+use Rattle.aide_agreement.specs.Own.{is_device, is_digest, is_directory, is_own, is_strong}
 use Rattle.aide_agreement.specs.declared.account.SameAs.{SameAs}
 use Rattle.aide_agreement.specs.declared.account.SameAs.TheVariants.{Old, Trusted}
 use Rattle.aide_agreement.proofs.ListLemmas.{found_any, none_at, none_of, some_at}
-use Rattle.aide_agreement.proofs.SetLemmas.{digest_not_own, link_not_own, strong_is_digest, type_not_own}
-use Rattle.aide_agreement.proofs.SetLemmas.{link_no_digest, type_no_digest}
+use Rattle.aide_agreement.proofs.SetLemmas.{digest_not_own, strong_is_digest, type_not_own}
+use Rattle.aide_agreement.proofs.SetLemmas.{type_no_digest}
 use Rattle.aide_agreement.proofs.SideLemmas.{alike_at, alike_no_stray, digest_at, digest_no_stray, own_no_stray}
-use Rattle.aide_agreement.proofs.SideLemmas.{same_from, same_of, shared_at, target_at, target_from}
+use Rattle.aide_agreement.proofs.SideLemmas.{same_from, same_of, shared_at, target_at, target_from, unaffected_at}
 
 -- ---- what it means that two entries agree
 
@@ -83,40 +83,52 @@ content_of_link x y kind e is =
       target_at y (second_of (has_target (x Lname)) (has_target (y Lname)) both),
     )
 
+no_device_by : (kind : FileType) (s : Sides) (a b : Option Value) → shares_content kind s a b ≡ true → is_device kind ≡ false
+no_device_by kinds.Char s a b e = cc
+no_device_by kinds.Block s a b e = cc
+no_device_by kinds.File s a b e = refl
+no_device_by kinds.Link s a b e = refl
+no_device_by kinds.Directory s a b e = refl
+no_device_by kinds.Fifo s a b e = refl
+no_device_by kinds.Socket s a b e = refl
+no_device_by (kinds.Other bits) s a b e = refl
+
 agrees_by : (x y : Attributes) (o : Option FileType) → type_in (x Ftype) ≡ o → agree_by o x y ≡ true → Agrees x y
 agrees_by x y None is e = cc
 agrees_by x y (Some kind) is e = record {
   kind = kind;
   of_first = is;
   of_second = sym (ap type_in (alike_by x y kind e Ftype (type_not_own (is_directory kind)) type_no_digest)) ∙ is;
+  no_device = no_device_by kind (sides_between x y) (x Lname) (y Lname)
+      (first_of (shares_content kind (sides_between x y) (x Lname) (y Lname)) _ e);
   alike = alike_by x y kind e;
   digests = digests_by x y kind e;
   shared = content_of_file x y kind e;
   target = content_of_link x y kind e;
 }
 
--- Entries that agree have one type, the same values but for what each machine has of its own and digests that only one
+-- Entries that agree have one type, not that of devices, the same values but for what each machine has of its own and digests that only one
 -- of them has, and the same content.
 pub meaning_of_agree : (x y : Attributes) → agree x y ≡ true → Agrees x y
 unfolding agree
 meaning_of_agree x y e = agrees_by x y (type_in (x Ftype)) refl e
 
-content_from : (x y : Attributes) (kind : FileType) → (kind ≡ kinds.File → SharesDigest x y)
+content_from : (x y : Attributes) (kind : FileType) → is_device kind ≡ false → (kind ≡ kinds.File → SharesDigest x y)
     → (kind ≡ kinds.Link → HasTarget x × HasTarget y)
     → shares_content kind (sides_between x y) (x Lname) (y Lname) ≡ true
-content_from x y kinds.File shared target =
+content_from x y kinds.File no_device shared target =
     let digest = shared refl in
     some_at (is_shared (sides_between x y)) digest.attribute
     ((λ i. same_of (digest.in_first i) (digest.in_second i) && is_strong digest.attribute)
     ∙ ap (λ b. b && is_strong digest.attribute) (same_from digest.value) ∙ digest.strong)
-content_from x y kinds.Link shared target =
+content_from x y kinds.Link no_device shared target =
     let targets = target refl in rw (target_from x targets.0, target_from y targets.1) refl
-content_from x y kinds.Directory shared target = refl
-content_from x y kinds.Char shared target = refl
-content_from x y kinds.Block shared target = refl
-content_from x y kinds.Fifo shared target = refl
-content_from x y kinds.Socket shared target = refl
-content_from x y (kinds.Other bits) shared target = refl
+content_from x y kinds.Char no_device shared target = cc
+content_from x y kinds.Block no_device shared target = cc
+content_from x y kinds.Directory no_device shared target = refl
+content_from x y kinds.Fifo no_device shared target = refl
+content_from x y kinds.Socket no_device shared target = refl
+content_from x y (kinds.Other bits) no_device shared target = refl
 
 stays : (x y : Attributes) (h : Agrees x y) (a : Attr) → strays (is_directory h.kind) (sides_between x y) a ≡ false
 stays x y h a = elim (bool_cases (is_own (is_directory h.kind) a)) [
@@ -134,7 +146,7 @@ agree_from_meaning x y h =
     let none : list_any (strays (is_directory h.kind) (sides_between x y)) all_attrs ≡ false =
     none_of (strays (is_directory h.kind) (sides_between x y)) (stays x y h) all_attrs in
     ap (λ t. agree_by t x y) h.of_first
-    ∙ (λ i. content_from x y h.kind h.shared h.target i && not (none i))
+    ∙ (λ i. content_from x y h.kind h.no_device h.shared h.target i && not (none i))
 
 -- ---- agreement is an equivalence, as far as digests tell
 
@@ -147,6 +159,7 @@ agree_itself x h = agree_from_meaning x x (record {
   kind = h.kind;
   of_first = h.of_entry;
   of_second = h.of_entry;
+  no_device = h.no_device;
   alike = λ a own digest. refl;
   digests = λ a digest u v is_u is_v. some_injective u v (sym is_u ∙ is_v);
   shared = h.shared;
@@ -161,6 +174,7 @@ turned x y h = record {
   kind = h.kind;
   of_first = h.of_second;
   of_second = h.of_first;
+  no_device = h.no_device;
   alike = λ a own digest. sym (h.alike a own digest);
   digests = λ a digest u v is_u is_v. sym (h.digests a digest v u is_v is_u);
   shared = λ is. let d = h.shared is in record {
@@ -190,6 +204,7 @@ across x y z g h same =
       kind = g.kind;
       of_first = g.of_first;
       of_second = h.of_second ∙ ap Some (sym kind);
+      no_device = g.no_device;
       alike = λ a own digest. g.alike a own digest ∙ h.alike a (owned a own) digest;
       digests = λ a digest u w is_u is_w.
           let middle = there (z a) w (y a) is_w (sym (same a digest)) in
@@ -266,23 +281,80 @@ pub trusted_here : (old : Option Attributes) (new : Attributes) (trusted : Pair)
     → same_as (old, Some new) trusted ≡ Some Trusted → (t : Attributes) × (trusted.1 ≡ Some t) × Agrees new t
 trusted_here old new (trusted_old, None) e = let f = trusted_has (old, Some new) (trusted_old, None) e in cc
 trusted_here old new (trusted_old, Some t) e =
-    (t, refl, meaning_of_agree new t (trusted_has (old, Some new) (trusted_old, Some t) e))
+    (t, refl, meaning_of_agree new t (first_of (agree new t) _ (trusted_has (old, Some new) (trusted_old, Some t) e)))
 
--- Where it accounts for a removed entry, it had one there, and has it no more.
+-- Where it accounts for a removed entry, it had one there that agrees with the old one, and has none any more.
 pub trusted_gone : (old : Option Attributes) (trusted : Pair) → same_as (old, None) trusted ≡ Some Trusted
-    → IsSome old × IsSome trusted.0 × (trusted.1 ≡ None)
+    → (o : Attributes) × (t : Attributes) × (old ≡ Some o) × (trusted ≡ (Some t, None)) × Agrees o t
 trusted_gone old trusted e = gone old trusted (trusted_has (old, None) trusted e)
   where
     gone : (old : Option Attributes) (trusted : Pair) → is_as_trusted (old, None) trusted ≡ true
-        → IsSome old × IsSome trusted.0 × (trusted.1 ≡ None)
-    gone (Some old) (Some t, None) e = (refl, refl, refl)
-    gone (Some old) (None, None) e = cc
-    gone (Some old) (None, Some u) e = cc
-    gone (Some old) (Some t, Some u) e = cc
+        → (o : Attributes) × (t : Attributes) × (old ≡ Some o) × (trusted ≡ (Some t, None)) × Agrees o t
+    gone (Some o) (Some t, None) e = (o, t, refl, refl, meaning_of_agree o t e)
+    gone (Some o) (None, None) e = cc
+    gone (Some o) (None, Some u) e = cc
+    gone (Some o) (Some t, Some u) e = cc
     gone None (None, None) e = cc
     gone None (Some t, None) e = cc
     gone None (None, Some u) e = cc
     gone None (Some t, Some u) e = cc
+
+-- what agrees with another entry says what its content is
+second_says : (x y : Attributes) → Agrees x y → SaysContent y
+second_says x y h = record {
+  kind = h.kind;
+  of_entry = h.of_second;
+  no_device = h.no_device;
+  shared = λ is. let d = h.shared is in record {
+    attribute = d.attribute;
+    value = d.value;
+    strong = d.strong;
+    in_first = d.in_second;
+    in_second = d.in_second;
+  };
+  target = λ is. (h.target is).1;
+}
+
+-- an entry that differs in no attribute from one that says its content agrees with it
+agree_unaffected : (x y : Attributes) → SaysContent y → list_any (is_affected (sides_between x y)) all_attrs ≡ false
+    → agree x y ≡ true
+agree_unaffected x y says none =
+    let same : x ≡ y = λ i a. unaffected_at (x a) (y a) (none_at (is_affected (sides_between x y)) none a) i in
+    ap (λ z. agree z y) same ∙ agree_itself y says
+
+alone_else : (old new : Attributes) → agree old new ≡ false → same_as (Some old, Some new) (None, None) ≡ None
+unfolding same_as
+alone_else old new e = rw e refl
+
+unaccounted_of : (new old told : Attributes) → agree new told ≡ true → agree old told ≡ false
+    → IsUnaccounted (Some old, Some told)
+unaccounted_of new old told e f = record {
+  changed = elim (bool_cases (list_any (is_affected (sides_between old told)) all_attrs)) [
+    | inl is ↦ is
+    | inr is ↦ let g = sym (agree_unaffected old told (second_says new told (meaning_of_agree new told e)) is) ∙ f in cc
+  ];
+  alone = alone_else old told f;
+}
+
+-- At each path for which a trusted machine accounts, its own databases have a change for which nothing accounts.
+pub trusted_changed : (found trusted : Pair) → same_as found trusted ≡ Some Trusted → IsUnaccounted trusted
+unfolding same_as
+trusted_changed found trusted e = changed found trusted (trusted_has found trusted e)
+  where
+    changed : (found trusted : Pair) → is_as_trusted found trusted ≡ true → IsUnaccounted trusted
+    changed (old, Some new) (None, Some t) e = record { changed = refl; alone = refl }
+    changed (old, Some new) (Some o, Some t) e =
+        unaccounted_of new o t (first_of (agree new t) _ e) (negative _ (second_of (agree new t) _ e))
+    changed (old, Some new) (None, None) e = cc
+    changed (old, Some new) (Some o, None) e = cc
+    changed (Some old, None) (Some o, None) e = record { changed = refl; alone = refl }
+    changed (Some old, None) (None, None) e = cc
+    changed (Some old, None) (None, Some t) e = cc
+    changed (Some old, None) (Some o, Some t) e = cc
+    changed (None, None) (None, None) e = cc
+    changed (None, None) (None, Some t) e = cc
+    changed (None, None) (Some o, None) e = cc
+    changed (None, None) (Some o, Some t) e = cc
 
 -- At a path that a trusted machine never had, nothing is accounted for by it.
 pub none_without_path : (found : Pair) → same_as found (None, None) ≡ Some Trusted → ⊥

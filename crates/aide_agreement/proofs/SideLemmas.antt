@@ -1,8 +1,7 @@
 -- Two values at one attribute: whether entries stray from each other there, and what they share.
-use Rattle.std.proofs.Common.{◌≡◌, ◌∙◌, ℕ, Bool, true, false, List, refl, sym, ap, inl, inr}
+use Rattle.std.proofs.Common.{◌≡◌, ◌∙◌, Bool, true, false, refl, sym, ap}
 use Rattle.std.specs.Prelude.{◌||◌, ◌&&◌, not, Option, Some, None, is_some}
 use Rattle.aide_attr.specs.declared.attr.Attr.TheVariants.{Lname}
-use Rattle.aide_attr.proofs.WalkLemmas.{bool_cases}
 use Rattle.aide_entry.specs.Attributes.{Attributes, Value, number_value, mode_value, type_value, link_value}
 use Rattle.aide_entry.specs.Attributes.{digest_value, opaque_value, is_different}
 use Rattle.aide_entry.proofs.ValueLaws.{same_value-Decides}
@@ -71,6 +70,19 @@ shared_at (Some u) (Some v) e = (u, refl, ap Some (sym (equal_values u v (not_so
 
 pub same_from : (u : Value) → same_of (Some u) (Some u) ≡ true
 same_from u = ap (λ d. true && true && not (d && true && true)) (never u)
+
+-- entries of which neither lacks an attribute and that do not differ in it have the same value or none
+pub unaffected_at : (x y : Option Value)
+    → ((is_different x y && is_some x && is_some y) || (is_some y && not (is_some x)) || (is_some x && not (is_some y))) ≡ false
+    → x ≡ y
+unaffected_at None None e = refl
+unaffected_at None (Some v) e = cc
+unaffected_at (Some u) None e = cc
+unaffected_at (Some u) (Some v) e = ap Some (equal_values u v (not_so (is_different (Some u) (Some v)) e))
+  where
+    not_so : (d : Bool) → ((d && true && true) || (true && not true) || (true && not true)) ≡ false → d ≡ false
+    not_so true e = cc
+    not_so false e = refl
 
 -- ---- and back
 

@@ -1,6 +1,9 @@
 -- What accounts for a change, by what four databases have at its path.
-use Rattle.std.specs.Prelude.{Bool, true, false, if◌then◌else◌, Option, Some, None}
-use Rattle.aide_entry.specs.Attributes.{Attributes}
+use Rattle.std.specs.Prelude.{◌≡◌, Bool, true, false, not, ◌&&◌, if◌then◌else◌, Option, Some, None}
+use Rattle.std.specs.List.{list_any}
+use Rattle.aide_attr.specs.Attr.{all_attrs}
+use Rattle.aide_attr.specs.Difference.{is_affected}
+use Rattle.aide_entry.specs.Attributes.{Attributes, sides_between}
 use Rattle.aide_agreement.specs.Agreement.{agree}
 use Rattle.aide_agreement.specs.declared.account.SameAs.{SameAs}
 use Rattle.aide_agreement.specs.declared.account.SameAs.TheVariants.{Old, Trusted}
@@ -14,11 +17,12 @@ abbrev pub is_as_old : Pair → Bool
 is_as_old (Some old, Some new) = agree old new
 is_as_old _ = false
 
--- A trusted machine has at the path what there is now: an entry that agrees with the new one; or it had one as the old
--- database has, and has none any more.
+-- The same happened at the path of a trusted machine: it has an entry that agrees with the new one, and had none or one
+-- that does not agree with it; or it had an entry that agrees with the old one, and has none any more.
 abbrev pub is_as_trusted : (found trusted : Pair) → Bool
-is_as_trusted (old, Some new) (trusted_old, Some trusted_new) = agree new trusted_new
-is_as_trusted (Some old, None) (Some trusted_old, None) = true
+is_as_trusted (old, Some new) (trusted_old, Some trusted_new) =
+    agree new trusted_new && not (is_as_old (trusted_old, Some trusted_new))
+is_as_trusted (Some old, None) (Some trusted_old, None) = agree old trusted_old
 is_as_trusted _ _ = false
 
 -- what accounts for a change: the old entry is asked first, then the trusted machine
@@ -26,3 +30,14 @@ unfoldable pub same_as : (found trusted : Pair) → Option SameAs
 same_as found trusted =
     if is_as_old found then Some Old else (
     if is_as_trusted found trusted then Some Trusted else None)
+
+-- two databases have a change there: only one of them has an entry, or the entries differ in an attribute
+abbrev pub is_change : Pair → Bool
+is_change (Some old, Some new) = list_any (is_affected (sides_between old new)) all_attrs
+is_change (None, None) = false
+is_change _ = true
+
+-- two databases, compared without a trusted machine, have a change there for which nothing accounts
+pub record IsUnaccounted (pair : Pair) : Type 0 where
+  pub changed : is_change pair ≡ true
+  pub alone : same_as pair (None, None) ≡ None

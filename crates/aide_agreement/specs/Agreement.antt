@@ -1,12 +1,12 @@
 -- When two entries agree.
-use Rattle.std.specs.Prelude.{Bool, true, false, not, ◌&&◌, ◌||◌, Option, Some, None, List}
+use Rattle.std.specs.Prelude.{Bool, true, false, not, ◌&&◌, ◌||◌, Option, Some, None}
 use Rattle.std.specs.List.{list_any}
 use Rattle.aide_attr.specs.Attr.{all_attrs}
 use Rattle.aide_attr.specs.Difference.{Sides, is_added, is_changed, is_removed, is_same}
 use Rattle.aide_attr.specs.declared.attr.Attr.{Attr}
 use Rattle.aide_attr.specs.declared.attr.Attr.TheVariants.{Ftype, Lname}
 use Rattle.aide_attr.specs.declared.file_type.FileType.{FileType}
-use Rattle.aide_attr.specs.declared.file_type.FileType.TheVariants.{File, Link}
+use Rattle.aide_attr.specs.declared.file_type.FileType.TheVariants.{Block, Char, File, Link}
 use Rattle.aide_entry.specs.Attributes.{Attributes, Value, link_in, sides_between, type_in}
 use Rattle.aide_agreement.specs.Own.{is_digest, is_directory, is_own, is_strong}
 
@@ -33,10 +33,12 @@ has_target value = elim (link_in value) [
 ]
 
 -- What entries of a type need to have the same content: regular files a common digest of at least 256 bits, links a
--- target. Others have no content.
+-- target. No entry tells which device a device is, so devices never have the same content. Others have no content.
 abbrev pub shares_content : FileType → Sides → (first_link second_link : Option Value) → Bool
 shares_content File s first_link second_link = list_any (is_shared s) all_attrs
 shares_content Link s first_link second_link = has_target first_link && has_target second_link
+shares_content Char s first_link second_link = false
+shares_content Block s first_link second_link = false
 shares_content _ s first_link second_link = true
 
 -- two entries agree if the first one has this type; an entry without a type agrees with none

@@ -1,11 +1,11 @@
 -- What it means that two entries agree, in facts.
-use Rattle.std.specs.Prelude.{◌≡◌, ℕ, Bool, true, false, List, Option, Some, is_some}
+use Rattle.std.specs.Prelude.{◌≡◌, ℕ, true, false, List, Some, is_some}
 use Rattle.aide_attr.specs.declared.attr.Attr.{Attr}
 use Rattle.aide_attr.specs.declared.attr.Attr.TheVariants.{Ftype, Lname}
 use Rattle.aide_attr.specs.declared.file_type.FileType.{FileType}
 use Rattle.aide_attr.specs.declared.file_type.FileType.TheVariants.{File, Link}
 use Rattle.aide_entry.specs.Attributes.{Attributes, Value, link_value, type_in}
-use Rattle.aide_agreement.specs.Own.{is_digest, is_directory, is_own, is_strong}
+use Rattle.aide_agreement.specs.Own.{is_device, is_digest, is_directory, is_own, is_strong}
 
 -- both entries have one digest of at least 256 bits
 pub record SharesDigest (first second : Attributes) : Type 0 where
@@ -26,6 +26,8 @@ pub record Agrees (first second : Attributes) : Type 0 where
   -- both have this type
   pub of_first : type_in (first Ftype) ≡ Some kind
   pub of_second : type_in (second Ftype) ≡ Some kind
+  -- which is not that of devices
+  pub no_device : is_device kind ≡ false
   -- both have the same value, or neither has one, for every attribute that is neither a machine's own nor a digest
   pub alike : (a : Attr) → is_own (is_directory kind) a ≡ false → is_digest a ≡ false
       → first a ≡ second a
@@ -37,10 +39,12 @@ pub record Agrees (first second : Attributes) : Type 0 where
   -- links have a target, which is one, since it is no machine's own
   pub target : kind ≡ Link → HasTarget first × HasTarget second
 
--- an entry says what its content is: it has a type, a regular file a digest of at least 256 bits, a link a target
+-- an entry says what its content is: it has a type other than that of devices, a regular file a digest of at least
+-- 256 bits, a link a target
 pub record SaysContent (entry : Attributes) : Type 0 where
   pub kind : FileType
   pub of_entry : type_in (entry Ftype) ≡ Some kind
+  pub no_device : is_device kind ≡ false
   pub shared : kind ≡ File → SharesDigest entry entry
   pub target : kind ≡ Link → HasTarget entry
 

@@ -6,7 +6,7 @@ use Rattle.aide_attr.specs.Set.{is_attr}
 use Rattle.aide_attr.specs.declared.attr.Attr.{Attr}
 use Rattle.aide_attr.specs.declared.attr.Attr.TheVariants as attr
 use Rattle.aide_attr.specs.declared.file_type.FileType.{FileType}
-use Rattle.aide_attr.specs.declared.file_type.FileType.TheVariants.{Directory}
+use Rattle.aide_attr.specs.declared.file_type.FileType.TheVariants.{Block, Char, Directory}
 use Rattle.aide_attr.specs.declared.form.Form.{Form}
 use Rattle.aide_attr.specs.declared.form.Form.TheVariants.{Digest}
 
@@ -14,9 +14,10 @@ use Rattle.aide_attr.specs.declared.form.Form.TheVariants.{Digest}
 abbrev pub own_attrs : List Attr
 own_attrs = attr.Atime ∷ attr.Mtime ∷ attr.Ctime ∷ attr.Inode ∷ attr.Bcount ∷ []
 
--- what follows from the names in a directory, which are entries of their own
+-- What a machine has of its own in a directory besides: its size, which depends on the file system. The link count does
+-- not: it is the number of subdirectories and two, so that it tells of one that no entry names.
 abbrev pub directory_attrs : List Attr
-directory_attrs = attr.Size ∷ attr.Linkcount ∷ []
+directory_attrs = attr.Size ∷ []
 
 -- whether a machine has the attribute of its own, in a directory or elsewhere
 abbrev pub is_own : Bool → Attr → Bool
@@ -27,6 +28,12 @@ is_own directories a =
 abbrev pub is_directory : FileType → Bool
 is_directory Directory = true
 is_directory _ = false
+
+-- whether the type is that of devices, whose numbers no database has
+abbrev pub is_device : FileType → Bool
+is_device Char = true
+is_device Block = true
+is_device _ = false
 
 -- whether values of this form are digests
 abbrev pub is_digest_form : Form → Bool

@@ -1,7 +1,8 @@
 //! What accounts for a change.
-ghost use Rattle.std.specs.Prelude.{◌≡◌};
+ghost use Rattle.std.specs.Prelude.{◌≡◌, Some};
 ghost use Rattle.aide_agreement.specs.Found.{found};
-ghost use Rattle.aide_agreement.specs.Account.{is_as_old, is_as_trusted, same_as};
+ghost use Rattle.aide_agreement.specs.Account.{IsUnaccounted, is_as_old, is_as_trusted, same_as};
+ghost use Rattle.aide_agreement.specs.declared.account.SameAs.TheVariants.{Trusted};
 
 use crate::agreement::agree;
 use aide_entry::View;
@@ -11,7 +12,7 @@ use aide_entry::View;
 pub enum SameAs {
     /// The new entry agrees with the old one.
     Old,
-    /// A trusted machine has the same now: an entry that agrees with the new one, or none any more.
+    /// The same happened on a trusted machine, and its own old entry does not account for it.
     Trusted,
 }
 
@@ -25,7 +26,7 @@ fn is_as_old(old: Option<View<'_>>, new: Option<View<'_>>) -> bool
     }
 }
 
-/// Returns whether a trusted machine has at the path what there is now.
+/// Returns whether the same happened at the path of a trusted machine.
 fn is_as_trusted(
     old: Option<View<'_>>,
     new: Option<View<'_>>,
@@ -36,22 +37,27 @@ fn is_as_trusted(
         (found trusted_old.entry, found trusted_new.entry) }
 {
     match (new, trusted_new) {
-        (Some(new), Some(trusted_new)) => agree(&new, &trusted_new),
-        (None, None) => old.is_some() && trusted_old.is_some(),
+        (Some(entry), Some(trusted_entry)) => {
+            agree(&entry, &trusted_entry) && !is_as_old(trusted_old, trusted_new)
+        }
+        (None, None) => is_as_old(old, trusted_old),
         _ => false,
     }
 }
 
 /// Returns what accounts for a change, by what four databases have at its path: the old entry if it agrees with the new
-/// one, otherwise a trusted machine that has the same now.
+/// one, otherwise a trusted machine on which the same happened. A trusted pair accounts for nothing at a path where it
+/// has no change of its own, or one for which its old entry accounts.
 pub fn same_as(
     old: Option<View<'_>>,
     new: Option<View<'_>>,
     trusted_old: Option<View<'_>>,
     trusted_new: Option<View<'_>>,
 ) -> Option<SameAs>
-    ensures { result ≡ same_as (found old.entry, found new.entry)
+    ensures account { result ≡ same_as (found old.entry, found new.entry)
         (found trusted_old.entry, found trusted_new.entry) }
+    ensures trusted { result ≡ Some Trusted →
+        IsUnaccounted (found trusted_old.entry, found trusted_new.entry) }
 {
     if is_as_old(old, new) {
         return Some(SameAs::Old);

@@ -50,7 +50,8 @@ fn has_target(view: &View<'_>) -> bool
     }
 }
 
-/// Returns whether two entries of this type have the same content: files a digest, links a target.
+/// Returns whether two entries of this type have the same content: files a digest, links a target. No entry tells which
+/// device a device is.
 fn share_content(kind: FileType, delta: &Delta, first: &View<'_>, second: &View<'_>) -> bool
     ensures { result ≡ shares_content kind (sides_of delta.now)
         ((entry_in first.now).1 Lname) ((entry_in second.now).1 Lname) }
@@ -58,13 +59,15 @@ fn share_content(kind: FileType, delta: &Delta, first: &View<'_>, second: &View<
     match kind {
         FileType::File => share_digest(delta),
         FileType::Link => has_target(first) && has_target(second),
+        FileType::Char => false,
+        FileType::Block => false,
         _ => true,
     }
 }
 
 /// Returns whether two entries agree: they have one type and, but for what each machine has of its own, the same
 /// attributes with the same values. Digests that only one of them has do not matter, but regular files share a digest
-/// of at least 256 bits. Links have a target.
+/// of at least 256 bits. Links have a target. Devices never agree.
 pub fn agree(first: &View<'_>, second: &View<'_>) -> bool
     ensures { result ≡ agree (entry_in first.now).1 (entry_in second.now).1 }
 {

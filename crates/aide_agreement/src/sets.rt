@@ -17,8 +17,8 @@ const OWN: [Attr; 5] = [
     Attr::Bcount,
 ];
 
-/// What each machine has of its own in a directory besides: what follows from the names in it.
-const OF_DIRECTORIES: [Attr; 2] = [Attr::Size, Attr::Linkcount];
+/// What each machine has of its own in a directory besides.
+const OF_DIRECTORIES: [Attr; 1] = [Attr::Size];
 
 /// The digests of at least 256 bits.
 const STRONG: [Attr; 8] = [

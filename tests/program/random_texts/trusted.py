@@ -20,7 +20,7 @@ FORMS = {attribute.column.encode(): attribute.form for attribute in ATTRIBUTES}
 DIGESTS = [column for column, form in FORMS.items() if isinstance(form, tuple)]
 # What each machine has of its own, and what a directory has besides.
 OWN = [b"atime", b"mtime", b"ctime", b"inode", b"bcount"]
-OF_DIRECTORIES = [b"size", b"lcount"]
+OF_DIRECTORIES = [b"size"]
 # Columns without which few entries agree.
 USUAL = [b"perm", b"sha256", b"mtime"]
 MODES = [0o100644, 0o100644, 0o100755, 0o40755, 0o120777, 0o20600]
