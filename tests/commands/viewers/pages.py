@@ -23,8 +23,8 @@ STANDINGS = ["open", "recorded", "trusted", "same"]
 TITLES = {
     "open": "Open",
     "recorded": "Recorded",
-    "trusted": "Trusted: as in the trusted pair",
-    "same": "Same as before, but for times and inode",
+    "trusted": "Trusted: changed in the same way in the trusted pair",
+    "same": "Same as before, but for times, inode and a digest that one side lacks",
 }
 ESCAPE = re.compile(r"\\([0-7]{3})")
 DIRECTIONS = re.compile(

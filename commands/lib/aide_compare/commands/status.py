@@ -43,8 +43,8 @@ ENTRIES = {
     "end_time_seconds": "When the last run ended, in seconds since 1970.",
 }
 CHANGES = {
-    "same": "Changes of times and inode alone, which are silent.",
-    "trusted": "Changes as on a trusted machine, which are silent.",
+    "same": "Changes of times, inode and digests that one side lacks, which are silent.",
+    "trusted": "Changes as between the trusted databases, which are silent.",
     "recorded": "Changes as a package's records on the host have them.",
     "open": "All other changes.",
     **{word: f"Changes of {word} severity that are open or recorded." for word in SEVERITIES},

@@ -24,8 +24,8 @@ Fields = Dict[str, Any]
 class Standing(Enum):
     """How a change stands. The words are those of every text, page, line and state file."""
 
-    SAME = "same"  # The entry is as it was, but for times and what the file system makes of it.
-    TRUSTED = "trusted"  # The entry is as on a machine, or in a signed archive, that is trusted.
+    SAME = "same"  # The entry is as it was, but for times, inode and digests that one side lacks.
+    TRUSTED = "trusted"  # A machine, or a signed archive, that is trusted changed in the same way.
     RECORDED = "recorded"  # A package's records on the host have this content, unsigned.
     OPEN = "open"  # All else.
 

@@ -220,7 +220,8 @@ def sentence(counts: Counts) -> list[str]:
         more = f"{counts.recorded:,} more {are(counts.recorded)}"
         text += f" {more} as packages' records on the host have them."
     if counts.same:
-        text += f" {counts.same:,} {are(counts.same)} silent: as before, but for times."
+        but = "but for times, inode and a digest that one side lacks"
+        text += f" {counts.same:,} {are(counts.same)} silent: as before, {but}."
     if counts.trusted:
         text += f" {counts.trusted:,} {are(counts.trusted)} silent: as in the trusted pair."
     return wrap(text, WIDTH)

@@ -49,8 +49,8 @@ REST = b"<p>The others, if scripts are off in this browser:</p>\n"
 TITLES = {
     Standing.OPEN: "Open",
     Standing.RECORDED: "Recorded",
-    Standing.TRUSTED: "Trusted: as in the trusted pair",
-    Standing.SAME: "Same as before, but for times and inode",
+    Standing.TRUSTED: "Trusted: changed in the same way in the trusted pair",
+    Standing.SAME: "Same as before, but for times, inode and a digest that one side lacks",
 }
 # Packages after so many different ones are counted together.
 MAX_PACKAGES = 1000

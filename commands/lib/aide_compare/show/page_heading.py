@@ -31,7 +31,8 @@ MAX_LETTERS = 5000
 HINT = (
     "Open: all that is not one of the following. Recorded: a package's records on the host have"
     " this content. Whoever was root there can write such records, so they only shorten what you"
-    " read. Same: the old entry, but for times and inode. Trusted: as in the trusted pair."
+    " read. Same: the old entry, but for times, inode and a digest that one side lacks. Trusted: it"
+    " changed in the same way in the trusted pair."
 )
 
 
