@@ -3,7 +3,6 @@ this repository."""
 from __future__ import annotations
 
 import os
-import unittest
 
 from tests.lib.scratch import TOP
 
@@ -12,11 +11,13 @@ BUILT = os.path.join(TOP, "crates", "aide", "out", "aide")
 
 
 def find_program() -> str:
-    """The whole path of the program `aide`. A test is skipped where it is not there."""
+    """The whole path of the program `aide`. A test without one fails, and its message is the way to
+    a program."""
     path = os.path.abspath(os.environ.get(VARIABLE) or BUILT)
     if not os.access(path, os.X_OK):
-        built = os.path.relpath(BUILT, TOP)
-        raise unittest.SkipTest(f"no program: {VARIABLE} names none, and {built} was not built")
+        raise AssertionError(
+            f"no program: run tools/build_unproved, then export {VARIABLE}={BUILT}-unproved"
+        )
     return path
 
 

@@ -1,11 +1,12 @@
 """A verdict on what was changed: the checks of the files, the formats, and the tests of the changed
 modules.
 
-Changed is what differs from --since (origin/main), and what git does not know yet. With --all every
-test runs that proves nothing and takes no minutes. PROGRAM is the built program; without it the
-last one that was proved here is taken, or else an unproved one, which `tools/build_unproved` makes
-of the sources as they are. The last line is 'N passed, M failed'. This is no gate: only
-`tools/test` proves what it runs.
+Changed is what differs from --since (origin/main), and what git does not know yet. A changed module
+is tried by the tests that import it or start a command that runs it. With --all every test runs
+that proves nothing and takes no minutes. PROGRAM is the built program; without it the last one that
+was proved here is taken, or else an unproved one, which `tools/build_unproved` makes of the sources
+as they are. The last line is 'N passed, M failed'. This is no gate: only `tools/test` proves what
+it runs.
 """
 from __future__ import annotations
 
@@ -14,86 +15,24 @@ import subprocess
 import sys
 
 from tools.gate import formats, parts, unit_tests, unproved
+from tools.gate.affected import Tests
 from tools.gate.counting import TOP, Count
 from tools.lib.arguments import executable, parser_of
 
 JOBS = 3
-# The tests of each directory of modules of the commands, and of a module that has its own. They are
-# beginnings of names.
-TESTS = {
-    "commands/lib/aide_compare/changes/applied.py": ("tests.commands.test_archive",),
-    "commands/lib/aide_compare/changes/signed.py": ("tests.commands.test_archive",),
-    "commands/lib/aide_compare/base/": (
-        "tests.commands.base",
-        "tests.commands.test_front",
-        "tests.commands.test_run",
-    ),
-    "commands/lib/aide_compare/changes/": (
-        "tests.commands.base.test_changes",
-        "tests.commands.base.test_lookups",
-        "tests.commands.base.test_recorded",
-        "tests.commands.base.test_severity",
-        "tests.commands.test_many",
-        "tests.commands.test_nights",
-        "tests.commands.test_recorded",
-        "tests.commands.test_silenced",
-        "tests.commands.test_standings",
-    ),
-    "commands/lib/aide_compare/commands/accept": (
-        "tests.commands.base.test_accept_work",
-        "tests.commands.test_accept",
-    ),
-    "commands/lib/aide_compare/commands/check.py": (
-        "tests.commands.base.test_check",
-        "tests.commands.test_check",
-    ),
-    "commands/lib/aide_compare/commands/mail": (
-        "tests.commands.base.test_mail_request",
-        "tests.commands.test_mail",
-    ),
-    "commands/lib/aide_compare/commands/status.py": ("tests.commands.test_state",),
-    "commands/lib/aide_compare/commands/sort.py": ("tests.commands.test_sorting",),
-    "commands/lib/aide_compare/commands/json.py": ("tests.commands.test_viewers",),
-    "commands/lib/aide_compare/commands/page.py": ("tests.commands.test_viewers",),
-    "commands/lib/aide_compare/commands/compare.py": (
-        "tests.commands.test_run",
-        "tests.commands.test_terminal",
-    ),
-    "commands/lib/aide_compare/compare/": (
-        "tests.commands.base",
-        "tests.commands.test_age",
-        "tests.commands.test_faults",
-        "tests.commands.test_run",
-        "tests.commands.test_without",
-    ),
-    "commands/lib/aide_compare/hosts/": (
-        "tests.commands.test_canary",
-        "tests.commands.test_fleet",
-        "tests.commands.test_hosts_",
-    ),
-    "commands/lib/aide_compare/lines/": (
-        "tests.commands.base.test_changes",
-        "tests.commands.test_viewers",
-        "tests.commands.test_show",
-    ),
-    "commands/lib/aide_compare/mail/": (
-        "tests.commands.base.test_sending",
-        "tests.commands.test_mail",
-        "tests.commands.test_smtp",
-        "tests.commands.test_hands",
-    ),
-    "commands/lib/aide_compare/show/": (
-        "tests.commands.test_standings",
-        "tests.commands.test_viewers",
-    ),
-    "commands/bin/": ("tests.commands.test_front", "tests.commands.test_lost_modules"),
-    "commands/share/": ("tests.commands.base.test_severity", "tests.commands.test_persistence"),
-    "contrib/aide/": ("tests.commands.test_archive", "tests.commands.test_persistence"),
-    "contrib/": ("tests.commands.test_hands", "tests.commands.test_state"),
-    "tests/oracle/": ("tests.program",),
-    "tests/program/": ("tests.program",),
+# Which files each check of files reads, as beginnings and endings of their paths.
+CHECKS: dict[tuple[str, ...], tuple[tuple[str, ...], tuple[str, ...]]] = {
+    ("tests.source.check_tools",): (("tools/", "tests/", "bench/", "packaging/"), ("",)),
+    ("tests.source.check_edits",): (("crates/",), (".rt", ".edit")),
+    ("tests.source.check_docs",): (("",), (".md", ".1", ".rt", ".antt")),
+    ("tests.source.check_layout",): (("crates/",), ("",)),
+    ("tests.source.check_layers",): (("commands/",), (".py",)),
+    ("tests.source.check_python",): (("commands/", "tools/", "tests/", "bench/"), (".py",)),
 }
-COMMANDS = "commands/lib/aide_compare/commands/"
+# What compares the options of the commands with the manual.
+OPTIONS_IN_MANUAL = "tests.pages.test_blocks"
+# A change here that no test tries is a failure. What else has no test is a page or a tool.
+TRIED = ("commands/", "contrib/", "man/", "tests/commands/test_", "tests/program/test_")
 
 
 def changed(since: str) -> list[str]:
@@ -110,25 +49,30 @@ def changed(since: str) -> list[str]:
     return sorted(names)
 
 
-def beginnings_for(name: str) -> tuple[str, ...]:
-    """The beginnings of the names of the tests that a changed file is tried by."""
-    module = name[: -len(".py")].replace("/", ".")
-    if name.startswith("tests/") and os.path.basename(name).startswith("test_"):
-        return (module,)
-    for place, beginnings in TESTS.items():
-        if name.startswith(place):
-            return beginnings
-    if name.startswith(COMMANDS):
-        return ("tests.commands.test_" + module.rpartition(".")[2].partition("_")[0],)
-    return ()
-
-
-def tests_for(names: list[str]) -> list[str]:
-    """The modules of tests for these files."""
-    beginnings = tuple(one for name in names for one in beginnings_for(name))
+def checks_for(names: list[str]) -> list[tuple[str, ...]]:
+    """The checks of files that read some of these."""
     return [
-        module for module in unit_tests.modules([]) if beginnings and module.startswith(beginnings)
+        check
+        for check, (beginnings, endings) in CHECKS.items()
+        if any(name.startswith(beginnings) and name.endswith(endings) for name in names)
     ]
+
+
+def tests_for(names: list[str], count: Count) -> list[str]:
+    """The modules of tests for these files. A file that no test tries is a failure."""
+    tests = Tests()
+    found: set[str] = set()
+    for name in names:
+        if name.startswith("crates/"):
+            modules = unit_tests.modules(["tests.program"])
+        else:
+            modules = tests.of(name)
+        if name.startswith(TRIED) and not modules:
+            count.fail(f"no test tries {name}")
+        if name.startswith(("commands/", "man/")):
+            modules.append(OPTIONS_IN_MANUAL)
+        found.update(modules)
+    return sorted(found)
 
 
 def program_for(given: str | None) -> str | None:
@@ -165,19 +109,13 @@ def main() -> int:
     args = parser.parse_args()
     names = [] if args.files or args.all else changed(args.since)
     count = Count()
-    if (
-        args.files
-        or args.all
-        or not all(name.startswith(("commands/", "tests/commands/")) for name in names)
-    ):
-        count.run_side_by_side(parts.FILES, JOBS)
-    else:
-        count.run_side_by_side([("tests.source.check_layers",)], JOBS)
-    if args.files or args.all or any(name.startswith("crates/") for name in names):
+    is_whole = args.files or args.all
+    count.run_side_by_side(parts.FILES if is_whole else checks_for(names), JOBS)
+    if is_whole or any(name.startswith("crates/") for name in names):
         count.add("formats", formats.faults())
     if args.files:
         return int(count.status())
-    modules = tests_for(names)
+    modules = tests_for(names, count)
     if args.all or modules:
         program = program_for(args.program)
         if program is None:
