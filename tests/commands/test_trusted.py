@@ -9,7 +9,7 @@ from typing import List, Tuple
 
 from tests.commands import mail
 from tests.commands.accepting import accept, contents
-from tests.commands.made_up import Host, Night, standings_of, time_of
+from tests.commands.made_up import Host, Night, objects_of, standings_of, time_of
 from tests.commands.sandbox import CommandTest, NOBODY, sha256
 
 TOOL = "aide-compare"
@@ -25,6 +25,20 @@ WANTED = {
     b"/usr/bin/mine": "open high",
     b"/usr/bin/lost": "open high",
 }
+WATCHERS = (
+    *(b"/etc/aide-compare", b"/etc/aide-compare/without", b"/etc/aide-compare/x/y"),
+    *(b"/etc/aide.conf", b"/etc/aide/aide.conf", b"/etc/aide/aide.conf.d/99_x"),
+    *(b"/etc/default/aide", b"/etc/cron.daily/aide-compare"),
+    b"/etc/systemd/system/aide-compare.service.d/signed.conf",
+    b"/etc/systemd/system/timers.target.wants/aide-compare.timer",
+    *(b"/run/systemd/system/aide-.service.d/x.conf", b"/run/systemd/transient/service.d/x.conf"),
+    *(b"/usr/lib/systemd/system/aide-compare.timer", b"/usr/lib/systemd/system/timer.d/x.conf"),
+    b"/usr/local/lib/systemd/system/aide-compare.service",
+)
+NO_WATCHERS = (
+    *(b"/etc/aide-comparer", b"/etc/aider/x", b"/etc/systemd/system/ssh.service.d/x.conf"),
+    *(b"/srv/aide.conf", b"/usr/lib/systemd/system/raide-compare.service", b"/etc/cron.daily/aide"),
+)
 TOLD = b"aide-compare: 3 open (3 high) of 7 changes\n"
 COUNTS = {"same": "1", "trusted": "3", "recorded": "0", "open": "3", "open_high": "3"}
 
@@ -77,6 +91,30 @@ class TrustedTest(mail.MailTest):
         found = standings_of(objects)
         for name in (b"went", b"upgraded", b"came"):
             self.assertEqual(found[b"/usr/bin/" + name], "open high", "nothing changed in the pair")
+
+    def test_watchers(self) -> None:
+        """What decides on what is reported is open, though the canary has the same change: in the
+        lines, in the brief, and if only silent changes are accepted."""
+        host, canary = put(self, with_marks=False)
+        for each in (host, canary):
+            for path in (*WATCHERS, *NO_WATCHERS):
+                each.old.file(path, ONE)
+                each.new.file(path, TWO)
+        host.write(self)
+        self.write("canary-old.db", canary.old.database())
+        self.write("canary-new.db", canary.new.database())
+        _, objects = host.ask(self, *PAIR)
+        found = standings_of(objects, ("standing",))
+        wanted = {**dict.fromkeys(WATCHERS, "open"), **dict.fromkeys(NO_WATCHERS, "trusted")}
+        self.assertEqual({path: found.get(path) for path in wanted}, wanted)
+        self.assertEqual(objects[-1]["standings"]["open"], len(WATCHERS))
+        lines = self.call("aide-compare json", *PAIR, *BOTH).output
+        self.answered(0, b"Open, severity", b"", "aide-compare page", "--plain", "-", text=lines)
+        digest = sha256(self.read("host-new.db"))
+        words = ("--sha256", digest, "--trusted-only", *PAIR, "host-new.db", "host-old.db")
+        self.assertEqual(self.call(TOOL + " accept", *words).status, 0)
+        answer = self.call(TOOL + " json", *BOTH)
+        self.assertEqual(set(standings_of(objects_of(answer))) - {b"/"}, set(WATCHERS), answer)
 
     def test_forms(self) -> None:
         """The pair may be packed, or come by a descriptor, before or after the databases. A column

@@ -43,15 +43,15 @@ class Judged:
         self.databases = BothDatabases(old_fd, new_fd)
         self.named = Named()
         self.by = ""
-        self.silent = dict.fromkeys(BY_PROOF, 0)
+        self.silent = dict.fromkeys((each.value for each in BY_PROOF.values()), 0)
         self.findings = Findings()
         self.has_pair = TRUSTED_SIDES[1] in reader.summary
         # Of dpkg's records: what is as in the trusted pair.
         self.trusted: Set[bytes] = set()
-        for kind, path, proof, key, _ in reader.outlines():
-            if proof is not None:
-                self.silent[proof] += 1
-                if BY_PROOF[proof] is Standing.TRUSTED and path.startswith(INFO_DIRECTORY):
+        for kind, path, silent, key, _ in reader.outlines():
+            if silent is not None:
+                self.silent[silent.value] += 1
+                if silent is Standing.TRUSTED and path.startswith(INFO_DIRECTORY):
                     self.trusted.add(path)
             else:
                 self.findings.add(self.databases.weighed(kind, path, key))
@@ -79,15 +79,14 @@ class Judged:
 
     @property
     def counts(self) -> Counts:
-        silent = {standing.value: self.silent[proof] for proof, standing in BY_PROOF.items()}
-        return self.findings.standings()._replace(**silent)
+        return self.findings.standings()._replace(**self.silent)
 
     def lines(self, reader: Reader) -> Iterator[JudgedLine]:
         """The lines of the same changes once more."""
         waiting = self.findings.rows()
         for outline in reader.outlines():
-            if outline.proof is not None:
-                yield JudgedLine(outline.line, BY_PROOF[outline.proof].value, "", "", None)
+            if outline.silent is not None:
+                yield JudgedLine(outline.line, outline.silent.value, "", "", None)
                 continue
             record = next(waiting)
             yield JudgedLine(

@@ -5,8 +5,9 @@ host say makes it `recorded`, which shortens what people read and silences nothi
 """
 from __future__ import annotations
 
+import re
 from enum import Enum
-from typing import Any, Dict, NamedTuple, Tuple, Union
+from typing import Any, Dict, NamedTuple, Optional, Tuple, Union
 
 from aide_compare.base.words import KINDS, SEVERITIES, counted
 from aide_compare.lines.attributes import NUMBERS
@@ -36,6 +37,14 @@ class Standing(Enum):
 
 # What the member `same_as` of a proved line means.
 BY_PROOF = {"old": Standing.SAME, "trusted": Standing.TRUSTED}
+# What decides on what is reported: settings, AIDE's configuration, the units and the cron job of
+# the comparison. No trusted pair accounts for a change there, whatever happened on its machine.
+WATCHERS = re.compile(
+    rb"/etc/aide-compare(?:/.*)?|/etc/aide(?:/.*)?|/etc/aide\.conf|/etc/default/aide"
+    rb"|/etc/cron\.daily/aide-compare"
+    rb"|/(?:etc|run|lib|usr/lib|usr/local/lib)/systemd/(?:.*/)?(?:aide-|service\.d/|timer\.d/).*",
+    re.DOTALL,
+)
 
 
 def bytes_of(fields: Fields, key: str) -> bytes:
@@ -92,11 +101,21 @@ class Change(NamedTuple):
         return self.old, self.new
 
 
-def standing_of(fields: Fields) -> Standing:
+def silent_by(proof: Optional[str], path: bytes) -> Optional[Standing]:
+    """The standing of a change that a proof accounts for; None if it is not silent."""
+    if proof is None:
+        return None
+    standing = BY_PROOF[proof]
+    if standing is Standing.TRUSTED and WATCHERS.fullmatch(path):
+        return None
+    return standing
+
+
+def standing_of(fields: Fields, path: bytes) -> Standing:
     """The standing that a line says; a ValueError if it says one that no proof has given."""
-    proof = fields.get("same_as")
-    if proof is not None:
-        standing = BY_PROOF[proof]
+    silent = silent_by(fields.get("same_as"), path)
+    if silent is not None:
+        standing = silent
     elif fields.get("standing") == Standing.RECORDED.value:
         standing = Standing.RECORDED
     else:
@@ -130,7 +149,7 @@ def change_of(fields: Fields) -> Change:
         letters=_text_of(fields, "summary", ""),
         old=values_of(fields, "old"),
         new=values_of(fields, "new"),
-        standing=standing_of(fields),
+        standing=standing_of(fields, path),
         severity=severity,
         package=_text_of(fields, "package", ""),
         old_texts=texts_in(fields, "old_text"),

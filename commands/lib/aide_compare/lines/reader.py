@@ -12,7 +12,8 @@ from typing import Any, BinaryIO, Dict, Iterator, NamedTuple, Optional, Tuple
 from aide_compare.base.files import BLOCK
 from aide_compare.base.paths import key_of_path
 from aide_compare.base.words import KINDS, SIDES, status_of_counts
-from aide_compare.lines.change import BY_PROOF, Change, Fields, bytes_of, change_of
+from aide_compare.lines.change import BY_PROOF, Change, Fields, Standing, bytes_of, change_of
+from aide_compare.lines.change import silent_by
 
 FORMAT = 3
 # An entry has at most the bytes of two lines of databases, and six times as many in JSON, some of
@@ -47,7 +48,7 @@ class Outline(NamedTuple):
 
     kind: str
     path: bytes
-    proof: Optional[str]  # What accounts for it: a key of BY_PROOF.
+    silent: Optional[Standing]  # None if it is not silent.
     key: bytes  # Of the path.
     line: bytes
 
@@ -161,7 +162,7 @@ class Reader:
                 proof = fields.get("same_as")
             last = self._key_after(last, path)
             self._count(kind, proof)
-            yield Outline(kind, path, proof, last, line)
+            yield Outline(kind, path, silent_by(proof, path), last, line)
 
     def _count(self, kind: str, proof: Optional[str]) -> None:
         self._counts[kind, proof] = self._counts.get((kind, proof), 0) + 1
