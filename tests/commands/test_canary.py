@@ -15,7 +15,7 @@ from tests.commands.test_hosts_report import Hosts
 from aide_compare.hosts import canary
 
 ONE, TWO, EVIL = b"one", b"two, of the upgraded package", b"EVIL"
-NOTE = "canary www1: what differs there too is silent on the other hosts"
+NOTE = "canary www1: what changed there in the same way is silent on the other hosts"
 USED = f"C{NOTE[1:]}\n"
 NAMES = ("www1", "www2", "www3", "www4")
 MARK = b"/usr/bin/mark"
@@ -93,7 +93,7 @@ class CanaryTest(CommandTest):
         self.assertEqual(summary["canary"], [NOTE])
         told = {(each["path"], tuple(each["names"])) for each in changes}
         wanted = {("/usr/bin/a", ("www1",)), ("/usr/bin/b", ("www1",)), (MARK.decode(), ("www3",))}
-        self.assertEqual(told, wanted, "each change of the fleet is told at least once")
+        self.assertEqual(told, wanted, "each path that changed is reported at least once")
         self.compared(hosts)
         text = hosts.report().output
         self.assertTrue(text.startswith("aide on 4 hosts: 4 differ"), "no note without a canary")

@@ -123,8 +123,8 @@ EXCLUDE = Option(
 )
 TRUSTED = Option(
     "--trusted",
-    "keep quiet about what is as on a trusted machine: its baseline and its new database, whose"
-    " changes you have read, or what aide-compare archive made",
+    "keep quiet about what changed on a trusted machine in the same way: its baseline and its new"
+    " database, whose changes you have read, or what aide-compare archive made",
     metavar="OLD NEW",
     is_single=True,
     number_of_values=2,

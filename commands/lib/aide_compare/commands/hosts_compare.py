@@ -260,7 +260,7 @@ def own_parser() -> Parser:
         r"[1-9][0-9]{0,5}/[1-9][0-9]{0,5}", "a part of all of them: 1/10 to 10/10", share
     )
     one = "HOSTS-FILE is the name of one host, whose changes are printed too, without --quiet"
-    canary = "compared first; what differs there too is silent on all other hosts"
+    canary = "compared first; what changed there in the same way is silent on all other hosts"
     size = "the most bytes of the unpacked database (4 times the baseline, at least 64M)"
     same = "how long a host may send the same bytes (50h; 0: no limit)"
     shares = "only the hosts of the Kth of N shares"

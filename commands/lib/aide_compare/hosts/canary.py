@@ -52,7 +52,7 @@ def trusted_pair(store: str, host: str, seconds: float) -> dict[str, Copy]:
 
 
 def used_note(host: str) -> str:
-    return f"canary {host}: what differs there too is silent on the other hosts"
+    return f"canary {host}: what changed there in the same way is silent on the other hosts"
 
 
 def failed_note(host: str, why: str) -> str:
