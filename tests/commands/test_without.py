@@ -76,8 +76,9 @@ HIDDEN = """
     /var/backups/dpkg.status.0 /var/backups/dpkg.status.1.gz /var/backups/alternatives.tar.6.gz
     /var/backups/apt.extended_states.0 /run/adduser /root/.bash_history /root/.lesshst
     /home/anna/.bash_history /home/anna/.viminfo /home/anna/.sudo_as_admin_successful
-    /run/crond.pid /run/exim4/exim.pid /run/agetty.reload
+    /run/crond.pid /run/exim4/exim.pid /run/agetty.reload /run/sudo /run/sudo/ts
     /run/systemd/sessions/1 /run/systemd/journal/kernel-seqnum /run/udev/data/b8:0
+    /run/host/inaccessible/blk
 """
 # Accounts, keys, programs, settings of aide-compare, what apt runs as root or a program loads from
 # /var/cache, what is in homes there, and what something below /run obeys.
