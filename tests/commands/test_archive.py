@@ -177,7 +177,8 @@ class ArchiveTest(CommandTest):
 
     def test_known_indexes(self) -> None:
         """Of apt's lists those count that the old database knows, all of them, and for the suite
-        for which they were signed. No other directory has indexes."""
+        for which they were signed; of a suite, the components that it knows. No other directory has
+        indexes."""
         place = self.place
         place.sign()
         keep_as_apt(self, place)
@@ -199,27 +200,33 @@ class ArchiveTest(CommandTest):
         os.makedirs(self.path("nothing"))
         for sources in (("archives",), ("nothing",)):
             self.not_made(b"--from names no signed index", sources=sources)
-        for name in INDEXES:
-            del place.old.entries[APTS_LISTS + f"{SITE}{name}".encode()]
+        keep_indexes(self, f"lists/{SITE}")
+        known = [APTS_LISTS + f"{SITE}{name}".encode() for name in INDEXES]
+        del place.old.entries[known[1]]
+        self.applied(sources=both, told=b"no signed index has it: tool\n")
+        del place.old.entries[known[0]]
         self.not_made(b"--from names no signed index", sources=both)
 
     def test_new(self) -> None:
         """The files of a new package are signed, where nothing was before, but no set-ID program.
         Its list is not: it is reported as new."""
         place = self.place
-        files = (b"/usr/bin/came", b"/etc/xdg/came", b"/usr/share/tool/a", b"/usr/bin/ids")
-        came = Built("came", "2")
+        files = (b"/usr/bin/came", b"/etc/xdg/came", b"/usr/share/tool/b")
+        came = Built("came", "2").file(b"/usr/bin/set-id", TWO, 0o4755)
         for path in files:
-            came.file(path, TWO, 0o644)
+            came.file(path, TWO)
             place.new.file(path, TWO)
-        came.file(b"/usr/bin/ids", TWO, 0o4755)
-        place.new.file(b"/usr/bin/ids", TWO, 0o104755).directory(b"/etc/xdg")
+        place.old.file(files[2], ONE)
+        place.new.file(b"/usr/bin/set-id", TWO, 0o104755).directory(b"/etc/xdg")
         place.package(came)
         place.came("came", "2")
+        listed = b"/.\n/etc\n/etc/xdg\n/etc/xdg/came\n/usr\n/usr/bin\n/usr/bin/came\n"
+        listed += b"/usr/bin/set-id\n/usr/share\n/usr/share/tool\n/usr/share/tool/b\n"
+        place.new.file(INFO + b"came.list", listed)
         place.sign()
         answer = self.applied("-q", told=b"aide-compare archive: new, signed: came 2\n")
         place.expect(answer, "trusted", *files[:2], b"/etc/xdg", INFO + b"came.md5sums")
-        place.expect(answer, "open", *files[2:], INFO + b"came.list")
+        place.expect(answer, "open", files[2], b"/usr/bin/set-id", INFO + b"came.list")
         package = Package("came", "2", {})
         write_records(self, {"status": package.status(), "info/came.list": package.paths()})
         place.came("foreign", "1")
@@ -397,6 +404,7 @@ class ArchiveTest(CommandTest):
         place.built = []
         place.package(Built("tool", "2", "arm64").file(TOOL, b"of arm64\n", 0o755))
         place.package(Built("lib", "3", "i386").file(b"/lib/multi/lib.so", b"of i386\n"))
+        place.package(Built("lib", "2", "arm64").file(b"/usr/bin/arm64", TWO))
         place.package(Built("data", "2", "all").file(b"/usr/share/tool/a", TWO))
         foreign = place.built
         place.built = foreign + files
@@ -411,6 +419,12 @@ class ArchiveTest(CommandTest):
         place.sign()
         answer = self.applied(told=b"no signed index has it: lib:arm64\n")
         self.assertIn(b"no signed index has it: tool\n", answer.errors)
+        place.expect(answer, "open", TOOL)
+        # Of several the one that most packages have, and of another one those with its name.
+        place.old.file(INFO + b"libc6:amd64.list").file(INFO + b"lib:arm64.list")
+        place.listed("lib:arm64", "2")
+        answer = self.applied(told=b"no signed index has it: tool\n")
+        self.assertNotIn(b"arm64", answer.errors)
         place.expect(answer, "open", TOOL)
 
     def test_output(self) -> None:
