@@ -2,6 +2,7 @@
 canary. If it fails, the others are compared all the same."""
 from __future__ import annotations
 
+import contextlib
 import os
 import stat
 import time
@@ -9,10 +10,12 @@ from typing import Any, Dict, List
 
 from tests.commands.base.calls import ModuleTest
 from tests.commands.made_up import Night, time_of
-from tests.commands.sandbox import CommandTest
+from tests.commands.sandbox import CommandTest, sha256
 from tests.commands.test_hosts_report import Hosts
 
+from aide_compare.compare import exclusions
 from aide_compare.hosts import canary
+from aide_compare.hosts.store import HostDirectory
 
 ONE, TWO, EVIL = b"one", b"two, of the upgraded package", b"EVIL"
 NOTE = "canary www1: what changed there in the same way is silent on the other hosts"
@@ -195,15 +198,40 @@ class CanaryTest(CommandTest):
 class NotesTest(ModuleTest):
     def test_notes(self) -> None:
         """A note is the owner's alone and has an end, and one that cannot be read is told."""
-        for name in ("one", "two"):
+        for name in ("one", "two", "three"):
             os.mkdir(self.path(name))
-        canary.keep_note(self.path("one"), "a\n" + "é" * 5000)
+        stores = [self.path(name) for name in ("one", "two", "three", "one")]
+        canary.keep_run(stores[0], canary.Run("www", "a\n" + "\u00e9" * 20000))
         found = os.stat(self.path("one/canary"))
-        self.assertEqual((stat.S_IMODE(found.st_mode), found.st_size), (0o600, 5000))
+        self.assertEqual(stat.S_IMODE(found.st_mode), 0o600)
+        self.assertLess(found.st_size, 40000)
         os.mkfifo(self.path("two/canary"))
-        text, why = canary.notes_in([self.path("one"), self.path("two"), self.path("one")])
-        self.assertTrue(text.startswith("a\\012é"), text)
-        self.assertIn("it is a FIFO", why)
+        self.write("three/canary", "{}")
+        text, fifo, odd = canary.notes_of(stores, []).lines
+        self.assertTrue(text.startswith("a\\012\u00e9"), text)
+        self.assertIn("it is a FIFO", fifo)
+        self.assertIn("is no note of a canary", odd)
         for _ in range(2):
-            canary.keep_note(self.path("one"), "")
-        self.assertEqual(os.listdir(self.path("one")), [])
+            canary.keep_run(stores[0], None)
+        self.assertEqual(os.listdir(stores[0]), [])
+
+    def test_left_out(self) -> None:
+        """The trusted pair is what the canary was compared by: what was left out of it, nobody has
+        read. Its digests are those of the whole databases."""
+        texts = {name: database(name == "aide.db.new", 1) for name in ("aide.db", "aide.db.new")}
+        for name, text in texts.items():
+            self.write(f"store/hosts/www/{name}", text, 0o600)
+        line = exclusions.exclusion(b"/usr", "a list")
+        directory = HostDirectory(self.path("store"), "www", 9)
+        old, new = map(sha256, texts.values())
+        pair = canary.Pair(old, new, "")
+        with contextlib.closing(directory):
+            copies = canary.copies_of(
+                directory, canary.COMPARED, pair, exclusions.Exclusions([line], {})
+            )
+        for copy, text in zip(copies.values(), texts.values()):
+            self.assertEqual(copy.sha256, sha256(text))
+            kept = os.pread(copy.fd, copy.size, 0)
+            self.assertIn(b"\n/usr/bin 0 ", kept)
+            self.assertNotIn(b"\n/usr 0 ", kept)
+            os.close(copy.fd)

@@ -13,6 +13,7 @@ from aide_compare.base.kinds import (
     any_text,
     digest_digits,
     duration,
+    matching,
     pattern,
     server,
     size,
@@ -205,6 +206,13 @@ HOST_TIME = Option(
     metavar="TIME",
     kind=duration,
     default=600,
+)
+JOBS = Option(
+    "--jobs",
+    "how many hosts at a time (8)",
+    metavar="N",
+    kind=matching(r"[1-9][0-9]{0,2}", "a number from 1 to 999", int),
+    default=8,
 )
 NO_DEFAULTS = Option("--no-defaults", "do not read the defaults in /etc/aide-compare")
 

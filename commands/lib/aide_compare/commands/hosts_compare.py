@@ -1,17 +1,12 @@
 """aide-compare hosts compare: the databases of many hosts fetched and compared, some at a time."""
 from __future__ import annotations
 
-import json
-import os
-import select
-import signal
-import time
 from contextlib import suppress
 from functools import partial
 from typing import Iterator, NamedTuple, Sequence
 
 from aide_compare.base.ending import Fault, Status, fault_of, say, tell, write_all
-from aide_compare.base.escapes import guarded, shown
+from aide_compare.base.escapes import guarded
 from aide_compare.base.files import copy_file, open_regular
 from aide_compare.base.directories import closed_after
 from aide_compare.base.kinds import duration, matching
@@ -21,17 +16,16 @@ from aide_compare.base.options import (
     EXCLUDE_FROM,
     HOST_STORE,
     HOST_TIME,
+    JOBS,
     MAX_SIZE,
     NO_DEFAULTS,
     NOT_SILENT,
     Option,
 )
 from aide_compare.base.parser import Parser, defaults_for
-from aide_compare.base.processes import limit_memory, start_child
 from aide_compare.commands.compare_task import exclusions_of
 from aide_compare.compare.state import State, is_alarm
-from aide_compare.compare.unpack import Copy
-from aide_compare.hosts.canary import failed_note, keep_note, trusted_pair, used_note
+from aide_compare.hosts.canary import Run, failed_note, keep_run, trusted_pair, used_note
 from aide_compare.hosts.fetching import fetch
 from aide_compare.hosts.host_comparison import MAX_JUDGED, MAX_KEPT, Settings, compare
 from aide_compare.hosts.hosts_read import hosts_of, read_host
@@ -40,20 +34,16 @@ from aide_compare.hosts.reported import HostCounts
 from aide_compare.hosts.store import (
     ERRORS,
     HOSTS_FILE,
-    MAX_MEMORY,
     HostDirectory,
     check_name,
     share_of,
 )
+from aide_compare.hosts.workers import PAUSE, HostResult, Work, results, without_name
 from aide_compare.lines.change import Fields, change_of
 from aide_compare.show.changes import change_lines
-from aide_compare.show.told import RED, YELLOW, in_colour
 
 NAME = "aide-compare hosts compare"
 SAME_FOR = 50 * 3600
-MAX_TEXT = 300
-GRACE = 15
-PAUSE = 0.2  # A process that was ended may go on, in a call that does not return.
 
 
 DESCRIPTION = """\
@@ -85,34 +75,12 @@ def counts_text(state: State) -> str:
     return text
 
 
-class HostResult(NamedTuple):
-    """How the comparison of a host ended, and what its line says."""
-
-    host: str
-    status: int
-    is_alarm: bool  # Silent differences are none.
-    text: str
-
-    def line(self, color: str) -> str:
-        name = shown(self.host, 200).replace(" ", "\\040")
-        line = f"{name} {self.status} {self.text}"
-        if self.status > 7:
-            return in_colour(line, RED, color)
-        if self.is_alarm:
-            return in_colour(line, YELLOW, color)
-        return line
-
-
-def compare_host(host: str, settings: Settings) -> HostResult:
+def compare_host(settings: Settings, host: str) -> HostResult:
     """Fetches and compares one host."""
-    try:
-        directory = HostDirectory(settings.store, host, settings.seconds)
-        if settings.fetches:
-            fetch(directory, settings.jobs)
-        state = compare(directory, settings)
-    except (Fault, OSError, MemoryError) as error:
-        fault = fault_of(error)
-        return HostResult(host, int(fault.status), True, without_name(host, fault.text))
+    directory = HostDirectory(settings.store, host, settings.seconds)
+    if settings.fetches:
+        fetch(directory, settings.jobs)
+    state = compare(directory, settings)
     if state.status == 0:
         return HostResult(host, 0, False, "no differences")
     if state.status > 7:
@@ -120,80 +88,41 @@ def compare_host(host: str, settings: Settings) -> HostResult:
     return HostResult(host, state.status, is_alarm(state, NOT_SILENT), counts_text(state))
 
 
-def without_name(host: str, text: str) -> str:
-    """A text about a host, whose name stands before it already."""
-    return text.removeprefix(f"{host}: ")
+def note_death(store: str, host: str, text: str) -> None:
+    """The state says that nothing was compared. Another run may have the lock by now, and writes a
+    state of its own."""
+    with suppress(Fault, OSError):
+        directory = HostDirectory(store, host, PAUSE)
+        directory.not_compared(f"{host}: {text}")
 
 
-class Worker:
-    """The process of one host, which the kernel ends if this one ends, and the pipe of its
-    answer."""
-
-    def __init__(self, host: str, settings: Settings) -> None:
-        self.host = host
-        self.store = settings.store
-        self.deadline = time.monotonic() + settings.seconds + GRACE
-        self.fd, writing = os.pipe()
-        self.child = start_child(partial(self._write_result, settings, writing))
-        os.close(writing)
-
-    def _write_result(self, settings: Settings, descriptor: int) -> int:
-        """The work of the process."""
-        limit_memory(MAX_MEMORY)
-        result = compare_host(self.host, settings)
-        text = guarded(result.text)[:MAX_TEXT]
-        answer = json.dumps([result.status, result.is_alarm, text])
-        write_all(descriptor, answer.encode())
-        return 0
-
-    def result(self) -> HostResult:
-        """The answer of the process. A pipe takes so few bytes in one piece."""
-        with closed_after(self.fd):
-            answer = os.read(self.fd, select.PIPE_BUF)
-        ended = os.waitstatus_to_exitcode(os.waitpid(self.child, 0)[1])
-        if answer and ended == 0:
-            return HostResult(self.host, *json.loads(answer))
-        text = f"ended without an answer ({ended})"
-        # Another run may have the lock by now, and writes a state of its own.
-        with suppress(Fault, OSError):
-            directory = HostDirectory(self.store, self.host, PAUSE)
-            directory.not_compared(f"{self.host}: {text}")
-        return HostResult(self.host, int(Status.DEVICE), True, text)
-
-
-def results(hosts: Sequence[str], settings: Settings) -> Iterator[HostResult]:
-    """The results of all hosts as they end, so many at a time."""
-    waiting = list(reversed(hosts))
-    workers: dict[int, Worker] = {}
-    while waiting or workers:
-        while waiting and len(workers) < settings.jobs:
-            worker = Worker(waiting.pop(), settings)
-            workers[worker.fd] = worker
-        left = min(worker.deadline for worker in workers.values()) - time.monotonic()
-        for descriptor in select.select(list(workers), [], [], max(left, PAUSE))[0]:
-            yield workers.pop(descriptor).result()
-        for worker in workers.values():
-            if worker.deadline < time.monotonic():
-                os.kill(worker.child, signal.SIGKILL)
+def work_of(settings: Settings) -> Work:
+    return Work(
+        carry_out=partial(compare_host, settings),
+        jobs=settings.jobs,
+        seconds=settings.seconds,
+        note_death=partial(note_death, settings.store),
+    )
 
 
 def results_beside(canary: str, hosts: Sequence[str], settings: Settings) -> Iterator[HostResult]:
     """The results of all hosts beside the canary, whose own result comes first. Without its pair
     the others are compared all the same, and that is said before them."""
-    (first,) = results([canary], settings._replace(max_kept=MAX_JUDGED))
+    (first,) = results([canary], work_of(settings._replace(max_kept=MAX_JUDGED)))
     yield first
-    pair: dict[str, Copy] = {}
-    note = used_note(canary)
+    beside = settings
     try:
         if first.status > 7:
             raise Fault(first.status, first.text)
-        pair = trusted_pair(settings.store, canary, settings.seconds)
+        trusted = trusted_pair(canary, settings)
+        beside = settings._replace(trusted=trusted.copies)
+        note = used_note(canary, trusted.was_accepted)
+        run = Run(canary, note, trusted.pair, trusted.was_accepted)
     except (Fault, OSError) as error:
-        note = failed_note(canary, without_name(canary, fault_of(error).text))
-        tell(guarded(note))
-    keep_note(settings.store, note)
-    others = [host for host in hosts if host != canary]
-    yield from results(others, settings._replace(trusted=pair))
+        run = Run(canary, failed_note(canary, without_name(canary, fault_of(error).text)))
+        tell(guarded(run.note))
+    keep_run(settings.store, run)
+    yield from results([host for host in hosts if host != canary], work_of(beside))
 
 
 def counts_of(found: Sequence[HostResult]) -> HostCounts:
@@ -212,7 +141,7 @@ def compare_all(request: HostsCompareRequest, hosts: Sequence[str]) -> int:
     if request.canary:
         all_results = results_beside(request.canary, hosts, request.settings)
     else:
-        all_results = results(hosts, request.settings)
+        all_results = results(hosts, work_of(request.settings))
     found = []
     for result in all_results:
         found.append(result._replace(text=""))
@@ -255,7 +184,6 @@ def own_parser() -> Parser:
     usage = f"{NAME} [OPTIONS] [HOSTS-FILE]"
     parser = Parser(NAME, DESCRIPTION, quiet, epilog=EPILOG, usage=usage)
     parser.add(HOST_STORE, HOST_TIME)
-    jobs = matching(r"[1-9][0-9]{0,2}", "a number from 1 to 999", int)
     part = matching(
         r"[1-9][0-9]{0,5}/[1-9][0-9]{0,5}", "a part of all of them: 1/10 to 10/10", share
     )
@@ -265,7 +193,7 @@ def own_parser() -> Parser:
     same = "how long a host may send the same bytes (50h; 0: no limit)"
     shares = "only the hosts of the Kth of N shares"
     parser.add(
-        Option("--jobs", "how many hosts at a time (8)", metavar="N", kind=jobs, default=8),
+        JOBS,
         Option("--share", shares, metavar="K/N", kind=part),
         Option("--no-fetch", "compare what was fetched before"),
         Option("--one", one),
@@ -306,15 +234,16 @@ def request_of(arguments: Sequence[str]) -> HostsCompareRequest:
 
 
 def hosts_to_compare(request: HostsCompareRequest) -> list[str]:
-    """The hosts of the file that are in the share. The canary has to be in the file: otherwise no
+    """The hosts of the file that are in the share. The canary has to be one of them: otherwise no
     report would list what is silent beside it."""
-    names = hosts_of(request.hosts_file)
-    if not request.canary:
-        keep_note(request.settings.store, "")
-    elif request.canary not in names:
-        raise Fault(Status.USAGE, f"the canary {request.canary} is not in the file of hosts")
     part, parts = request.share
-    return [name for name in names if share_of(name, parts) == part]
+    names = [name for name in hosts_of(request.hosts_file) if share_of(name, parts) == part]
+    if not request.canary:
+        keep_run(request.settings.store, None)
+    elif request.canary not in names:
+        what = "this share" if parts > 1 else "the file"
+        raise Fault(Status.USAGE, f"the canary {request.canary} is not among the hosts of {what}")
+    return names
 
 
 def main(arguments: Sequence[str]) -> int:

@@ -26,7 +26,7 @@ from aide_compare.base.options import (
 from aide_compare.base.parser import Parser, add_option
 from aide_compare.base.paths import Pattern
 from aide_compare.base.program import FRONT, find_installed
-from aide_compare.hosts.canary import notes_in
+from aide_compare.hosts.canary import notes_of
 from aide_compare.hosts.host_changes import Found, SameChanges
 from aide_compare.hosts.hosts_page import page
 from aide_compare.hosts.hosts_read import hosts_of, read_host
@@ -151,8 +151,10 @@ class HostsReport:
         changes = same_changes.found(names, request.max_hosts)
         count = self._sort(changes, request.order, by_severity)
         self.worst = max(host.status for host in self.hosts)
+        notes = notes_of(request.stores, self.hosts)
         # Silent differences are no reason for a mail.
-        self.is_alarm = any(host.differs or host.status > 7 for host in self.hosts)
+        has_alarm = any(host.differs or host.status > 7 for host in self.hosts)
+        self.is_alarm = has_alarm or notes.are_alarms
         counts = HostCounts(
             hosts=len(names),
             unchanged=sum(host.status == 0 for host in self.hosts),
@@ -166,7 +168,7 @@ class HostsReport:
             not_listed=sum(host.report == UNREADABLE for host in self.hosts),
             changes=count,
             order=request.order,
-            canary=notes_in(request.stores),
+            canary=notes.lines,
         )
 
     def _sort(self, changes: Iterator[Found], order: str, by_severity: bool) -> int:

@@ -77,6 +77,7 @@ class Exclusions(Table[Exclusion]):
 
     def __init__(self, lines: Sequence[Exclusion], lists: Mapping[bytes, bytes]) -> None:
         super().__init__(lines)
+        self.lines = lines
         self.lists = lists
         self.list_directories = {os.path.dirname(path) for path in lists}
         self.above = {start[:size] for start in self.by_start for size in range(len(start))}

@@ -73,8 +73,8 @@ class Copy:
         return self._digest
 
     def with_digest(self, digest: str) -> Copy:
-        """The same copy, whose digest is known."""
-        return Copy(self.fd, self.name, self.written, digest)
+        """The same copy, whose digest is this one, unless it is known already."""
+        return Copy(self.fd, self.name, self.written, self._digest or digest)
 
     def written_at(self, written: float | None) -> Copy:
         """The same copy of a database that was last modified then."""

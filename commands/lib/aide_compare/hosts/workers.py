@@ -1,0 +1,109 @@
+"""Work on many hosts, some at a time: each in a process of its own, with a limit of memory and of
+time. A host that ends its process ends no other one."""
+from __future__ import annotations
+
+import json
+import os
+import select
+import signal
+import time
+from collections.abc import Callable, Iterator, Sequence
+from functools import partial
+from typing import NamedTuple
+
+from aide_compare.base.directories import closed_after
+from aide_compare.base.ending import Fault, Status, fault_of, write_all
+from aide_compare.base.escapes import guarded, shown
+from aide_compare.base.processes import limit_memory, start_child
+from aide_compare.hosts.store import MAX_MEMORY
+from aide_compare.show.told import RED, YELLOW, in_colour
+
+MAX_TEXT = 300
+GRACE = 15
+PAUSE = 0.2  # A process that was ended may go on, in a call that does not return.
+
+
+class HostResult(NamedTuple):
+    """How the work on a host ended, and what its line says."""
+
+    host: str
+    status: int
+    is_alarm: bool  # Somebody has to read the line.
+    text: str
+
+    def line(self, color: str) -> str:
+        name = shown(self.host, 200).replace(" ", "\\040")
+        line = f"{name} {self.status} {self.text}"
+        if self.status > 7:
+            return in_colour(line, RED, color)
+        if self.is_alarm:
+            return in_colour(line, YELLOW, color)
+        return line
+
+
+def without_name(host: str, text: str) -> str:
+    """A text about a host, whose name stands before it already."""
+    return text.removeprefix(f"{host}: ")
+
+
+class Work(NamedTuple):
+    """What is done for each host."""
+
+    carry_out: Callable[[str], HostResult]
+    jobs: int
+    seconds: int
+    note_death: Callable[[str, str], None]  # Gets a host whose process died, and how.
+
+
+class Worker:
+    """The process of one host, which the kernel ends if this one ends, and the pipe of its
+    answer."""
+
+    def __init__(self, host: str, work: Work) -> None:
+        self.host = host
+        self.work = work
+        self.deadline = time.monotonic() + work.seconds + GRACE
+        self.fd, writing = os.pipe()
+        self.child = start_child(partial(self._write_result, writing))
+        os.close(writing)
+
+    def _write_result(self, descriptor: int) -> int:
+        """The work of the process."""
+        limit_memory(MAX_MEMORY)
+        try:
+            result = self.work.carry_out(self.host)
+        except (Fault, OSError, MemoryError) as error:
+            fault = fault_of(error)
+            text = without_name(self.host, fault.text)
+            result = HostResult(self.host, int(fault.status), True, text)
+        text = guarded(result.text)[:MAX_TEXT]
+        answer = json.dumps([result.status, result.is_alarm, text])
+        write_all(descriptor, answer.encode())
+        return 0
+
+    def result(self) -> HostResult:
+        """The answer of the process. A pipe takes so few bytes in one piece."""
+        with closed_after(self.fd):
+            answer = os.read(self.fd, select.PIPE_BUF)
+        ended = os.waitstatus_to_exitcode(os.waitpid(self.child, 0)[1])
+        if answer and ended == 0:
+            return HostResult(self.host, *json.loads(answer))
+        text = f"ended without an answer ({ended})"
+        self.work.note_death(self.host, text)
+        return HostResult(self.host, int(Status.DEVICE), True, text)
+
+
+def results(hosts: Sequence[str], work: Work) -> Iterator[HostResult]:
+    """The results of all hosts as they end, so many at a time."""
+    waiting = list(reversed(hosts))
+    workers: dict[int, Worker] = {}
+    while waiting or workers:
+        while waiting and len(workers) < work.jobs:
+            worker = Worker(waiting.pop(), work)
+            workers[worker.fd] = worker
+        left = min(worker.deadline for worker in workers.values()) - time.monotonic()
+        for descriptor in select.select(list(workers), [], [], max(left, PAUSE))[0]:
+            yield workers.pop(descriptor).result()
+        for worker in workers.values():
+            if worker.deadline < time.monotonic():
+                os.kill(worker.child, signal.SIGKILL)
