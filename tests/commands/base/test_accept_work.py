@@ -26,14 +26,17 @@ class AcceptWorkTest(ModuleTest):
     def test_not_compared(self) -> None:
         """The fault of a comparison is told by its own words."""
         copies = {"new": self.copy(b"new")}
+        request: Any = SimpleNamespace(baseline="old.db", new="new.db", max_report=9)
         for fault, status, why in (
             (Fault(18, "no room"), 18, "no room"),
             (None, 24, "refused: nothing was compared"),
         ):
             ended = SimpleNamespace(status=24, fault=fault)
             with mock.patch.object(accept_work, "compare", return_value=ended) as compare:
-                self.fails(status, why, accept_work._write_open_keys, "old.db", copies, 1)
-            compare.assert_called_once_with(Request(old="old.db", new="new.db", copies=copies))
+                self.fails(status, why, accept_work._write_open_keys, request, copies, 1)
+            compare.assert_called_once_with(
+                Request(old="old.db", new="new.db", copies=copies, max_report=9)
+            )
 
     def test_merged(self) -> None:
         """The program reads both databases, and then what was merged of them."""
@@ -53,7 +56,8 @@ class AcceptWorkTest(ModuleTest):
 
     def test_owner(self) -> None:
         """With another user's rights a comparison has six hours."""
+        request: Any = SimpleNamespace()
         baseline: Any = SimpleNamespace(path="old.db", user=1)
         with mock.patch.object(accept_work, "in_child", return_value=b"") as child:
-            self.assertEqual(list(accept_work._open_keys(baseline, {})), [])
+            self.assertEqual(list(accept_work._open_keys(request, baseline, {})), [])
         self.assertEqual(child.call_args[0][2], 6 * 3600)

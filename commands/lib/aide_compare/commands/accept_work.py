@@ -4,7 +4,7 @@ from __future__ import annotations
 
 import gzip
 import os
-from collections.abc import Iterator, Sequence
+from collections.abc import Iterator, Mapping, Sequence
 from contextlib import suppress
 from typing import NamedTuple, Optional
 
@@ -12,12 +12,13 @@ from aide_compare.base.ending import Fault, Status, write_all
 from aide_compare.base.escapes import shown
 from aide_compare.base.files import BLOCK, copy_file, nameless, reopened
 from aide_compare.base.directories import closed_after
+from aide_compare.base.options import MAX_REPORT_BYTES
 from aide_compare.base.paths import Pattern, key_of_path
 from aide_compare.base.processes import in_child
 from aide_compare.base.rights import become, entry_of
 from aide_compare.base.words import TRUSTED_SIDES, counted
 from aide_compare.compare.baseline import Baseline, Owners, owners
-from aide_compare.compare.comparison import Request
+from aide_compare.compare.comparison import NO_COPIES, Request
 from aide_compare.compare.kept_open import Listed, Merged, Patterns, keep_open
 from aide_compare.compare.soundness import refuse_unsound
 from aide_compare.compare.unpack import (
@@ -50,6 +51,9 @@ class AcceptRequest(NamedTuple):
     only_trusted: bool
     max_size: int
     trusted: Sequence[str] = ()  # The paths of a trusted pair, or none.
+    trusted_copies: Mapping[str, Copy] = NO_COPIES  # A pair that was opened before.
+    max_report: int = MAX_REPORT_BYTES  # Of the changes that are asked for what is silent.
+    is_quiet: bool = False  # Nothing is said of the comparison.
 
 
 class Offer:
@@ -111,10 +115,17 @@ def former_of(baseline: Baseline, max_size: int) -> Optional[Former]:
     return Former("", owner)
 
 
-def _write_open_keys(path: str, copies: Copies, target: int) -> bytes:
+def _write_open_keys(request: AcceptRequest, copies: Copies, target: int) -> bytes:
     """Writes the keys of the changes that are not silent, and returns the lines that say what was
     found."""
-    comparison = compare(Request(old=path, new=copies["new"].name, copies=copies))
+    comparison = compare(
+        Request(
+            old=request.baseline,
+            new=request.new,
+            copies=copies,
+            max_report=request.max_report,
+        )
+    )
     if comparison.status > 7:
         text = "refused: nothing was compared, so nothing is silent"
         raise comparison.fault or Fault(Status(comparison.status), text)
@@ -125,6 +136,8 @@ def _write_open_keys(path: str, copies: Copies, target: int) -> bytes:
     for _, change in reader_over(lines.fd):
         if not change.standing.is_silent:
             write_all(target, key_of_path(change.path) + b"\n")
+    if request.is_quiet:
+        return b""
     end = lines.end
     silent = f"{end.changes - end.others} of {counted(end.changes, 'change')} silent"
     return f"{told_of(comparison)}aide-compare: {silent}\n".encode("utf-8", "replace")
@@ -137,7 +150,7 @@ def _own_copy(copy: Copy) -> Copy:
     return Copy(descriptor, copy.name, copy.written)
 
 
-def _open_keys(baseline: Baseline, copies: Copies) -> Iterator[bytes]:
+def _open_keys(request: AcceptRequest, baseline: Baseline, copies: Copies) -> Iterator[bytes]:
     """The keys, in path order, of the changes that are not silent, found with the rights of the
     baseline's owner."""
     target = nameless()
@@ -147,10 +160,10 @@ def _open_keys(baseline: Baseline, copies: Copies) -> Iterator[bytes]:
         assert owner is not None
         become(entry_of(owner))
         own = {side: _own_copy(copy) for side, copy in copies.items()}
-        return _write_open_keys(baseline.path, own, target)
+        return _write_open_keys(request, own, target)
 
     if owner is None:
-        lines = _write_open_keys(baseline.path, copies, target)
+        lines = _write_open_keys(request, copies, target)
     else:
         descriptors = [target, *(copy.fd for copy in copies.values())]
         lines = in_child("the comparison", find_as_owner, SECONDS_TO_COMPARE, descriptors)
@@ -174,10 +187,10 @@ def merge(request: AcceptRequest, offer: Offer, baseline: Baseline) -> Merged:
     patterns = Patterns(request.keep_open)
     listed = Listed(())
     if request.only_trusted:
-        copies = {"old": old, "new": offer.copy}
+        copies = {"old": old, "new": offer.copy, **request.trusted_copies}
         for side, path in zip(TRUSTED_SIDES, request.trusted):
             copies[side] = copy_database(side, path, request.max_size)
-        listed = Listed(_open_keys(baseline, copies))
+        listed = Listed(_open_keys(request, baseline, copies))
 
     def stays_open(key: bytes) -> bool:
         # Both are asked for each key, since both count what they are asked for.

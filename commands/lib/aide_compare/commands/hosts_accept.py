@@ -1,58 +1,83 @@
-"""aide-compare hosts accept: what was fetched from a host becomes its baseline."""
+"""aide-compare hosts accept: what was fetched from a host becomes its baseline; or on all hosts
+what is silent."""
 from __future__ import annotations
 
 import os
-from collections.abc import Sequence
-from typing import NamedTuple
+from collections.abc import Mapping, Sequence
+from functools import partial
+from typing import NamedTuple, Optional
 
 from aide_compare.base.ending import Fault, Status, tell
 from aide_compare.base.options import (
+    EXCLUDE,
+    EXCLUDE_FROM,
     HOST_STORE,
     HOST_TIME,
+    JOBS,
     KEEP_OPEN,
     MAX_SIZE,
+    NO_DEFAULTS,
     SHA256,
     Option,
 )
-from aide_compare.base.parser import Parser, add_option
+from aide_compare.base.parser import Parser, add_option, defaults_for
 from aide_compare.base.paths import Pattern
 from aide_compare.base.processes import limit_memory
+from aide_compare.base.words import TRUSTED_SIDES, counted
 from aide_compare.commands import accept
 from aide_compare.commands.accept_work import AcceptRequest
+from aide_compare.commands.accept_work import accept as accept_database
+from aide_compare.commands.compare_task import exclusions_of
+from aide_compare.compare.exclusions import Exclusions
 from aide_compare.compare.soundness import refuse_unsound
-from aide_compare.compare.unpack import copy_database
+from aide_compare.compare.state import State, read_state
+from aide_compare.compare.unpack import Copy, copy_database
 from aide_compare.hosts.adding import keep_first
-from aide_compare.hosts.host_comparison import MAX_BASELINE, MISSING
+from aide_compare.hosts.canary import copies_of_run, rules_of, run_in
+from aide_compare.hosts.host_comparison import MAX_BASELINE, MAX_JUDGED, MISSING
+from aide_compare.hosts.hosts_read import hosts_of
 from aide_compare.hosts.store import (
     BASELINE,
+    HOSTS_FILE,
     MAX_MEMORY,
     NEW,
     HostDirectory,
 )
+from aide_compare.hosts.workers import HostResult, Work, results
 
 NAME = "aide-compare hosts accept"
 DESCRIPTION = """\
 Makes the database that was fetched from HOST its baseline. The former baseline is kept as
-aide.db.previous."""
-EPILOG = "Status: 0 accepted; 24 refused: it is another database; 15, 18 or 22 as others."
+aide.db.previous. With --trusted-only: of each host of HOSTS-FILE only what is silent."""
+EPILOG = """Status: 0 accepted; 24 refused: it is another database; 15, 18 or 22 as others."""
+NOTHING = "nothing: "
+HINT = f"try: {NAME} --help"
 FIRST = Option(
     "--first",
     "for a HOST without a baseline: print the SHA-256 of what was fetched, and accept it. Compare"
     " it with that on HOST: zcat -f /var/lib/aide/aide.db.new | sha256sum",
+)
+TRUSTED_ONLY = Option(
+    "--trusted-only",
+    "on each host of HOSTS-FILE accept the changes that were silent in its last comparison, but"
+    " not on the canary",
 )
 
 
 class HostAcceptRequest(NamedTuple):
     """What the options of `hosts accept` ask for."""
 
-    host: str
+    operand: str  # The host, or the file of hosts.
     store: str
     seconds: int
     is_first: bool
-    digest: str  # "" for a first baseline.
+    digest: str  # "" for a first baseline, and for silent changes.
     keep_open: Sequence[Pattern]
     max_size: int
+    jobs: int
+    exclusions: Optional[Exclusions]  # Of silent changes.
     is_quiet: bool
+    color: str
 
 
 def accept_first(directory: HostDirectory, max_size: int, is_quiet: bool) -> int:
@@ -85,39 +110,148 @@ def accept_next(directory: HostDirectory, request: HostAcceptRequest) -> int:
     return accept.run(next_baseline, reported, request.is_quiet)
 
 
-def request_of(arguments: Sequence[str]) -> HostAcceptRequest:
+class Silent(NamedTuple):
+    """What makes a change of a host silent."""
+
+    canary: str  # Its name; "" without one.
+    copies: Mapping[str, Copy]  # The trusted pair.
+
+    def trusted_by(self, directory: HostDirectory, state: State) -> Mapping[str, Copy]:
+        """The pair that a host was compared beside, which has to be this one."""
+        if not state.standings or not state.standings.trusted:
+            return {}
+        for side in TRUSTED_SIDES:
+            digest = state.more.get(f"{side}_sha256", "")
+            if side not in self.copies or self.copies[side].sha256 != digest:
+                text = "was compared beside other databases of the canary; compare it again"
+                raise directory.fault(text, Status.DATABASE)
+        return self.copies
+
+
+def accept_silent(request: HostAcceptRequest, silent: Silent, host: str) -> HostResult:
+    """Accepts what was silent in the last comparison of a host, and nothing else."""
+    if host == silent.canary:
+        return HostResult(host, 0, False, f"{NOTHING}the canary is accepted by its digest")
+    directory = HostDirectory(request.store, host, request.seconds)
+    if not os.path.lexists(directory.state_path):
+        raise directory.fault("was never compared")
+    state = read_state(directory.state_path)
+    if state.status > 7:
+        raise Fault(Status(state.status), state.error)
+    counts = state.standings
+    if counts is None and state.status:
+        raise directory.fault("nobody has judged its changes")
+    if counts is None or not counts.silent:
+        return HostResult(host, 0, False, f"{NOTHING}no change is silent")
+    accept_database(
+        AcceptRequest(
+            new=directory.file(NEW),
+            baseline=directory.file(BASELINE),
+            digest=state.new_sha256,
+            keep_open=(),
+            only_trusted=True,
+            max_size=request.max_size,
+            trusted_copies=silent.trusted_by(directory, state),
+            max_report=min(MAX_JUDGED, directory.room(request.jobs)),
+            is_quiet=True,
+        )
+    )
+    text = f"{counted(counts.silent, 'silent change')} accepted"
+    if counts.told:
+        text += f", {counts.told} stay open"
+    return HostResult(host, 0, False, text)
+
+
+def silent_in(request: HostAcceptRequest) -> Silent:
+    """What was silent in the last run over the hosts of a store."""
+    run = run_in(request.store)
+    if run is None or run.pair is None:
+        return Silent("", {})
+    if run.pair.rules != rules_of(request.exclusions, None):
+        text = "what is left out has changed since the hosts were compared; compare them again"
+        raise Fault(Status.DATABASE, text)
+    return Silent(run.host, copies_of_run(request.store, run, request.seconds, request.exclusions))
+
+
+def accept_all(request: HostAcceptRequest) -> int:
+    """Accepts what is silent on each host of a file; prints a line for each, and a summary."""
+    silent = silent_in(request)
+    work = Work(
+        carry_out=partial(accept_silent, request, silent),
+        jobs=request.jobs,
+        seconds=request.seconds,
+        note_death=lambda host, text: None,
+    )
+    statuses = []
+    nothing = 0
+    for result in results(hosts_of(request.operand), work):
+        statuses.append(result.status)
+        nothing += result.text.startswith(NOTHING)
+        if result.status or not request.is_quiet:
+            tell(result.line(request.color))
+    failed = sum(status > 0 for status in statuses)
+    if failed or not request.is_quiet:
+        accepted = len(statuses) - nothing - failed
+        hosts = counted(len(statuses), "host")
+        tell(f"{hosts}: {accepted} accepted, {nothing} with nothing silent, {failed} failed")
+    return max(statuses)
+
+
+def own_parser() -> Parser:
     quiet = "do not print what was done"
-    usage = f"{NAME} --first | --sha256 DIGEST [OPTIONS] HOST"
+    usage = (
+        f"{NAME} --first | --sha256 DIGEST [OPTIONS] HOST\n"
+        f"       {NAME} --trusted-only [OPTIONS] [HOSTS-FILE]"
+    )
     parser = Parser(NAME, DESCRIPTION, quiet, epilog=EPILOG, usage=usage)
     parser.add(HOST_STORE, HOST_TIME)
-    parser.add_operand("host", "HOST", "its name for ssh")
+    operand = f"its name for ssh; with --trusted-only a file with a name a line ({HOSTS_FILE})"
+    parser.add_operand("operand", "HOST", operand, nargs="?")
     size = "refuse a database of more bytes unpacked (4G)"
     parser.add(MAX_SIZE._replace(default=MAX_BASELINE, help=size))
     which = parser.add_mutually_exclusive_group(required=True)
     add_option(which, FIRST)
     digest = "the SHA-256 of the unpacked database that was read, or its first 16 digits or more"
     add_option(which, SHA256._replace(help=digest))
+    add_option(which, TRUSTED_ONLY)
     text = "with --sha256: all but the changes of these paths; see aide-compare accept"
-    parser.add(KEEP_OPEN._replace(help=text))
-    args = parser.parse(arguments)
-    if args.first and args.keep_open:
-        raise Fault(Status.USAGE, "--keep-open goes with --sha256", f"try: {NAME} --help")
+    parser.add(KEEP_OPEN._replace(help=text), JOBS)
+    same = "with --trusted-only: as for the comparison"
+    parser.add(*(option._replace(help=same) for option in (EXCLUDE_FROM, EXCLUDE, NO_DEFAULTS)))
+    return parser
+
+
+def request_of(arguments: Sequence[str]) -> HostAcceptRequest:
+    defaults = defaults_for((EXCLUDE_FROM, EXCLUDE), arguments)
+    args = own_parser().parse([*defaults, *arguments])
+    if args.keep_open and not args.sha256:
+        raise Fault(Status.USAGE, "--keep-open goes with --sha256", HINT)
+    if not args.operand and not args.trusted_only:
+        raise Fault(Status.USAGE, "the following arguments are required: HOST", HINT)
+    exclusions = None
+    if args.trusted_only:
+        exclusions = exclusions_of(args.exclude_from, args.exclude, not args.no_defaults)
     return HostAcceptRequest(
-        host=args.host,
+        operand=args.operand or HOSTS_FILE,
         store=args.store,
         seconds=args.time,
         is_first=args.first,
         digest=args.sha256 or "",
         keep_open=args.keep_open,
         max_size=args.max_size,
+        jobs=args.jobs,
+        exclusions=exclusions,
         is_quiet=args.quiet,
+        color=args.color,
     )
 
 
 def main(arguments: Sequence[str]) -> int:
     request = request_of(arguments)
+    if not request.is_first and not request.digest:
+        return accept_all(request)
     limit_memory(MAX_MEMORY)
-    directory = HostDirectory(request.store, request.host, request.seconds)
+    directory = HostDirectory(request.store, request.operand, request.seconds)
     if not directory.has(NEW):
         raise directory.fault(MISSING[NEW])
     if request.is_first:

@@ -1,0 +1,291 @@
+"""Many hosts over some nights beside a canary: an upgrade that some get later, what is accepted in
+between, and changes that must be listed whatever the canary has."""
+from __future__ import annotations
+
+import hashlib
+import os
+import re
+import time
+from typing import Any, Dict, Optional
+
+from tests.commands.made_up import Night, base64_of, time_of
+from tests.commands.sandbox import CommandTest
+from tests.commands.test_hosts_report import Hosts
+
+ACCEPT = "aide-compare hosts accept"
+CANARY = "www1"
+NAMES = tuple(f"www{number}" for number in range(1, 9))
+LATE = ("www4", "www5")
+EVIL = "www3"
+MARK = b"/usr/bin/mark"
+DAY = 86400
+Files = Dict[bytes, bytes]
+
+
+def database(number: int, is_upgraded: bool, more: Optional[Files] = None) -> bytes:
+    """A host in one night, with times of its own: an upgrade changes two files, makes one and
+    removes one. All are programs of root's, and those of `more` have a set-ID bit."""
+    night = Night()
+    times: Dict[str, Any] = {"mtime": time_of(1000 + number), "inode": number}
+    for path in (b"/", b"/usr", b"/usr/bin"):
+        night.directory(path, lcount=4, **times)
+    version = b"two" if is_upgraded else b"one"
+    for name in (b"a", b"b", b"made" if is_upgraded else b"removed"):
+        night.file(b"/usr/bin/" + name, version, 0o100755, **times)
+    for path, content in (more or {}).items():
+        night.file(path, content, 0o104755, **times)
+    night.file(b"/var/log/syslog", b"%d" % number)
+    return night.database()
+
+
+class Fleet(Hosts):
+    """Hosts that are compared beside a canary, and what is listed and accepted then."""
+
+    def __init__(self, sandbox: CommandTest) -> None:
+        super().__init__(sandbox)
+        sandbox.write("etc/without", "/var/log/**\n")
+        self.number = 0
+        for host in NAMES:
+            self.put(host, b"", database(self.next_number(), False))
+        self.list_hosts(*NAMES)
+
+    def next_number(self) -> int:
+        self.number += 1
+        return self.number
+
+    def send(self, upgraded: tuple[str, ...], marks: Optional[Dict[str, Files]] = None) -> None:
+        """What all hosts send the next night."""
+        for host in NAMES:
+            more = (marks or {}).get(host)
+            self.put(host, database(self.next_number(), host in upgraded, more), None)
+
+    def night(self, *words: str) -> Dict[str, int]:
+        """Compares all hosts beside the canary. Returns how many changes are open on which hosts, as
+        the lines and the report say."""
+        hosts = self.sandbox.path("hosts")
+        said = self.compare("--canary", CANARY, *words, hosts)
+        self.sandbox.assertLessEqual(said.status, 7, said)
+        summary, found, changes = self.objects()
+        opened = {host: each["open"] or 0 for host, each in found.items() if each["status"]}
+        listed = {name for each in changes for name in each["names"]}
+        named = {host: count for host, count in opened.items() if count}
+        self.sandbox.assertEqual(set(named), listed, "the hosts that the changes name")
+        self.sandbox.assertEqual(summary["differ"], len(named))
+        return named
+
+    def accept_canary(self) -> None:
+        self.accept(CANARY)
+
+    def accept(self, host: str) -> None:
+        digest = re.search("(?m)^new_sha256=(.*)$", self.state(host))
+        assert digest is not None
+        said = self.call(ACCEPT, "-q", "--sha256", digest.group(1), host)
+        self.sandbox.assertEqual(said, (0, "", ""))
+
+    def accept_silent(self, *words: str) -> Dict[str, str]:
+        """Accepts what is silent on all hosts. Returns the lines, by their hosts."""
+        said = self.call(ACCEPT, "--trusted-only", *words, self.sandbox.path("hosts"))
+        self.sandbox.assertEqual((said.status, said.errors), (0, ""), said)
+        lines = dict(line.split(" ", 1) for line in said.output.splitlines())
+        self.sandbox.assertEqual(set(lines), {*NAMES, "8"}, said)
+        return lines
+
+
+class FleetNightsTest(CommandTest):
+    def nights(self, silent_first: bool) -> None:
+        fleet = Fleet(self)
+        in_time = tuple(host for host in NAMES if host not in LATE)
+        mark = {EVIL: {MARK: b"x"}}
+        fleet.send(in_time, mark)
+        self.assertEqual(fleet.night(), {CANARY: 4, EVIL: 1}, "the night of the upgrade")
+        if not silent_first:
+            fleet.accept_canary()
+        lines = fleet.accept_silent()
+        self.assertEqual(lines[CANARY], "0 nothing: the canary is accepted by its digest")
+        self.assertEqual(lines["www2"], "0 7 silent changes accepted")
+        self.assertEqual(lines[EVIL], "0 7 silent changes accepted, 1 stay open")
+        self.assertEqual(lines["www4"], "0 6 silent changes accepted", "times")
+        if silent_first:
+            fleet.accept_canary()
+        fleet.send(NAMES, mark)
+        self.assertEqual(fleet.night(), {EVIL: 1}, "those that lag are quiet")
+        first = fleet.report().output.split("\n")[0]
+        self.assertIn("and was accepted, is silent", first)
+        lines = fleet.accept_silent()
+        self.assertEqual(lines["www4"], "0 7 silent changes accepted")
+        fleet.accept(EVIL)
+        fleet.send(NAMES, mark)
+        self.assertEqual(fleet.night(), {}, "an idle night")
+        hosts = self.path("hosts")
+        said = fleet.compare("-q", "--canary", CANARY, "--no-fetch", hosts)
+        self.assertEqual((said.output, said.errors), ("", ""), "nobody is named")
+        without = fleet.compare("-q", "--no-fetch", hosts)
+        self.assertEqual((without.output, without.errors), ("", ""), "nor without a canary")
+
+    def test_upgrade(self) -> None:
+        """Night 1: the canary is named, and who has a mark. The canary is accepted. Night 2: hosts
+        that are upgraded then are quiet. Night 3: nobody is named."""
+        self.nights(silent_first=True)
+
+    def test_canary_first(self) -> None:
+        """The same if the canary is accepted before the others."""
+        self.nights(silent_first=False)
+
+    def late(self) -> Fleet:
+        """The second night of an upgrade: the canary was accepted, and some hosts got it late."""
+        fleet = Fleet(self)
+        fleet.send(tuple(host for host in NAMES if host not in LATE))
+        self.assertEqual(fleet.night(), {CANARY: 4})
+        fleet.accept_silent()
+        fleet.accept_canary()
+        fleet.send(NAMES)
+        self.assertEqual(fleet.night(), {})
+        return fleet
+
+    def test_late(self) -> None:
+        """The pair before the canary was accepted serves for a week, for the same list of what is
+        left out, for no other database, and only until something new differs on the canary."""
+        fleet = self.late()
+        loud = {host: 4 for host in LATE}
+        listed = self.path(f"store/hosts/{CANARY}/listed")
+        os.utime(listed, (time.time() - 8 * DAY,) * 2)
+        self.assertEqual(fleet.night(), loud, "a week later")
+        os.utime(listed)
+        self.assertEqual(fleet.night(), {})
+        self.write("etc/without", "/var/log/**\n/srv/**\n")
+        self.assertEqual(fleet.night(), loud, "another list")
+        said = fleet.call(ACCEPT, "--trusted-only", "--exclude", "/srv/x", self.path("hosts"))
+        self.assertEqual((said.status, said.output), (24, ""), said)
+        self.assertIn("what is left out has changed", said.errors)
+        self.write("etc/without", "/var/log/**\n")
+        previous = f"store/hosts/{CANARY}/aide.db.previous"
+        text = self.read(previous)
+        self.write(previous, text.replace(b"/usr/bin/a ", b"/usr/bin/A "), 0o600)
+        self.assertEqual(fleet.night(), loud, "another database")
+        self.write(previous, text, 0o600)
+        self.write(listed, "[1]")
+        self.assertEqual(fleet.night(), loud, "no pair")
+        fleet.send(NAMES, {CANARY: {MARK: b"x"}})
+        self.assertEqual(fleet.night(), {CANARY: 1, **loud}, "something new")
+
+    def test_accept_silent(self) -> None:
+        """Nothing is accepted of a host that was not compared, of none without silent changes, and
+        none beside another pair. The limits are those of a comparison."""
+        fleet = self.late()
+        fleet.accept("www2")
+        fleet.night("--no-fetch")
+        self.write(
+            "store/states/www6",
+            re.sub("(?m)^trusted_new_sha.*$", "trusted_new_sha256=", fleet.state("www5")),
+        )
+        os.remove(self.path("store/states/www7"))
+        self.write("hosts", "www2\nwww5\nwww6\nwww7\nnobody\n")
+        said = fleet.call(ACCEPT, "--trusted-only", self.path("hosts"))
+        self.assertEqual(said.status, 24, said)
+        lines = dict(line.split(" ", 1) for line in said.output.splitlines())
+        self.assertEqual(lines["www2"], "0 nothing: no change is silent")
+        self.assertEqual(lines["www5"], "0 7 silent changes accepted")
+        self.assertEqual(lines["www7"], "18 was never compared")
+        self.assertEqual(lines["nobody"], "18 was never compared")
+        self.assertTrue(lines["www6"].startswith("24 was compared beside other databases"), said)
+        self.assertEqual(lines["5"], "hosts: 1 accepted, 1 with nothing silent, 3 failed")
+        for words in (["--keep-open", "/a"], ["--first"], ["--sha256", "a" * 64]):
+            said = fleet.call(ACCEPT, "--trusted-only", *words, self.path("hosts"))
+            self.assertEqual((said.status, said.output), (15, ""), words)
+
+
+def program(path: str, sha256: bytes = b"", sha512: bytes = b"") -> str:
+    """The line of a set-ID program of which AIDE has measured the digests of these contents."""
+    texts = {"sha256": sha256, "sha512": sha512}
+    fields = []
+    for name, text in texts.items():
+        fields.append(base64_of(hashlib.new(name, text).digest()) if text else "0")
+    return f"{path} 104755 0 0 9 MQ== 5 1 {' '.join(fields)}\n"
+
+
+def measured(*lines: str) -> bytes:
+    head = "@@begin_db\n@@db_spec name perm uid gid size mtime inode lcount sha256 sha512\n"
+    return (head + "".join(sorted(lines)) + "@@end_db\n").encode()
+
+
+class ListedOnceTest(CommandTest):
+    """Every change that is not silent for its old entry is listed on some host."""
+
+    def opened(self, texts: Dict[str, tuple[bytes, bytes]]) -> Dict[str, str]:
+        """The paths of the open changes by their hosts, of which the first one is the canary."""
+        hosts = Hosts(self)
+        for host, (old, new) in texts.items():
+            self.write(f"store/hosts/{host}/aide.db", old, 0o600)
+            hosts.put(host, new, None)
+        hosts.list_hosts(*texts)
+        said = hosts.compare("--canary", next(iter(texts)), self.path("hosts"))
+        self.assertIn(said.status, (1, 2, 4, 5, 7), said)
+        found: Dict[str, list[str]] = {}
+        for each in hosts.objects()[2]:
+            for name in each["names"]:
+                found.setdefault(name, []).append(each["path"])
+        return {host: " ".join(sorted(paths)) for host, paths in found.items()}
+
+    def test_always_there(self) -> None:
+        """What the canary has had for ever, or never had, is no change there: it is listed where it
+        came or went."""
+        weak = program("/bin/su", b"weak")
+        backdoor = program("/bin/nmap", b"nmap")
+        www = measured(weak, backdoor)
+        db1 = (measured(program("/bin/su", b"hard"), program("/sbin/x", b"x")), www)
+        self.assertEqual(
+            self.opened({"www": (www, www), "db1": db1}), {"db1": "/bin/nmap /bin/su /sbin/x"}
+        )
+        went = (measured(weak, program("/sbin/x", b"x")), measured(weak))
+        other = (measured(weak, program("/sbin/x", b"another")), measured(weak))
+        found = self.opened({"www": went, "db1": other, "db2": went})
+        self.assertEqual(found, {"www": "/sbin/x", "db1": "/sbin/x"}, "another file was removed")
+
+    def test_digests(self) -> None:
+        """A canary cannot add a digest of another content to an entry that stays the same by those
+        that it had, not in one night and not in two."""
+        good = measured(program("/bin/su", b"good"))
+        both = measured(program("/bin/su", b"good", b"evil"))
+        only = measured(program("/bin/su", b"", b"evil"))
+        db1 = (measured(program("/bin/su", b"", b"good")), only)
+        self.assertEqual(self.opened({"www": (good, both), "db1": db1}), {"db1": "/bin/su"})
+        self.assertEqual(self.opened({"www": (both, only), "db1": db1}), {"db1": "/bin/su"})
+        self.write("store/hosts/www/aide.db.previous", good, 0o600)
+        self.assertEqual(self.opened({"www": (both, only), "db1": db1}), {"db1": "/bin/su"})
+        found = self.opened({"www": (good, only), "db1": db1})
+        self.assertEqual(found, {"www": "/bin/su"}, "listed on the canary")
+
+    def test_again(self) -> None:
+        """A report says first, and by mail, that what was silent beside a canary is listed nowhere:
+        the canary was compared again, or is no host of the report."""
+        fleet = Fleet(self)
+        fleet.send(NAMES)
+        self.assertEqual(fleet.night(), {CANARY: 4})
+        self.assertNotIn("listed nowhere", fleet.report().output)
+        self.put_mail()
+        others = self.write("others", "".join(f"{host}\n" for host in NAMES if host != CANARY))
+        said = fleet.call("aide-compare hosts report", "--to", "root", others)
+        self.assertIn("is not listed here", self.read("mail").decode().split("\n\n")[1])
+        fleet.send(())
+        fleet.compare_one(CANARY)
+        os.remove(self.path("mail"))
+        said = fleet.report("--to", "root")
+        self.assertEqual(said.errors, "")
+        second = self.read("mail").decode().split("\n\n")[1].split("\n")[1]
+        self.assertTrue(second.startswith(f"Canary {CANARY}: what was silent beside it"), second)
+
+    def put_mail(self) -> None:
+        self.stub("sendmail", f'cat > "{self.root}/mail"')
+
+    def test_share(self) -> None:
+        """A canary is a host of its share: the report reads it in the store of that share only."""
+        fleet = Fleet(self)
+        fleet.send(NAMES)
+        statuses = set()
+        for part in (1, 2):
+            said = fleet.compare("--canary", CANARY, "--share", f"{part}/2", self.path("hosts"))
+            statuses.add(said.status)
+            if said.status == 15:
+                self.assertIn("is not among the hosts of this share", said.errors)
+        self.assertIn(15, statuses)
+        self.assertEqual(len(statuses), 2, statuses)
