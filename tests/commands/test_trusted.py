@@ -89,8 +89,8 @@ class TrustedTest(mail.MailTest):
         self.assertEqual(opened, WANTED.keys() - {b"/usr/bin/same"}, "without the pair")
         _, objects = host.ask(self, "--trusted", "canary-new.db", "canary-new.db")
         found = standings_of(objects)
-        for name in (b"went", b"upgraded", b"came"):
-            self.assertEqual(found[b"/usr/bin/" + name], "open high", "nothing changed in the pair")
+        for path in (b"went", b"upgraded", b"came"):
+            self.assertEqual(found[b"/usr/bin/" + path], "open high", "nothing changed in the pair")
 
     def test_watchers(self) -> None:
         """What decides on what is reported is open, though the canary has the same change: in the

@@ -86,7 +86,7 @@ class LookupsTest(ModuleTest):
                 lines = Reader(io.BytesIO(text)).outlines()
                 outline = next(lines)
                 change = next(iter(Reader(io.BytesIO(text))))[1]
-                got = (outline.kind, outline.path, outline.proof is not None)
+                got = (outline.kind, outline.path, outline.silent is not None)
                 want = (change.kind, change.path, change.standing.is_silent)
                 self.expect(f"{path!r}", got, want)
 
