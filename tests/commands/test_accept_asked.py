@@ -57,7 +57,6 @@ class AcceptAskedTest(AcceptingTest):
         """Without names they are those of AIDE's configuration."""
         lines = "database_in=file:%s\ndatabase_out=file:%s\n"
         self.write("aide.conf", lines % (self.path(FILES[1]), self.path(FILES[0])))
-        self.set_names("compare.configuration", DEFAULTS=(self.path("aide.conf"),))
         status, text = self.asked(b"y\n", ())
         self.assertEqual((status, contents(self)[0]), (0, NEW), text)
 

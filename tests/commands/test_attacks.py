@@ -249,18 +249,14 @@ class AttacksTest(CommandTest):
                 os.remove(self.path("state"))
 
     def test_fixed_reports(self) -> None:
-        """-A wins over a file that has report_url=stdout, and what that line fixed in the file
-        stays."""
+        """What a line report_url=stdout of a file has fixed stays, as for AIDE: -A changes none of
+        it."""
         text = "report_level=minimal\n report_url = stdout\nreport_level=summary\nreport_quiet=yes\nreport_url=file:/x\n"
         self.write("fixed", text)
         words = (TOOL, "-c", "fixed", "old.db")
         self.assertEqual(self.call(*words, "new.db").output, MINIMAL)
         self.assertEqual(self.call(*words, "new.db", "-A", "report_base16=yes").output, MINIMAL)
-        same = self.call(*words, "old.db", "-A", "report_base16=yes")
-        self.assertIn(b"NO differences", same.output, "later options of the file")
-        output = self.call(*words, "new.db", "-A", "report_level=summary").output
-        self.assertTrue(output.startswith(MINIMAL + b"\nSummary:\n"), output)
-        self.assertEqual(output.count(b"\n"), 7, output)
+        self.assertEqual(self.call(*words, "new.db", "-A", "report_level=summary").output, MINIMAL)
 
     def test_places(self) -> None:
         """Lines that include files are passed over and said; HOSTNAME is defined; the numbers of
@@ -275,8 +271,8 @@ class AttacksTest(CommandTest):
         note = b"one: 1 line that includes other files is passed over"
         self.answered(7, None, [note, *DIFFER], TOOL, "-c", "one", "old.db", "new.db")
         quiet = b"NO differences"
-        self.answered(0, quiet, b"", TOOL, "-c", "one", "new.db", "new.db")
-        self.answered(0, quiet, note, TOOL, "-v", "-c", "one", "new.db", "new.db")
+        self.answered(0, quiet, b"", TOOL, "-c", "one", "new.db", "new.db.gz")
+        self.answered(0, quiet, note, TOOL, "-v", "-c", "one", "new.db", "new.db.gz")
         told = [b"aide: before:2: bad value\n", b"line 2: report_level=x\n"]
         self.refused(17, told, TOOL, "-c", "conf", "-B", "# @@{HOSTNAME}\nreport_level=x")
         self.compared("-c", "conf", "old.db", "new.db", before=UMASK % 0o77)

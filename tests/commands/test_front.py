@@ -73,7 +73,7 @@ class FrontTest(CommandTest):
         version = self.answered(0, b"aide-compare ", b"", TOOL, "version", "-q").output
         self.assertEqual(version.count(b"\n"), 1, version)
         status = ("status", "--state", "state")
-        self.call(TOOL, "--state", "state", "old.db", "old.db")
+        self.call(TOOL, "--state", "state", "old.db", "old.db.gz")
         self.answered(0, b"", b"", TOOL, *status, "-q")
         self.call(TOOL, "--state", "state", "old.db", "new.db")
         plain = self.answered(0, b"Last comparison: ", b"", TOOL, *status, "-q").output

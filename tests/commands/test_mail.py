@@ -54,7 +54,7 @@ class TextsTest(MailTest):
     def test_statuses(self) -> None:
         """No mail without a difference. An alarm may be success; the report's options change no
         counts."""
-        self.assertIsNone(self.mail("old.db", "old.db", "--state", "state", status=0))
+        self.assertIsNone(self.mail("old.db", "old.db.gz", "--state", "state", status=0))
         self.assertEqual(self.state()["status"], "0")
         for words, status in (
             (("-A", "report_level=minimal"), 7),
@@ -90,7 +90,8 @@ class TextsTest(MailTest):
         for text, is_said in ((b"/etc/**\n", False), (b"/var/log/**\n", True)):
             digest = base64.b64encode(hashlib.sha256(text).digest())
             self.write("list.db", list_database(path, b"sha256", digest))
-            answer = call(self, "--exclude-from", "list", "list.db", "list.db")
+            self.write("same.db", self.read("list.db"))
+            answer = call(self, "--exclude-from", "list", "list.db", "same.db")
             self.expect("no difference beside a list", answer, 0)
             message = sent(self)
             title = SUBJECT + "the list of what is left out was changed" if is_said else None
@@ -125,7 +126,7 @@ class TextsTest(MailTest):
         sound time of that one."""
         now = time.time()
         day, other = (time.strftime("%a", time.localtime(now + more)) for more in (0, 2 * 86400))
-        words = ["old.db", "old.db", "--state", "weekly.state", "--weekly"]
+        words = ["old.db", "old.db.gz", "--state", "weekly.state", "--weekly"]
         for _ in range(2):
             self.assertIsNone(self.mail(*words, other, status=0), "on another day")
         message = self.mail(*words, day, status=0)

@@ -48,7 +48,7 @@ class QueueTest(MailTest):
         os.remove(self.path("stubs/sendmail"))
         self.set_names("mail.sending", MAILERS=())
         path = {"PATH": self.path("stubs") + ":/usr/bin:/bin"}
-        for new, status in (("new.db", "7"), ("old.db", "0")):
+        for new, status in (("new.db", "7"), ("old.db.gz", "0")):
             answer = call(self, "old.db", new, "--state", "state", environment=path)
             said = [b"cannot find sendmail", b"ended with status " + status.encode()]
             self.expect("no mailer, " + new, answer, 18, b"", said)

@@ -115,7 +115,7 @@ class RunTest(CommandTest):
         line = "aide-compare: %s database: %s, written " + DATE + ", SHA-256 %s\n"
         lines = line % ("old", "odd/old é", sha256(OLD)) + line % ("new", "new.db", sha256(NEW))
         self.assertRegex(errors, rf"\A{lines}\Z")
-        self.expect("one file twice", self.call(TOOL, "old.db", "old.db"), 0, b"NO differences")
+        self.expect("the same", self.call(TOOL, "old.db", "old.db.gz"), 0, b"NO differences")
         self.write("paths.db", HEAD + b"/a%0Ab%20c 36 100644 1\n" + END)
         answer = self.call(TOOL, "old.db", "paths.db")
         self.expect("a newline in a path", answer, 3, b": /a\\012b c\n")
@@ -157,12 +157,13 @@ class RunTest(CommandTest):
 
     def test_refused_configurations(self) -> None:
         twice = self.named("old.db", "new.db") + "database_in=file:/other"
-        one, of_both = "database_in=file:/x", b"one file as the old and as the new database: /x"
+        one = f"database_in=file:{self.path('old.db')}"
+        of_both = b"one file as the old and as the new database: "
         for text, status, errors in (
             ("", 17, b"conf names no old database"),
             (one, 17, b"conf names no new database"),
             (twice, 17, b"names the old database twice"),
-            (one + "\ndatabase_out=file:/x", 17, of_both),
+            (one + f"\ndatabase_out=file:{self.path('stubs/../old.db')}", 17, of_both),
             (one + "\ndatabase_out=stdout", 17, b"conf names a database that is no file"),
             (one + "\nreport_level=1", 17, b"aide: config:2: bad value\n"),
             ("#" * 4194305, 17, b"the configuration is longer than 4194304 bytes"),
@@ -252,7 +253,7 @@ class RunTest(CommandTest):
         self.assertTrue(before <= moment <= time.time(), state)
         date = time.strftime("%Y-%m-%dT%H:%M:%SZ", time.gmtime(moment))
         self.assertEqual(state["date"], date)
-        self.call(TOOL, "old.db", "old.db", "--state", "state")
+        self.call(TOOL, "old.db", "old.db.gz", "--state", "state")
         state = self.state()
         self.assertEqual([state[key] for key in ("status", *KINDS)], ["0"] * 4)
 

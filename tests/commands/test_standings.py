@@ -123,7 +123,8 @@ class StandingsTest(mail.MailTest):
         brief = self.call(TOOL, "o.db", "n.db")
         self.assertEqual(brief.output.decode(), BRIEF, ("what people read first", brief))
         self.assertEqual(brief.errors, answer.errors, ("the same is said", brief))
-        answer = self.call(TOOL, "--state", "state", "o.db", "o.db")
+        self.write("same.db", self.read("o.db"))
+        answer = self.call(TOOL, "--state", "state", "o.db", "same.db")
         self.expect("no difference", answer, 0, b"no differences in 7 entries", b"")
         self.assertEqual(self.state().get("open"), "0", ("its state", self.state()))
         want = "1 change, all silent\n\n1 change is silent: 1 same\n\n"

@@ -152,14 +152,14 @@ class StatusTest(StateTest):
         command that was typed wrongly changes nothing."""
         for tool in ("aide-compare", "aide-compare mail --queue queue"):
             for name, text in (("defaults", "--odd\n"), ("without", "no path\n")):
-                self.ask("aide-compare", "old.db", "old.db")
+                self.ask("aide-compare", "old.db", "old.db.gz")
                 self.write("etc/" + name, text)
                 answer = self.ask(tool, "old.db", "new.db")
                 state = self.state()
                 self.assertEqual((state["status"], answer.status), ("15", 15), (tool, name, answer))
                 self.assertIn("line 1", state["error"])
                 os.remove(self.path("etc/" + name))
-            self.ask("aide-compare", "old.db", "old.db")
+            self.ask("aide-compare", "old.db", "old.db.gz")
             before = self.read("state")
             self.ask("aide-compare", "--odd", "old.db", "new.db")
             self.assertEqual(self.read("state"), before, "a wrong command changes no state")

@@ -160,7 +160,8 @@ class WithoutTest(CommandTest):
         notes = [line for line in answer.errors.split(b"\n") if b"left out" in line]
         self.assertEqual(len(notes), 1, answer)
         self.assertIn(b"left out; -v lists them", notes[0])
-        answer = self.call("aide-compare", *words, "o.db", "o.db")
+        self.write("same.db", self.read("o.db"))
+        answer = self.call("aide-compare", *words, "o.db", "same.db")
         form = rb"\Ano differences in [0-9]+ entr(y|ies) \([0-9]+ left out\)\n\Z"
         self.assertRegex(answer.output, form)
         self.assertEqual(answer.errors, b"")

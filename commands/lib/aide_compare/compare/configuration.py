@@ -1,11 +1,15 @@
 """What a configuration says of the databases, and the copy of it that the program reads. Lines are
-told apart by how they begin; the program itself is asked what they say, by -D of aide_lines."""
+told apart by how they begin; the program itself is asked what they say, by -D of aide_lines.
+
+Of AIDE's own configuration only the paths of the two databases count: it is on the host that is
+watched, and an option of the report there could silence each change, that of the file itself too.
+"""
 from __future__ import annotations
 
 import errno
 import os
 import re
-from collections.abc import Callable, Iterable, Iterator, Mapping
+from collections.abc import Callable, Iterator, Mapping
 from typing import Any, NamedTuple
 
 from aide_compare.base.directories import failure
@@ -30,13 +34,10 @@ GROUP = rb"[ \t]*((?:report_|database)[A-Za-z0-9_]*)[ \t]*="
 # Lines that may name a database: the program decides which of them count.
 NAMED = rb"(?m)^[ \t]*database(?:_in|_new|_out)?[ \t]*=[^\n]*"
 WRITTEN = rb"(?m)^([ \t]*)database_out([ \t]*=)"
-URLS = rb"(?m)^[ \t]*report_url[ \t]*=[^\n]*"
 # What is no part of the name of a machine.
 OTHER_BYTES = rb"[^A-Za-z0-9._-]"
 MAX_NAMED = 16
 ADVICE = "name OLD and NEW"
-# An empty set has a name that no group can have.
-EMPTY_SET = "ANF"
 MAX_MISSPELT = 5
 MAX_ASKED = 20
 
@@ -218,8 +219,6 @@ def databases_of(texts: Texts, path: str, ask: Callable[[Texts], Settings | None
         settings = finder.settings(texts)
     old = finder.path_of(settings, texts, OLD)
     new = finder.path_of(settings, texts, NEW)
-    if old == new:
-        raise finder.fault(f"one file as the old and as the new database: {shown(old)}")
     return Databases(old, new)
 
 
@@ -241,22 +240,3 @@ def _only(config: bytes, lines: bytes, wanted: int) -> bytes:
             pieces.append(match.group())
         end = match.end()
     return b"".join(pieces) + config[end:]
-
-
-def options_in(settings: Settings) -> bytes:
-    """Lines that give the options of the report which the program has read elsewhere."""
-    lines = [
-        f"{name}={_option_text(value)}\n"
-        for name, value in settings.items()
-        if name.startswith("report_")
-    ]
-    return "".join(lines).encode()
-
-
-def _option_text(value: bool | str | Iterable[str]) -> str:
-    """The value of an option, as a line of a configuration has it."""
-    if isinstance(value, bool):
-        return "yes" if value else "no"
-    if isinstance(value, str):
-        return value
-    return "+".join(value) or EMPTY_SET

@@ -5,19 +5,19 @@ from __future__ import annotations
 import io
 import json
 import os
-import re
 import time
-from collections.abc import Mapping, Sequence
+from collections.abc import Iterator, Mapping, Sequence
 from typing import TYPE_CHECKING
 
 from aide_compare.base.ending import Fault, Status, write_all
+from aide_compare.base.escapes import shown
 from aide_compare.base.files import nameless
 from aide_compare.base.program import LINES, Answer, Drain, Tail, find_installed
-from aide_compare.base.words import SIDES, TRUSTED_SIDES, age_in_words
+from aide_compare.base.words import SIDES, TRUSTED_SIDES, age_in_words, counted, words_of_side
 from aide_compare.compare.asking import Question, ask_for_changes, defines_group, odd_answer
 from aide_compare.compare.comparison import Comparison, Lines, Refusal, Request
-from aide_compare.compare.configuration import URLS, Databases, Settings, Texts, databases_of
-from aide_compare.compare.configuration import options_in, without_includes
+from aide_compare.compare.configuration import Databases, Settings, Texts, databases_of
+from aide_compare.compare.configuration import without_includes
 from aide_compare.compare.hints import column_notes, hints_of, order_notes, skipped_in
 from aide_compare.compare.report import write_report
 from aide_compare.compare.unpack import Copy, Opened, copy_opened, open_database
@@ -47,9 +47,8 @@ class Work:
     def __init__(self, request: Request) -> None:
         self.request = request
         self.path = request.configuration_path
-        self.given = Texts(b"", b"", b"")  # As the caller gives them.
-        self.texts = self.given  # As the program reads them for the comparison.
-        self.asked = self.given  # As it has read them last.
+        self.texts = Texts(b"", b"", b"")  # As the program reads them for the comparison.
+        self.asked = self.texts  # As it has read them last.
         self.answer = Answer(0, b"")
         self.databases = Databases(request.old or "", request.new or "")
         self.included: list[str] = []
@@ -63,26 +62,38 @@ class Work:
         """Both databases, opened, unless there are copies already; a Refusal or a Fault if they
         cannot be compared."""
         request = self.request
-        configuration = without_includes(self.path)
-        self.included += configuration.notes
-        self.given = Texts(
-            os.fsencode(request.before), configuration.text, os.fsencode(request.after)
-        )
-        self.texts = self._with_settled_report(self.given)
+        self.texts = self._given_texts()
         if request.copies:
             return ()
+        if request.old is None:
+            self.databases = self.named_databases()
+        opened = [open_database(*names) for names in zip(SIDES, self.databases)]
+        check_age(opened[1], request.max_age)
+        opened += [open_database(*names) for names in zip(TRUSTED_SIDES, request.trusted)]
+        refuse_one_file(opened)
+        return opened
+
+    def named_databases(self) -> Databases:
+        """The databases that the configuration names, that of a person or AIDE's."""
+        texts = self._given_texts()
+        if not self.request.configuration:
+            texts = texts._replace(config=without_includes(self.path).text)
         try:
-            if request.old is None:
-                self.databases = databases_of(self.texts, self.path, self._settings)
-            opened = [open_database(*names) for names in zip(SIDES, self.databases)]
-            check_age(opened[1], request.max_age)
-            opened += [open_database(*names) for names in zip(TRUSTED_SIDES, request.trusted)]
-            return opened
+            return databases_of(texts, self.path, self._settings)
         except Fault:
-            # What the program refuses in a configuration that names them is told first.
-            if request.old is None and self._settings(self.texts) is None:
+            if self._settings(texts) is None:
                 raise self._refusal()
             raise
+
+    def _given_texts(self) -> Texts:
+        """The texts that a person names. AIDE's own configuration is none of them."""
+        request = self.request
+        config = b""
+        if request.configuration:
+            configuration = without_includes(request.configuration)
+            self.included = configuration.notes
+            config = configuration.text
+        return Texts(os.fsencode(request.before), config, os.fsencode(request.after))
 
     def compare(self, opened: Sequence[Opened]) -> Comparison:
         """Compares the databases. What ends it is told by the status and the fault, never by an
@@ -110,9 +121,15 @@ class Work:
 
     def _ended(self, lines: Lines | None, report: int | None) -> Comparison:
         skipped = skipped_in(self.answer.errors, self.compared)
-        self.notes += self.given.misspelt(self.path, lambda name: defines_group(self.given, name))
+        self.notes += self.texts.misspelt(self.path, lambda name: defines_group(self.texts, name))
         self.notes += [*column_notes(skipped), *order_notes(self.copies)]
+        if any(self.texts) and self._is_silent(lines):
+            self.notes += ignored_notes(Question(self.texts).settings)
         return self._comparison(lines, report)._replace(skipped=skipped)
+
+    def _is_silent(self, lines: Lines | None) -> bool:
+        """Whether nothing differs, or nothing that is not accounted for."""
+        return self.answer.status == 0 or (lines is not None and lines.end.others == 0)
 
     def _comparison(self, lines: Lines | None, report: int | None) -> Comparison:
         return Comparison(
@@ -136,19 +153,6 @@ class Work:
             lines=lines,
             report=report,
         )
-
-    def _with_settled_report(self, texts: Texts) -> Texts:
-        """The texts that the program reads; a Refusal if the configuration is not right. If -A
-        gives options, a line for a report to standard output settles those of the report: it is
-        taken out of the file, and what it has settled is said before -A."""
-        if not texts.after or not re.search(URLS, texts.config):
-            return texts
-        if self._settings(texts) is None:
-            raise self._refusal()
-        settings = self._settings(texts._replace(after=b""))
-        if settings is None:
-            return texts
-        return texts.replaced(URLS, b"")._replace(after=options_in(settings) + texts.after)
 
     def _settings(self, texts: Texts) -> Settings | None:
         """What the program says of texts, None if it refuses them."""
@@ -260,10 +264,28 @@ def report_of(comparison: Comparison) -> int:
 
 
 def named_databases(request: Request) -> Databases:
-    """The databases that the configuration of a request names."""
-    path = request.configuration_path
-    texts = Texts(b"", without_includes(path).text, b"")
-    return databases_of(texts, path, lambda each: Question(each).settings)
+    """The databases that a request names, or those of its configuration."""
+    if request.old is not None and request.new is not None:
+        return Databases(request.old, request.new)
+    return Work(request).named_databases()
+
+
+def ignored_notes(settings: Settings | None) -> Iterator[str]:
+    """How many attributes the options of a person leave out of a comparison: it may be silent only
+    for that."""
+    for option, names in (settings or {}).items():
+        if option.startswith("report_ignore_") and names:
+            yield f"{option} leaves {counted(len(names), 'attribute')} out of the comparison"
+
+
+def refuse_one_file(opened: Sequence[Opened]) -> None:
+    """Refuses one file, by whatever names, as the new database and as another one: nothing would
+    ever be reported."""
+    old, new, *trusted = opened
+    for other in (old, *trusted[1:]):
+        if os.path.sameopenfile(new.fd, other.fd):
+            sides = f"the {words_of_side(other.side)} and as the new database"
+            raise Fault(Status.CONFIGURATION, f"one file as {sides}: {shown(new.path)}")
 
 
 def check_age(opened: Opened, limit: int) -> None:
