@@ -224,6 +224,13 @@ def make_keys(sandbox: CommandTest) -> None:
     sandbox.write("keys.gpg", gpg(sandbox, "gpg", "--export"))
 
 
+def stop_agents(sandbox: CommandTest) -> None:
+    """Ends what gpg has started."""
+    for key in ("gpg", "other"):
+        words = ["gpgconf", "--homedir", sandbox.path(key), "--kill", "all"]
+        subprocess.run(words, check=False, capture_output=True)
+
+
 def keep_as_apt(sandbox: CommandTest, place: Place) -> None:
     """Puts the indexes and the packages where apt keeps them."""
     os.makedirs(sandbox.path("archives"))

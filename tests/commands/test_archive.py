@@ -4,19 +4,15 @@ from __future__ import annotations
 import base64
 import hashlib
 import os
-import re
 import shutil
-import subprocess
 from typing import Any, Dict, List
 
-from tests.commands import mail
 from tests.commands.made_up import Package, write_records
 from tests.commands.sandbox import NOBODY, Answer, CommandTest
 from tests.commands.signed_archive import (
     APTS_LISTS,
     ARCHIVE,
     CONFIGURATION,
-    HOME,
     INDEXES,
     INFO,
     KEPT,
@@ -31,9 +27,9 @@ from tests.commands.signed_archive import (
     keep_as_apt,
     keep_indexes,
     make_keys,
+    stop_agents,
     upgraded,
 )
-from tests.lib.scratch import read
 from tests.oracle.database import database_of, first_fault
 
 PROGRAMS = ("gpg", "gpgv", "dpkg-deb")
@@ -48,14 +44,8 @@ class ArchiveTest(CommandTest):
         if missing:
             self.skipTest("not installed: " + " ".join(missing))
         make_keys(self)
-        self.addCleanup(self.stop_agents)
+        self.addCleanup(stop_agents, self)
         self.place = upgraded(self)
-
-    def stop_agents(self) -> None:
-        """Ends what gpg has started."""
-        for key in ("gpg", "other"):
-            words = ["gpgconf", "--homedir", self.path(key), "--kill", "all"]
-            subprocess.run(words, check=False, capture_output=True)
 
     def applied(self, *words: str, told: bytes = APPLIED, **more: Any) -> Answer:
         """What the command makes of the packages."""
@@ -353,49 +343,6 @@ class ArchiveTest(CommandTest):
         shutil.copytree(self.path("mirror/pool"), self.path("pool"))
         self.place.sign()
         self.applied(told=MISSING)
-
-    def mailed(self, words: List[str]) -> bytes:
-        """The text of the nightly mail, with these words for the trusted pair."""
-        both = (self.path("base/aide.db"), self.path("base/aide.db.new"))
-        self.expect("mailed", mail.call(self, *words, *both), 7, output=b"")
-        text: bytes = mail.body(mail.sent(self))
-        return text
-
-    def test_nightly(self) -> None:
-        """The words of the daily unit and of cron's job: the night of a signed upgrade mails what
-        the archive does not have, and without the archive all of it."""
-        mail.take_mail(self)
-        unit = read("contrib/aide/signed.conf")
-        (line,) = re.findall("^ExecStartPre=-/usr/local/bin/aide-compare (.*)$", unit, re.M)
-        (trusted,) = re.findall('^Environment="TRUSTED=(.*)"$', unit, re.M)
-        job = read("contrib/cron/aide-compare.cron.daily").replace("\\\n", "")
-        job = job.replace("$directory", "/var/lib/aide-compare/daily").replace('"', "")
-        for words in (line.split()[1:], trusted.split()):
-            self.assertIn(" ".join(words).split("--")[-1], " ".join(job.split()), "cron's words")
-        self.place.sign()
-        keep_as_apt(self, self.place)
-        self.write("base/aide.db", self.place.old.database())
-        self.write("base/aide.db.new", self.place.new.database())
-        words = [f"--keyring={self.path('keys.gpg')}", *map(self.at_home, line.split()[1:])]
-        pair = list(map(self.at_home, trusted.split()))
-        self.answered(0, b"", None, ARCHIVE, *words)
-        text = self.mailed(pair)
-        self.assertIn(b" 11 are silent: as ", text)
-        named = [path for path in (TOOL, LIBRARY, ODD, CONFIGURATION) if path in text]
-        self.assertEqual(named, [CONFIGURATION], "what is not signed")
-        os.remove(self.path("archives/tool_2_amd64.deb"))
-        shutil.rmtree(self.path("lists"))
-        self.refused(18, None, ARCHIVE, *words)
-        text = self.mailed(pair)
-        self.assertNotIn(b" are silent: as in", text)
-        self.assertIn(TOOL, text, "what is signed is told then")
-
-    def at_home(self, word: str) -> str:
-        """A word of the unit with the paths of this test."""
-        for name, place in HOME.items():
-            if word.startswith(name):
-                return self.path(place) + word[len(name) :]
-        return word
 
     def test_architectures(self) -> None:
         """Only packages of the architecture of the machine's packages count, or of all."""

@@ -23,18 +23,10 @@ NOTES = 'case $1 in -E) echo "$(id -u) $$" >> %s;; esac\n%s\nexec %s "$@"'
 
 
 def started(unit: str) -> list[str]:
-    """The words that a unit starts, without the program. A variable that is empty is no word."""
+    """The words that a unit starts, without the program."""
     lines = read(f"contrib/systemd/{unit}").splitlines()
     line = next(line for line in lines if line.startswith("ExecStart="))
-    return shlex.split(line.partition("=")[2].replace("$TRUSTED", ""))[1:]
-
-
-def started_by_cron() -> list[str]:
-    """The options that cron's job gives a mail."""
-    lines = read("contrib/cron/aide-compare.cron.daily").splitlines()
-    line = next(line for line in lines if line.startswith("/usr/local/bin/aide-compare mail"))
-    words = shlex.split(line.replace('"$@"', ""))
-    return words[words.index("--max-age") :]
+    return shlex.split(line.partition("=")[2])[1:]
 
 
 def long_lines() -> bytes:
@@ -89,8 +81,8 @@ class HandsTest(CommandTest):
         self.assertIn(b"failed: exit-code", mail.body(message), "the variables are enough")
 
     def test_same_counts(self) -> None:
-        """A run by hand, a mail, the unit and cron have the same counts, by the same defaults. The
-        check judges by the same lines."""
+        """A run by hand and a mail have the same counts, by the same defaults. The check judges by
+        the same lines."""
         lines = (
             "  --alarm=not-silent \n--to a@b.example\n--weekly Mon\n--warning 99\n--max-age 5d\n"
         )
@@ -99,16 +91,8 @@ class HandsTest(CommandTest):
         self.answered(5, None, told, TOOL, "-v", "--state", "hand.state", *NIGHT)
         want = self.counts_in("hand.state")
         self.assertEqual((want["open"], want["left_out_old"]), ("1", "4"))
-        unit = [word for word in started("aide-compare.service") if not word.endswith("mail")]
-        for word in ("--alarm-sent-is-success", "--queue"):
-            unit.remove(word)
-        for words in (["--state", "of.state"], unit, started_by_cron()):
-            own = [
-                "of.state" if word.endswith("state") and not word.startswith("--") else word
-                for word in words
-            ]
-            self.assertEqual(self.mails(5, *own, *NIGHT)["To"], "a@b.example", words)
-            self.assertEqual(self.counts_in("of.state"), want, words)
+        self.assertEqual(self.mails(5, "--state", "of.state", *NIGHT)["To"], "a@b.example")
+        self.assertEqual(self.counts_in("of.state"), want)
         message = self.mails(5, *NIGHT)
         self.assertEqual(message["To"], "a@b.example", "a mail by hand needs no state")
         check = (NAGIOS, "--state", "hand.state")

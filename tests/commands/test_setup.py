@@ -19,6 +19,7 @@ PROGRAM_PATH = {stubs!r} + ":" + PROGRAM_PATH
 ENVIRONMENT["PATH"] = PROGRAM_PATH
 AIDES_USER = {user!r}
 """
+DAYS_OPTIONS = ["--max-age", "--state", "--trusted"]
 DATABASES, DAILY = "root/var/lib/aide/", "root/var/lib/aide-compare/daily"
 DEFAULTS, WITHOUT = "root/etc/aide-compare/defaults", "root/etc/aide-compare/without"
 STUBS = {
@@ -138,6 +139,9 @@ class SetupTest(CommandTest):
             self.assertEqual(owners[name], owner, name)
         lines = self.read(DEFAULTS).decode().splitlines()
         self.assertLessEqual({"--max-age 50h", "--weekly Mon", "--to a@example.org"}, set(lines))
+        daily = self.path(DAILY)
+        self.assertIn(f"--trusted {daily}/signed.db.old {daily}/signed.db", lines)
+        self.assertIn(f"--state {daily}/state", lines)
         test = f"mail --test --user {NOBODY_NAME} --to=a@example.org"
         wanted = ["daemon-reload", "enable --now aide-compare.timer", test, "aideinit"]
         self.assertEqual(self.calls()[-4:], wanted, "the baseline is last")
@@ -171,7 +175,25 @@ class SetupTest(CommandTest):
         self.set_up("setup again, for root's mail", (), 0, b"a test mail\n")
         self.set_up("setup again, without a word", ("-q",), 0)
         self.assertEqual(self.calls()[-2:], [f"mail --test --user {NOBODY_NAME}"] * 2)
-        self.assertEqual(self.read(DEFAULTS), b"--attach-page\n")
+        lines = self.read(DEFAULTS).decode().splitlines()
+        self.assertEqual([line.split()[0] for line in lines], ["--attach-page", *DAYS_OPTIONS])
+        self.write(DEFAULTS, "--attach-page\n# --trusted: no\n--state=x\n --max-age 9h")
+        self.set_up("what an administrator wrote stays", ("--no-mail",), 0, b"All was there")
+        self.assertNotIn(b"signed.db", self.read(DEFAULTS))
+
+    def test_upgrade(self) -> None:
+        """The options that a former version gave the unit are among the defaults afterwards."""
+        self.call(TOOL)
+        signed = "root/etc/systemd/system/aide-compare.service.d/signed.conf"
+        self.write(signed, '[Service]\nEnvironment="TRUSTED=--trusted a b"\n')
+        self.write(DEFAULTS, "--max-age 50h\n--weekly Mon\n--to a@example.org\n")
+        missing = (b"missing: options of each day: ", b"missing: upgrades to signed packages")
+        self.set_up("--check, before", ("--check",), 18, *missing)
+        self.set_up("after an upgrade", ("--no-mail",), 0, b"Done: 2 steps now.")
+        self.assertEqual(self.read(signed), b"[Service]\n")
+        lines = self.read(DEFAULTS).decode().splitlines()
+        options = ["--max-age", "--weekly", "--to", "--state", "--trusted"]
+        self.assertEqual([line.split()[0] for line in lines], options)
 
     def test_cron(self) -> None:
         shutil.rmtree(self.path("root/run/systemd"))

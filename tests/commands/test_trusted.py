@@ -219,8 +219,10 @@ class TrustedTest(mail.MailTest):
         self.assertIn(b"cannot open the trusted new database", mail.body(mail.sent(self)))
 
     def test_defaults(self) -> None:
-        """The administrator may write the pair down once."""
+        """The administrator may write the pair down once, for the databases of this machine."""
         put(self)
+        names = map(self.path, BOTH)
+        self.write("aide.conf", "database_in=file:{}\ndatabase_new=file:{}\n".format(*names))
         for line, status, words in (
             ("--trusted canary-old.db canary-new.db", 7, TOLD),
             ("--trusted=canary-old.db  canary-new.db", 7, TOLD),

@@ -83,28 +83,38 @@ class ViewersTest(ProgramTest):
         early = proved[: proved.rindex(b"\n", 0, -1) + 1]
         trials: list[tuple[list[str], bytes, int, bytes]] = [
             ([*JSON, "-"], proved, 0, b""),
-            ([*JSON], lines, 0, b""),
-            ([*JSON], b"", REFUSED, b"nothing was given: "),
-            ([*JSON], b"@@begin_db\n", REFUSED, b"line 1: this is not a line of aide-compare json"),
+            ([*JSON, "-"], lines, 0, b""),
+            ([*JSON, "-"], b"", REFUSED, b"nothing was given: "),
             (
-                [*JSON],
+                [*JSON, "-"],
+                b"@@begin_db\n",
+                REFUSED,
+                b"line 1: this is not a line of aide-compare json",
+            ),
+            (
+                [*JSON, "-"],
                 b'{"record":"summary","format":1}\n',
                 REFUSED,
                 b"line 1: the first line is the summary, of format 3",
             ),
-            ([*JSON], proved[:-1], REFUSED, b"line %d: this is not a line" % proved.count(b"\n")),
-            ([*JSON], early, REFUSED, b"this ends too early: the last line is missing"),
-            ([*HTML], lines, 0, b""),
-            ([*HTML], b"", REFUSED, b"page: nothing was given: "),
-            ([*HTML], b"@@begin_db\n", REFUSED, b"line 1: "),
-            ([*HTML], lines[:-1], REFUSED, b"line "),
-            ([*HTML], lines + b"\n", REFUSED, b"line "),
+            (
+                [*JSON, "-"],
+                proved[:-1],
+                REFUSED,
+                b"line %d: this is not a line" % proved.count(b"\n"),
+            ),
+            ([*JSON, "-"], early, REFUSED, b"this ends too early: the last line is missing"),
+            ([*HTML, "-"], lines, 0, b""),
+            ([*HTML, "-"], b"", REFUSED, b"page: nothing was given: "),
+            ([*HTML, "-"], b"@@begin_db\n", REFUSED, b"line 1: "),
+            ([*HTML, "-"], lines[:-1], REFUSED, b"line "),
+            ([*HTML, "-"], lines + b"\n", REFUSED, b"line "),
         ]
         for tool in (JSON, HTML):
             trials.append(([*tool, "--other"], b"", USAGE, b" --help"))
             trials.append(([*tool, "/nowhere"], b"", DEVICE, b"cannot open /nowhere: "))
             trials.append(([*tool, "/"], b"", DEVICE, b"cannot open"))
-            trials.append(([*tool, "--exclude", "/x"], lines, USAGE, b"name two databases"))
+            trials.append(([*tool, "--exclude", "/x", "-"], lines, USAGE, b"name two databases"))
         for words, text, wanted, beginning in trials:
             status, output, errors = run(words, text)
             with self.subTest(words=words[1:]):
@@ -119,7 +129,7 @@ class ViewersTest(ProgramTest):
             file.flush()
             status, lines, errors = run([*JSON, file.name])
         self.assertEqual((status, errors), (0, b""))
-        _, output, _ = run([*HTML, "--plain", "--title", "<b>&\u202e"], lines)
+        _, output, _ = run([*HTML, "--plain", "--title", "<b>&\u202e", "-"], lines)
         self.assertIn(b"<h1>&lt;b&gt;&amp;\\342\\200\\256</h1>", output)
 
     def test_streams(self) -> None:
@@ -127,12 +137,12 @@ class ViewersTest(ProgramTest):
         proved = rich_lines()
         for words, text in ((JSON, proved), (HTML, lines_of(objects_of(proved)))):
             with open("/dev/full", "wb") as full:
-                status, _, errors = run([*words], text, stdout=full)
+                status, _, errors = run([*words, "-"], text, stdout=full)
             self.assertEqual((status, b"No space left" in errors), (DEVICE, True), errors)
             status, output, _ = run([*words, "--help"])
             self.assertEqual((status, b"usage: aide-compare " in output), (0, True), output)
             for closed in (">&-", "<&-", ">&- 2>&-"):
-                status, output, errors = run(["sh", "-c", '"$0" "$1" ' + closed, *words], text)
+                status, output, errors = run(["sh", "-c", '"$0" "$1" - ' + closed, *words], text)
                 found = (status, output, b"Traceback" in errors)
                 self.assertEqual(found, (DEVICE, b"", False), (closed, errors))
 
@@ -244,10 +254,10 @@ class ViewersTest(ProgramTest):
                 with open(os.path.join(folder, name), "wb") as file:
                     file.write(text)
             proved = proved_lines(self.program, configuration_of(settings))
-        status, output, errors = run([*JSON], proved)
+        status, output, errors = run([*JSON, "-"], proved)
         self.assertEqual((status, errors), (0, b""))
         objects = [json.loads(line) for line in output.splitlines()]
         self.check_lines(objects, *map(database_of, pair), pair, settings)
-        status, page, errors = run([*HTML, *plain], output)
+        status, page, errors = run([*HTML, *plain, "-"], output)
         self.assertEqual((status, errors), (0, b""))
         self.assertEqual(page_faults(page.decode(), objects, bool(plain)), [])

@@ -23,8 +23,7 @@ SOURCE_PATH = re.compile(
 )
 START = (
     "/usr/local/bin/aide-compare mail --alarm-sent-is-success "
-    "--queue /var/lib/aide-compare/daily/mail --max-age 50h "
-    "--state /var/lib/aide-compare/daily/state $TRUSTED"
+    "--queue /var/lib/aide-compare/daily/mail"
 )
 UNKNOWN = "a proved build: not known: no proof has noted that it built this file\n"
 
@@ -147,8 +146,8 @@ class InstalledTest(InstallTest):
         self.assertEqual(self.run_words([daily]), (0, "", ""))
         with open(called) as file:
             lines = file.read().splitlines()
-        user, state = pwd.getpwuid(os.geteuid()).pw_name, self.path("lib/aide-compare/daily/state")
-        wanted = f"{tool} mail --user {user} --alarm-sent-is-success --max-age 50h --state {state}"
+        user = pwd.getpwuid(os.geteuid()).pw_name
+        wanted = f"{tool} mail --user {user} --alarm-sent-is-success"
         self.assertEqual(lines, [wanted] * 3, "what the jobs call")
         if shutil.which("run-parts"):
             for name in ("aide-compare.cron.daily", "aide-compare"):

@@ -9,7 +9,8 @@ from tests.pages.machine import BASELINE, HEAD, HOSTS, NEWEST, NOBODY, STATE, Ma
 
 # What is added, removed and changed between the databases of examples/small_tree.
 STORED = (3, 4, 15)
-# The part of Debian's /etc/aide/aide.conf that matters here.
+# What the units need, and the part of Debian's /etc/aide/aide.conf that matters here.
+DEFAULTS = f"--max-age 50h\n--state {STATE}\n"
 CONFIGURATION = f"""\
 @@x_include_setenv UPAC_settingsd /etc/aide/aide.settings.d
 @@x_include_setenv PATH /bin:/usr/bin
@@ -57,6 +58,7 @@ class RecipesTest(MachineTest):
         super().setUp()
         self.recipes = recipes()
         self.write("/etc/aide/aide.conf", self.below(CONFIGURATION))
+        self.write("/etc/aide-compare/defaults", self.below(DEFAULTS))
         self.write("/etc/cron.daily/aide-compare", self.example("cron/aide-compare.cron.daily"))
         os.chmod(self.path("/etc/cron.daily/aide-compare"), 0o755)
 
@@ -227,9 +229,9 @@ def begin(test: RecipesTest) -> None:
     output = test.set_up()[1]
     test.assertTrue(test.taken("mailed"), "the test mail")
     test.prints("first", output)
-    # The days that follow are those of the unit as it is installed.
-    for name in ("defaults", "without"):
-        os.remove(test.path("/etc/aide-compare", name))
+    # The days that follow have only what the units need.
+    os.remove(test.path("/etc/aide-compare/without"))
+    test.write("/etc/aide-compare/defaults", test.below(DEFAULTS))
     test.prints("at once", test.recipe("at once")[1])
     test.assertEqual(test.recipe("cron daily"), (0, "", ""))
     test.write(HOSTS, "www\n")

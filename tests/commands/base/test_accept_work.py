@@ -26,7 +26,9 @@ class AcceptWorkTest(ModuleTest):
     def test_not_compared(self) -> None:
         """The fault of a comparison is told by its own words."""
         copies = {"new": self.copy(b"new")}
-        request: Any = SimpleNamespace(baseline="old.db", new="new.db", max_report=9)
+        request: Any = SimpleNamespace(
+            baseline="old.db", new="new.db", max_report=9, exclusions=None
+        )
         for fault, status, why in (
             (Fault(18, "no room"), 18, "no room"),
             (None, 24, "refused: nothing was compared"),

@@ -26,7 +26,7 @@ class MailRequestTest(ModuleTest):
     def asks(self, words: str, **wanted: Any) -> Any:
         """The comparison of some words, which ask for nothing else that no words ask for."""
         request = request_of(words.split())
-        usual = parsed([])._replace(comparison=request.comparison)
+        usual = parsed([])._replace(comparison=request.comparison, asked=request.asked)
         self.expect(words, request, usual._replace(**wanted))
         return request.comparison
 
@@ -91,7 +91,7 @@ class MailRequestTest(ModuleTest):
     def test_bad_lines(self) -> None:
         """Only options that are the same for all may be among the defaults."""
         for line in (
-            *("--state x", "--user root", "--queue q", "--json x", "-c x", "o.db", "--"),
+            *("--user root", "--queue q", "--json x", "-c x", "o.db", "--"),
             *("--attach-page yes", "--max-age", "--odd", "--to"),
         ):
             self.write("defaults", b"# x\n\n--max-report 1G\n%s\n" % line.encode())

@@ -54,7 +54,7 @@ def many(count: int) -> bytes:
 
 
 def lines_of(proved: bytes) -> bytes:
-    return subprocess.run([*JSON], input=proved, stdout=subprocess.PIPE, check=True).stdout
+    return subprocess.run([*JSON, "-"], input=proved, stdout=subprocess.PIPE, check=True).stdout
 
 
 def pages_over(lines_of_size: LinesOf) -> MeasuredOf:
@@ -122,7 +122,7 @@ def try_sizes(test: unittest.TestCase) -> None:
         ("1,000 nested folders", lines_of(nested(1000)), False),
         ("2,200 long entries", long_lines(2200, 9000), True),
     ):
-        for words in ([*HTML], [*HTML, "--plain"]):
+        for words in ([*HTML, "-"], [*HTML, "--plain", "-"]):
             with test.subTest(label, words=words[1:]):
                 status, page, errors = lines.run(words, text)
                 test.assertEqual(status, 0, errors)

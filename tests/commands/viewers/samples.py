@@ -119,11 +119,13 @@ def hostile_lines() -> bytes:
 
 
 def lines_of(proved: bytes) -> bytes:
-    return subprocess.run([*JSON], input=proved, stdout=subprocess.PIPE, check=True).stdout
+    return subprocess.run([*JSON, "-"], input=proved, stdout=subprocess.PIPE, check=True).stdout
 
 
 def page_of(text: bytes, *words: str) -> bytes:
-    return subprocess.run([*HTML, *words], input=text, stdout=subprocess.PIPE, check=True).stdout
+    return subprocess.run(
+        [*HTML, *words, "-"], input=text, stdout=subprocess.PIPE, check=True
+    ).stdout
 
 
 def split_page_of(text: bytes) -> bytes:

@@ -45,6 +45,11 @@ class Option(NamedTuple):
     def has_value(self) -> bool:
         return bool(self.metavar or self.choices)
 
+    @property
+    def attribute(self) -> str:
+        """Its name once it is parsed."""
+        return self.name.removeprefix("--").replace("-", "_")
+
 
 QUIET = Option("--quiet", "print only why it failed", letter="-q")
 VERBOSE = Option("--verbose", "print which step is done, and how long it took", letter="-v")
@@ -216,8 +221,9 @@ JOBS = Option(
 )
 NO_DEFAULTS = Option("--no-defaults", "do not read the defaults in /etc/aide-compare")
 
-# The options of a comparison that may stand in the file of defaults, those of a mail, and those of
-# a check.
-COMPARISON_DEFAULTS = (CONFIG, MAX_SIZE, MAX_REPORT, MAX_AGE, EXCLUDE_FROM, EXCLUDE, TRUSTED)
+# The options of a comparison that may stand in the file of defaults, those of them that are for the
+# databases of this machine only, those of a mail, and those of a check.
+COMPARISON_DEFAULTS = (CONFIG, MAX_SIZE, MAX_REPORT, MAX_AGE, EXCLUDE_FROM, EXCLUDE, TRUSTED, STATE)
+MACHINES_DEFAULTS = (TRUSTED, STATE)
 MAIL_DEFAULTS = (TO, MAX_MAIL, SMTP, MAIL_TIME, ATTACH_PAGE, WEEKLY, ALARM)
-CHECK_DEFAULTS = (WARNING, CRITICAL, ALARM)
+CHECK_DEFAULTS = (WARNING, CRITICAL, ALARM, STATE)

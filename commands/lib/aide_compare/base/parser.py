@@ -3,7 +3,7 @@ defaults.
 
 An administrator writes down once in /etc/aide-compare what is wanted each time: `defaults` has
 options, as on the command line and one a line, and `without` has paths that are left out. None of
-these names what a command writes, or whose rights it has.
+these says whose rights a command has.
 """
 from __future__ import annotations
 
@@ -30,6 +30,9 @@ from aide_compare.base.options import (
     VERBOSE,
     Option,
 )
+
+# What the lines of the defaults give, by the names that the options have once they are parsed.
+Defaults = dict[str, Any]
 
 OPERAND = "\0"  # Before a word that follows --. No argument has this byte.
 UNKNOWN_OPTION = r"unrecognized arguments: (--?[\w-]+)"
@@ -81,7 +84,7 @@ class Once(argparse.Action):
         values: object,
         option_string: str | None = None,
     ) -> None:
-        if getattr(namespace, self.dest) is not None:
+        if getattr(namespace, self.dest) is not self.default:
             names = "/".join(self.option_strings)
             parser.error(f"{names} is given twice")
         setattr(namespace, self.dest, values)
@@ -216,43 +219,58 @@ def administrators_file(name: str) -> str | None:
     return None
 
 
-def defaults_for(options: Iterable[Option], words: Sequence[str]) -> list[str]:
-    """The words of the lines of the defaults that are for these options; none if the words of the
-    command line turn the defaults off."""
+def defaults_for(options: Iterable[Option], words: Sequence[str]) -> Defaults:
+    """What the lines of the defaults give these options; nothing if the words of the command line
+    turn the defaults off."""
     names = [option.name for option in options]
     before = set(words[: end_of_options(words)])
     if before & {NO_DEFAULTS.name, "--help", "-h", "--version"}:
-        return []
+        return {}
     path = administrators_file("defaults")
     if path is None:
-        return []
-    defaults = []
+        return {}
+    defaults: Defaults = {}
     for line, place in lines_of(path, "the defaults"):
-        name, value = _default_in(line, place)
-        if name not in names:
+        option, text = _default_in(line, place)
+        if option.name not in names:
             continue
-        if not value:
-            defaults.append(name)
-        elif MAY_BE_DEFAULTS[name].number_of_values > 1:
-            defaults += [name, *value.split()]
-        else:
-            defaults.append(f"{name}={value}")
+        value = _value_of(option, text, place)
+        if option.is_repeated:
+            value = [*defaults.get(option.attribute, ()), value]
+        defaults[option.attribute] = value
     return defaults
 
 
-def _default_in(line: bytes, place: str) -> tuple[str, str]:
-    """The option of a line of the defaults, and its value; "" without one."""
+def _default_in(line: bytes, place: str) -> tuple[Option, str]:
+    """The option of a line of the defaults, and the text of its value; "" without one."""
     match = re.fullmatch(DEFAULTS_LINE, os.fsdecode(line))
-    name = match.group(1) if match else ""
-    if match is None or name not in MAY_BE_DEFAULTS:
+    if match is None or match.group(1) not in MAY_BE_DEFAULTS:
         text = shown(line, 100)
         raise Fault(Status.USAGE, f"{place}: this option cannot be a default: {text}")
+    option = MAY_BE_DEFAULTS[match.group(1)]
     value: str = match.group(2) or ""
-    option = MAY_BE_DEFAULTS[name]
     if option.has_value and not value and not option.bare:
-        raise Fault(Status.USAGE, f"{place}: {name} needs a value")
+        raise Fault(Status.USAGE, f"{place}: {option.name} needs a value")
     if option.number_of_values > 1 and len(value.split()) != option.number_of_values:
-        raise Fault(Status.USAGE, f"{place}: {name} needs {option.number_of_values} values")
+        raise Fault(Status.USAGE, f"{place}: {option.name} needs {option.number_of_values} values")
     if value and not option.has_value:
-        raise Fault(Status.USAGE, f"{place}: {name} needs no value")
-    return name, value
+        raise Fault(Status.USAGE, f"{place}: {option.name} needs no value")
+    return option, value
+
+
+def _value_of(option: Option, text: str, place: str) -> object:
+    """The value that the text of a line means."""
+    if not option.has_value:
+        return True
+    if not text:
+        return option.bare
+    if option.choices and text not in option.choices:
+        choices = ", ".join(option.choices)
+        why = f"invalid choice: {shown(text, 100)} (choose from {choices})"
+        raise Fault(Status.USAGE, f"{place}: {option.name}: {why}")
+    try:
+        if option.number_of_values > 1:
+            return [option.kind(word) for word in text.split()]
+        return option.kind(text)
+    except argparse.ArgumentTypeError as error:
+        raise Fault(Status.USAGE, f"{place}: {option.name} {error}") from None

@@ -16,6 +16,8 @@ from aide_compare.commands.accept_question import (
     wanted_after_question,
 )
 from aide_compare.commands.accept_work import Accepted, AcceptRequest, accept
+from aide_compare.commands.defaults import comparison_defaults, exclusions_of
+from aide_compare.compare.comparison import Request
 from aide_compare.compare.state import DAILY, State, read_state
 
 NAME = "aide-compare accept"
@@ -89,10 +91,10 @@ class Reported(NamedTuple):
     why_unknown: str = ""
 
 
-def reported_in(path: Optional[str]) -> Reported:
+def reported_in(path: Optional[str], usual: str = DAILY) -> Reported:
     """What the state file of a comparison says, or the one of each day, which may be missing."""
     try:
-        return Reported(read_state(path or DAILY))
+        return Reported(read_state(path or usual))
     except Fault as fault:
         if path:
             raise
@@ -147,15 +149,24 @@ def main(arguments: Sequence[str]) -> int:
     if args.state and not args.sha256:
         raise Fault(Status.USAGE, "--state goes with --sha256", hint)
     new, baseline = args.files or databases_of_aide()
-    trusted: Sequence[str] = args.trusted or ()
+    machines = Request(old=baseline, new=new)
+    defaults = comparison_defaults(machines, arguments, (STATE, TRUSTED))
+    trusted: Sequence[str] = args.trusted or defaults.get(TRUSTED.attribute, ())
     if args.sha256:
-        reported = reported_in(args.state)
+        reported = reported_in(args.state, defaults.get(STATE.attribute, DAILY))
         digest: str = args.sha256
     else:
-        state = wanted_after_question(new, baseline, trusted)
+        state = wanted_after_question(new, baseline, args.trusted or ())
         reported = Reported(state)
         digest = state.new_sha256
     request = AcceptRequest(
-        new, baseline, digest, args.keep_open, args.trusted_only, args.max_size, trusted
+        new=new,
+        baseline=baseline,
+        digest=digest,
+        keep_open=args.keep_open,
+        only_trusted=args.trusted_only,
+        max_size=args.max_size,
+        trusted=trusted,
+        exclusions=exclusions_of((), ()) if args.trusted_only else None,
     )
     return run(request, reported, args.quiet)

@@ -6,12 +6,11 @@ from collections.abc import Sequence
 
 from aide_compare.base.ending import Fault, Status, tell
 from aide_compare.base.escapes import shown
-from aide_compare.base.options import COMPARISON_DEFAULTS, TRUSTED
-from aide_compare.base.parser import defaults_for
+from aide_compare.base.options import TRUSTED
 from aide_compare.base.terminal import answer_to
 from aide_compare.base.words import minute_of
 from aide_compare.commands.compare import Printer
-from aide_compare.commands.compare_task import Task, compare_request
+from aide_compare.commands.compare_task import Task, request_with_defaults
 from aide_compare.compare.comparison import Request
 from aide_compare.compare.state import State
 from aide_compare.compare.work import named_databases
@@ -36,7 +35,7 @@ def compare_and_print(new: str, baseline: str, trusted: Sequence[str]) -> State:
     words = ["--", baseline, new]
     if trusted:
         words = [TRUSTED.name, *trusted, *words]
-    request = compare_request([*defaults_for(COMPARISON_DEFAULTS, words), *words])
+    request = request_with_defaults(words)
     printer = Printer(request, words)
     ended = Task(printer.task_request, wants_state=True).carry_out(printer)
     if ended.state is None or ended.status > 7:

@@ -6,7 +6,7 @@ import gzip
 import os
 from collections.abc import Iterator, Mapping, Sequence
 from contextlib import suppress
-from typing import NamedTuple, Optional
+from typing import TYPE_CHECKING, NamedTuple, Optional
 
 from aide_compare.base.ending import Fault, Status, write_all
 from aide_compare.base.escapes import shown
@@ -35,6 +35,9 @@ from aide_compare.compare.work import compare
 from aide_compare.lines.reader import reader_over
 from aide_compare.show.told import told_of
 
+if TYPE_CHECKING:
+    from aide_compare.compare.exclusions import Exclusions
+
 SECONDS_TO_COMPARE = 6 * 3600
 
 # Databases by their sides.
@@ -54,6 +57,7 @@ class AcceptRequest(NamedTuple):
     trusted_copies: Mapping[str, Copy] = NO_COPIES  # A pair that was opened before.
     max_report: int = MAX_REPORT_BYTES  # Of the changes that are asked for what is silent.
     is_quiet: bool = False  # Nothing is said of the comparison.
+    exclusions: Optional[Exclusions] = None  # What a comparison leaves out.
 
 
 class Offer:
@@ -124,6 +128,7 @@ def _write_open_keys(request: AcceptRequest, copies: Copies, target: int) -> byt
             new=request.new,
             copies=copies,
             max_report=request.max_report,
+            exclusions=request.exclusions,
         )
     )
     if comparison.status > 7:

@@ -19,9 +19,11 @@ from aide_compare.base.words import counted
 from aide_compare.changes.applied import INFO, KEPT, FieldsByColumn, Upgrades
 from aide_compare.changes.applied import content_of, fits, upgraded
 from aide_compare.changes.signed import Catalog, releases_of
+from aide_compare.compare.comparison import Request
 from aide_compare.compare.kept_open import OLD, EntryReader
 from aide_compare.compare.soundness import refuse_unsound
 from aide_compare.compare.unpack import Copy, copy_database
+from aide_compare.compare.work import named_databases
 
 NAME = "aide-compare archive"
 DEBIANS_KEYRING = "/usr/share/keyrings/debian-archive-keyring.gpg"
@@ -32,7 +34,7 @@ MAX_SECONDS = 1800
 DESCRIPTION = """\
 Writes the database to expect now: OLD, with the files of every new or upgraded package as the
 signed archive has them. A comparison takes OLD and this database as a trusted pair."""
-USAGE = f"{NAME} [OPTIONS] --from DIR ... OLD NEW"
+USAGE = f"{NAME} [OPTIONS] --from DIR ... [OLD NEW]"
 ADVICE = (
     f"it has to name MIRROR/dists/SUITE, or a directory called lists with what the old database has"
     f" in {APTS_LISTS}"
@@ -50,7 +52,9 @@ KEYRING = Option(
     is_repeated=True,
 )
 OUTPUT = Option(
-    "--output", "write to FILE; a copy of OLD if nothing can be applied", metavar="FILE"
+    "--output",
+    "write to FILE, which is a copy of OLD if nothing can be applied, and OLD to FILE.old",
+    metavar="FILE",
 )
 
 
@@ -186,18 +190,21 @@ def upgrades_of(old_copy: Copy, new_copy: Copy, request: ArchiveRequest) -> Upgr
 
 def request_of(arguments: Sequence[str]) -> ArchiveRequest:
     parser = Parser(NAME, DESCRIPTION, "say only what is new or not applied", usage=USAGE)
-    parser.add_operand("databases", "OLD NEW", "two databases of one host", nargs="*")
+    databases = "two databases of one host (those of AIDE's configuration)"
+    parser.add_operand("databases", "OLD NEW", databases, nargs="*")
     parser.add(FROM, KEYRING, OUTPUT, MAX_SIZE, USER)
     args = parser.parse(arguments)
     directories: Sequence[str] = getattr(args, "from")
-    if len(args.databases) != 2 or not directories:
-        raise Fault(Status.USAGE, "name OLD and NEW, and --from", f"try: {NAME} --help")
+    if len(args.databases) not in (0, 2) or not directories:
+        why = "name --from, and both databases, OLD and NEW, or none"
+        raise Fault(Status.USAGE, why, f"try: {NAME} --help")
+    old, new = args.databases or named_databases(Request())
     output = args.output
-    if output and os.path.realpath(output) in map(os.path.realpath, args.databases):
+    if output and os.path.realpath(output) in (os.path.realpath(old), os.path.realpath(new)):
         raise Fault(Status.USAGE, "--output is one of the databases, which would be replaced")
     return ArchiveRequest(
-        old=args.databases[0],
-        new=args.databases[1],
+        old=old,
+        new=new,
         directories=directories,
         keyrings=args.keyring or [DEBIANS_KEYRING],
         output=output,
@@ -215,7 +222,8 @@ def main(arguments: Sequence[str]) -> int:
     limit_time(MAX_SECONDS)
     old = copy_database("old", request.old, request.max_size)
     if request.output:  # However this ends from here on, that of another night is gone.
-        replace_by_copy(request.output, old.fd, PRIVATE, "the database")
+        for path in (request.output, f"{request.output}.old"):
+            replace_by_copy(path, old.fd, PRIVATE, "the database")
     new = copy_database("new", request.new, request.max_size)
     refuse_unsound(new, old)
     upgrades = upgrades_of(old, new, request)

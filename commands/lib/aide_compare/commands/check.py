@@ -137,7 +137,8 @@ def request_of(arguments: list[str]) -> CheckRequest:
         CRITICAL,
         NO_DEFAULTS,
     )
-    args = parser.parse(defaults_for(CHECK_DEFAULTS, arguments) + arguments)
+    parser.set_defaults(**defaults_for(CHECK_DEFAULTS, arguments))
+    args = parser.parse(arguments)
     return CheckRequest(args.state, args.max_age, args.alarm, args.warning, args.critical)
 
 

@@ -9,8 +9,6 @@ from aide_compare.base import progress
 from aide_compare.base.ending import Fault, Status, failing, say, write_all, write_blocks
 from aide_compare.base.escapes import guarded, shown
 from aide_compare.base.files import copy_file
-from aide_compare.base.options import COMPARISON_DEFAULTS
-from aide_compare.base.parser import defaults_for
 from aide_compare.base.rights import give_up
 from aide_compare.base.words import date_of, words_of_side
 from aide_compare.commands.compare_task import (
@@ -21,6 +19,7 @@ from aide_compare.commands.compare_task import (
     check_databases,
     compare_request,
     keep_failure,
+    request_with_defaults,
 )
 from aide_compare.compare.comparison import Comparison
 from aide_compare.compare.work import report_of
@@ -162,12 +161,10 @@ class Printer(Reporter):
             write_all(1, text.partition(b"\n")[0] + b"\n")
 
 
-def task_of(request: CompareRequest, arguments: Sequence[str]) -> tuple[Task, Printer]:
-    """The comparison that arguments ask for with the administrator's defaults before them, and who
-    prints it. `request` is what the arguments alone ask for."""
-    defaults = defaults_for(COMPARISON_DEFAULTS, arguments)
-    if defaults:
-        request = compare_request([*defaults, *arguments])
+def task_of(arguments: Sequence[str]) -> tuple[Task, Printer]:
+    """The comparison that arguments ask for with the administrator's defaults, and who prints
+    it."""
+    request = request_with_defaults(arguments)
     printer = Printer(request, arguments)
     if not request.is_quiet:
         progress.begin(2)
@@ -181,7 +178,7 @@ def main(arguments: Sequence[str]) -> int:
     if own_request.user:
         give_up(own_request.user)
     try:
-        task, printer = task_of(own_request, arguments)
+        task, printer = task_of(arguments)
     except Fault as fault:
         keep_failure(own_request.state, fault)
         raise

@@ -24,10 +24,11 @@ from aide_compare.base.options import (
     USER,
     Option,
 )
-from aide_compare.base.parser import Parser, administrators_file
+from aide_compare.base.parser import Defaults, Parser
 from aide_compare.base.program import KNOWN
 from aide_compare.base.replacement import ANYBODY_READS
 from aide_compare.base.rights import name_of, run_as
+from aide_compare.commands.defaults import comparison_defaults, exclusions_of
 from aide_compare.compare.comparison import Comparison, Request
 from aide_compare.compare.outputs import Output, open_output, owner_of, rights_hint, state_in
 from aide_compare.compare.state import State
@@ -37,7 +38,6 @@ from aide_compare.lines.change import Counts
 
 if TYPE_CHECKING:
     from aide_compare.changes.judged import Judged
-    from aide_compare.compare.exclusions import Exclusions
 
 NAME = "aide-compare compare"
 DESCRIPTION = """Compares two AIDE databases, plain or compressed by gzip, and prints what differs,
@@ -92,8 +92,13 @@ def own_parser() -> Parser:
     return parser
 
 
-def compare_request(arguments: Sequence[str]) -> CompareRequest:
-    args = own_parser().parse(arguments)
+def compare_request(
+    arguments: Sequence[str], defaults: Optional[Defaults] = None
+) -> CompareRequest:
+    """What the arguments ask for, and the defaults where these say nothing."""
+    parser = own_parser()
+    parser.set_defaults(**(defaults or {}))
+    args = parser.parse(arguments)
     return CompareRequest(
         databases=args.databases,
         configuration=args.config,
@@ -123,19 +128,23 @@ def check_databases(databases: Sequence[str]) -> None:
         raise Fault(Status.USAGE, f"more than two databases: {shown(databases[-1], 200)}", TRY)
 
 
-def exclusions_of(
-    paths: Sequence[str], patterns: Sequence[str], reads_defaults: bool
-) -> Optional[Exclusions]:
-    """The lines that leave entries out: those of the options, or those of the administrator."""
-    if not paths and reads_defaults:
-        usual = administrators_file("without")
-        if usual:
-            paths = [usual]
-    if not paths and not patterns:
-        return None
-    from aide_compare.compare.exclusions import read_exclusions
+def plain_request(request: CompareRequest) -> Request:
+    """The databases that are compared, and how."""
+    old, new = request.databases or (None, None)
+    return Request(
+        old=old,
+        new=new,
+        configuration=request.configuration,
+        before=request.before,
+        after=request.after,
+    )
 
-    return read_exclusions(paths, patterns)
+
+def request_with_defaults(arguments: Sequence[str]) -> CompareRequest:
+    """What the arguments ask for, and the administrator's defaults where these say nothing."""
+    request = compare_request(arguments)
+    check_databases(request.databases)
+    return compare_request(arguments, comparison_defaults(plain_request(request), arguments))
 
 
 def work_request(request: CompareRequest) -> Request:
@@ -143,21 +152,13 @@ def work_request(request: CompareRequest) -> Request:
     check_databases(request.databases)
     if [*request.databases, *request.trusted].count("-") > 1:
         raise Fault(Status.USAGE, "standard input has one database only")
-    excluded = exclusions_of(request.exclude_from, request.exclude, request.reads_defaults)
-    wanted = Request(
-        configuration=request.configuration,
-        before=request.before,
-        after=request.after,
+    return plain_request(request)._replace(
         max_size=request.max_size,
         max_report=request.max_report,
         max_age=request.max_age,
-        exclusions=excluded,
+        exclusions=exclusions_of(request.exclude_from, request.exclude, request.reads_defaults),
         trusted=request.trusted,
     )
-    if not request.databases:
-        return wanted
-    old, new = request.databases
-    return wanted._replace(old=old, new=new)
 
 
 def keep_failure(path: Optional[str], error: Exception) -> None:

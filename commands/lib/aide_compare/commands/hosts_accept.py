@@ -27,7 +27,7 @@ from aide_compare.base.words import TRUSTED_SIDES, counted
 from aide_compare.commands import accept
 from aide_compare.commands.accept_work import AcceptRequest
 from aide_compare.commands.accept_work import accept as accept_database
-from aide_compare.commands.compare_task import exclusions_of
+from aide_compare.commands.defaults import exclusions_of
 from aide_compare.compare.exclusions import Exclusions
 from aide_compare.compare.soundness import refuse_unsound
 from aide_compare.compare.state import State, read_state
@@ -222,8 +222,9 @@ def own_parser() -> Parser:
 
 
 def request_of(arguments: Sequence[str]) -> HostAcceptRequest:
-    defaults = defaults_for((EXCLUDE_FROM, EXCLUDE), arguments)
-    args = own_parser().parse([*defaults, *arguments])
+    parser = own_parser()
+    parser.set_defaults(**defaults_for((EXCLUDE_FROM, EXCLUDE), arguments))
+    args = parser.parse(arguments)
     if args.keep_open and not args.sha256:
         raise Fault(Status.USAGE, "--keep-open goes with --sha256", HINT)
     if not args.operand and not args.trusted_only:

@@ -23,7 +23,7 @@ from aide_compare.base.options import (
     Option,
 )
 from aide_compare.base.parser import Parser, defaults_for
-from aide_compare.commands.compare_task import exclusions_of
+from aide_compare.commands.defaults import exclusions_of
 from aide_compare.compare.state import State, is_alarm
 from aide_compare.hosts.canary import Run, failed_note, keep_run, trusted_pair, used_note
 from aide_compare.hosts.fetching import fetch
@@ -212,8 +212,9 @@ def own_parser() -> Parser:
 
 def request_of(arguments: Sequence[str]) -> HostsCompareRequest:
     # Of the defaults only what is left out: a trusted pair there is one of this machine.
-    defaults = defaults_for((EXCLUDE_FROM, EXCLUDE), arguments)
-    args = own_parser().parse([*defaults, *arguments])
+    parser = own_parser()
+    parser.set_defaults(**defaults_for((EXCLUDE_FROM, EXCLUDE), arguments))
+    args = parser.parse(arguments)
     settings = Settings(
         store=args.store,
         seconds=args.time,

@@ -7,7 +7,12 @@ from typing import TYPE_CHECKING, NamedTuple, Optional
 
 from aide_compare.base.kinds import refusal
 from aide_compare.base.options import Option
-from aide_compare.commands.streams import parser_of_changes, stream_request, write_changes
+from aide_compare.commands.streams import (
+    arguments_of,
+    parser_of_changes,
+    stream_request,
+    write_changes,
+)
 from aide_compare.lines.change import Fields
 
 if TYPE_CHECKING:
@@ -90,7 +95,7 @@ def main(arguments: Sequence[str]) -> int:
         ),
         Option("--names", "the names that this host has for numbers of users and groups, as texts"),
     )
-    args = parser.parse(arguments)
+    args = arguments_of(parser, arguments)
     wanted: Sequence[Member] = getattr(args, "with")
     members: Fields = dict(wanted)
     if len(members) < len(wanted) or len(members) > MAX_MEMBERS:

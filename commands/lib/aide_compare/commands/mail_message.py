@@ -1,14 +1,13 @@
 """The mail of a comparison: its subject, its lines and its page."""
 from __future__ import annotations
 
-import os
 from collections.abc import Iterable, Iterator, Sequence
 from contextlib import suppress
 from typing import NamedTuple, Optional
 
 from aide_compare.base.ending import Fault, Status, why_of, write_all
 from aide_compare.base.escapes import guarded
-from aide_compare.base.options import TRUSTED
+from aide_compare.base.options import NO_DEFAULTS, TRUSTED
 from aide_compare.changes.judged import Judged
 from aide_compare.commands.mail_request import NAME, MailRequest
 from aide_compare.compare.comparison import Comparison
@@ -75,7 +74,7 @@ def lines_of_mail(
     warnings = [guarded(warning) for warning in comparison.warnings]
     if not comparison.differs:
         return [*note_lines(warnings), *note_lines(notes)]
-    mail = Mail(comparison.state(), warnings, notes, page_options(request, comparison))
+    mail = Mail(comparison.state(), warnings, notes, page_options(request))
     if judged is None:
         lines = comparison.known_lines()
         changes = whole_changes(reader_over(lines.fd))
@@ -83,25 +82,27 @@ def lines_of_mail(
     return text_of_changes(mail, judged)
 
 
-def page_options(request: MailRequest, comparison: Comparison) -> list[str]:
-    """The options with which aide-compare page shows the same changes."""
-    wanted = request.comparison
-    if isinstance(wanted, Fault):
+def page_options(request: MailRequest) -> list[str]:
+    """The options with which aide-compare page shows the same changes. It reads the same
+    defaults."""
+    asked = request.asked
+    if isinstance(asked, Fault):
         return []
     words = []
     for name, value in (
-        ("config", wanted.configuration),
-        ("before", wanted.before),
-        ("after", wanted.after),
+        ("config", asked.configuration),
+        ("before", asked.before),
+        ("after", asked.after),
     ):
         if value:
             words.append(f"--{name}={value}")
-    if wanted.trusted:
-        words += [TRUSTED.name, *wanted.trusted]
-    if comparison.request.exclusions:
-        paths = comparison.request.exclusions.lists
-        words += [f"--exclude-from={os.fsdecode(path)}" for path in paths]
-    return words + [f"--exclude={pattern}" for pattern in wanted.exclude]
+    if asked.trusted:
+        words += [TRUSTED.name, *asked.trusted]
+    words += [f"--exclude-from={path}" for path in asked.exclude_from]
+    words += [f"--exclude={pattern}" for pattern in asked.exclude]
+    if not asked.reads_defaults:
+        words.append(NO_DEFAULTS.name)
+    return words
 
 
 def whole_changes(reader: Reader) -> Iterator[Change]:

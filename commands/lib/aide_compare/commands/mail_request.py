@@ -3,7 +3,7 @@ comparison."""
 from __future__ import annotations
 
 import argparse
-from collections.abc import Sequence
+from collections.abc import Callable, Sequence
 from typing import NamedTuple, Optional, Union
 
 from aide_compare.base import progress
@@ -12,7 +12,6 @@ from aide_compare.base.escapes import shown
 from aide_compare.base.kinds import Server, unit_name
 from aide_compare.base.options import (
     ALARM,
-    COMPARISON_DEFAULTS,
     DAYS,
     ATTACH_PAGE,
     MAIL_DEFAULTS,
@@ -25,8 +24,13 @@ from aide_compare.base.options import (
     WEEKLY,
     Option,
 )
-from aide_compare.base.parser import Parser, defaults_for, end_of_options
-from aide_compare.commands.compare_task import CompareRequest, compare_request
+from aide_compare.base.parser import Defaults, Parser, defaults_for, end_of_options
+from aide_compare.commands.compare_task import (
+    CompareRequest,
+    compare_request,
+    plain_request,
+)
+from aide_compare.commands.defaults import comparison_defaults
 from aide_compare.compare.outputs import descriptor_of
 
 NAME = "aide-compare mail"
@@ -42,6 +46,7 @@ class MailRequest(NamedTuple):
     """What the options ask for."""
 
     comparison: Union[CompareRequest, Fault]  # A Fault in its options is mailed.
+    asked: Union[CompareRequest, Fault]  # What the command line alone asks for.
     default_fault: str  # What is wrong with the defaults; "" if nothing is.
     address: str
     max_mail: int
@@ -95,20 +100,26 @@ def with_days(words: Sequence[str]) -> list[str]:
 
 
 def comparison_of(
-    words: Sequence[str], user: Optional[str], state: Optional[str]
+    words: Sequence[str], args: argparse.Namespace, defaults: Optional[Defaults] = None
 ) -> Union[CompareRequest, Fault]:
     """What is compared; the Fault if the words do not say it."""
     try:
-        return compare_request(words)._replace(user=user, state=state)
+        return compare_request(words, defaults)._replace(user=args.user, state=args.state)
     except Fault as fault:
         return fault
 
 
-def parsed(words: Sequence[str]) -> MailRequest:
-    """What the words ask for; a Fault for those that mean nothing without another one."""
-    args, others = own_parser().parse_own(with_days(words))
+def parsed(
+    words: Sequence[str], own: Optional[Defaults] = None, others: Optional[Defaults] = None
+) -> MailRequest:
+    """What the words ask for, and the defaults of a mail and those of a comparison where these say
+    nothing; a Fault for words that mean nothing without another one."""
+    parser = own_parser()
+    parser.set_defaults(**(own or {}))
+    args, rest = parser.parse_own(with_days(words))
     request = MailRequest(
-        comparison=comparison_of(others, args.user, args.state),
+        comparison=comparison_of(rest, args, others),
+        asked=comparison_of(rest, args),
         default_fault="",
         address=args.to,
         max_mail=args.max_mail,
@@ -148,42 +159,46 @@ def check(request: MailRequest, databases: Sequence[str]) -> None:
         raise Fault(Status.USAGE, "with --send-queue or --test no databases are compared")
 
 
-class Defaults(NamedTuple):
-    """The administrator's defaults, as words of a command line."""
-
-    own: Sequence[str]  # Those of a mail.
-    others: Sequence[str]  # Those of a comparison.
-    fault: Optional[Fault]  # Why they cannot be read; then there are none.
-
-
-def own_defaults(words: Sequence[str]) -> list[str]:
-    """The defaults of a mail. A command by hand keeps no number of quiet runs."""
-    options = words[: end_of_options(words)]
-    keeps_state = any(word.partition("=")[0] == STATE.name for word in options)
-    return defaults_for([row for row in MAIL_DEFAULTS if keeps_state or row != WEEKLY], words)
+def others_of(request: MailRequest, words: Sequence[str], note: Callable[[str], None]) -> Defaults:
+    """The defaults of the comparison that a mail is about, if it is about one."""
+    asked = request.asked
+    if isinstance(asked, Fault) or request.send_queue or request.is_test:
+        return {}
+    if len(asked.databases) not in (0, 2):
+        return {}
+    return comparison_defaults(plain_request(asked), words, note=note)
 
 
-def read_defaults(words: Sequence[str]) -> Defaults:
-    """The defaults before the words of a command line."""
+def own_of(request: MailRequest, words: Sequence[str], state: object) -> Defaults:
+    """The defaults of a mail. A run that keeps no state keeps no number of quiet runs."""
+    keeps_state = state is not None or request.state is not None
+    rows = [row for row in MAIL_DEFAULTS if keeps_state or row != WEEKLY]
+    return defaults_for(rows, words)
+
+
+def attempted(read: Callable[[], Defaults]) -> tuple[Defaults, Optional[Fault]]:
+    """The defaults, or the Fault in them."""
     try:
-        return Defaults(own_defaults(words), defaults_for(COMPARISON_DEFAULTS, words), None)
+        return read(), None
     except Fault as fault:
-        return Defaults((), (), fault)
+        return {}, fault
 
 
 def request_of(words: Sequence[str]) -> MailRequest:
-    """What the options ask for, with the administrator's defaults before them. A fault in the
-    defaults costs no mail, and the mail says it."""
-    defaults = read_defaults(words)
-    why = defaults.fault
-    try:
-        request = parsed([*defaults.own, *defaults.others, *words])
-    except Fault as fault:  # It is in the defaults of a mail, or comes again without them.
-        request = parsed([*defaults.others, *words])
-        why = fault
+    """What the options ask for, and the administrator's defaults where they say nothing. A fault in
+    the defaults costs no mail, and the mail says it."""
+    plain = parsed(words)
+    notes: list[str] = []
+    others, fault = attempted(lambda: others_of(plain, words, notes.append))
+    state = others.pop(STATE.attribute, None)
+    own, own_fault = attempted(lambda: own_of(plain, words, state))
+    if state is not None:
+        own[STATE.attribute] = state
+    request = parsed(words, own, others)
+    if fault:
+        request = request._replace(comparison=fault)
+    why = fault or own_fault
     if why:
         say(why.text)
-        request = request._replace(default_fault=why.text)
-    if defaults.fault and not isinstance(request.comparison, Fault):
-        return request._replace(comparison=defaults.fault)
-    return request
+        notes.insert(0, why.text)
+    return request._replace(default_fault="; ".join(notes))

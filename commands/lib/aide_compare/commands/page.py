@@ -6,7 +6,12 @@ from typing import TYPE_CHECKING, NamedTuple, Optional
 
 from aide_compare.base.kinds import any_text
 from aide_compare.base.options import Option
-from aide_compare.commands.streams import parser_of_changes, stream_request, write_changes
+from aide_compare.commands.streams import (
+    arguments_of,
+    parser_of_changes,
+    stream_request,
+    write_changes,
+)
 
 if TYPE_CHECKING:
     from aide_compare.changes.judged import Judged
@@ -46,6 +51,6 @@ def main(arguments: Sequence[str]) -> int:
         Option("--title", title, metavar="TEXT", kind=any_text, default=""),
         Option("--plain", "no script: the list only, as for mail"),
     )
-    args = parser.parse(arguments)
+    args = arguments_of(parser, arguments)
     form = PageForm(args.title, args.plain)
     return write_changes(stream_request(args), form.parts)

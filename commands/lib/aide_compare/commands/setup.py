@@ -24,15 +24,16 @@ from aide_compare.commands.setup_machine import (
     OTHERS,
     PATHS,
     aides_user,
+    has_signed,
     make_cron_job,
     make_signed,
     make_without,
     next_time,
-    options_there,
     run_shown,
     says_yes,
-    status_of,
+    status_of_errors,
 )
+from aide_compare.commands.setup_options import DAILY, has_options, options_there, write_options
 
 NAME = "aide-compare setup"
 DESCRIPTION = """\
@@ -42,7 +43,6 @@ EPILOG = (
     "Status: 0 done, or nothing is missing; 18 a step failed, or --check found something missing;"
     " 15 bad arguments."
 )
-DAILY = "daily"
 TIMER = "aide-compare.timer"
 DATABASE_STARTS = (b"\x1f\x8b", b"@@begin_db", b"#")
 SECONDS_OF_INIT = 6 * 3600
@@ -56,11 +56,6 @@ MAIL = (
     "    Recorded, as dpkg on this host says:",
     "      openssl 3.0.17-1: 41 files",
 )
-DEFAULTS_TEXT = """\
-# Options of aide-compare, aide-compare mail and check_aide_compare, one a line. See
-# aide-compare-setup(8).
---max-age 50h
---weekly Mon"""
 # What aide-compare archive reads. What a newer package replaces goes again.
 APT_TEXT = b"""\
 // Packages stay for aide-compare archive. See aide-compare-setup(8).
@@ -206,7 +201,8 @@ class Machine:
         paths = [os.path.join(PATHS.databases, name) for name in self.names]
         if os.geteuid() != 0 or not all(map(os.path.lexists, paths)):
             return None
-        return status_of(["aide-compare", "--quiet"], SECONDS_OF_COMPARISON)
+        words = ["aide-compare", "--quiet", "--state", "-"]  # And not in its usual place.
+        return status_of_errors(words, SECONDS_OF_COMPARISON)
 
     def send_test(self) -> None:
         if not self.request.wants_mail or self.request.changes_nothing:
@@ -222,14 +218,6 @@ class Machine:
         except Fault:
             advice = "install a mail system, or go on with --no-mail"
             raise Fault(Status.DEVICE, f"the test mail was not sent; {advice}")
-
-    def write_options(self) -> None:
-        """Writes the administrator's file of options, as it is at first."""
-        lines = [" ".join(words) for words in self.options_asked().items()]
-        if os.path.lexists(PATHS.defaults):
-            text = f"{PATHS.defaults} stays as it is; write there: {shown(', '.join(lines))}"
-            raise Fault(Status.DEVICE, text)
-        replace(PATHS.defaults, "\n".join([DEFAULTS_TEXT, *lines, ""]).encode())
 
     def job(self) -> Step:
         if self.has_timer:
@@ -248,15 +236,15 @@ class Machine:
             keep = partial(replace, PATHS.apt, APT_TEXT)
             yield Step(title, os.path.lexists(PATHS.apt), keep)
         title = f"options of each day: {PATHS.defaults}"
-        has_all = self.options_asked().items() <= options_there().items()
-        has_options = os.path.lexists(PATHS.defaults) and has_all
-        yield Step(title, has_options, self.write_options)
+        asked = self.options_asked()
+        write = partial(write_options, asked, self.is_debian)
+        yield Step(title, has_options(asked, self.is_debian), write)
         directory = os.path.join(PATHS.own_directory, DAILY)
         title = f"a directory of {user}'s: {directory}"
         yield Step(title, self.owns(directory), self.make_directory)
         if self.is_debian and self.has_timer:
             title = f"upgrades to signed packages are silent: {PATHS.signed}"
-            yield Step(title, os.path.lexists(PATHS.signed), make_signed)
+            yield Step(title, has_signed(), make_signed)
         self.refuse_other_job()
         yield self.job()
         self.send_test()

@@ -12,7 +12,6 @@ from typing import NamedTuple
 
 from aide_compare.base.ending import Fault, Status, failing, tell
 from aide_compare.base.files import read_file
-from aide_compare.base.parser import DEFAULTS_LINE
 from aide_compare.base.processes import run, run_here
 from aide_compare.base.program import Drain
 from aide_compare.base.replacement import replace
@@ -48,7 +47,7 @@ MAX_ANSWER = 1000
 ENVIRONMENT = {"PATH": PROGRAM_PATH, "LC_ALL": "C.UTF-8", "HOME": "/root"}
 AIDES_USER = "_aide"
 MAX_EXAMPLE = 1 << 20
-MAX_DEFAULTS = 1 << 16
+OLD_VARIABLE = b"TRUSTED="
 SECONDS = 600
 DATE = re.compile("[A-Za-z0-9 :+-]{10,60}")
 
@@ -87,6 +86,14 @@ def make_without() -> None:
     replace(PATHS.without, example("aide/debian.without"))
 
 
+def has_signed() -> bool:
+    """Whether the file beside the unit is there. That of a former version gave the unit options,
+    which are among the defaults now."""
+    with suppress(Fault, OSError):
+        return OLD_VARIABLE not in read_file(PATHS.signed, MAX_EXAMPLE)
+    return False
+
+
 def make_signed() -> None:
     replace(PATHS.signed, example("aide/signed.conf"))
     run_shown(["systemctl", "daemon-reload"])
@@ -100,6 +107,13 @@ def status_of(words: Sequence[str], seconds: int) -> int:
     """The status with which a program of the system ends, which writes where this command does."""
     with failing(f"cannot run {words[0]}"):
         return run_here(words, seconds, ENVIRONMENT)
+
+
+def status_of_errors(words: Sequence[str], seconds: int) -> int:
+    """The same of a program of which only the errors are shown."""
+    takers = {1: Drain(0, bytearray().extend).take}
+    with failing(f"cannot run {words[0]}"):
+        return run(words, takers, {2: 2}, ENVIRONMENT, time.monotonic() + seconds)
 
 
 def says_yes(words: Sequence[str]) -> bool:
@@ -129,12 +143,3 @@ def next_time(timer: str) -> str:
     if DATE.fullmatch(date):
         return date
     return ""
-
-
-def options_there() -> dict[str, str]:
-    """The options of each day, which an administrator may have changed."""
-    with suppress(Fault, OSError):
-        lines = os.fsdecode(read_file(PATHS.defaults, MAX_DEFAULTS)).split("\n")
-        found = (re.fullmatch(DEFAULTS_LINE, line.strip()) for line in lines)
-        return {match.group(1): match.group(2) or "" for match in found if match}
-    return {}

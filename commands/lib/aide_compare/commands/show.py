@@ -13,6 +13,7 @@ from aide_compare.base.options import MAX_SIZE, TRUSTED, USER
 from aide_compare.base.parser import Parser
 from aide_compare.base.paths import key_of_path
 from aide_compare.base.words import TRUSTED_SIDES, date_of, words_of_side
+from aide_compare.commands.defaults import comparison_defaults
 from aide_compare.compare.comparison import Request
 from aide_compare.compare.kept_open import EntryReader
 from aide_compare.compare.soundness import refuse_unsound
@@ -193,7 +194,9 @@ def request_of(arguments: Sequence[str]) -> ShowRequest:
 
         give_up(args.user)
     old, new = args.databases or named_databases(Request())
-    return ShowRequest(path, old, new, args.max_size, args.trusted or ())
+    defaults = comparison_defaults(Request(old=old, new=new), arguments, (TRUSTED,))
+    trusted = args.trusted or defaults.get(TRUSTED.attribute, ())
+    return ShowRequest(path, old, new, args.max_size, trusted)
 
 
 def main(arguments: Sequence[str]) -> int:

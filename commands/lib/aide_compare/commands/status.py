@@ -12,7 +12,7 @@ from aide_compare.base.escapes import guarded, shown
 from aide_compare.base.files import given_descriptor
 from aide_compare.base.replacement import replace
 from aide_compare.base.options import RESULT_AGE, STATE, STORE, Option
-from aide_compare.base.parser import Parser
+from aide_compare.base.parser import Parser, defaults_for
 from aide_compare.base.words import SEVERITIES, date_of, minute_of
 from aide_compare.compare.state import DAILY, KEYS, NUMBER, State, not_compared, read_state
 from aide_compare.lines.change import Counts
@@ -245,6 +245,7 @@ def request_of(arguments: Sequence[str]) -> StatusRequest:
     parser.add_operand("output", "OUTPUT", output, nargs="?", default=STDOUT)
     state = f"the state file that aide-compare wrote ({DAILY})"
     parser.add(STATE._replace(default=DAILY, help=state), RESULT_AGE)
+    parser.set_defaults(**defaults_for((STATE,), arguments))
     args = parser.parse(arguments)
     is_conditional = args.quiet or args.max_age != RESULT_AGE.default
     if is_conditional and args.format not in ("text", "line"):

@@ -18,6 +18,7 @@ from aide_compare.base.options import (
     EXCLUDE,
     EXCLUDE_FROM,
     MAX_SIZE,
+    NO_DEFAULTS,
     TRUSTED,
 )
 from aide_compare.base.parser import Parser
@@ -38,7 +39,7 @@ STDIN = "-"
 class StreamRequest(NamedTuple):
     """What is read: two databases, or one file of lines."""
 
-    files: Sequence[str]
+    files: Sequence[str]  # Without any AIDE's configuration names both databases.
     configuration: Optional[str]
     before: str
     after: str
@@ -46,26 +47,43 @@ class StreamRequest(NamedTuple):
     exclude: Sequence[str]
     trusted: Sequence[str]  # The paths of a trusted pair, or none.
     max_size: int
+    reads_defaults: bool
     is_quiet: bool
     is_verbose: bool
 
 
 def parser_of_changes(name: str, description: str, epilog: str) -> Parser:
     """The options of a command that takes two databases, or lines."""
-    usage = "%(prog)s [OPTIONS] [LINES]\n       %(prog)s [OPTIONS] OLD NEW"
+    usage = "%(prog)s [OPTIONS] [OLD NEW]\n       %(prog)s [OPTIONS] LINES"
     parser = Parser(name, description, epilog=epilog, usage=usage)
-    files = 'two databases, or one file of lines; "-" is standard input'
+    files = (
+        "two databases (those of AIDE's configuration), or a file of lines, - for standard input"
+    )
     parser.add_operand("files", "OLD NEW", files, nargs="*")
     parser.add(CONFIG._replace(help="the configuration for the two databases (/dev/null)"))
-    parser.add(AFTER, BEFORE, EXCLUDE_FROM, EXCLUDE, TRUSTED, MAX_SIZE)
+    parser.add(AFTER, BEFORE, EXCLUDE_FROM, EXCLUDE, TRUSTED, MAX_SIZE, NO_DEFAULTS)
     return parser
+
+
+def arguments_of(parser: Parser, arguments: Sequence[str]) -> argparse.Namespace:
+    """What the arguments of such a command ask for, and for two databases the administrator's
+    defaults where these say nothing."""
+    args = parser.parse(arguments)
+    if len(args.files) in (0, 2):
+        from aide_compare.commands.defaults import comparison_defaults
+
+        options = (CONFIG, EXCLUDE_FROM, EXCLUDE, TRUSTED, MAX_SIZE)
+        request = plain_request(stream_request(args))
+        parser.set_defaults(**comparison_defaults(request, arguments, options))
+        args = parser.parse(arguments)
+    return args
 
 
 def stream_request(args: argparse.Namespace) -> StreamRequest:
     """What the options of such a command ask for; a Fault if they do not go together."""
     is_of_databases = args.config or args.before or args.after or args.trusted
     is_of_databases = is_of_databases or args.exclude or args.exclude_from
-    if len(args.files) > 2 or (len(args.files) < 2 and is_of_databases):
+    if len(args.files) > 2 or (len(args.files) == 1 and is_of_databases):
         raise Fault(Status.USAGE, "name two databases, OLD and NEW, or one file of lines")
     trusted: Sequence[str] = args.trusted or ()
     if [*args.files, *trusted].count(STDIN) > 1:
@@ -79,6 +97,7 @@ def stream_request(args: argparse.Namespace) -> StreamRequest:
         exclude=args.exclude,
         trusted=trusted,
         max_size=args.max_size,
+        reads_defaults=not args.no_defaults,
         is_quiet=args.quiet,
         is_verbose=args.verbose,
     )
@@ -107,24 +126,32 @@ def write_of_lines(path: str, writer: Writer) -> int:
             while block := file.read(BLOCK):
                 write_all(1, block)
     except Refused as refused:
-        raise Fault(REFUSED, str(refused)) from None
+        hint = "lines are what aide-compare json writes; of databases name two, OLD and NEW"
+        raise Fault(REFUSED, str(refused), hint) from None
     return Status.OK
 
 
-def work_request(request: StreamRequest) -> Request:
-    """What is compared, and how."""
+def plain_request(request: StreamRequest) -> Request:
+    """The databases that are compared, and how."""
     from aide_compare.compare.comparison import Request
-    from aide_compare.compare.exclusions import read_exclusions
 
-    old, new = request.files
+    old, new = request.files or (None, None)
     return Request(
         old=old,
         new=new,
         configuration=request.configuration,
         before=request.before,
         after=request.after,
+    )
+
+
+def work_request(request: StreamRequest) -> Request:
+    """What is compared, and how."""
+    from aide_compare.commands.defaults import exclusions_of
+
+    return plain_request(request)._replace(
         max_size=request.max_size,
-        exclusions=read_exclusions(request.exclude_from, request.exclude),
+        exclusions=exclusions_of(request.exclude_from, request.exclude, request.reads_defaults),
         trusted=request.trusted,
     )
 
@@ -155,8 +182,6 @@ def write_of_databases(request: StreamRequest, writer: Writer) -> int:
 
 def write_changes(request: StreamRequest, writer: Writer) -> int:
     """Writes a stream of two databases, or of lines. Returns the status of the comparison, or 0."""
-    if len(request.files) == 2:
-        return write_of_databases(request, writer)
-    if request.files:
+    if len(request.files) == 1:
         return write_of_lines(request.files[0], writer)
-    return write_of_lines(STDIN, writer)
+    return write_of_databases(request, writer)

@@ -1,0 +1,199 @@
+"""After a night of signed upgrades the timer, cron, a command by hand, accept, the page, status and
+the check have the same counts, by the administrator's defaults."""
+from __future__ import annotations
+
+import json
+import os
+import re
+import shlex
+import shutil
+
+from tests.lib.scratch import read
+from tests.commands import mail
+from tests.commands.sandbox import CommandTest, sha256
+from tests.commands.signed_archive import (
+    CONFIGURATION,
+    HOME,
+    TOOL,
+    Place,
+    keep_as_apt,
+    make_keys,
+    stop_agents,
+    upgraded,
+)
+
+PROGRAMS = ("gpg", "gpgv", "dpkg-deb")
+PAIR = ("base/aide.db", "base/aide.db.new")
+# What setup writes, and what an administrator may have beside it.
+DEFAULTS = """\
+--max-age 50h
+--weekly Mon
+--to a@b.example
+--state /var/lib/aide-compare/daily/state
+--trusted /var/lib/aide-compare/daily/signed.db.old /var/lib/aide-compare/daily/signed.db
+"""
+LEFT_OUT = b"/var/log/of-the-night"
+
+
+def started(path: str, name: str) -> list[str]:
+    """The words of the command that a line of a unit starts, without the program."""
+    lines = read(f"contrib/{path}").splitlines()
+    line = next(line for line in lines if line.startswith(name + "="))
+    return shlex.split(line.partition("=")[2])[1:]
+
+
+class OneTruthTest(CommandTest):
+    def setUp(self) -> None:
+        super().setUp()
+        missing = [name for name in PROGRAMS if shutil.which(name) is None]
+        if missing:
+            self.skipTest("not installed: " + " ".join(missing))
+        mail.prepare(self)
+        make_keys(self)
+        self.addCleanup(stop_agents, self)
+        self.place = upgraded(self)
+        self.place.sign()
+        keep_as_apt(self, self.place)
+        self.place.new.file(LEFT_OUT, b"a log\n")
+        self.write("etc/without", os.fsdecode(LEFT_OUT) + "\n")
+        self.write("etc/defaults", self.below(DEFAULTS))
+        names = map(self.path, PAIR)
+        self.write("aide.conf", "database_in=file:{}\ndatabase_out=file:{}\n".format(*names))
+        self.put(self.place)
+
+    def put(self, place: Place) -> None:
+        for path, night in zip(PAIR, (place.old, place.new)):
+            self.write(path, night.database())
+
+    def below(self, text: str) -> str:
+        """A text with the paths of this test."""
+        for name, place in HOME.items():
+            text = text.replace(name, self.path(place))
+        return text
+
+    def make_pair(self) -> None:
+        """What the timer does before it compares."""
+        words = started("aide/signed.conf", "ExecStartPre")
+        words = [self.below(word) for word in words]
+        keyring = f"--keyring={self.path('keys.gpg')}"
+        self.answered(0, b"", None, "aide-compare", *words, keyring)
+
+    def counts(self) -> str:
+        """The counts of the state that the last command has written, which is taken away."""
+        state = self.state("base/state")
+        os.remove(self.path("base/state"))
+        return " ".join(state[name] for name in ("open", "recorded", "trusted", "same"))
+
+    def by_timer(self) -> None:
+        words = [self.below(word) for word in started("systemd/aide-compare.service", "ExecStart")]
+        self.answered(0, b"", b"", "aide-compare", *words)
+
+    def by_cron(self) -> None:
+        lines = read("contrib/cron/aide-compare.cron.daily").splitlines()
+        line = next(line for line in lines if line.startswith("/usr/local/bin/aide-compare mail"))
+        words = [word for word in shlex.split(line)[1:] if "user" not in word]
+        self.answered(0, b"", b"", "aide-compare", *words)
+
+    def accepted(self) -> None:
+        """What accept shows on a terminal before it asks."""
+        terminal = self.terminal("aide-compare accept")
+        terminal.read(b"[y/N] ")
+        terminal.type(b"n\n")
+        self.assertEqual(terminal.end()[0], 24)
+
+    def test_upgrade(self) -> None:
+        self.make_pair()
+        self.by_timer()
+        counts = self.counts()
+        self.assertRegex(counts, r"\A4 0 11 0\Z", "what is not signed")
+        for ask in (
+            self.by_cron,
+            lambda: self.call("aide-compare"),
+            lambda: self.call("aide-compare", *PAIR),
+            lambda: self.call("aide-compare", "-q"),
+            lambda: self.call("aide-compare mail", *map(self.path, PAIR)),
+            self.accepted,
+        ):
+            ask()
+            self.assertEqual(self.counts(), counts)
+        words = self.call("aide-compare").output.split(b"\n")[0]
+        self.assertRegex(words, rb"\A4 open of 15 changes\Z")
+        self.answered(0, words, b"", "aide-compare status")
+        self.answered(2, b"AIDE CRITICAL: " + words, b"", "check_aide_compare")
+        for pair in ((), PAIR):
+            lines = self.call("aide-compare json", *pair).output.splitlines()
+            end = json.loads(lines[-1])["standings"]
+            found = " ".join(str(end[name]) for name in ("open", "recorded", "trusted", "same"))
+            self.assertEqual(found, counts)
+            page = self.call("aide-compare page", *pair).output
+            for standing, count in ((b"open", b"4"), (b"trusted", b"11")):
+                self.assertIn(b"<dt>%s</dt><dd>%s</dd>" % (standing, count), page)
+        shown = self.call("aide-compare show", os.fsdecode(TOOL))
+        self.assertIn(b"in the trusted new database", shown.output)
+        new = sha256(self.place.new.database())
+        done = self.call("aide-compare accept", "--sha256", new, "--trusted-only")
+        self.assertIn(b"11 of 15 changes silent", done.errors)
+
+    def test_without_archive(self) -> None:
+        """If nothing can be made of the archive, all is told. The job of cron has the same words."""
+        job = read("contrib/cron/aide-compare.cron.daily").replace("\\\n", "")
+        job = job.replace("$directory", "/var/lib/aide-compare/daily").replace('"', "")
+        words = started("aide/signed.conf", "ExecStartPre")[1:]
+        self.assertIn(" ".join(words), " ".join(job.split()))
+        self.make_pair()
+        shutil.rmtree(self.path("lists"))
+        self.refused(18, None, "aide-compare", *map(self.below, ("archive", *words)))
+        self.by_timer()
+        self.assertEqual(self.counts(), "15 0 0 0")
+
+    def test_command_of_mail(self) -> None:
+        """The commands that the mail names show the same."""
+        self.make_pair()
+        self.by_timer()
+        counts = self.counts()
+        queue = os.listdir(self.path("base/mail"))
+        text = self.read(f"base/mail/{queue[0]}").decode()
+        text = re.sub(r"\\\n\s+", "", text)
+        (command,) = re.findall(r"^    (aide-compare page .*) > changes.html$", text, re.M)
+        page = self.call("aide-compare", *shlex.split(command)[1:]).output
+        self.assertIn(b" open ", page)
+        self.assertNotIn("--trusted", command)
+        self.assertTrue(counts)
+
+    def test_other_databases(self) -> None:
+        """The trusted pair of this machine accounts for no change of another one, and the result is
+        not that of this machine."""
+        self.make_pair()
+        for path in PAIR:
+            shutil.copy(self.path(path), self.path(path + ".copied"))
+        copied = [path + ".copied" for path in PAIR]
+        answer = self.call("aide-compare", *copied)
+        self.assertRegex(answer.output, rb"\A1\d open ")
+        self.assertFalse(os.path.lexists(self.path("base/state")))
+        self.write("other.conf", self.read("aide.conf").replace(b"aide.db", b"aide.db.copied"))
+        self.write("base/aide.db.copied.new", self.place.new.database())
+        self.assertRegex(self.call("aide-compare", "-c", "other.conf").output, rb"\A1\d open ")
+        option = f"database_in=file:{self.path(copied[0])}"
+        self.assertRegex(self.call("aide-compare", "-A", option).output, rb"\A1\d open ")
+
+    def test_before_archive(self) -> None:
+        """Without the pair of tonight nothing is trusted, and that is said."""
+        answer = self.call("aide-compare")
+        self.assertIn(b"signed.db.old yet, so no trusted pair accounts for a change", answer.errors)
+        self.assertRegex(answer.output, rb"\A1\d open ")
+
+    def test_command_line(self) -> None:
+        """An option of the command line replaces that of the file, and a default is not given
+        twice."""
+        self.make_pair()
+        trusted = ("--trusted", *PAIR[:1], self.path("base/signed.db"))
+        for words in (trusted, ("--state", "own.state"), ("--max-age", "1h"), ("-A", "\n")):
+            answer = self.call("aide-compare", *words)
+            self.assertRegex(answer.output, rb"\A4 open ", (words, answer))
+        self.assertEqual(self.state("own.state")["open"], "4")
+        answer = self.call("aide-compare", "--trusted", *PAIR[:1], *PAIR[:1])
+        self.assertRegex(answer.output, rb"\A1\d open ")
+        self.refused(15, b"is given twice", "aide-compare", *trusted, *trusted)
+        answer = self.call("aide-compare", "--no-defaults")
+        self.assertRegex(answer.output, rb"\A1\d open ")
+        self.assertIn(CONFIGURATION, answer.output)
