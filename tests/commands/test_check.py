@@ -40,7 +40,7 @@ class CheckTest(StateTest):
         self.check("a clock that is a little behind", 0, "age=0s")
         self.call("aide-compare", "old.db", "new.db", "--state", "state")
         numbers = "|added=1 removed=1 changed=2 open=4 "
-        self.check("a real state", 2, ": 1 added, 1 removed, 2 changed" + numbers)
+        self.check("a real state", 1, ": 1 added, 1 removed, 2 changed" + numbers)
 
     def test_check_rights(self) -> None:
         self.needs_root()

@@ -181,7 +181,7 @@ class SilencedTest(mail.MailTest):
         self.assertIn(" zz-tool 1", named, ("it is named with the new ones", lines))
         line = "  zz-tool 1: 2 files, as dpkg's records have them, 2 of severity high"
         self.assertEqual(lines[lines.index("Recorded:") + 1], line, "it is the first group")
-        self.raises("many packages", host)
+        self.raises("many packages", host, "--critical", "high")
 
     def test_compiled(self) -> None:
         """Compiled Python that does not do what its source says was "made again, the same"."""
@@ -193,5 +193,5 @@ class SilencedTest(mail.MailTest):
             host.new.file(source, now).file(compiled, b"\xce and not N")
             host.packages.append(Package("policy", "2", {source: now}))
             self.assertEqual(self.counts(host)["open"], 1, named)
-            self.raises("compiled Python", host)
+            self.raises("compiled Python", host, "--critical", "1")
             self.assertIn(f"  {named.decode()}: ", "\n".join(self.first_lines(host)))

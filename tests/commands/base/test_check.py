@@ -18,7 +18,8 @@ SILENT = Counts(same=1)
 LOW = Counts(recorded=1, recorded_low=1)
 MEDIUM = Counts(recorded=2, recorded_low=1, recorded_medium=1)
 HIGH = Counts(recorded=1, recorded_high=1)
-OPEN = Counts(open=1, open_low=1)
+OPEN = Counts(open=2, open_low=1, open_medium=1)
+OPEN_HIGH = Counts(open=1, open_high=1)
 OK, WARNING, CRITICAL, UNKNOWN = range(4)
 ANY = {"alarm": "any"}
 ROWS: tuple[tuple[int, int, Optional[Counts], dict[str, str]], ...] = (
@@ -30,7 +31,11 @@ ROWS: tuple[tuple[int, int, Optional[Counts], dict[str, str]], ...] = (
     (UNKNOWN, 18, None, {}),
     (OK, 7, SILENT, {}),
     (WARNING, 7, LOW, {}),
-    (CRITICAL, 7, OPEN, {}),
+    (WARNING, 7, HIGH, {}),
+    (WARNING, 7, OPEN, {}),
+    (CRITICAL, 7, OPEN_HIGH, {}),
+    (CRITICAL, 7, OPEN, {"critical": "1"}),
+    (CRITICAL, 7, OPEN, {"critical": "medium"}),
     (WARNING, 1, SILENT, ANY),
     (CRITICAL, 4, SILENT, ANY),
     (CRITICAL, 4, SILENT, {**ANY, "warning": "1"}),

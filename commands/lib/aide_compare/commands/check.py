@@ -29,9 +29,9 @@ from aide_compare.show.result import result_numbers, result_text
 NAME = "check_aide_compare"
 DESCRIPTION = "Prints in one line what the last comparison found."
 EPILOG = """\
-Status: 0 OK, all changes are silent; 1 WARNING, the others are in packages' records on the host;
-2 CRITICAL, a change is open; 3 UNKNOWN, all else. A LIMIT replaces the rule for 1 or 2: a number
-of changes that are not silent, or the least severity of one, high, medium or low.
+Status: 0 OK, all changes are silent; 1 WARNING, some are not; 2 CRITICAL, one of these is open and
+of severity high; 3 UNKNOWN, all else. A LIMIT replaces the rule for 1 or 2: a number of changes
+that are not silent, or the least severity of one, high, medium or low.
 
 With --alarm any: 1 WARNING, entries were added; 2 CRITICAL, entries were removed or changed; and
 a LIMIT that is a number counts all changes."""
@@ -85,7 +85,7 @@ def is_critical(request: CheckRequest, state: State, counts: Counts) -> bool:
         return is_reached(request.critical, request, counts)
     if request.alarm != NOT_SILENT:
         return state.status != ONLY_ADDED
-    return counts.open > 0
+    return counts.open_high > 0
 
 
 def is_warning(request: CheckRequest, counts: Counts) -> bool:
