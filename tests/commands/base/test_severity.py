@@ -101,6 +101,8 @@ RIGHTS: list[tuple[str, Entry | None, Entry | None, str]] = [
     ("what anna does with her file", OF_ANNA, entry(0o100664, uid=ANNA, gid=5), "medium"),
     ("a file whose owner is not known", entry(FILE, uid=None), OF_ANNA, "medium"),
     ("another type", entry(FILE), entry(0o120777), "high"),
+    ("a device of another user's that came", None, entry(0o20000, uid=ANNA), "high"),
+    ("a device of root's that came", None, entry(0o20000), "medium"),
     ("names in a directory", entry(DIRECTORY), entry(DIRECTORY), "low"),
     ("a flag of a directory that grew", entry(DIRECTORY), entry(DIRECTORY, flags=b"528384"), "low"),
     ("the group of a directory", entry(DIRECTORY), entry(DIRECTORY, gid=ANNA), "medium"),
@@ -118,6 +120,7 @@ DIRECTORIES = {
 }
 SHIPPED = {
     "high": """
+        /var/cache/apt/archives/cron_3.0-1_amd64.deb /var/cache/man/.forward /home/anna/.forward
         /etc/passwd /etc/passwd- /etc/shadow /etc/group /etc/sudoers.d/x /etc/ld.so.preload
         /etc/pam.d/x /etc/ssh/sshd_config /home/a/.ssh/authorized_keys /etc/cron.d/x
         /var/spool/cron/crontabs/root /etc/systemd/system/x.service

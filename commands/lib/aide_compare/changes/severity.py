@@ -142,6 +142,12 @@ def gains_acl(old: Side, new: Side) -> bool:
     return any(set(bits) - set(before.get(whom, b"")) for whom, bits in listed_rights(new).items())
 
 
+def is_device_of_another(entry: Entry) -> bool:
+    """Whether a device is another user's than root's, who can give himself all rights on it."""
+    is_device = stat.S_ISCHR(entry.mode) or stat.S_ISBLK(entry.mode)
+    return is_device and user_of(entry) not in (None, ROOT)
+
+
 def gains_writers(old: Side, new: Side) -> bool:
     """Whether somebody can write now who could not before: everybody, or another user or group than
     root's.
@@ -151,7 +157,8 @@ def gains_writers(old: Side, new: Side) -> bool:
     if new is None or new.is_link:
         return False
     if old is None or has_other_type(old, new):
-        return all_can_write(new) and not is_sticky_directory(new)
+        is_open = all_can_write(new) and not is_sticky_directory(new)
+        return is_open or is_device_of_another(new)
     if all_can_write(new) and not all_can_write(old):
         return True
     if user_of(old) not in (None, ROOT):
