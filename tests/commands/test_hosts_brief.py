@@ -37,7 +37,7 @@ class HostsBriefTest(CommandTest):
         for text in (hosts.report("--format=brief").output, mailed(self, hosts)):
             self.assertRegex(text, r"evil1, good1 \+1 +changed +/etc/shadow")
             left = re.search(r"Left out: (\d+) more changes, ", text)
-            listed = len(re.findall("(?m)^  evil1 +added +/etc/cron.d/", text))
+            listed = len(re.findall("(?m)^  (?:evil1)? +added +/etc/cron.d/", text))
             self.assertEqual(listed + int(left.group(1) if left else 0), FLOOD, text)
             self.assertIn("on evil1.", text, "whose are left out")
 
@@ -56,6 +56,26 @@ class HostsBriefTest(CommandTest):
         self.assertRegex(first, "(?m)^  good +changed +/etc/shadow")
         self.assertRegex(text, "(?m)^  good +added +/zz/last")
         self.assertIn("shadow</code>", hosts.report("--format=page").output)
+
+    def test_groups(self) -> None:
+        """The changes of the same hosts are together, and only the first one names them."""
+        hosts = Hosts(self)
+        both = [line(b"/etc/cron.d/%d" % number, b"x") for number in range(3)]
+        own = line(b"/etc/cron.d/1a", b"x")
+        texts = {host: (OLD, database(SHADOW, *both)) for host in ("good1", "good2")}
+        texts["evil"] = (OLD, database(SHADOW, own))
+        hosts.compared(texts)
+        rows = hosts.report("--format=brief").output.partition("High:\n")[2].split("\n")[:5]
+        found = [row.split() for row in rows]
+        wanted = [
+            ["evil", "added", "/etc/cron.d/1a:", "-rw-r--r--"],
+            ["good1,", "good2", "added", "/etc/cron.d/0:", "-rw-r--r--"],
+            *(["added", f"/etc/cron.d/{number}:", "-rw-r--r--"] for number in (1, 2)),
+            ["good1,", "good2", "+1", "changed", "/etc/shadow:", "content,", "size"],
+        ]
+        self.assertEqual(sorted(found), sorted(wanted), rows)
+        at = found.index(wanted[1])
+        self.assertEqual(found[at + 1 : at + 3], wanted[2:4])
 
     def test_shape(self) -> None:
         """At most 80 lines of 80 columns, whatever hosts there are and however long the names

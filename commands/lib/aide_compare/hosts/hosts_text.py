@@ -209,9 +209,20 @@ def what_changed(shared: SharedChange) -> str:
     return ", ".join(words) or "times"
 
 
-def short_line(shared: SharedChange) -> str:
+def grouped_lines(changes: Iterable[SharedChange]) -> Iterator[str]:
+    """The lines of changes, those of the same hosts together. Only the first line names them."""
+    groups: dict[tuple[str, ...], list[SharedChange]] = {}
+    for shared in changes:
+        groups.setdefault((*shared.names, str(shared.hosts)), []).append(shared)
+    for first, *others in groups.values():
+        yield short_line(first, short_names(first))
+        for shared in others:
+            yield short_line(shared, "")
+
+
+def short_line(shared: SharedChange, names: str) -> str:
     """The line of a change in a short text."""
-    begin = f"  {short_names(shared):<{NAMES_WIDTH}}  {shared.change.kind:<7}  "
+    begin = f"  {names:<{NAMES_WIDTH}}  {shared.change.kind:<7}  "
     width = MAX_COLUMNS - len(begin)
     what = shortened(what_changed(shared), width // 2)
     if what:
@@ -279,7 +290,7 @@ def short_lines(report: Report) -> Iterator[str]:
     yield from head
     for severity, group in groupby((chosen[place] for place in places), key=severity_of):
         yield f"{severity.capitalize()}:"
-        yield from map(short_line, group)
+        yield from grouped_lines(group)
         yield ""
     yield from left_out_lines(report, selection)
     if summary.changes:
