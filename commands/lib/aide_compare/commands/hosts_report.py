@@ -21,11 +21,15 @@ from aide_compare.base.options import (
     SMTP,
     STORE,
     TO,
+    WEEKLY,
     Option,
 )
 from aide_compare.base.parser import Parser, add_option
 from aide_compare.base.paths import Pattern
 from aide_compare.base.program import FRONT, find_installed
+from aide_compare.base.words import counted
+from aide_compare.commands.mail import Heartbeat, count_quiet_run
+from aide_compare.commands.mail_request import with_days
 from aide_compare.hosts.canary import notes_of
 from aide_compare.hosts.host_changes import Found, SameChanges
 from aide_compare.hosts.hosts_page import page
@@ -36,7 +40,7 @@ from aide_compare.hosts.store import HOSTS_FILE, share_of
 from aide_compare.lines.change import Fields, bytes_of
 from aide_compare.lines.reader import ENCODE
 from aide_compare.mail.message import build, clean, within
-from aide_compare.mail.sending import alert, deliver, way_out
+from aide_compare.mail.sending import Way, alert, deliver, way_out
 from aide_compare.show.told import severity_in_colour
 
 NAME = "aide-compare hosts report"
@@ -68,6 +72,7 @@ class ReportRequest(NamedTuple):
     has_page: bool  # The mail has the page too.
     smtp: Optional[Server]
     mail_seconds: int
+    weekly: Optional[str]  # The day of the heartbeat.
     is_quiet: bool
     color: str
 
@@ -219,12 +224,25 @@ class HostsReport:
             alert(f"{fault.text}; {headline(self.summary)}")
             raise
         if not self.is_alarm:
+            if request.weekly:
+                self._count_quiet_run(request, way)
             return
         attached = None
         if request.has_page:
             attached = within(page(self.report(), MAX_MAILED_PAGE), 2 * MAX_MAILED_PAGE)
         text = clean(b"".join(self.brief()))
         deliver(way, build(request.address, headline(self.summary), text, attached))
+
+    def _count_quiet_run(self, request: ReportRequest, way: Way) -> None:
+        """Counts a run without an alarm, and sends a heartbeat if one is due."""
+        silent = sum(sum(host.counts or ()) for host in self.hosts if host.is_silent)
+        hosts = counted(self.summary.counts.hosts, "host")
+
+        def send(mail: Heartbeat) -> None:
+            subject = f"aide on {hosts}: {mail.subject}"
+            deliver(way, build(request.address, subject, clean(mail.text)))
+
+        count_quiet_run(f"{request.stores[0]}/report.quiet", request.weekly, silent, send)
 
     def parts(self, form: str, color: str) -> Iterable[bytes]:
         """The bytes of the report in a format."""
@@ -268,15 +286,19 @@ def own_parser() -> Parser:
     to = "mail the brief text, if a host differs or was not compared"
     add_option(form, TO._replace(help=to))
     parser.add(ATTACH_PAGE._replace(help="with --to: attach the page to the text"), SMTP, MAIL_TIME)
+    week = "with --to: send a heartbeat on one day of the week (Mon) if there is nothing to report"
+    parser.add(WEEKLY._replace(help=week))
     text = f"a name a line; - is standard input ({HOSTS_FILE})"
     parser.add_operand("file", "HOSTS-FILE", text, nargs="?", default=HOSTS_FILE)
     return parser
 
 
 def request_of(arguments: Sequence[str]) -> ReportRequest:
-    args = own_parser().parse(arguments)
+    args = own_parser().parse(with_days(arguments))
     if args.attach_page and not args.to:
         raise Fault(Status.USAGE, "--attach-page goes with --to", f"try: {NAME} --help")
+    if args.weekly and not args.to:
+        raise Fault(Status.USAGE, "--weekly goes with --to", f"try: {NAME} --help")
     if (args.smtp or args.mail_time != MAIL_TIME.default) and not args.to:
         raise Fault(Status.USAGE, "--smtp and --mail-time go with --to", f"try: {NAME} --help")
     usual_order = "path" if args.format == "json" else "rare"
@@ -293,6 +315,7 @@ def request_of(arguments: Sequence[str]) -> ReportRequest:
         has_page=args.attach_page,
         smtp=args.smtp,
         mail_seconds=args.mail_time,
+        weekly=args.weekly,
         is_quiet=args.quiet,
         color=args.color,
     )

@@ -45,6 +45,13 @@ def short_mail(request: MailRequest, subject: str, text: str) -> bytes:
     return build(request.address, f"aide on {host_name()}: {subject}", clean(text))
 
 
+class Heartbeat(NamedTuple):
+    """A mail that says that nothing had to be said."""
+
+    subject: str
+    text: str
+
+
 class QuietRuns(NamedTuple):
     """How many runs have raised no alarm, when the last heartbeat was sent, and how many silent
     changes these runs have found."""
@@ -60,14 +67,14 @@ class QuietRuns(NamedTuple):
         is_late = self.sent > 0 and now - self.sent > WEEK
         return is_late or (DAYS[today.tm_wday] == day and is_new_day)
 
-    def heartbeat(self, request: MailRequest) -> bytes:
+    def heartbeat(self) -> Heartbeat:
         if not self.silent:
             text = f"{counted(self.runs, 'comparison')} found no difference.\n"
-            return short_mail(request, f"no difference in {counted(self.runs, 'run')}", text)
+            return Heartbeat(f"no difference in {counted(self.runs, 'run')}", text)
         changes = counted(self.silent, "change")
         subject = f"{counted(self.runs, 'quiet run')}, {changes} silent"
         text = f"In {counted(self.runs, 'comparison')} each change was silent: {changes}.\n"
-        return short_mail(request, subject, text)
+        return Heartbeat(subject, text)
 
 
 def quiet_runs_in(path: str, now: int) -> QuietRuns:
@@ -83,21 +90,20 @@ def quiet_runs_in(path: str, now: int) -> QuietRuns:
     return QuietRuns(runs, sent, silent)
 
 
-def count_quiet_run(request: MailRequest, way: Way, state: State) -> None:
-    """Counts a run that raises no alarm, and its silent changes, in a file beside the state. A
-    heartbeat has both counts, and they begin anew."""
-    path = f"{request.state}.quiet"
+def count_quiet_run(
+    path: str, day: Optional[str], silent: int, send: Callable[[Heartbeat], object]
+) -> None:
+    """Counts a run that raises no alarm, and its silent changes, in a file. A heartbeat has both
+    counts, and they begin anew."""
     now = int(time.time())
     quiet = quiet_runs_in(path, now)
-    quiet = quiet._replace(runs=quiet.runs + 1)
-    if state.standings:
-        quiet = quiet._replace(silent=quiet.silent + state.standings.silent)
+    quiet = quiet._replace(runs=quiet.runs + 1, silent=quiet.silent + silent)
     if os.path.isdir(path):
         text = f"cannot write the number of quiet runs in {shown(path)}: it is a directory"
         raise Fault(Status.DEVICE, text)
     with closing(Replacement(path, what="the number of quiet runs in").begin()) as file:
-        if quiet.is_due(request.weekly, now):
-            deliver(way, quiet.heartbeat(request))
+        if quiet.is_due(day, now):
+            send(quiet.heartbeat())
             quiet = QuietRuns(0, now, 0)
         file.commit(b"%d %d %d\n" % quiet)
 
@@ -165,7 +171,13 @@ def compare_and_mail(request: MailRequest) -> int:
     if outcome.message:
         deliver(way, outcome.message)
     elif request.weekly:
-        count_quiet_run(request, way, state)
+        silent = state.standings.silent if state.standings else 0
+        count_quiet_run(
+            f"{request.state}.quiet",
+            request.weekly,
+            silent,
+            lambda mail: deliver(way, short_mail(request, mail.subject, mail.text)),
+        )
     # This mail is on its way now: one that is lost has told nothing.
     names = [name for name in told or () if state.status > 7 or name in state.skipped_names]
     names += unknown_columns(told, state)
