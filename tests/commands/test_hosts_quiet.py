@@ -129,3 +129,29 @@ class HostsQuietTest(CommandTest):
         self.assertNotRegex(said.errors, "call of the system|Broken pipe")
         report = fleet.call("aide-compare hosts report", hosts).output
         self.assertTrue(report.startswith("aide on 1 host: 0 differ, 1 not compared"), report)
+
+    def test_list_and_remove(self) -> None:
+        """All hosts with their last results; and a host that is watched no longer, of which nothing
+        is left."""
+        fleet = self.prepare(OLD, NEW)
+        fleet.compare(fleet.list_hosts("h01", "h02", "h03"))
+        hosts = fleet.list_hosts("h01", "h02", "never", "h03")
+        said = fleet.call("aide-compare hosts list", hosts)
+        self.assertEqual((said.status, said.errors), (0, ""), said)
+        lines = said.output.splitlines()
+        self.assertRegex(lines[0], "^h01 7 4 open of 4 changes, 20.*")
+        self.assertEqual(lines[2], "never 18 was never compared")
+        words = ("--hosts-file", hosts)
+        remove = "aide-compare hosts remove"
+        self.assertEqual(fleet.call(remove, "-q", *words, "h02"), (0, "", ""))
+        self.assertEqual(self.read("hosts"), b"h01\nnever\nh03\n")
+        self.assertFalse(os.path.exists(self.path("store/hosts/h02")))
+        self.assertEqual(fleet.state("h02"), "")
+        self.assertEqual(fleet.call(remove, *words, "never").status, 0, "it was listed")
+        said = fleet.call(remove, *words, "h02")
+        self.assertEqual((said.status, said.output), (18, ""), "nothing is left of it")
+        os.remove(self.path("hosts"))
+        os.symlink("/etc/passwd", self.path("hosts"))
+        self.assertNotEqual(fleet.call(remove, *words, "root").status, 0)
+        for name in ("..", "a/b", "-x"):
+            self.assertEqual(fleet.call(remove, *words, "--", name).status, 15, name)

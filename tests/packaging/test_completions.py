@@ -14,7 +14,9 @@ ZSH = "share/zsh/site-functions/_aide-compare"
 FISH = "share/fish/vendor_completions.d/aide-compare.fish"
 REPORT_OPTIONS = ["report_level"] + BOOL_OPTIONS + SET_OPTIONS
 SUBCOMMANDS = "compare show json page mail accept archive status sort setup version".split()
-HOSTS = ["hosts " + word for word in ("add", "fetch", "compare", "accept", "report")]
+HOSTS = [
+    "hosts " + word for word in ("add", "list", "remove", "fetch", "compare", "accept", "report")
+]
 
 # bash-completion reads the file inside of a function of its own.
 ASK_BASH = r"""

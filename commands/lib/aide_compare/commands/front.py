@@ -25,7 +25,7 @@ COMMANDS = (
     "version",
 )
 # Of these the module begins with hosts_.
-HOSTS = ("add", "fetch", "compare", "accept", "report")
+HOSTS = ("add", "list", "remove", "fetch", "compare", "accept", "report")
 PROGRAM_JOBS = {"-E", "-D", "--compare", "--config-check"}
 USAGE = """\
 usage: aide-compare [compare] [OPTIONS] [OLD NEW]
@@ -52,6 +52,8 @@ man aide-compare
 """
 HOSTS_USAGE = """\
 usage: aide-compare hosts add [OPTIONS] HOST            a new host: asks first
+       aide-compare hosts list [OPTIONS] [FILE]         all and their results
+       aide-compare hosts remove [OPTIONS] HOST         a host that is gone
        aide-compare hosts fetch [OPTIONS] HOST          its new database, by ssh
        aide-compare hosts compare [OPTIONS] [FILE]      fetch and compare all
        aide-compare hosts accept [OPTIONS] HOST         a new baseline of a host

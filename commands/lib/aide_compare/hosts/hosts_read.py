@@ -6,6 +6,7 @@ import errno
 import fcntl
 import os
 from collections.abc import Callable, Iterator
+from contextlib import closing
 
 from aide_compare.base.ending import Fault, Status, reason
 from aide_compare.base.escapes import shown
@@ -124,10 +125,22 @@ def read_host(
         directory.close()
 
 
-def directory_of(name: str, store: str, seconds: int) -> HostDirectory:
+def known_host(name: str, store: str, seconds: int, max_age: int) -> Host:
+    """What the state of a host says."""
+    try:
+        with closing(directory_of(name, store, seconds)) as directory:
+            return host_in(directory, max_age)
+    except Fault as fault:
+        return host_of(name, fault.status, fault.text)
+    except OSError as error:
+        return host_of(name, Status.DEVICE, f"cannot be read: {reason(error)}")
+
+
+def directory_of(name: str, store: str, seconds: int, is_alone: bool = False) -> HostDirectory:
     """The directory of a host that was compared once. Nothing is made for any other."""
     if not os.path.isdir(store):
         raise Fault(Status.DEVICE, f"its share is missing: there is no directory {shown(store)}")
     if not os.path.lexists(f"{store}/hosts/{check_name(name)}"):
         raise Fault(Status.DEVICE, "was never compared")
-    return HostDirectory(store, name, seconds, fcntl.LOCK_SH)
+    lock = fcntl.LOCK_EX if is_alone else fcntl.LOCK_SH
+    return HostDirectory(store, name, seconds, lock)

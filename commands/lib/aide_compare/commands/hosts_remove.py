@@ -1,0 +1,67 @@
+"""aide-compare hosts remove: a host is watched no longer, and what was kept of it is removed."""
+from __future__ import annotations
+
+import os
+from collections.abc import Sequence
+from contextlib import closing, suppress
+
+from aide_compare.base.ending import Fault, Status, failing, tell
+from aide_compare.base.escapes import shown
+from aide_compare.base.files import read_file
+from aide_compare.base.options import HOST_STORE, HOST_TIME, Option
+from aide_compare.base.parser import Parser
+from aide_compare.base.replacement import ANYBODY_READS, replace
+from aide_compare.hosts.adding import MAX_HOSTS_FILE, is_listed
+from aide_compare.hosts.hosts_read import directory_of
+from aide_compare.hosts.store import HOSTS_FILE, check_name
+
+NAME = "aide-compare hosts remove"
+DESCRIPTION = """\
+Takes HOST out of the file of hosts, and removes its baseline, its databases, its changes and its
+state. A new HOST of this name begins with aide-compare hosts add."""
+EPILOG = """Its key stays in known_hosts: ssh-keygen -R HOST removes it.
+
+Status: 0 removed; 15 bad arguments; 18 there is no such host, or something could not be removed."""
+
+
+def remove_from_list(host: str, path: str) -> bool:
+    """Takes a host out of a file of hosts. Whether it was there."""
+    if not is_listed(host, path):
+        return False
+    lines = read_file(path, MAX_HOSTS_FILE, "the file of hosts ").split(b"\n")
+    kept = [line for line in lines if line.strip() != host.encode()]
+    replace(path, b"\n".join(kept), ANYBODY_READS, "the file of hosts")
+    return True
+
+
+def remove_directory(host: str, store: str, seconds: int) -> bool:
+    """Removes what a store keeps of a host. Whether there was something."""
+    if not os.path.lexists(f"{store}/hosts/{host}"):
+        return False
+    with closing(directory_of(host, store, seconds, is_alone=True)) as directory:
+        with failing(f"cannot remove what is kept of {host}"):
+            for name in os.listdir(directory.path):
+                directory.remove(name)
+            os.rmdir(directory.path)
+            with suppress(FileNotFoundError):
+                os.unlink(directory.state_path)
+    return True
+
+
+def main(arguments: Sequence[str]) -> int:
+    parser = Parser(NAME, DESCRIPTION, epilog=EPILOG, usage=f"{NAME} [OPTIONS] HOST")
+    parser.add(HOST_STORE, HOST_TIME)
+    text = f"the file that has the name of HOST ({HOSTS_FILE})"
+    parser.add(Option("--hosts-file", text, metavar="FILE", default=HOSTS_FILE))
+    parser.add_operand("host", "HOST", "its name")
+    args = parser.parse(arguments)
+    host = check_name(args.host)
+    was_listed = remove_from_list(host, args.hosts_file)
+    was_kept = remove_directory(host, args.store, args.time)
+    if not was_listed and not was_kept:
+        raise Fault(
+            Status.DEVICE, f"{host} is not in {shown(args.hosts_file)}, and nothing is kept of it"
+        )
+    if not args.quiet:
+        tell(f"{host} is watched no longer. Its key stays: ssh-keygen -R {host} removes it")
+    return Status.OK
