@@ -212,7 +212,7 @@ class TrustedTest(mail.MailTest):
         mail.call(self, *PAIR, *BOTH)
         message = mail.sent(self)
         self.assertRegex(mail.subject(message), r"3 open \(3 high\) of 7 changes\Z")
-        self.assertIn(b" 1 is silent: as before, but for times,", mail.body(message))
+        self.assertIn(b" Silent: 1 as before, but for times,", mail.body(message))
         self.assertIn(" ".join(PAIR), mail.words_of(mail.body(message)), "its page has the pair")
         os.remove(self.path("canary-new.db"))
         self.assertEqual(mail.call(self, *PAIR, *BOTH).status, 18)

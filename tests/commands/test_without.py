@@ -191,8 +191,9 @@ class WithoutTest(CommandTest):
             self.assertEqual((answer.output, answer.status), (want.output, want.status), line)
             self.assertLess(want.status, 8, want)
         late = HEAD + b"/a 36 100644 1\n" + END + b"/var/log/late 36 100644 1\n"
-        self.write("late.db", late)
-        answer = self.call(TOOL, "--exclude", "/var/log/**", "late.db", "late.db")
+        for name in ("late.db", "later.db"):
+            self.write(name, late)
+        answer = self.call(TOOL, "--exclude", "/var/log/**", "late.db", "later.db")
         said = b"left out of the old database: 0 entries"
         self.expect("after the end nothing is an entry", answer, 0, None, said)
 
@@ -344,18 +345,19 @@ class WithoutTest(CommandTest):
         text = b"/var/log/**\n"
         path = os.fsencode(self.write("list", text))
         os.symlink("list", self.path("link"))
-        said = b"is not as it was when the baseline was made"
+        said = b", which decides what is left out, has changed since the baseline was made"
         rows = [(b"/elsewhere", "sha256", b"0", False), (path, "sha256", b"0", False)]
         for name in ("sha256", "sha512"):
             for other in (b"", b"/etc/**\n"):
                 digest = base64.b64encode(hashlib.new(name, text + other).digest())
                 rows.append((path, name, digest, bool(other)))
         for listed, name, digest, is_said in rows:
-            self.write("list.db", list_database(listed, name.encode(), digest))
+            for database in ("list.db", "list-new.db"):
+                self.write(database, list_database(listed, name.encode(), digest))
             for words in (
                 ["--exclude-from", "list"],
                 ["--exclude-from", "link"],
                 ["--exclude-from", os.fsdecode(path), "--exclude", "/etc/**"],
             ):
-                answer = self.call(TOOL, *words, "list.db", "list.db")
+                answer = self.call(TOOL, *words, "list.db", "list-new.db")
                 self.assertEqual((answer.status, said in answer.errors), (0, is_said), answer)

@@ -19,6 +19,7 @@ from aide_compare.mail.message import build, clean, host_name, subject_of, withi
 from aide_compare.mail.text import Mail, fault_lines, note_lines, text_of_changes, text_of_unjudged
 from aide_compare.show.told import told_of
 
+MAX_PATTERNS = 8  # Of --exclude, in the command of a mail.
 # The columns that earlier mails have told; None if no state is kept that a next run can see.
 Told = Optional[Sequence[str]]
 
@@ -74,7 +75,8 @@ def lines_of_mail(
     warnings = [guarded(warning) for warning in comparison.warnings]
     if not comparison.differs:
         return [*note_lines(warnings), *note_lines(notes)]
-    mail = Mail(comparison.state(), warnings, notes, page_options(request))
+    options = page_options(request)
+    mail = Mail(comparison.state(), warnings, notes, options, unnamed_patterns(request))
     if judged is None:
         lines = comparison.known_lines()
         changes = whole_changes(reader_over(lines.fd))
@@ -83,8 +85,8 @@ def lines_of_mail(
 
 
 def page_options(request: MailRequest) -> list[str]:
-    """The options with which aide-compare page shows the same changes. It reads the same
-    defaults."""
+    """The options with which aide-compare page shows the same changes, but for too many patterns.
+    It reads the same defaults."""
     asked = request.asked
     if isinstance(asked, Fault):
         return []
@@ -99,10 +101,19 @@ def page_options(request: MailRequest) -> list[str]:
     if asked.trusted:
         words += [TRUSTED.name, *asked.trusted]
     words += [f"--exclude-from={path}" for path in asked.exclude_from]
-    words += [f"--exclude={pattern}" for pattern in asked.exclude]
+    if len(asked.exclude) <= MAX_PATTERNS:
+        words += [f"--exclude={pattern}" for pattern in asked.exclude]
     if not asked.reads_defaults:
         words.append(NO_DEFAULTS.name)
     return words
+
+
+def unnamed_patterns(request: MailRequest) -> int:
+    """How many patterns are too many for a command that people copy."""
+    asked = request.asked
+    if isinstance(asked, Fault) or len(asked.exclude) <= MAX_PATTERNS:
+        return 0
+    return len(asked.exclude)
 
 
 def whole_changes(reader: Reader) -> Iterator[Change]:

@@ -329,7 +329,7 @@ class LeftOut:
         """What has to be said of the lists that are not as they were when this database was
         made."""
         for path in self.changed_lists:
-            yield f"{path} is not as it was when the baseline was made: it decides what is left out"
+            yield f"{path}, which decides what is left out, has changed since the baseline was made"
 
 
 class Cut(NamedTuple):

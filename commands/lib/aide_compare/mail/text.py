@@ -1,19 +1,18 @@
 """The text of a mail: at most 80 lines of 80 columns, to be read in one go.
 
-First a sentence, then what is open, by severity, then what packages' records have, in groups, then
-two commands. Each severity and each kind of owner has a share of the lines, so that nobody but root
-can push root's changes out of sight. What is not listed is counted.
+First a sentence, then the packages that people have to hear of, then what is open, by severity,
+then what packages' records have, in groups, then two commands. Each severity and each kind of owner
+has a share of the lines, so that nobody but root can push root's changes out of sight. What is not
+listed is counted.
 """
 from __future__ import annotations
 
 import os
-import shlex
 from collections.abc import Iterable, Iterator, Sequence
 from itertools import islice
 from textwrap import wrap
 from typing import NamedTuple
 
-from aide_compare.base.escapes import guarded, shown
 from aide_compare.base.files import given_descriptor
 from aide_compare.base.words import KINDS, SEVERITIES, counted
 from aide_compare.changes.finding import Finding
@@ -21,20 +20,17 @@ from aide_compare.changes.judged import Judged
 from aide_compare.changes.recorded import Read
 from aide_compare.compare.state import State
 from aide_compare.lines.change import Change, Counts
+from aide_compare.mail.columns import WIDTH, command_lines, shortened_path, wrapped
+from aide_compare.mail.packages import group_lines, named_lines
 from aide_compare.show.brief import entry_words
 from aide_compare.show.limits import Limits, Shares
 from aide_compare.show.listing import Listing, most_of
 
-WIDTH = 80
 MAX_LINES = 80
 MAX_NOTES = 6
-MAX_GROUPS = 6
-MAX_MADE = 2
 # How many lines the open changes of a severity have at least: those of root, of services, and of
 # all others.
 SHARES = {"high": (24, 4, 4), "medium": (6, 2, 2), "low": (1, 1, 1)}
-# A path of which the middle is left out keeps so many bytes at each end.
-MIN_END = 12
 # Of changes that nobody has judged, so many paths of one directory, and of the tree below the first
 # two pieces of a path.
 DIRECTORY_SHARE = 5
@@ -70,23 +66,14 @@ def parts_of(listing: Listing) -> list[Part]:
 
 def rooms_of(parts: Sequence[Part], limit: int) -> list[int]:
     """How many lines each part has: its share, and then what the others leave, in their order."""
-    sizes = [part.size for part in parts]
-    rooms = [min(size, part.share) for size, part in zip(sizes, parts)]
-    remaining = limit - sum(rooms)
-    for place, size in enumerate(sizes):
-        more = max(0, min(remaining, size - rooms[place]))
-        rooms[place] += more
-        remaining -= more
+    rooms = [0] * len(parts)
+    remaining = limit
+    for sizes in ([min(part.size, part.share) for part in parts], [part.size for part in parts]):
+        for place, size in enumerate(sizes):
+            more = max(0, min(remaining, size - rooms[place]))
+            rooms[place] += more
+            remaining -= more
     return rooms
-
-
-def shortened_path(path: bytes, width: int) -> str:
-    """A path that is escaped, without its middle if it is longer than a line."""
-    text = shown(path, 4096)
-    if len(text) <= width:
-        return text
-    end = max(MIN_END, (width - len("...")) // 2)
-    return text[:end] + "..." + text[-end:]
 
 
 def finding_line(finding: Finding, read: Read) -> str:
@@ -138,71 +125,12 @@ def open_lines(listing: Listing, read: Read, limit: int) -> Iterator[str]:
     rooms = rooms_of(parts, limit - len(titles))
     last = ""
     for part, room in zip(parts, rooms):
+        if not room:
+            continue
         if part.severity != last:
             yield f"Open, severity {part.severity}:"
         last = part.severity
         yield from part_lines(listing, part, room, read)
-
-
-def wrapped(text: str) -> list[str]:
-    """A text in lines; those that follow the first one are indented."""
-    return wrap(text, WIDTH, subsequent_indent="  ", break_on_hyphens=False)
-
-
-def names_line(title: str, names: Sequence[str]) -> str:
-    """As many names as one line has room for, and how many more there are."""
-    line = f"  {title}: {guarded(names[0])}"[:WIDTH]
-    for place, name in enumerate(names[1:], 1):
-        rest = f", and {len(names) - place:,} more"
-        longer = f"{line}, {guarded(name)}"
-        if len(longer) + len(rest) > WIDTH:
-            return line[: WIDTH - len(rest)] + rest
-        line = longer
-    return line
-
-
-def package_lines(listing: Listing) -> Iterator[str]:
-    """A line for each package, those with most of severity high first, as in "openssl 3.0.17-1: 41
-    files"."""
-    recorded = listing.recorded_packages()
-    for package, count, high in recorded[:MAX_GROUPS]:
-        yield f"  {guarded(package)[:40]}: {files_of(count, high)}"
-    rest = recorded[MAX_GROUPS:]
-    if rest:
-        total = sum(each.files for each in rest)
-        high = sum(each.high for each in rest)
-        yield f"  and {counted(len(rest), 'package')} more: {files_of(total, high)}"
-
-
-def files_of(count: int, high: int) -> str:
-    files = counted(count, "file", ",")
-    if not high:
-        return files
-    return f"{files}, {high:,} of severity high"
-
-
-def made_lines(listing: Listing) -> Iterator[str]:
-    """A line for each directory in which scripts of packages made files."""
-    counts = listing.counts(1)
-    for place, count in enumerate(listing.made):
-        counts[place // len(SEVERITIES)] += count
-    most = most_of(counts, 1, MAX_MADE, listing.findings.directory)
-    for number, count in most.first:
-        end = f": {counted(count, 'file', ',')} made by packages"
-        directory = listing.findings.directory(number)
-        yield "  " + shortened_path(directory, WIDTH - len(end) - 2) + end
-    if most.others:
-        yield f"  and {counted(most.total, 'file', ',')} made by packages elsewhere"
-
-
-def group_lines(judged: Judged, listing: Listing) -> list[str]:
-    """What packages' records of the host have; packages that came, went or fell are named first."""
-    lines = [names_line(title, names) for title, names in judged.named.titled()]
-    lines += package_lines(listing)
-    lines += made_lines(listing)
-    if not lines:
-        return []
-    return [f"Recorded, as {judged.by} on this host says:", *lines, ""]
 
 
 def are(count: int) -> str:
@@ -217,28 +145,17 @@ def sentence(counts: Counts) -> list[str]:
     else:
         text = "No change is open."
     if counts.recorded:
-        more = f"{counts.recorded:,} more {are(counts.recorded)}"
-        text += f" {more} as packages' records on the host have them."
+        match = "matches" if counts.recorded == 1 else "match"
+        text += f" {counts.recorded:,} more {match} the package records of this host."
+    silent = []
     if counts.same:
         but = "but for times, inode and a digest that one side lacks"
-        text += f" {counts.same:,} {are(counts.same)} silent: as before, {but}."
+        silent.append(f"{counts.same:,} as before, {but}")
     if counts.trusted:
-        text += f" {counts.trusted:,} {are(counts.trusted)} silent: as in the trusted pair."
+        silent.append(f"{counts.trusted:,} as in the trusted pair")
+    if silent:
+        text += f" Silent: {'; '.join(silent)}."
     return wrap(text, WIDTH)
-
-
-def command_lines(words: Sequence[str], end: str = "") -> list[str]:
-    """A command for a shell, in lines that can be copied as they are. A word is never broken."""
-    lines = ["   "]
-    parts = [shlex.quote(word) for word in words]
-    if end:
-        parts.append(end)
-    for word in parts:
-        if len(lines[-1]) + len(word) > WIDTH - len(" \\") - 1:
-            lines[-1] += " \\"
-            lines.append("     ")
-        lines[-1] += f" {word}"
-    return lines
 
 
 def accept_lines(state: State) -> list[str]:
@@ -277,12 +194,16 @@ class Mail(NamedTuple):
     warnings: Sequence[str]
     notes: Sequence[str]
     options: Sequence[str]  # Of the command that makes the page.
+    patterns: int  # How many patterns these leave out, since they are too many for a mail.
 
 
 def text_of_changes(mail: Mail, judged: Judged) -> list[str]:
     """The lines of a mail about changes."""
     listing = Listing(judged.findings)
     head = [*sentence(judged.counts), *note_lines(mail.warnings), ""]
+    named = named_lines(judged)
+    if named:
+        head += [*named, ""]
     groups = group_lines(judged, listing)
     end = end_lines(mail)
     limit = MAX_LINES - len(head) - len(groups) - len(end) - 1
@@ -296,8 +217,10 @@ def end_lines(mail: Mail) -> list[str]:
     """The two commands, and the notes."""
     notes = note_lines(mail.notes)
     words = ["aide-compare", "page", *mail.options, *names_of(mail.state, "old", "new")]
-    page = ["All changes with their values, as a page:", *command_lines(words, "> changes.html")]
-    lines = [*page, *accept_lines(mail.state)]
+    title = "All changes with their values, as a page:"
+    if mail.patterns:
+        title = f"All changes as a page (add the {mail.patterns:,} --exclude of this job):"
+    lines = [title, *command_lines(words, "> changes.html"), *accept_lines(mail.state)]
     if notes:
         lines.append("")
     return lines + notes
@@ -326,7 +249,8 @@ def text_of_unjudged(mail: Mail, counts: Sequence[int], changes: Iterable[Change
     """The lines of a mail about changes that nobody has judged: how many there are, and the first
     paths."""
     numbers = ", ".join(f"{count:,} {kind}" for count, kind in zip(counts, KINDS))
-    title = f"The databases differ: {numbers}. Nobody could say how much that matters."
+    title = f"The databases differ: {numbers}."
+    title += " The severity is not known, because the changes could not be judged."
     head = [*wrap(title, WIDTH), *note_lines(mail.warnings), ""]
     end = end_lines(mail)
     lines = first_paths(changes)[: MAX_LINES - len(head) - len(end) - 2]

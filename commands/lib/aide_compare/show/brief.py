@@ -231,12 +231,16 @@ def _high_words(count: int) -> str:
 
 
 def recorded_lines(listing: Listing, by: str) -> Iterator[str]:
-    """A line for each package, as in "openssl 3.0.17-1: 41 files, as dpkg's records have them"."""
+    """A line for each package, as in "openssl 3.0.17-1: 41 files, as dpkg's records have them", and
+    the paths of severity high if they are few."""
     recorded = listing.recorded_packages()
     for each in recorded[:MAX_GROUPS]:
         files = counted(each.files, "file")
         high = _high_words(each.high)
         yield f"  {guarded(each.package)}: {files}, as {by}'s records have them{high}"
+        if each.high == len(each.places):
+            for place in each.places:
+                yield f"    {shown(listing.findings.path(place), MAX_PATHS[1])}"
     rest = recorded[MAX_GROUPS:]
     if rest:
         files = counted(sum(each.files for each in rest), "file")

@@ -4,7 +4,7 @@ from __future__ import annotations
 
 from array import array
 from heapq import nlargest, nsmallest
-from typing import Any, Callable, Dict, Iterator, List, NamedTuple, Tuple
+from typing import Any, Callable, Dict, Iterator, List, NamedTuple, Sequence, Tuple
 
 from aide_compare.base.words import KINDS, SEVERITIES
 from aide_compare.changes.entries import ROOT
@@ -13,6 +13,7 @@ from aide_compare.changes.importance import Importance
 
 # Of each directory so many come before what all directories have more.
 FIRST_FEW = 5
+FIRST_RECORDED = 3  # Of each package so many places of severity high are known.
 HIGH = 0  # Its place in SEVERITIES.
 # A code has the kind of a finding, whether it is a file, and whether it is root's.
 FORMS = 2 * len(KINDS)
@@ -58,11 +59,13 @@ def most_of(counts: array[int], width: int, limit: int, name: Callable[[int], An
 
 
 class Recorded(NamedTuple):
-    """How many recorded findings a package has, and how many of them of severity high."""
+    """How many recorded findings a package has, how many of them of severity high, and the places
+    of the first of these."""
 
     package: str
     files: int
     high: int
+    places: Sequence[int]
 
 
 class Listing:
@@ -76,22 +79,26 @@ class Listing:
         self.listed: Dict[Importance, array[int]] = {}
         self.recorded = array("I", bytes(4 * len(findings.packages)))
         self.recorded_high = array("I", bytes(4 * len(findings.packages)))
+        self.first_high = array("I", bytes(4 * FIRST_RECORDED * len(findings.packages)))
         self.made = self.counts(len(SEVERITIES))
         for place, record in enumerate(findings.rows()):
             self.directories.append(record.directory)
             self.codes.append(_code(record))
-            if not self._counts(record):
+            if not self._counts(place, record):
                 self.listed.setdefault(record.importance, array("I")).append(place)
 
     def counts(self, width: int) -> array[int]:
         """So many counts for each directory."""
         return array("I", bytes(4 * width * self.findings.directories.count))
 
-    def _counts(self, record: Record) -> bool:
+    def _counts(self, place: int, record: Record) -> bool:
         """Counts a finding that is not listed. False if it is listed."""
         if record.bits & IS_RECORDED:
             self.recorded[record.package] += 1
             if record.level == HIGH:
+                count = self.recorded_high[record.package]
+                if count < FIRST_RECORDED:
+                    self.first_high[record.package * FIRST_RECORDED + count] = place
                 self.recorded_high[record.package] += 1
             return True
         if record.bits & IS_MADE and record.level != HIGH:
@@ -130,11 +137,17 @@ class Listing:
         """The kind of a finding, times two, and one more if it is a file."""
         return self.codes[place] % OF_ROOT
 
+    def _first_of(self, package: int) -> Sequence[int]:
+        """The places of the first findings of severity high of a package."""
+        start = package * FIRST_RECORDED
+        count = min(self.recorded_high[package], FIRST_RECORDED)
+        return self.first_high[start : start + count]
+
     def recorded_packages(self) -> List[Recorded]:
         """The packages with recorded findings, those with most of severity high first."""
         names = self.findings.packages
         found = [
-            Recorded(names[number], count, self.recorded_high[number])
+            Recorded(names[number], count, self.recorded_high[number], self._first_of(number))
             for number, count in enumerate(self.recorded)
             if count
         ]
