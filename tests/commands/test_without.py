@@ -78,7 +78,7 @@ HIDDEN = """
     /home/anna/.bash_history /home/anna/.viminfo /home/anna/.sudo_as_admin_successful
     /run/crond.pid /run/exim4/exim.pid /run/agetty.reload /run/sudo /run/sudo/ts
     /run/systemd/sessions/1 /run/systemd/journal/kernel-seqnum /run/udev/data/b8:0
-    /run/host/inaccessible/blk
+    /run/host/inaccessible/blk /run/systemd/inaccessible/chr
 """
 # Accounts, keys, programs, settings of aide-compare, what apt runs as root or a program loads from
 # /var/cache, what is in homes there, and what something below /run obeys.
