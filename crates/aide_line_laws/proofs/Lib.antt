@@ -15,3 +15,4 @@ pub mod ReadingLaws
 pub mod NameLaws
 pub mod TextLaws
 pub mod BesideLaws
+pub mod AccountLaws

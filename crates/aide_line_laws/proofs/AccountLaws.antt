@@ -1,0 +1,57 @@
+-- What a trusted pair accounts for is listed in the lines of its own two databases.
+use Rattle.std.proofs.Common.{◌≡◌, ◌∙◌, ℕ, List, Bool, true, false, refl, ap}
+use Rattle.std.specs.Prelude.{◌||◌, ◌&&◌, not, Some, None}
+use Rattle.std.specs.FinMap.{get}
+use Rattle.std.specs.List.{list_any}
+use Rattle.aide_agreement.specs.Account.{Pair, is_change}
+use Rattle.aide_agreement.specs.declared.account.SameAs.TheVariants.{Trusted}
+use Rattle.aide_agreement.proofs.Laws.{trusted_changed}
+use Rattle.aide_attr.specs.Attr.{all_attrs}
+use Rattle.aide_attr.specs.Difference.{Sides, any_reported, is_added, is_affected, is_changed, is_removed}
+use Rattle.aide_attr.specs.Set.{has}
+use Rattle.aide_attr.specs.declared.attr.Attr.{Attr}
+use Rattle.aide_attr.specs.declared.delta.Ignore.{Ignore}
+use Rattle.aide_conf.specs.declared.options.Options.{Options}
+use Rattle.aide_db.specs.Map.{Database}
+use Rattle.aide_entry.specs.Attributes.{sides_between}
+use Rattle.aide_report.specs.Changed.{differ_by}
+use Rattle.aide_report.specs.ChangeLines.{by_old}
+use Rattle.aide_report.specs.Sections.{all_listed, is_in}
+use Rattle.aide_trusted.specs.BesideLines.{by_trusted}
+
+-- options ignore no attribute
+pub record IgnoresNothing (ignore : Ignore) : Type 0 where
+  pub changed : (a : Attr) → has ignore.changed a ≡ false
+  pub added : (a : Attr) → has ignore.added a ≡ false
+  pub removed : (a : Attr) → has ignore.removed a ≡ false
+
+kept : (c x : Bool) → x ≡ false → (c && not x) ≡ c
+kept true x e = ap not e
+kept false x e = refl
+
+any_of : (c a r x y z : Bool) → x ≡ false → y ≡ false → z ≡ false
+    → ((c && not x) || (a && not y) || (r && not z)) ≡ (c || a || r)
+any_of c a r x y z e f g i = kept c x e i || kept a y f i || kept r z g i
+
+reported : (s : Sides) (ignore : Ignore) → IgnoresNothing ignore → any_reported s ignore ≡ list_any (is_affected s) all_attrs
+reported s ignore nothing i =
+    list_any (λ a. any_of (is_changed s a) (is_added s a) (is_removed s a) (has ignore.changed a) (has ignore.added a)
+    (has ignore.removed a) (nothing.changed a) (nothing.added a) (nothing.removed a) i) all_attrs
+
+listed : (options : Options) (path : List ℕ) (pair : Pair) → IgnoresNothing options.ignore → is_change pair ≡ true
+    → is_in options all_listed (path, pair) ≡ true
+unfolding differ_by
+listed options path (None, None) nothing e = e
+listed options path (None, Some new) nothing e = refl
+listed options path (Some old, None) nothing e = refl
+listed options path (Some old, Some new) nothing e = reported (sides_between old new) options.ignore nothing ∙ e
+
+-- At each path for which a trusted pair accounts, the lines of its own two databases list a change if the options ignore
+-- nothing, and nothing accounts for it there.
+pub trusted_is_listed : (options : Options) (trusted_old trusted_new : Database) (path : List ℕ) (found : Pair)
+    → IgnoresNothing options.ignore → by_trusted trusted_old trusted_new (path, found) ≡ Some Trusted
+    → (is_in options all_listed (path, (get trusted_old path, get trusted_new path)) ≡ true)
+    × (by_old (path, (get trusted_old path, get trusted_new path)) ≡ None)
+trusted_is_listed options trusted_old trusted_new path found nothing e =
+    let own = trusted_changed found (get trusted_old path, get trusted_new path) e in
+    (listed options path (get trusted_old path, get trusted_new path) nothing own.changed, own.alone)
