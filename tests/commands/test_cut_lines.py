@@ -87,7 +87,8 @@ class CutLinesTest(CommandTest):
             (b'"listed":4', b'"listed":3'),
             (b'"open_high":', b'"open_high":1'),
             (b'"end":true', b'"end":true}\n{"end":true'),
-            (b'"format":1', b'"format":2'),
+            (b'"format":2', b'"format":3'),
+            (b'"rank":', b'"rank":-1'),
             (b'{"kind":"changed"', b'["kind"'),
         ):
             self.assertIn(old, text)

@@ -195,6 +195,33 @@ class HostsReportTest(CommandTest):
         got = sorted((each["path"], each["hosts"], each["names"]) for each in changes)
         self.assertEqual(got, [("/usr/.x", 1, ["www4"]), ("/usr/.x", 3, ["www1", "www2"])])
 
+    def test_importance(self) -> None:
+        """Of changes on as many hosts the order is that of one host: a set-ID program first, what
+        changed before what was added, and then the paths."""
+        hosts = Hosts(self)
+        old = database(line(b"/etc/sudoers", b"1"))
+        new = database(
+            line(b"/etc/cron.d/a", b"x"),
+            line(b"/etc/sudoers", b"2"),
+            line(b"/zz/suid", b"x", perm=b"104755"),
+        )
+        hosts.compared({"www1": (old, new), "www2": (old, old)})
+        paths = [each["path"] for each in hosts.objects("--order", "rare")[2]]
+        self.assertEqual(paths[0], "/zz/suid")
+        self.assertEqual(paths, self.paths_of_mail(old, new))
+        paths = [each["path"] for each in hosts.objects("--order", "path")[2]]
+        self.assertEqual(paths, sorted(paths))
+
+    def paths_of_mail(self, old: bytes, new: bytes) -> list[str]:
+        """The paths of one pair of databases in the order of its brief."""
+        self.write("one.db", old)
+        self.write("two.db", new)
+        output = self.call("aide-compare", "one.db", "two.db").output.decode()
+        found: list[str] = re.findall(
+            r"(?m)^  (?:high|medium|low) +(?:added|changed|removed) +(/[^ :]+)", output
+        )
+        return found
+
     def test_text(self) -> None:
         hosts = four_hosts(self)
         said = hosts.report("--max-hosts", "2")

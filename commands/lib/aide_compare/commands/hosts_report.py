@@ -128,17 +128,16 @@ def read_hosts(names: Sequence[str], request: ReportRequest) -> tuple[list[Host]
 
 
 def sort_key(found: Found, order: str, by_severity: bool) -> bytes:
-    """What a change is sorted by: of each severity those of root come first. Those with one key
-    stay in the order of paths."""
-    rank = 0
+    """What a change is sorted by: its severity and its owner, how many hosts have it, and then as
+    for one host. Those with one key stay in the order of paths."""
+    place = found.place
+    first = b""
     if by_severity:
-        rank = found.rank
-    place = 0
-    if order == "rare":
-        place = found.hosts
-    elif order == "common":
-        place = GREATEST - found.hosts
-    return b"%d%012d" % (rank, place)
+        first = b"%d%d" % (place.level, place.owners)
+    if order == "path":
+        return first
+    hosts = found.hosts if order == "rare" else GREATEST - found.hosts
+    return first + b"%012d%05d%d" % (hosts, place.rank, place.is_added)
 
 
 class HostsReport:

@@ -16,7 +16,7 @@ from typing import NamedTuple
 from aide_compare.base.line_sorter import LineSorter
 from aide_compare.base.paths import key_of
 from aide_compare.base.words import SIDES
-from aide_compare.hosts.findings import GROUPS
+from aide_compare.changes.importance import Importance
 from aide_compare.hosts.shares import rank_of
 from aide_compare.lines.attributes import FORMS
 from aide_compare.lines.change import Fields, bytes_of
@@ -47,7 +47,7 @@ class Found(NamedTuple):
     """The same change on some hosts."""
 
     fields: Fields  # Its object in the report.
-    rank: int  # Of each severity the changes of root have the least.
+    place: Importance
     hosts: int  # How many have it.
     payers: Sequence[int]  # The numbers of those that have the fewest changes.
 
@@ -102,12 +102,13 @@ class SameChanges:
             change = merged(lines)
             hosts = change.hosts
             fields = change.fields
-            owners: int = fields.pop("owners")
-            rank = rank_of(fields.get("severity", "")) * GROUPS + owners
+            is_added = fields["kind"] == "added"
+            level = rank_of(fields.get("severity", ""))
+            place = Importance(level, fields.pop("owners"), fields.pop("rank"), is_added)
             fields["hosts"] = len(hosts)
             fields["names"] = [names[host] for host in hosts[:max_names]]
             payers = heapq.nsmallest(MAX_PAYERS, hosts, key=lambda host: self.counts[host])
-            yield Found(fields, rank, len(hosts), payers)
+            yield Found(fields, place, len(hosts), payers)
 
 
 class Merged(NamedTuple):

@@ -20,7 +20,7 @@ from aide_compare.hosts.store import LINES, HostDirectory, check_name
 from aide_compare.lines.change import Fields
 from aide_compare.lines.reader import Refused
 
-MEMBERS = frozenset("kind path path_hex summary type old new severity owners".split())
+MEMBERS = frozenset("kind path path_hex summary type old new severity owners rank".split())
 MAX_LIST = 16 << 20
 # What a disk says of a place that is damaged, and a file system of the network of a file that is
 # gone there.
