@@ -63,7 +63,7 @@ class AcceptAskedTest(AcceptingTest):
     def test_refused(self) -> None:
         """Without a terminal on both sides nobody is asked; and if nothing was compared, there is
         nothing to accept."""
-        self.refused(15, b"--sha256 DIGEST is needed", TOOL, *FILES, text=b"y\n")
+        self.refused(15, b"give --sha256 DIGEST", TOOL, *FILES, text=b"y\n")
         self.refused(15, b"unrecognized arguments: --yes", TOOL, "--yes", *FILES)
         for words in (["-q"], ["--state", "state"]):
             status, text = self.asked(b"y\n", (*words, *FILES))

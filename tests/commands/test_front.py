@@ -101,6 +101,8 @@ class FrontTest(CommandTest):
             ("hosts fecth www", b": aide-compare hosts fetch\n"),
             ("help acept", b": aide-compare help accept\n"),
             ("quite-another", b": aide-compare --help\n"),
+            ("diff old.db new.db", b": aide-compare --help\n"),
+            ("report old.db new.db", b": aide-compare --help\n"),
             ("hosts --nonsense", b": aide-compare hosts --help\n"),
             ("--reprot old.db new.db", b"did you mean: --report\n"),
             ("page --titel x", b"did you mean: --title\n"),

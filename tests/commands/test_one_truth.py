@@ -119,7 +119,7 @@ class OneTruthTest(CommandTest):
         words = self.call("aide-compare").output.split(b"\n")[0]
         self.assertRegex(words, rb"\A4 open of 15 changes\Z")
         self.answered(0, words, b"", "aide-compare status")
-        self.answered(2, b"AIDE CRITICAL: " + words, b"", "check_aide_compare")
+        self.answered(1, b"AIDE WARNING: " + words, b"", "check_aide_compare")
         for pair in ((), PAIR):
             lines = self.call("aide-compare json", *pair).output.splitlines()
             end = json.loads(lines[-1])["standings"]
@@ -158,6 +158,9 @@ class OneTruthTest(CommandTest):
         page = self.call("aide-compare", *shlex.split(command)[1:]).output
         self.assertIn(b" open ", page)
         self.assertNotIn("--trusted", command)
+        self.call("aide-compare")
+        waits = f"Mails: 1 mail that could not be sent yet: {self.path('base/mail')}\n"
+        self.answered(0, waits.encode(), b"", "aide-compare status")
         self.assertTrue(counts)
 
     def test_other_databases(self) -> None:

@@ -212,7 +212,7 @@ class RunTest(CommandTest):
             answer = self.call(TOOL, "-B", option, *operands, text=text)
             self.assertEqual((answer.status, answer.output), (7, MINIMAL), (operands, answer))
         answer = self.call(TOOL, "-", "-", text=OLD)
-        self.expect("standard input twice", answer, 15, b"", b"one database only")
+        self.expect("standard input twice", answer, 15, b"", b"only one database")
         answer = self.run_tool("-A", "database_in=file:/no")
         report = self.run_tool().output
         self.expect("the databases of the command line win", answer, 7, report, DIFFER)

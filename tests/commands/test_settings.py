@@ -82,6 +82,16 @@ class SettingsTest(CommandTest):
         self.assertNotIn(b"out of the comparison", answer.errors)
         self.assertEqual(answer.status, 4)
 
+    def test_missing(self) -> None:
+        """Without AIDE, and without a baseline, the line says what to do."""
+        said = b"aide.conf, which would name the databases: name OLD and NEW\n"
+        self.refused(18, said, "aide-compare", state="state")
+        os.remove(self.path("aide.db"))
+        self.assertEqual(self.morning(STOCK).status, 18)
+        text = mail.body(mail.sent(self)).replace(b"\n  ", b" ")
+        self.assertIn(b"/aide.db yet\n", text)
+        self.assertIn(b"as root: aide-compare setup\n", text)
+
     def test_own_file(self) -> None:
         """AIDE's configuration itself is compared like any other file, and the note on the lines
         that include files is of no use there."""

@@ -29,7 +29,12 @@ NEW = HEAD + "/a%20%C3%A9 36 100644 5\n/c 36 100600 7\n@@end_db\n"
 # A night in which only logs, a cache and AIDE's own database have changed, and one with an
 # intruder.
 LOGS = ["/var/log/auth.log", "/var/log/kern.log", "/var/log/syslog"]
-PLAIN = ["/etc/passwd", "/var/cache/man/da", "/var/cache/man/de", "/var/lib/aide/aide.db"]
+PLAIN = [
+    "/etc/passwd",
+    "/var/cache/man/da/index.db",
+    "/var/cache/man/de/index.db",
+    "/var/lib/aide/aide.db",
+]
 BEFORE = dict.fromkeys(PLAIN + LOGS, 1)
 NIGHT = {
     "/etc/passwd": 1,

@@ -142,7 +142,7 @@ def main(arguments: Sequence[str]) -> int:
     if len(args.files) not in (0, 2):
         raise Fault(Status.USAGE, "name NEW and BASELINE, or none", hint)
     if not args.sha256 and (args.quiet or not can_ask()):
-        why = "--sha256 DIGEST is needed, or a terminal, on which this command asks"
+        why = "give --sha256 DIGEST, or run this on a terminal to be asked"
         raise Fault(Status.USAGE, why, hint)
     if args.sha256 and args.trusted and not args.trusted_only:
         raise Fault(Status.USAGE, "--trusted goes with --trusted-only", hint)

@@ -151,7 +151,7 @@ def work_request(request: CompareRequest) -> Request:
     """What is compared, and how."""
     check_databases(request.databases)
     if [*request.databases, *request.trusted].count("-") > 1:
-        raise Fault(Status.USAGE, "standard input has one database only")
+        raise Fault(Status.USAGE, "standard input can hold only one database")
     return plain_request(request)._replace(
         max_size=request.max_size,
         max_report=request.max_report,

@@ -84,7 +84,7 @@ def nearest(word: str, names: Iterable[str]) -> list[str]:
     """The name that a word is like, in a list; an empty one if there is none."""
     import difflib
 
-    return difflib.get_close_matches(word, list(names), 1)
+    return difflib.get_close_matches(word, list(names), 1, 0.65)
 
 
 def refuse(word: str, names: Iterable[str], command: str) -> NoReturn:
@@ -140,7 +140,8 @@ def is_misspelt(arguments: Sequence[str]) -> bool:
     word = first_word(arguments)
     if not re.fullmatch(COMMAND_NAME, word) or os.path.lexists(word):
         return False
-    return len(arguments) == 1 or bool(nearest(word, WORDS))
+    operands = [each for each in arguments if not each.startswith("-")]
+    return len(arguments) == 1 or len(operands) > 2 or bool(nearest(word, WORDS))
 
 
 def main(arguments: Sequence[str]) -> int:

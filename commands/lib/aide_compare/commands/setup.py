@@ -20,8 +20,6 @@ from aide_compare.base.parser import Parser
 from aide_compare.base.program import MAX_DIFFERENT
 from aide_compare.base.words import counted
 from aide_compare.commands.setup_machine import (
-    DEBIANS,
-    OTHERS,
     PATHS,
     aides_user,
     has_signed,
@@ -29,11 +27,15 @@ from aide_compare.commands.setup_machine import (
     make_signed,
     make_without,
     next_time,
+    rename_safely,
     run_shown,
     says_yes,
     status_of_errors,
 )
 from aide_compare.commands.setup_options import DAILY, has_options, options_there, write_options
+from aide_compare.compare.comparison import Request
+from aide_compare.compare.work import named_databases
+from aide_compare.mail.waiting import hint_for_exim, troubles
 
 NAME = "aide-compare setup"
 DESCRIPTION = """\
@@ -97,7 +99,7 @@ class Machine:
         self.user = aides_user()
         self.has_timer = os.path.isdir(PATHS.systemd) and not request.wants_cron
         self.is_debian = os.path.lexists(PATHS.debian_configuration)
-        self.names = DEBIANS if self.is_debian else OTHERS
+        self.baseline, self.new = named_databases(Request())
 
     def owns(self, path: str) -> bool:
         """Whether what is by a path is the user's; False if there is nothing."""
@@ -107,34 +109,33 @@ class Machine:
             return False
 
     def make_baseline(self) -> None:
-        """Lets AIDE write the first database. What it writes elsewhere than on Debian gets the
-        baseline's name."""
+        """Lets AIDE write the first database. On Debian AIDE has a command for that; elsewhere what
+        it writes gets the baseline's name."""
         if self.is_debian:
             run_shown(["aideinit", "-y"], SECONDS_OF_INIT)
-            return
-        run_shown(["aide", "--init"], SECONDS_OF_INIT)
-        with open_directory(PATHS.databases) as directory:
-            if not directory.is_safe():
-                raise Fault(Status.DEVICE, f"other users can write in {PATHS.databases}")
-            baseline = self.names.baseline
-            os.rename(self.names.new, baseline, src_dir_fd=directory.fd, dst_dir_fd=directory.fd)
+        else:
+            run_shown(["aide", "--init"], SECONDS_OF_INIT)
+            rename_safely(self.new, self.baseline)
+        if not os.path.lexists(self.baseline):
+            raise Fault(Status.DEVICE, f"AIDE has not written {shown(self.baseline)}")
 
-    def give(self, name: str) -> None:
+    def give(self, path: str) -> None:
         """Gives a database that root has made to the user. Others can write in the directory, so
         nothing goes by its name: it is one file of root's, with no other name, that begins as a
         database does."""
-        path = f"{PATHS.databases}/{name}"
         flags = os.O_PATH | os.O_NOFOLLOW | os.O_CLOEXEC
-        with open_directory(PATHS.databases) as directory:
+        above, name = os.path.split(path)
+        with open_directory(above) as directory:
             with closed_after(os.open(name, flags, dir_fd=directory.fd)) as file:
                 status = os.fstat(file)
                 is_single = stat.S_ISREG(status.st_mode) and status.st_nlink == 1
                 if not is_single or status.st_uid not in (0, self.user.pw_uid):
-                    raise Fault(Status.DEVICE, f"{path} is no file of root's with one name")
+                    text = f"{shown(path)} is no file of root's with one name"
+                    raise Fault(Status.DEVICE, text)
                 opened = reopened(file, os.O_RDONLY)
         with closed_after(opened):
             if not os.pread(opened, 10, 0).startswith(DATABASE_STARTS):
-                raise Fault(Status.DEVICE, f"{path} is not a database of AIDE")
+                raise Fault(Status.DEVICE, f"{shown(path)} is not a database of AIDE")
             os.fchown(opened, self.user.pw_uid, self.user.pw_gid)
 
     def make_directory(self) -> None:
@@ -145,8 +146,10 @@ class Machine:
                 os.mkdir(DAILY, 0o755, dir_fd=directory.fd)
             flags = os.O_RDONLY | os.O_DIRECTORY | os.O_NOFOLLOW | os.O_CLOEXEC
             with closed_after(os.open(DAILY, flags, dir_fd=directory.fd)) as inner:
+                # Whatever the umask is: others read the state. The owner comes last, since by that
+                # the step is known to be done.
+                os.fchmod(inner, 0o755)
                 os.fchown(inner, self.user.pw_uid, self.user.pw_gid)
-                os.fchmod(inner, 0o755)  # Whatever the umask is: others read the state.
 
     def has_job(self) -> bool:
         """Whether there is one that will run: a timer that was stopped is on again only after the
@@ -176,19 +179,28 @@ class Machine:
             return f"by {TIMER}"
         return f"on {time}"
 
+    def reader(self) -> str:
+        """Who gets the mails."""
+        return self.request.address or shown(options_there().get("--to", "root"))
+
     def summary(self, count: int) -> list[str]:
         """The last lines: what was done, and what comes next."""
         done = "All was there already."
         if count:
             done = f"Done: {counted(count, 'step')} now."
-        options = options_there()
-        reader = shown(options.get("--to", "root"))
-        is_any = options.get("--alarm") == "any"
+        reader = self.reader()
+        is_any = options_there().get("--alarm") == "any"
         cause = "if anything differs" if is_any else "if a change is not silent"
         mail = f"Then {reader} gets a mail {cause}, or if nothing was compared:"
         first = f"The first comparison runs {self.next_run()}."
         example = [SUBJECT.format(host=shown(os.uname().nodename)), *MAIL]
-        return ["", done, first, mail, "", *example, "", "To compare now: aide-compare"]
+        lines = ["", done, first, mail, "", *example, "", "To compare now: aide-compare"]
+        if self.request.wants_mail:
+            test = f"A test mail went to {reader}: look now whether it came."
+            lines += ["", test]
+            if reader == "root":
+                lines += hint_for_exim(PATHS.aliases)
+        return lines
 
     def options_asked(self) -> dict[str, str]:
         """The options of each day that the command line asks for."""
@@ -198,21 +210,16 @@ class Machine:
     def comparison(self) -> int | None:
         """The status of a comparison of now, which prints why it fails; None without databases, or
         for a user who cannot read them."""
-        paths = [os.path.join(PATHS.databases, name) for name in self.names]
+        paths = (self.baseline, self.new)
         if os.geteuid() != 0 or not all(map(os.path.lexists, paths)):
             return None
         words = ["aide-compare", "--quiet", "--state", "-"]  # And not in its usual place.
         return status_of_errors(words, SECONDS_OF_COMPARISON)
 
     def send_test(self) -> None:
-        if not self.request.wants_mail or self.request.changes_nothing:
-            return
         words = ["aide-compare", "mail", "--test", "--user", self.user.pw_name]
         if self.request.address:
-            tell(f"a test mail to {shown(self.request.address)}")
             words.append(f"--to={self.request.address}")
-        else:
-            tell("a test mail")
         try:
             run_shown(words)
         except Fault:
@@ -247,14 +254,18 @@ class Machine:
             yield Step(title, has_signed(), make_signed)
         self.refuse_other_job()
         yield self.job()
-        self.send_test()
-        baseline = os.path.join(PATHS.databases, self.names.baseline)
-        title = f"the baseline {baseline}, which takes several minutes"
-        yield Step(title, os.path.lexists(baseline), self.make_baseline)
-        for name in self.names:
-            path = os.path.join(PATHS.databases, name)
-            is_given = self.owns(path) or not os.path.lexists(path)
-            yield Step(f"{path} is {user}'s", is_given, partial(self.give, name))
+        if self.request.wants_mail and not self.request.is_check:
+            yield Step(f"a test mail to {self.reader()}", False, self.send_test)
+        title = f"the baseline {shown(self.baseline)}, which takes several minutes"
+        yield Step(title, os.path.lexists(self.baseline), self.make_baseline)
+        for path in filter(os.path.lexists, (self.baseline, self.new)):
+            title = f"the owner of {shown(path)}: {user}"
+            yield Step(title, self.owns(path), partial(self.give, path))
+
+    def troubles(self) -> Iterator[str]:
+        """What keeps mails from their reader."""
+        queue = os.path.join(PATHS.own_directory, DAILY, "mail")
+        return troubles(queue, "--smtp" not in options_there())
 
 
 def take_steps(machine: Machine) -> None:
@@ -262,7 +273,7 @@ def take_steps(machine: Machine) -> None:
     count = 0
     for number, step in enumerate(machine.steps(), 1):
         if step.is_done:
-            tell(f"{number}. {step.title}: is there")
+            tell(f"{number}. {step.title} (already)")
             continue
         tell(f"{number}. {step.title}")
         count += 1
@@ -281,6 +292,7 @@ def tell_missing(machine: Machine) -> int:
     elif status is not None:
         found = "differences: aide-compare" if status else "no difference"
         tell(f"a comparison of now finds {found}")
+    missing += machine.troubles()
     if not missing:
         tell("nothing is missing")
         return Status.OK
@@ -291,7 +303,8 @@ def tell_missing(machine: Machine) -> int:
 
 
 def request_of(arguments: Sequence[str]) -> SetupRequest:
-    parser = Parser(NAME, DESCRIPTION, "print nothing but why a step failed", epilog=EPILOG)
+    quiet = "print nothing but why a step failed"
+    parser = Parser(NAME, DESCRIPTION, quiet, epilog=EPILOG, usage=f"{NAME} [OPTIONS]")
     parser.add(
         Option("--dry-run", "print the steps, and change nothing"),
         Option("--check", "print what is missing, compare once, and change nothing"),

@@ -8,9 +8,10 @@ import re
 import time
 from collections.abc import Sequence
 from contextlib import suppress
-from typing import NamedTuple
 
+from aide_compare.base.directories import open_directory
 from aide_compare.base.ending import Fault, Status, failing, tell
+from aide_compare.base.escapes import shown
 from aide_compare.base.files import read_file
 from aide_compare.base.processes import run, run_here
 from aide_compare.base.program import Drain
@@ -30,7 +31,7 @@ class Paths:
     def __init__(self, root: str) -> None:
         self.debian_configuration = f"{root}/etc/aide/aide.conf"
         self.other_configuration = f"{root}/etc/aide.conf"
-        self.databases = f"{root}/var/lib/aide"
+        self.aliases = f"{root}/etc/aliases"
         self.own_directory = f"{root}/var/lib/aide-compare"
         self.defaults = f"{root}/etc/aide-compare/defaults"
         self.without = f"{root}/etc/aide-compare/without"
@@ -50,18 +51,6 @@ MAX_EXAMPLE = 1 << 20
 OLD_VARIABLE = b"TRUSTED="
 SECONDS = 600
 DATE = re.compile("[A-Za-z0-9 :+-]{10,60}")
-
-
-class DatabaseNames(NamedTuple):
-    """The names of the databases in AIDE's directory."""
-
-    baseline: str
-    new: str
-
-
-# On Debian AIDE has a command that makes the first one; on systems of rpm both are compressed.
-DEBIANS = DatabaseNames("aide.db", "aide.db.new")
-OTHERS = DatabaseNames("aide.db.gz", "aide.db.new.gz")
 
 
 def example(name: str) -> bytes:
@@ -101,6 +90,18 @@ def make_signed() -> None:
 
 def make_cron_job() -> None:
     replace(PATHS.cron_job, example("cron/aide-compare.cron.daily"), 0o755)
+
+
+def rename_safely(old: str, new: str) -> None:
+    """Gives a file another name; a Fault if other users can write in one of the directories."""
+    source, old_name = os.path.split(old)
+    target, new_name = os.path.split(new)
+    with open_directory(source) as here, open_directory(target) as there:
+        for path, directory in ((source, here), (target, there)):
+            if not directory.is_safe():
+                raise Fault(Status.DEVICE, f"other users can write in {shown(path)}")
+        with failing(f"cannot rename {shown(old)}"):
+            os.rename(old_name, new_name, src_dir_fd=here.fd, dst_dir_fd=there.fd)
 
 
 def status_of(words: Sequence[str], seconds: int) -> int:

@@ -11,7 +11,7 @@ from aide_compare.base.ending import Fault, Status, tell, write_all
 from aide_compare.base.escapes import guarded, shown
 from aide_compare.base.files import given_descriptor
 from aide_compare.base.replacement import replace
-from aide_compare.base.options import RESULT_AGE, STATE, STORE, Option
+from aide_compare.base.options import RESULT_AGE, SMTP, STATE, STORE, Option
 from aide_compare.base.parser import Parser, defaults_for
 from aide_compare.base.words import SEVERITIES, date_of, minute_of
 from aide_compare.compare.state import DAILY, KEYS, NUMBER, State, not_compared, read_state
@@ -62,6 +62,8 @@ class StatusRequest:
         output: str,
         is_quiet: bool,
         color: str,
+        is_daily: bool,
+        needs_sendmail: bool,
     ) -> None:
         self.state = state
         self.max_age = max_age
@@ -69,6 +71,8 @@ class StatusRequest:
         self.output = output  # Of prometheus: a file, or STDOUT.
         self.is_quiet = is_quiet
         self.color = color
+        self.is_daily = is_daily  # The state is that of the job of each day.
+        self.needs_sendmail = needs_sendmail
 
 
 class Metric:
@@ -168,6 +172,17 @@ def paragraph(state: State, max_age: int) -> list[str]:
     return lines + command_lines(state)
 
 
+def mail_lines(request: StatusRequest) -> list[str]:
+    """What keeps the mails of the daily job from whoever reads them."""
+    if not request.is_daily:
+        return []
+    from aide_compare.mail.waiting import troubles
+
+    queue = os.path.join(os.path.dirname(request.state), "mail")
+    found = list(troubles(queue, request.needs_sendmail))
+    return ["", *(f"Mails: {line}" for line in found)] if found else []
+
+
 def write_text(request: StatusRequest) -> int:
     """What people read. Without a state it says how to get one."""
     if not os.path.lexists(request.state):
@@ -180,7 +195,7 @@ def write_text(request: StatusRequest) -> int:
         return Status.OK
     first, *others = paragraph(state, request.max_age)
     tell(in_colour(guarded(first)[:MAX_LINE], BOLD, request.color))
-    tell(*(guarded(line)[:MAX_LINE] for line in others))
+    tell(*(guarded(line)[:MAX_LINE] for line in [*others, *mail_lines(request)]))
     return Status.OK
 
 
@@ -245,7 +260,8 @@ def request_of(arguments: Sequence[str]) -> StatusRequest:
     parser.add_operand("output", "OUTPUT", output, nargs="?", default=STDOUT)
     state = f"the state file that aide-compare wrote ({DAILY})"
     parser.add(STATE._replace(default=DAILY, help=state), RESULT_AGE)
-    parser.set_defaults(**defaults_for((STATE,), arguments))
+    defaults = defaults_for((STATE, SMTP), arguments)
+    parser.set_defaults(**defaults)
     args = parser.parse(arguments)
     is_conditional = args.quiet or args.max_age != RESULT_AGE.default
     if is_conditional and args.format not in ("text", "line"):
@@ -259,6 +275,8 @@ def request_of(arguments: Sequence[str]) -> StatusRequest:
         output=args.output,
         is_quiet=args.quiet,
         color=args.color,
+        is_daily=args.state == parser.get_default(STATE.attribute),
+        needs_sendmail=SMTP.attribute not in defaults,
     )
 
 

@@ -87,7 +87,7 @@ def stream_request(args: argparse.Namespace) -> StreamRequest:
         raise Fault(Status.USAGE, "name two databases, OLD and NEW, or one file of lines")
     trusted: Sequence[str] = args.trusted or ()
     if [*args.files, *trusted].count(STDIN) > 1:
-        raise Fault(Status.USAGE, "standard input has one database only")
+        raise Fault(Status.USAGE, "standard input can hold only one database")
     return StreamRequest(
         files=args.files,
         configuration=args.config,

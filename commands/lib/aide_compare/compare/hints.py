@@ -39,6 +39,7 @@ BEGINNINGS = (
     (b"\x28\xb5\x2f\xfd", "it is compressed by zstd: unpack it first"),
     (b"BZh", "it is compressed by bzip2: unpack it first"),
     (b"\xef\xbb\xbf", "it begins with a byte order mark, which AIDE does not write"),
+    (b"@@begin_db\r", "its lines end with a carriage return, which AIDE does not write"),
     (b"\xff\xfe", "it is UTF-16, which AIDE does not write"),
     (b"\xfe\xff", "it is UTF-16, which AIDE does not write"),
 )

@@ -16,7 +16,7 @@ from aide_compare.base.program import LINES, Answer, Drain, Tail, find_installed
 from aide_compare.base.words import SIDES, TRUSTED_SIDES, age_in_words, counted, words_of_side
 from aide_compare.compare.asking import Question, ask_for_changes, defines_group, odd_answer
 from aide_compare.compare.comparison import Comparison, Lines, Refusal, Request
-from aide_compare.compare.configuration import Databases, Settings, Texts, databases_of
+from aide_compare.compare.configuration import ADVICE, Databases, Settings, Texts, databases_of
 from aide_compare.compare.configuration import without_includes
 from aide_compare.compare.hints import column_notes, hints_of, order_notes, skipped_in
 from aide_compare.compare.report import write_report
@@ -67,6 +67,9 @@ class Work:
             return ()
         if request.old is None:
             self.databases = self.named_databases()
+            if not request.configuration and not os.path.lexists(self.databases.old):
+                why = f"there is no baseline {shown(self.databases.old)} yet"
+                raise Fault(Status.DEVICE, why, "as root: aide-compare setup")
         opened = [open_database(*names) for names in zip(SIDES, self.databases)]
         check_age(opened[1], request.max_age)
         opened += [open_database(*names) for names in zip(TRUSTED_SIDES, request.trusted)]
@@ -77,6 +80,9 @@ class Work:
         """The databases that the configuration names, that of a person or AIDE's."""
         texts = self._given_texts()
         if not self.request.configuration:
+            if not os.path.lexists(self.path):
+                why = f"there is no {self.path}, which would name the databases: {ADVICE}"
+                raise Fault(Status.DEVICE, why)
             texts = texts._replace(config=without_includes(self.path).text)
         try:
             return databases_of(texts, self.path, self._settings)
