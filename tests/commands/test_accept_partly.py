@@ -17,7 +17,7 @@ OWNERS = (None, NOBODY) if os.getuid() == 0 else (None,)
 # A comparison that fails for a bug.
 FAULT = "def failing(*words):\n    1 / 0\nWork._keep_digests\nWork._keep_digests = failing\n"
 # One whose lines may have few bytes.
-SHORT = "ask = Request\ndef Request(**words):\n    return ask(max_report=600, **words)\n"
+SHORT = "ask = Request\ndef Request(**words):\n    return ask(**{**words, 'max_report': 600})\n"
 # One that says whose rights it has.
 WHOSE = "compare\ndef compare(_):\n    raise Fault(18, f'as user {os.geteuid()}')\n"
 
