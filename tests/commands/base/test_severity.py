@@ -9,7 +9,7 @@ from tests.commands.base.calls import ModuleTest
 
 from aide_compare.changes import severity
 from aide_compare.changes.severity import Severity
-from aide_compare.changes.entries import Entry
+from aide_compare.changes.entries import Entry, owner_of
 
 COLUMNS = ("attr", "perm", "uid", "gid", "acl", "capabilities", "e2fsattrs")
 PLACES = {column: place for place, column in enumerate(COLUMNS)}
@@ -142,6 +142,7 @@ SHIPPED = {
         /usr/share/polkit-1/actions/x.policy /usr/share/git-core/templates/hooks/x
         """,
     "medium": """
+        /var/lib/apt/listchanges /var/lib/apt/listchanges-old
         /usr/bin/x /opt/x /srv/x /usr/local/lib/libm.a
         /usr/local/lib/python3.11/libm.so /usr/lib/x86_64-linux-gnu/perl/libm.so
         """,
@@ -198,6 +199,12 @@ class SeverityTest(ModuleTest):
             self.expect("a removed one", table.of(path, entry(FILE), None).level, "low")
             self.expect("an added one", table.of(path, None, entry(FILE)).level, "high")
             self.expect("another one", table.of(path, entry(FILE), entry(FILE)).level, "high")
+
+    def test_owners(self) -> None:
+        """Nobody but root makes a device, so it is named among root's changes."""
+        for mode, wanted in ((FILE, ANNA), (0o20000, 0), (0o60660, 0)):
+            found = owner_of(None, entry(mode, uid=ANNA))
+            self.expect(f"whose change {mode:o} is", found, wanted)
 
     def test_order(self) -> None:
         """Rights come first, then what logs in, starts or loads code, then programs, then all

@@ -107,10 +107,17 @@ class Entry:
 
     @property
     def owner(self) -> Optional[int]:
-        """The number of its user; None if its rule did not ask for that."""
+        """The number of its user; None if its rule did not ask for that. Nobody but root makes a
+        device."""
         if not self.bits & HAS_USER or "uid" not in self.places:
             return None
+        if self.is_device:
+            return ROOT
         return self.number("uid")
+
+    @property
+    def is_device(self) -> bool:
+        return stat.S_ISCHR(self.mode) or stat.S_ISBLK(self.mode)
 
     @property
     def has_capabilities(self) -> bool:

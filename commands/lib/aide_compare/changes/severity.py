@@ -144,8 +144,7 @@ def gains_acl(old: Side, new: Side) -> bool:
 
 def is_device_of_another(entry: Entry) -> bool:
     """Whether a device is another user's than root's, who can give himself all rights on it."""
-    is_device = stat.S_ISCHR(entry.mode) or stat.S_ISBLK(entry.mode)
-    return is_device and user_of(entry) not in (None, ROOT)
+    return entry.is_device and user_of(entry) not in (None, ROOT)
 
 
 def gains_writers(old: Side, new: Side) -> bool:
