@@ -185,7 +185,7 @@ class FloodsTest(CommandTest):
             ("open", {"mode": socket, **other}, {"inode": 2, "owner": 33}),
             ("same", {"mode": b"10600", **other}, {"mtime": 2}),  # A FIFO.
             ("same", {"mode": b"40755", **other}, {"mtime": 2}),
-            ("same", {"mode": b"20600", **other}, {"inode": 2}),  # A device.
+            ("open", {"mode": b"20600", **other}, {"inode": 2}),  # A device, of whatever number.
             ("open", {"mode": b"120777", **other}, {"inode": 2}),  # A link without a target.
         ]
         path = b"/var/spool/postfix/etc/000"
