@@ -30,6 +30,13 @@ plant() {
     cp -p /usr/bin/who "$keep/who" && printf x >> /usr/bin/who && touch -r "$keep/who" /usr/bin/who && echo /usr/bin/who
     cp -p /usr/bin/id /usr/local/bin/ls && echo /usr/local/bin/ls
     cp -p /usr/bin/id /var/log/sysstat.bin && echo /var/log/sysstat.bin
+    # What is started, obeyed or given away where daily jobs write.
+    echo x > /var/cache/apt/archives/zz_1.0_amd64.deb && echo /var/cache/apt/archives/zz_1.0_amd64.deb
+    echo '|true' > /var/cache/man/.forward && chmod 600 /var/cache/man/.forward && echo /var/cache/man/.forward
+    echo '|true' > /var/backups/.forward && chmod 600 /var/backups/.forward && echo /var/backups/.forward
+    mknod -m 0 /var/cache/zero c 1 5 && chown anna /var/cache/zero && echo /var/cache/zero
+    chmod 777 /var/cache/debconf && echo /var/cache/debconf
+    sed -i '$a report_ignore_changed_attrs=p+u+g+s+sha256' /etc/aide/aide.conf && echo /etc/aide/aide.conf
 }
 
 undo() {
@@ -37,6 +44,9 @@ undo() {
     rm -rf /run/systemd/system/ssh.service.d /run/udev/rules.d/00.rules /run/tmpfiles.d/zz.conf
     rm -rf /run/modprobe.d /run/polkit-1/rules.d/00.rules /etc/sudoers.d/zz /usr/local/bin/ls /var/log/sysstat.bin
     rmdir /run/polkit-1/rules.d /run/polkit-1 /run/tmpfiles.d /run/udev/rules.d 2> /dev/null
+    rm -f /var/cache/apt/archives/zz_1.0_amd64.deb /var/cache/man/.forward /var/backups/.forward /var/cache/zero
+    chmod 755 /var/cache/debconf
+    sed -i '/^report_ignore_changed_attrs=p+u/d' /etc/aide/aide.conf
     setfacl -b /etc/pam.d
     chmod 755 /usr/bin /usr/sbin && chgrp root /usr/bin && chown root /etc/default
     cat "$keep/passwd" > /etc/passwd

@@ -11,10 +11,11 @@ from pathlib import Path
 SUITES = {"12": "bookworm", "13": "trixie"}
 MIRROR = "http://deb.debian.org/debian"
 KEYRING = "/usr/share/keyrings/debian-archive-keyring.gpg"
+# AIDE is not among them: it is installed on the booted machine, as administrators do it.
 PACKAGES = (
-    "aide aide-common apt apt-listchanges ca-certificates cron curl dbus iproute2 kmod less login"
-    " logrotate man-db openssh-server openssl passwd polkitd procps python3 sudo systemd-sysv"
-    " systemd-timesyncd udev unattended-upgrades vim-tiny libcap2-bin acl"
+    "apt apt-listchanges bsdutils ca-certificates cron curl dbus gpgv iproute2 kmod less"
+    " libpam-systemd login logrotate man-db openssh-server openssl passwd polkitd procps python3"
+    " sudo systemd-sysv systemd-timesyncd udev unattended-upgrades vim-tiny libcap2-bin acl"
 ).split()
 # Debian 12 has a system log in files too, Debian 13 only the journal.
 ALSO: dict[str, list[str]] = {"12": ["rsyslog"], "13": []}
@@ -62,6 +63,16 @@ def make_base(directory: Path, debian: str) -> None:
     )
 
 
+def own_group(name: str) -> Path:
+    """A control group for one machine: systemd in it takes the root of what it sees for its own, so
+    two machines in one group would end each other's services."""
+    mounts = [line.split() for line in Path("/proc/mounts").read_text().splitlines()]
+    top = next(place for _, place, kind, *_ in mounts if kind == "cgroup2")
+    group = Path(top) / f"nights-{name}"
+    group.mkdir(exist_ok=True)
+    return group
+
+
 class Machine:
     """One machine: the directory of its files, and the process of its systemd while it is
     booted."""
@@ -83,7 +94,8 @@ class Machine:
         if mailer == "msmtp":
             self._add_sink()
         (self.root / "usr/sbin/policy-rc.d").unlink()
-        self.chroot("useradd", "-m", "-s", "/bin/bash", "anna")
+        self.chroot("useradd", "-m", "-s", "/bin/bash", "-G", "sudo", "anna")
+        self.chroot("chpasswd", text="anna:secret\n")
 
     def _add_sink(self) -> None:
         """msmtp keeps no queue, so it needs a server. One that throws all mails away runs on the
@@ -123,8 +135,9 @@ class Machine:
         words += ["--resolv-conf=off", "--timezone=off", "-D", str(self.root)]
         words += [f"--machine={self.name}", f"--hostname={self.name}", "--boot"]
         environment = {**os.environ, "SYSTEMD_NSPAWN_UNIFIED_HIERARCHY": "1"}
+        enter = ["sh", "-c", 'echo $$ > "$0/cgroup.procs" && exec "$@"', str(own_group(self.name))]
         self.process = subprocess.Popen(
-            words,
+            enter + words,
             stdin=subprocess.DEVNULL,
             stdout=subprocess.DEVNULL,
             stderr=subprocess.DEVNULL,

@@ -26,12 +26,19 @@ COUNTS = ("added", "removed", "changed", "same", "trusted", "recorded", "open", 
 LOG_IN = (
     "ssh -q -i /root/.ssh/id_ed25519 -o StrictHostKeyChecking=no -o UserKnownHostsFile=/dev/null"
 )
+# Packages that an event installs, downloaded while the machine is off.
+SETUP = "aide aide-common"
+INSTALL = "nginx-light jq tree"
+KERNEL = "linux-image-cloud-amd64"
 DAILY = """
 logger -p auth.info 'nights: a line'; logger -p mail.info 'nights: a line'; logger 'nights: a line'
 printf 'Subject: cron\\n\\na job said something\\n' | sendmail -oi root
-for unit in logrotate apt-daily man-db dpkg-db-backup systemd-tmpfiles-clean exim4-base; do
+for unit in logrotate man-db dpkg-db-backup systemd-tmpfiles-clean exim4-base; do
     systemctl start $unit.service
 done
+# Without a network it would wait for minutes.
+timeout 20 systemctl start apt-daily.service
+systemctl stop apt-daily.service
 for job in dpkg logrotate man-db exim4-base; do
     [ ! -x /etc/cron.daily/$job ] || /etc/cron.daily/$job
 done
@@ -45,11 +52,18 @@ EVENTS = {
     "idle": DAILY,
     "rotation": DAILY + "logrotate -f /etc/logrotate.conf\n" + DAILY,
     "boot": "true",
-    "login": f"for user in anna root; do {LOG_IN} $user@127.0.0.1 'id; sleep 1'; done",
-    "install": "apt-get install -y nginx-light jq tree",
+    # systemd takes what a user has in /run away ten seconds after the last of his sessions.
+    "login": f"for user in anna root; do {LOG_IN} $user@127.0.0.1 'id; sleep 1'; done; sleep 20",
+    "session": "/root/sessions.sh",
+    "install": f"apt-get install -y {INSTALL}",
     "upgrade": "unattended-upgrade -v",
+    "kernel": f"apt-get install -y {KERNEL}",
 }
-NIGHTS = "first idle idle rotation rotation boot idle login install upgrade idle".split()
+# The first boot comes before anything else that an administrator does after `apt install aide`.
+NIGHTS = (
+    "first boot idle rotation rotation boot idle login session install upgrade kernel idle".split()
+)
+DEBS = "var/cache/apt/archives"
 MAIL_SECONDS = 60
 
 
@@ -69,11 +83,12 @@ class Nights:
         source = f"deb http://deb.debian.org/debian-security {suite}-security main\n"
         machine.write("etc/apt/sources.list.d/security.list", source)
         machine.chroot("apt-get", "update")
-        machine.chroot("apt-get", "install", "-y", "--no-install-recommends", "gpgv")
-        machine.chroot("apt-get", "install", "-y", "-d", "nginx-light", "jq", "tree")
-        machine.chroot("apt-get", "upgrade", "-y", "-d")
-        shutil.copy(package, machine.root / "var/tmp/aide-compare.deb")
-        machine.chroot("dpkg", "-i", "/var/tmp/aide-compare.deb")
+        machine.chroot("apt-get", "clean")
+        self.download("setup", "install", *SETUP.split())
+        self.download("install", "install", *INSTALL.split())
+        self.download("upgrade", "upgrade")
+        self.download("kernel", "install", *KERNEL.split())
+        shutil.copyfile(package, machine.root / "var/tmp/aide-compare.deb")
         machine.chroot("ssh-keygen", "-q", "-t", "ed25519", "-N", "", "-f", "/root/.ssh/id_ed25519")
         (machine.root / QUEUE[1:]).mkdir()
         for home, owner in (("root", "root"), ("home/anna", "anna")):
@@ -81,11 +96,46 @@ class Nights:
             machine.write(f"{home}/.ssh/authorized_keys", key, 0o600)
             machine.chroot("chown", "-R", owner, f"/{home}/.ssh")
             machine.chroot("chmod", "700", f"/{home}/.ssh")
-        machine.write("root/intruder.sh", (HERE / "intruder.sh").read_text(), 0o755)
-        # One digest instead of eleven: a check takes seconds then, and says as much.
-        machine.chroot("sed", "-i", "s/^Checksums = H$/Checksums = sha256/", "/etc/aide/aide.conf")
+        for name in ("intruder.sh", "sessions.sh"):
+            machine.write(f"root/{name}", (HERE / name).read_text(), 0o755)
+
+    def debs(self, event: str) -> Path:
+        return self.results / f"{event}.debs"
+
+    def download(self, event: str, *words: str) -> None:
+        """Keeps the packages of an event away from the machine until they are wanted there."""
+        self.machine.chroot("apt-get", words[0], "-y", "-d", *words[1:])
+        shutil.rmtree(self.debs(event), ignore_errors=True)
+        self.debs(event).mkdir()
+        for path in (self.machine.root / DEBS).glob("*.deb"):
+            shutil.move(path, self.debs(event))
+
+    def hand_over(self, event: str) -> None:
+        """Puts the packages of an event where apt would put them at once."""
+        if self.debs(event).exists():
+            for path in self.debs(event).iterdir():
+                shutil.copy(path, self.machine.root / DEBS)
+
+    def shell(self, name: str, script: str) -> None:
+        """Runs an event on the machine, and keeps what it printed."""
+        done = self.machine.shell(script)
+        (self.results / f"{name}.event").write_bytes(done.stdout + done.stderr)
+
+    def install(self) -> None:
+        """AIDE and the package, as an administrator installs both on the running machine."""
+        self.hand_over("setup")
+        # adduser leaves a lock behind, which the first boot takes away.
+        script = (
+            "adduser --quiet --disabled-password --gecos '' bert;"
+            f" apt-get install -y {SETUP} && dpkg -i /var/tmp/aide-compare.deb"
+        )
+        self.shell("00-install", script)
 
     def set_up(self) -> None:
+        self.install()
+        # One digest instead of eleven: a check takes seconds then, and says as much.
+        stock = "s/^Checksums = H$/Checksums = sha256/"
+        self.machine.inside("sed", "-i", stock, "/etc/aide/aide.conf")
         # What a machine does on its first day, and never again. Without a network it waits.
         unit = "apt-listchanges.service"
         self.machine.shell(f"timeout 60 systemctl start {unit}; systemctl stop {unit}")
@@ -100,16 +150,22 @@ class Nights:
             self.machine.power_off()
             self.machine.boot()
         name = f"{number:02}-{event}"
-        done = self.machine.shell(EVENTS[event])
-        (self.results / f"{name}.event").write_bytes(done.stdout + done.stderr)
+        self.hand_over(event)
+        self.shell(name, EVENTS[event])
         self.report(name, self.check())
-        kept = self.results / f"{name}.db"
-        shutil.copy(self.path(NEW), kept)
+        clean = self.keep_database(name)
         if self.with_intruder and event != "first":
             marks = self.machine.inside("/root/intruder.sh", "plant").stdout.decode().split()
             self.report(f"{name}-intruder", self.check(), marks)
+            self.keep_database(f"{name}-intruder")
             self.machine.inside("/root/intruder.sh", "undo")
-        self.path(BASELINE).write_bytes(kept.read_bytes())
+        self.path(BASELINE).write_bytes(clean)
+
+    def keep_database(self, name: str) -> bytes:
+        """Keeps the database that AIDE has just written, by gzip, and returns it."""
+        database = self.path(NEW).read_bytes()
+        (self.results / f"{name}.db.gz").write_bytes(database)
+        return database
 
     def path(self, name: str) -> Path:
         return self.machine.root / name[1:]
