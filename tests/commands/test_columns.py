@@ -54,11 +54,12 @@ class ColumnsTest(CommandTest):
 
     def test_status(self) -> None:
         """Each form of the status has the names."""
-        self.write("odd.db", with_column(OLD.replace(b"fstype", b'a"b'), b"c\\d"))
+        for name in ("odd.db", "twin.db"):
+            self.write(name, with_column(OLD.replace(b"fstype", b'a"b'), b"c\\d"))
         for databases, told, labels, names in (
             (("o.db", "same.db"), FSTYPE.encode(), [b"fstype"], ["fstype"]),
             (
-                ("odd.db", "odd.db"),
+                ("odd.db", "twin.db"),
                 b'the columns a"b, c\\134d are not compared',
                 [b'a\\"b', b"c\\\\134d"],
                 ['a"b', "c\\134d"],
@@ -86,11 +87,13 @@ class ColumnsTest(CommandTest):
             (b"n" * 90, b"the column " + b"n" * 40 + b"... is"),
             (b"fstype\r", b"the column fstype\\015 is"),
         ):
-            self.write("odd.db", OLD.replace(b"fstype", name))
-            self.answered(0, None, told, TOOL, *STATE, "odd.db", "odd.db")
+            for file in ("odd.db", "twin.db"):
+                self.write(file, OLD.replace(b"fstype", name))
+            self.answered(0, None, told, TOOL, *STATE, "odd.db", "twin.db")
             self.answered(0, None, None, "aide-compare status", *STATE)
-        self.write("far.db", b"#" * (1 << 16) + b"\n" + OLD)
-        self.answered(0, None, b"the column #4 is not compared", TOOL, "far.db", "far.db")
+        for file in ("far.db", "twin.db"):
+            self.write(file, b"#" * (1 << 16) + b"\n" + OLD)
+        self.answered(0, None, b"the column #4 is not compared", TOOL, "far.db", "twin.db")
 
     def mails(self, new: str, subject: str | None, status: int = 0) -> None:
         """A comparison of the daily job sends a mail whose subject ends so, or none."""

@@ -51,7 +51,7 @@ class FaultsTest(CommandTest):
         for new in ("new.db", "new.db.gz"):
             self.answered(7, None, DIFFER, TOOL, "--max-size", str(most), "old.db", new)
             told = b"the old database %s has more than %d bytes unpacked" % (new.encode(), 20)
-            self.refused(18, told, TOOL, "--max-size", "20", new, "new.db")
+            self.refused(18, told, TOOL, "--max-size", "20", new, "old.db")
         few = {"before": SMALL_FILES % (1500000, 1500000)}
         words = (TOOL, "--max-size", "1000000", "old.db")
         with subprocess.Popen(["yes", "/a"], stdout=subprocess.PIPE) as writer:

@@ -36,7 +36,7 @@ class ShowTest(CommandTest):
                 self.expect("the entry %s" % path, answer, 0, None, b"")
                 self.assertEqual(answer.output.decode().splitlines()[:2], [path, title])
                 self.assertLessEqual(lines, set(lines_of(answer)), answer)
-        self.assertEqual(marked(self.call(TOOL, "/d", "new.db", "new.db")), [])
+        self.assertEqual(marked(self.call(TOOL, "/d", "new.db", "new.db.gz")), [])
         self.write("etc/without", "/**\n")
         left_out = self.call(TOOL, "/c", "old.db", "new.db")
         self.expect("what is left out of a comparison", left_out, 0, b"* Size ", b"")
@@ -66,8 +66,9 @@ class ShowTest(CommandTest):
     def test_hostile(self) -> None:
         """Bytes of names and links are escaped, and a path is given as it is on the disk."""
         fields = b"/a%%1b[31m%%0ax%%ff %%1b[2J%%0a*%%20Size %d 120777 0 0 0 4 0 1 1 0 0 0\n"
-        self.write("h.db", COLUMNS + fields % ATTR + END)
-        answer = self.call(TOOL, os.fsdecode(b"/a\x1b[31m\nx\xff"), "h.db", "h.db")
+        for name in ("h.db", "twin.db"):
+            self.write(name, COLUMNS + fields % ATTR + END)
+        answer = self.call(TOOL, os.fsdecode(b"/a\x1b[31m\nx\xff"), "h.db", "twin.db")
         self.expect("a hostile entry", answer, 0, b"/a\\033[31m\\012x\\377\nLink, in both")
         self.assertNotIn(b"\x1b", answer.output)
         self.assertNotIn(b"\n* Size", answer.output)
