@@ -154,6 +154,18 @@ class FloodsTest(CommandTest):
         rest = b"  and %s more, " % format(100000 - len(lines), ",").encode()
         self.assertIn(rest, text, "what is not listed is counted")
 
+    def test_flooded_page(self) -> None:
+        """A page that has no room for all leaves out what matters least: each change of root's is
+        on it, and the others are counted."""
+        name = b"/home/bob/.ssh" + b"/" + b"/".join([b"n" * 250] * 14)
+        self.write_night([entry(b"%s%06d" % (name, number), owner=1001) for number in range(9000)])
+        answer = self.call("aide-compare page", "night.old", "night.new", limit=TIME_LIMIT)
+        page = answer.output.decode()
+        self.assertLess(len(page), 20000000)
+        self.assertIn(" more that this page has no room for", page)
+        names = re.findall("<code>(/[^<]*)<", page)
+        self.assertEqual(set(names[: len(ROOTS)]), {path.decode() for path in ROOTS})
+
     def test_unjudged(self) -> None:
         """If nobody can judge the changes, what changed and went comes first, and each folder has a
         share."""
