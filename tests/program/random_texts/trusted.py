@@ -82,7 +82,7 @@ def random_four(pick):
     old = usual_entries(pick, columns)
     new = edited(pick, columns, old)
     new.update(
-        in_own_state(pick, columns, {path: row for path, row in new.items() if pick.random() < 0.3})
+        in_own_state(pick, columns, {path: row for path, row in new.items() if pick.random() < 0.5})
     )
     trusted = [in_own_state(pick, columns, edited(pick, columns, side)) for side in (old, new)]
     other = columns if pick.random() < 0.8 else usual_columns(pick)
