@@ -71,7 +71,7 @@ class HostsBriefTest(CommandTest):
             ["evil", "added", "/etc/cron.d/1a:", "-rw-r--r--"],
             ["good1,", "good2", "added", "/etc/cron.d/0:", "-rw-r--r--"],
             *(["added", f"/etc/cron.d/{number}:", "-rw-r--r--"] for number in (1, 2)),
-            ["good1,", "good2", "+1", "changed", "/etc/shadow:", "content,", "size"],
+            ["good1,", "good2,", "evil", "changed", "/etc/shadow:", "content"],
         ]
         self.assertEqual(sorted(found), sorted(wanted), rows)
         at = found.index(wanted[1])
