@@ -50,7 +50,7 @@ class OccasionTest(CommandTest):
 
     def added_to(self, lines: bytes, *words: str) -> list[Fields]:
         """What json makes of lines."""
-        answer = self.answered(0, None, b"", "aide-compare json", *words, text=lines)
+        answer = self.answered(0, None, b"", "aide-compare json", *words, "-", text=lines)
         return objects_of(answer)
 
     def test_two(self) -> None:
