@@ -36,9 +36,9 @@ LEFT_OUT = b"/var/log/of-the-night"
 
 
 def started(path: str, name: str) -> list[str]:
-    """The words of the command that a line of a unit starts, without the program."""
+    """The words of the command that the last such line of a unit starts, without the program."""
     lines = read(f"contrib/{path}").splitlines()
-    line = next(line for line in lines if line.startswith(name + "="))
+    *_, line = (line for line in lines if line.startswith(name + "="))
     return shlex.split(line.partition("=")[2])[1:]
 
 
@@ -140,6 +140,9 @@ class OneTruthTest(CommandTest):
         job = job.replace("$directory", "/var/lib/aide-compare/daily").replace('"', "")
         words = started("aide/signed.conf", "ExecStartPre")[1:]
         self.assertIn(" ".join(words), " ".join(job.split()))
+        pair = "/var/lib/aide-compare/daily/signed.db"
+        for text in (job, read("contrib/aide/signed.conf")):
+            self.assertRegex(text, f"rm -f {pair} {pair}.old\n(?s:.*)aide-compare archive ")
         self.make_pair()
         shutil.rmtree(self.path("lists"))
         self.refused(18, None, "aide-compare", *map(self.below, ("archive", *words)))
