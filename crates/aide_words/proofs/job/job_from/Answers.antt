@@ -1,10 +1,9 @@
 use Rattle.std.proofs.Common.{◌≡◌, ◌∙◌, ap₂, sym, refl, Bool, true, false, codes}
 use Rattle.std.proofs.Math.Bool.{beq}
-use Rattle.clap.specs.Walk.{first_of}
 use Rattle.clap.specs.Words.{rows_of, found_of}
 use Rattle.clap.proofs.WalkLemmas.{first_value-rows}
 use Rattle.aide_words.specs.Job.{exactly_one}
-use Rattle.aide_words.proofs.JobLemmas.{choose_none, job-none, job-made, job-some}
+use Rattle.aide_words.proofs.JobLemmas.{job-none, job-made, job-some}
 use Rattle.aide_words.proofs.job.job_from.Goals as goal
 
 same : (a b : Bool) → beq a b ≡ true → exactly_one a b ≡ false
@@ -18,13 +17,6 @@ other true true e = sym e
 other true false e = refl
 other false true e = refl
 other false false e = sym e
-
-pub returns-then-compare-check-clause-usage : goal.returns-then-compare-check-clause-usage
-returns-then-compare-check-clause-usage c = λ _.
-    let rows = rows_of (found_of c.args.found.now) in
-    choose_none rows (first_of (codes "config") rows)
-    (sym (ap₂ exactly_one c.is_set-compare.ensures c.is_set-check.ensures)
-    ∙ same c.is_set-compare.result c.is_set-check.result c.if-compare-check.true)
 
 pub returns-in_default-clause-usage : goal.returns-in_default-clause-usage
 returns-in_default-clause-usage c = λ _.

@@ -3,7 +3,7 @@ use Rattle.clap.specs.Faults.{is_simple_and_free}
 use Rattle.clap.specs.Simple.{is_simple}
 use Rattle.clap.specs.Words.{app_of, rows_of, found_of}
 use Rattle.aide_words.specs.Job.{aide_command}
-use Rattle.aide_words.proofs.JobLemmas.{aide_is_free, aide_is_simple, job-of-rows, job-rows, matched_by}
+use Rattle.aide_words.proofs.JobLemmas.{aide_is_free, aide_is_simple, job-of-rows, matched_by}
 use Rattle.aide_words.proofs.job.read_words.Goals as goal
 
 pub matches-requires-clause-simple : goal.matches-requires-clause-simple
@@ -19,11 +19,3 @@ returns-clause-ok c =
     job-of-rows v c.args.words.now rows c.as_slice.ensures
     (matched_by (app_of c.in-Ok.command) aide_command v rows c.in-Ok.ensures c.in_ok-found.ensures.ok)
     c.job_from.result c.job_from.ensures.ok
-
-pub returns-clause-usage : goal.returns-clause-usage
-returns-clause-usage c = λ refused.
-    let v = c.as_slice.result.now in
-    let rows = rows_of (found_of c.in_ok-found.found) in
-    job-rows v c.args.words.now rows c.as_slice.ensures
-    (matched_by (app_of c.in-Ok.command) aide_command v rows c.in-Ok.ensures c.in_ok-found.ensures.ok)
-    ∙ c.job_from.ensures.usage refused

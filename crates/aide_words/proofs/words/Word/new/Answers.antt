@@ -1,4 +1,0 @@
-use Rattle.aide_words.proofs.words.Word.new.Goals as goal
-
-pub returns-in-Ok : goal.returns-in-Ok
-returns-in-Ok c = c.in-Ok.ensures.ok
