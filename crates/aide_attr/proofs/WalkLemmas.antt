@@ -1,7 +1,6 @@
 -- Expressions are read byte by byte.
-use Rattle.std.proofs.Common.{ℕ, ◌≡◌, ◌<◌, ◌≤◌, ◌+◌, Bool, true, false, not, List, [], ◌∷◌, ◌++◌, length, refl, sym, ap}
-use Rattle.std.proofs.Common.{◌∙◌, subst, inl, inr, arith}
-use Rattle.std.proofs.Common.{append_assoc, cond, Option, Some, None, Ok, Err, get_or, drop}
+use Rattle.std.proofs.Common.{rules, ℕ, ◌≡◌, ◌<◌, ◌≤◌, ◌+◌, Bool, true, false, not, List, [], ◌∷◌, ◌++◌, length, refl, sym, ap}
+use Rattle.std.proofs.Common.{◌∙◌, subst, inl, inr, arith, append_assoc, cond, Option, Some, None, Ok, Err, get_or, drop}
 use Rattle.std.specs.Prelude.{◌&&◌, ◌||◌, ◌⊎◌, ◌↔◌, ◌==◌, IsSome, option_and_then}
 use Rattle.std.proofs.lemmas.Bool.{eqb-true}
 use Rattle.std.proofs.lemmas.List.{drop_all}
@@ -268,10 +267,7 @@ meant_from look (t ∷ ts) acc a h = elim (meant_from look ts (apply t.adds (loo
 ]
 
 pub meant_is : (look : Lookup) (ts : List Term) (a : Attr) → (meant look (λ _. false) ts a ≡ true) ↔ IsMeant look ts a
-meant_is look ts a = (
-  (λ h. elim (meant_from look ts (λ _. false) a h) [ inl m ↦ m | inr m ↦ absurd (let f : false ≡ true = m.0 in (let z : ⊥ = cc in z)) ]),
-  (λ m. meant_to look ts (λ _. false) a m.0 m.1 m.2 m.3 m.4 m.5 m.6),
-)
+meant_is look ts a = search (rules, meant_from, meant_to)
 
 -- the answer of a walk that starts at the front
 pub is_meaning : (look : Lookup) (text : List ℕ) (set : AttrSet)

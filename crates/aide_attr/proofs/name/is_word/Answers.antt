@@ -1,4 +1,4 @@
-use Rattle.std.proofs.Common.{◌≡◌, ◌∙◌, Bool, true, length, refl}
+use Rattle.std.proofs.Common.{rules, ◌≡◌, Bool, true, refl}
 use Rattle.std.specs.Prelude.{◌&&◌}
 use Rattle.std.proofs.lemmas.Bool.{le-leb}
 use Rattle.aide_attr.specs.Name.{is_word}
@@ -10,7 +10,4 @@ third p q r is_p is_q = rw (is_p, is_q) refl
 
 pub returns-then-name-le-LONGEST_NAME : goal.returns-then-name-le-LONGEST_NAME
 unfolding is_word
-returns-then-name-le-LONGEST_NAME c =
-    let size = length c.args.name.now in
-    let sizes = c.if-name-le-LONGEST_NAME.true in
-    c.are_word_bytes.ensures ∙ third _ _ _ (le-leb 1 size sizes.0) (le-leb size 64 sizes.1)
+returns-then-name-le-LONGEST_NAME c = search (rules, third, le-leb)

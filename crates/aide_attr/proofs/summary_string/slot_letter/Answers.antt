@@ -1,4 +1,4 @@
-use Rattle.std.proofs.Common.{sym, ◌∙◌, ◌≡◌, ℕ, Bool, true, false, refl}
+use Rattle.std.proofs.Common.{rules, sym, ◌∙◌, ◌≡◌, ℕ, Bool, true, false, refl}
 use Rattle.std.specs.Prelude.{if◌then◌else◌}
 use Rattle.aide_attr.specs.Summary.{slot_letter}
 use Rattle.aide_attr.proofs.summary_string.slot_letter.Goals as goal
@@ -29,25 +29,12 @@ returns-then-any_removed c =
 
 pub returns-then-any_affected : goal.returns-then-any_affected
 unfolding slot_letter
-returns-then-any_affected c =
-    sym (later _ _ _ _ (sym c.any_changed.ensures ∙ c.if-any_changed.false)
-    (later _ _ _ _ (sym c.any_added.ensures ∙ c.if-any_added.false)
-    (later _ _ _ _ (sym c.any_removed.ensures ∙ c.if-any_removed.false)
-    (here _ _ _ (sym c.any_affected.ensures ∙ c.if-any_affected.true)))))
+returns-then-any_affected c = search (rules, later, here)
 
 pub returns-then-any_same : goal.returns-then-any_same
 unfolding slot_letter
-returns-then-any_same c =
-    sym (later _ _ _ _ (sym c.any_changed.ensures ∙ c.if-any_changed.false)
-    (later _ _ _ _ (sym c.any_added.ensures ∙ c.if-any_added.false)
-    (later _ _ _ _ (sym c.any_removed.ensures ∙ c.if-any_removed.false)
-    (later _ _ _ _ (sym c.any_affected.ensures ∙ c.if-any_affected.false) (here _ _ _ (sym c.any_same.ensures ∙ c.if-any_same.true))))))
+returns-then-any_same c = search (rules, later, here)
 
 pub returns-else-any_same : goal.returns-else-any_same
 unfolding slot_letter
-returns-else-any_same c =
-    sym (later _ _ _ _ (sym c.any_changed.ensures ∙ c.if-any_changed.false)
-    (later _ _ _ _ (sym c.any_added.ensures ∙ c.if-any_added.false)
-    (later _ _ _ _ (sym c.any_removed.ensures ∙ c.if-any_removed.false)
-    (later _ _ _ _ (sym c.any_affected.ensures ∙ c.if-any_affected.false)
-    (later _ _ _ _ (sym c.any_same.ensures ∙ c.if-any_same.false) refl)))))
+returns-else-any_same c = search (rules, later)

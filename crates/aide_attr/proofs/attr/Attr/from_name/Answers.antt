@@ -1,4 +1,4 @@
-use Rattle.std.proofs.Common.{◌≡◌, ◌∙◌, sym, refl, List, Option, Some, None}
+use Rattle.std.proofs.Common.{rules, ◌≡◌, refl, List, Option, Some, None}
 use Rattle.aide_attr.specs.declared.attr.Attr.{Attr}
 use Rattle.aide_attr.specs.code.Predefined.{IsGroupSet}
 use Rattle.aide_attr.proofs.attr.Attr.from_name.Goals as goal
@@ -9,8 +9,4 @@ no_group None h = refl
 no_group (Some bs) h = absurd h
 
 pub returns-then-is_empty_name : goal.returns-then-is_empty_name
-returns-then-is_empty_name c = (
-  sym c.named.ensures ∙ c.in_default.is,
-  no_group _ c.in_default-group_set.ensures,
-  sym c.is_empty_name.ensures ∙ c.if-is_empty_name.true,
-)
+returns-then-is_empty_name c = search (rules, no_group)
