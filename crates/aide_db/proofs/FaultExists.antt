@@ -1,13 +1,12 @@
 -- A text that is not sound has a first fault.
-use Rattle.std.proofs.Common.{◌≡◌, ℕ, ◌+◌, ◌≤◌, List, [], ◌∷◌, ◌++◌, length, take, refl, sym, subst, true, false}
+use Rattle.std.proofs.Common.{◌≡◌, ℕ, ◌+◌, ◌≤◌, List, [], ◌∷◌, ◌++◌, length, refl, sym, subst, true, false, rules}
 use Rattle.std.proofs.Common.{append_assoc, append-nil, None, Some, inl, inr}
 use Rattle.std.specs.Prelude.{nat_le, ◌⊎◌}
 use Rattle.std.proofs.lemmas.Bool.{leb-true}
 use Rattle.std.proofs.lemmas.List.Elements.{All-nil}
 use Rattle.aide_entry.specs.Text.{lines}
 use Rattle.aide_entry.specs.Lines.{is_end}
-use Rattle.aide_db.specs.Database.{counted, IsShort, IsFront, IsDatabase, IsSound, fault_of, whole_lines, IsFirstFault}
-use Rattle.aide_db.specs.Database.{cut_kind, end_kind}
+use Rattle.aide_db.specs.Database.{counted, IsShort, IsFront, IsDatabase, IsSound, fault_of, whole_lines, IsFirstFault, cut_kind, end_kind}
 use Rattle.aide_db.specs.Parts.{IsOpen}
 use Rattle.aide_db.specs.declared.limits.Limits.{Limits}
 use Rattle.aide_entry.specs.declared.fault_kind.DbFaultKind.{DbFaultKind}
@@ -56,11 +55,7 @@ AreLines-front (x ∷ xs) ys a = (a.0, AreLines-front xs ys a.1)
 
 whole_plain : (limits : Limits) (text : List ℕ) → AreLines (whole_lines limits text)
 unfolding whole_lines
-whole_plain limits text = elim (nat_le (length text) limits.bytes) as
-    (λ b. nat_le (length text) limits.bytes ≡ b → AreLines (whole_lines limits text)) [
-      | true ↦ λ e. rw e (lines_plain text)
-      | false ↦ λ e. rw e (ended_plain (take limits.bytes text))
-    ] refl
+whole_plain limits text = search (rules, AreLines, lines_plain, ended_plain)
 
 whole_uncut : (limits : Limits) (text : List ℕ) → nat_le (length text) limits.bytes ≡ true
     → whole_lines limits text ≡ lines text
@@ -100,12 +95,7 @@ at_open limits text le is_open =
 
 at_database : (limits : Limits) (text : List ℕ) → IsDatabase limits.line (whole_lines limits text)
     → IsSound limits text ⊎ HasFirstFault limits text
-at_database limits text d =
-    elim (nat_le (length text) limits.bytes) as
-    (λ b. nat_le (length text) limits.bytes ≡ b → IsSound limits text ⊎ HasFirstFault limits text) [
-      | true ↦ λ e. inl (subst (IsDatabase limits.line) (whole_uncut limits text e) d, leb-true (length text) limits.bytes e)
-      | false ↦ λ e. inr (at_cut limits text e (database_front limits.line (whole_lines limits text) (whole_plain limits text) d))
-    ] refl
+at_database limits text d = search (rules, HasFirstFault, whole_uncut, leb-true, at_cut, database_front, whole_plain)
 
 at_bad : (limits : Limits) (text : List ℕ) → 14 ≤ limits.line → HasBadLine limits.line (whole_lines limits text)
     → HasFirstFault limits text

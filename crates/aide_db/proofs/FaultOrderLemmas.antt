@@ -1,7 +1,7 @@
 -- The first fault in the order that a line has is the fault of the line.
-use Rattle.std.proofs.Common.{◌≡◌, ℕ, ◌+◌, ◌<◌, ◌≤◌, List, [], ◌∷◌, length, refl, sym, ap, ◌∙◌, true, false, cond, Bool}
+use Rattle.std.proofs.Common.{◌≡◌, ℕ, ◌+◌, ◌<◌, ◌≤◌, List, [], ◌∷◌, length, refl, sym, ap, ◌∙◌, true, false, cond, Bool, rules}
 use Rattle.std.proofs.Common.{not, ◌&&◌, ◌||◌, arith, Option, Some, None, zero, suc, eq-eqb}
-use Rattle.std.specs.Prelude.{◌==◌, nat_le, find, flat_map, zip, All, unwrap_or}
+use Rattle.std.specs.Prelude.{◌==◌, find, flat_map, zip, All, unwrap_or}
 use Rattle.std.specs.List.{list_any, list_all, range_with_len, enumerate_from}
 use Rattle.std.proofs.lemmas.Bool.{ne_eqb, and_parts, leb-true}
 use Rattle.std.proofs.lemmas.List.Elements.{All-head, All-tail}
@@ -10,7 +10,7 @@ use Rattle.aide_attr.specs.declared.form.Form.{Form}
 use Rattle.aide_attr.specs.declared.form.Form.TheVariants as forms
 use Rattle.aide_entry.specs.Text.{fields}
 use Rattle.aide_entry.specs.Lines.{kind_of, is_end, counts, is_blank_kind}
-use Rattle.aide_entry.specs.Fields.{columns_of, are_columns, are_distinct, is_name, most_columns}
+use Rattle.aide_entry.specs.Fields.{columns_of, are_columns, most_columns}
 use Rattle.aide_entry.specs.Values.{is_field, fault_of_form}
 use Rattle.aide_entry.specs.Entry.{has_form, is_before, fault_of_column, first_bad, first_bad_from}
 use Rattle.aide_entry.specs.EntryLines.{IsEntryLine}
@@ -25,10 +25,8 @@ use Rattle.aide_entry.specs.declared.column.Column.TheVariants.{Name, Bits, Of, 
 use Rattle.aide_entry.specs.declared.line.LineKind.{LineKind}
 use Rattle.aide_entry.specs.declared.line.LineKind.TheVariants.{Blank, Begin, Spec, End, Directive, Other}
 use Rattle.aide_entry.specs.declared.fault_kind.DbFaultKind.{DbFaultKind}
-use Rattle.aide_entry.specs.declared.fault_kind.DbFaultKind.TheVariants.{LineTooLong, NoBegin, BadDirective}
-use Rattle.aide_entry.specs.declared.fault_kind.DbFaultKind.TheVariants.{BadSpec, NoSpec, FieldCount}
-use Rattle.aide_entry.specs.declared.fault_kind.DbFaultKind.TheVariants.{BadName, OutOfOrder, BadNumber}
-use Rattle.aide_entry.specs.declared.fault_kind.DbFaultKind.TheVariants.{BadTime, BadDigest}
+use Rattle.aide_entry.specs.declared.fault_kind.DbFaultKind.TheVariants.{LineTooLong, NoBegin, BadDirective, BadSpec, NoSpec, FieldCount}
+use Rattle.aide_entry.specs.declared.fault_kind.DbFaultKind.TheVariants.{BadName, OutOfOrder, BadNumber, BadTime, BadDigest}
 
 -- ---- one field
 
@@ -123,11 +121,7 @@ past_cell test n m x xs lt = rw (ne_eqb m n (λ e. omega (arith, lt, e))) refl
 
 past_cells : (m : ℕ) (x : Column × List ℕ) (xs : List (Column × List ℕ))
     → SameFrom (has_bad (enumerate_from m (x ∷ xs))) (has_bad (enumerate_from (m + 1) xs)) (m + 1)
-past_cells m x xs n le = (
-  past_cell is_of_numbers n m x xs (omega (arith, le)),
-  past_cell (is_of_form is_time_form) n m x xs (omega (arith, le)),
-  past_cell (is_of_form is_digest_form) n m x xs (omega (arith, le)),
-)
+past_cells m x xs n le = search (rules, past_cell)
 
 -- the first bad field of some is the first of the faults that hold
 fields_found : (c m : ℕ) (xs : List (Column × List ℕ)) → length xs ≤ c
@@ -198,11 +192,7 @@ record Heads (before : List (List ℕ)) (head : List (List ℕ)) : Type 0 where
   named : find (is_a Spec) before ≡ find (is_a Spec) head
 
 heads : (before : List (List ℕ)) → Heads before (counted before)
-heads before = record {
-  begins = have_counted Begin before refl;
-  specifies = have_counted Spec before refl;
-  named = find_counted (is_a Spec) (λ l f. skipped_is_no Spec (kind_of l) refl f) before;
-}
+heads before = search (rules, have_counted, find_counted, skipped_is_no)
 
 -- ---- the faults of a line, one after another
 
@@ -228,10 +218,7 @@ told_directive before [] l Directive h part is e = rw (is, h.begins) refl
 told_directive before (b ∷ []) l Begin h part is e = rw (is, h.begins, part) refl
 told_directive before (b ∷ []) l Directive h part is e = rw (is, h.begins, part) refl
 told_directive before (b ∷ []) l End h part is e = rw (is, h.begins, h.specifies, part) refl
-told_directive before (b ∷ []) l Spec h part is e =
-    rw (is, h.begins, h.specifies, part)
-    (elim (are_columns (columns_of l)) as (λ t. cond t None (Some BadSpec) ≡ cond (not t) (Some BadSpec) None)
-    [ true ↦ refl | false ↦ refl ])
+told_directive before (b ∷ []) l Spec h part is e = search (rules, not)
 told_directive before (b ∷ s ∷ es) l Begin h part is e = rw (is, h.begins, part.begins) refl
 told_directive before (b ∷ s ∷ es) l Spec h part is e = rw (is, h.begins, h.specifies, part.begins, part.specifies) refl
 told_directive before (b ∷ s ∷ es) l End h part is e = rw (is, h.begins, h.specifies, part.begins, part.specifies) refl
@@ -261,10 +248,7 @@ zip_short (c ∷ cs) [] = omega arith
 zip_short (c ∷ cs) (f ∷ fs) = omega (arith, zip_short cs fs)
 
 few_fields : (cs : List Column) (fs : List (List ℕ)) → are_columns cs ≡ true → length (zip cs fs) ≤ most_columns
-few_fields cs fs fine =
-    let both = and_parts (nat_le (length cs) most_columns && list_any is_name cs) (are_distinct cs) fine in
-    let few = and_parts (nat_le (length cs) most_columns) (list_any is_name cs) both.0 in
-    omega (arith, zip_short cs fs, leb-true (length cs) most_columns few.0)
+few_fields cs fs fine = search (rules, and_parts, zip_short, leb-true)
 
 told_entry : (limit : ℕ) (before head : List (List ℕ)) (l : List ℕ) → counted before ≡ head → Heads before head → IsPart head
     → kind_of l ≡ Other → fault_after head l Other ≡ told before l (find (is_wrong limit before l) field_faults)

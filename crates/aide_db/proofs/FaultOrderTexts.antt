@@ -1,6 +1,6 @@
 -- The first fault of a text is the first in the order that its line has.
-use Rattle.std.proofs.Common.{◌≡◌, ℕ, List, [], ◌∷◌, ◌++◌, refl, sym, ap, ◌∙◌, subst, true, false}
-use Rattle.std.proofs.Common.{Some, None, append_assoc, append-nil, inl, inr}
+use Rattle.std.proofs.Common.{◌≡◌, ℕ, List, [], ◌∷◌, ◌++◌, refl, sym, ap, ◌∙◌, subst, true, false, rules}
+use Rattle.std.proofs.Common.{Some, None, append_assoc, append-nil}
 use Rattle.std.specs.Prelude.{find, ◌⊎◌, ◌↔◌}
 use Rattle.std.specs.List.{list_any}
 use Rattle.std.proofs.lemmas.Bool.{or_parts}
@@ -58,34 +58,18 @@ fault_is_first limit before line kind front = (
 
 pub no_fault_holds : (limit : ℕ) (before : List (List ℕ)) (line : List ℕ) → IsFront limit before
     → (fault_of limit before line ≡ None) ↔ HasNoneOf limit before line fault_order
-no_fault_holds limit before line front = (
-  λ e. none_passes (has_fault limit before line) fault_order (sym (first_of_front limit before line front) ∙ e),
-  λ none. first_of_front limit before line front ∙ passes_none (has_fault limit before line) fault_order none,
-)
+no_fault_holds limit before line front = search (rules, none_passes, first_of_front, passes_none)
 
 -- ---- the faulty line of a text
 
 at_line : (limits : Limits) (text : List ℕ) (number : ℕ) (kind : DbFaultKind) → IsAtLine limits text number kind
     → HasFaultyLine limits text number kind
-at_line limits text number kind a =
-    record {
-      before = a.before;
-      line = a.line;
-      after = a.after;
-      parts = a.parts;
-      number_is = a.number_is;
-      good = a.good;
-      fault = (fault_is_first limits.line a.before a.line kind a.good).0 a.kind_is;
-    }
+at_line limits text number kind a = search (rules, fault_is_first)
 
 -- a line after an end line has no fault, so none that is first
 no_fault_after_end : (limit : ℕ) (before : List (List ℕ)) (line : List ℕ) (kind : DbFaultKind)
     → IsFirstOfLine limit before line kind → list_any is_end before ≡ false
-no_fault_after_end limit before line kind f =
-    elim (list_any is_end before) as (λ b. list_any is_end before ≡ b → b ≡ false) [
-      | true ↦ λ e. let never : true ≡ false = sym f.has ∙ has_after_end limit before line e kind in cc
-      | false ↦ λ e. refl
-    ] refl
+no_fault_after_end limit before line kind f = search (rules, has_after_end)
 
 faulty_line : (limits : Limits) (text : List ℕ) (number : ℕ) (kind : DbFaultKind) → HasFaultyLine limits text number kind
     → IsAtLine limits text number kind
@@ -106,7 +90,4 @@ faulty_line limits text number kind h =
 pub faulty_lines : (limits : Limits) (text : List ℕ) (number : ℕ) (kind : DbFaultKind)
     → IsFirstFault limits text number kind
     ↔ (HasFaultyLine limits text number kind ⊎ IsAtCut limits text number kind ⊎ IsAtEnd limits text number kind)
-faulty_lines limits text number kind = (
-  λ f. elim f [ inl a ↦ inl (at_line limits text number kind a) | inr more ↦ inr more ],
-  λ f. elim f [ inl h ↦ inl (faulty_line limits text number kind h) | inr more ↦ inr more ],
-)
+faulty_lines limits text number kind = search (rules, at_line, faulty_line)

@@ -1,4 +1,5 @@
 -- What is left of a reel after one more chunk, and what two readings take.
+use Rattle.std.proofs.Common.{rules}
 use Rattle.std.specs.Prelude.{◌≡◌, true}
 use Rattle.aide_db.specs.code.ChunkReaderView.{ChunkReaderView}
 use Rattle.aide_db.specs.NextChunk.{Gives}
@@ -12,10 +13,7 @@ pub tells_more : {R : Type 0} {r : Reels R} {a b c : ChunkReaderView R} → Tell
     → (tells (r.to_come b.reel) ≡ true → tells (r.to_come c.reel) ≡ true)
     → (tells (r.to_come b.reel) ≡ true → Gives (told (r.to_come b.reel)) (told (r.to_come c.reel)) b.hash c.hash)
     → TellsOn r a c
-tells_more p goes_on gives = record {
-  goes_on = λ t. goes_on (p.goes_on t);
-  gives = λ t. gives_more _ _ _ _ _ _ (p.gives t) (gives (p.goes_on t));
-}
+tells_more p goes_on gives = search (rules, gives_more)
 
 -- what two readings one after another took and gave
 pub ruleset one_after_another = (takes_more, gives_more)

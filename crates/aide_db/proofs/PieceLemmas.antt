@@ -1,16 +1,14 @@
 -- The first piece of a line, by the index of its newline.
-use Rattle.std.proofs.Common.{◌≡◌, ℕ, ◌+◌, ◌<◌, ◌≤◌, List, [], ◌∷◌, ◌++◌, length, take, drop, refl, sym, ap, ◌∙◌, subst}
-use Rattle.std.proofs.Common.{true, false, Bool, arith, get_or, None, Some, inl, inr}
+use Rattle.std.proofs.Common.{◌≡◌, ℕ, ◌+◌, ◌<◌, ◌≤◌, List, [], ◌∷◌, ◌++◌, length, take, drop, refl, sym, ap, ◌∙◌, subst, rules}
+use Rattle.std.proofs.Common.{true, false, Bool, arith, get_or, None, Some, inl, inr, append_assoc, append-nil}
 use Rattle.std.specs.Prelude.{min, ◌==◌, ◌-◌}
 use Rattle.std.proofs.lemmas.Bool.{eqb-true, cases_lt}
 use Rattle.std.proofs.lemmas.List.{take-append-drop, take-append-le, get_or-take, get_or_default, length-take-le}
-use Rattle.std.proofs.lemmas.List.{length-take, length-drop, drop_more, drop-drop, take_all, drop_all}
+use Rattle.std.proofs.lemmas.List.{length-take, length-drop, drop_more, drop-drop, take_all, drop_all, length-append}
 use Rattle.memchr.specs.Find.{IsFirstByte, is_byte}
 use Rattle.aide_entry.specs.Text.{is_newline, is_filled}
-use Rattle.std.proofs.Common.{append_assoc, append-nil}
 use Rattle.sha2.specs.Hashers.{Holds256}
 use Rattle.sha2.specs.declared.Sha256.{Sha256}
-use Rattle.std.proofs.lemmas.List.{length-append}
 use Rattle.std.proofs.lemmas.List.Elements.{All-append}
 use Rattle.aide_db.specs.code.Keeping.{IsWithinLimit}
 use Rattle.aide_db.specs.code.TakeLine.{HasCome, HasNoNewline, HaveBegun, Begins}
@@ -25,10 +23,7 @@ not_true false n = refl
 -- the bytes before an index, none of them a newline
 plain_front : (xs : List ℕ) (n : ℕ) → n ≤ length xs → ((k : ℕ) → k < n → is_newline (get_or xs k 0) ≡ true → ⊥)
     → HasNoNewline (take n xs)
-plain_front xs n le none = λ k d lt.
-    let small : k < n = omega (arith, length-take-le n xs le) in
-    subst (λ (x : ℕ). is_newline x ≡ false) (sym (get_or-take n xs k d small ∙ get_or_default xs k d 0 (omega arith)))
-    (not_true (is_newline (get_or xs k 0)) (none k small))
+plain_front xs n le none = search (rules, length-take-le, get_or-take, get_or_default, not_true)
 
 pub piece_some : (ahead near piece : List ℕ) (most at : ℕ) → near ≡ take most ahead
     → IsFirstByte (is_byte 10) near (Some at) → piece ≡ take at near → IsPiece ahead most piece true
@@ -58,15 +53,7 @@ none_left xs n e = elim (cases_lt n (length xs))
 
 -- the first bytes, so many at most, and the others
 pub near_parts : (ahead near : List ℕ) (most : ℕ) → near ≡ take most ahead → ahead ≡ near ++ drop (length near) ahead
-near_parts ahead near most e =
-    let n : length near ≡ min most (length ahead) = ap length e ∙ length-take most ahead in
-    let front : take (length near) ahead ≡ near =
-    elim (cases_lt most (length ahead)) [
-      | inl lt ↦ ap (λ k. take k ahead) (let z : length near ≡ most = omega (arith, n, lt) in z) ∙ sym e
-      | inr ge ↦ ap (λ k. take k ahead) (let z : length near ≡ length ahead = omega (arith, n, ge) in z)
-          ∙ (take_all (length ahead) ahead (omega arith) ∙ (sym (take_all most ahead ge) ∙ sym e))
-    ] in
-    sym (ap (λ p. p ++ drop (length near) ahead) (sym front) ∙ take-append-drop (length near) ahead)
+near_parts ahead near most e = search (rules, length-take, cases_lt, take_all, take-append-drop)
 
 pub piece_none : (ahead near : List ℕ) (most : ℕ) → near ≡ take most ahead → IsFirstByte (is_byte 10) near None
     → IsPiece ahead most near false
@@ -199,11 +186,7 @@ begun_ended limits bytes line ahead rest left piece used used_now most ends h sa
 pub within_used : (limits : Limits) (used count : ℕ) (before ahead : List ℕ) → IsWithinLimit limits used before
     → (length before ≤ limits.bytes - used + 1 → length ahead ≤ limits.bytes - used + 1)
     → count ≤ limits.bytes - used → IsWithinLimit limits (used + count) (drop count ahead)
-within_used limits used count before ahead h most small = record {
-  within = omega (arith, h.within, small);
-  given = omega (arith, length-drop count ahead, h.within, small, most (omega (arith, h.within, h.given)));
-  bytes = h.bytes;
-}
+within_used limits used count before ahead h most small = search (rules, length-drop)
 
 pub near_whole : (ahead near : List ℕ) (most : ℕ) → near ≡ take most ahead → is_filled (drop (length near) ahead) ≡ true
     → length near ≡ most
