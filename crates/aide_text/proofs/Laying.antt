@@ -1,5 +1,5 @@
 -- Texts that are laid into the columns of a line.
-use Rattle.std.proofs.Common.{◌≡◌, ◌∙◌, ℕ, ◌+◌, ◌-◌, ◌≤◌, List, [], ◌∷◌, ◌++◌, length, take, drop, replicate, sym, ap}
+use Rattle.std.proofs.Common.{rules, ◌≡◌, ◌∙◌, ℕ, ◌+◌, ◌-◌, ◌≤◌, List, [], ◌∷◌, ◌++◌, length, take, drop, replicate, sym, ap}
 use Rattle.std.proofs.Common.{arith, append_assoc, length-append, length-drop, refl}
 use Rattle.std.proofs.lemmas.List.{take_at, drop_at, drop-append-le, drop-replicate, length-replicate, take_more_set}
 use Rattle.std.proofs.lemmas.List.{take-append-drop, length-take-le}
@@ -11,17 +11,7 @@ use Rattle.aide_text.specs.code.Columns.{blank_pair}
 
 length-put_mid : (a k : ℕ) (line text : List ℕ) → k ≡ length text → a + k ≤ length line
     → length (put_mid a k line text) ≡ length line
-length-put_mid a k line text size fits =
-    omega (
-      arith,
-      size,
-      fits,
-      length-append (take a line) (text ++ drop k (drop a line)),
-      length-append text (drop k (drop a line)),
-      length-drop k (drop a line),
-      length-drop a line,
-      length-take-le a line (omega (arith, fits)),
-    )
+length-put_mid a k line text size fits = search (rules, length-append, length-drop, length-take-le)
 
 length-padded : (n : ℕ) (text : List ℕ) → length text ≤ n → length (padded n text) ≡ n
 unfolding padded
@@ -34,12 +24,7 @@ pub column : (a k n : ℕ) (front text rest line : List ℕ) → length front �
     → put_mid a k line text ≡ front ++ (padded n text ++ rest)
 unfolding padded
 column a k n front text rest line at size fits is =
-    ap (λ l. put_mid a k l text) is
-    ∙ ap (λ x. x ++ (text ++ drop k (drop a (front ++ (replicate n 32 ++ rest))))) (take_at front _ a at)
-    ∙ ap (λ x. front ++ (text ++ drop k x)) (drop_at front _ a at)
-    ∙ ap (λ x. front ++ (text ++ x)) (drop-append-le k (replicate n 32) rest (omega (arith, size, fits, length-replicate {A = ℕ} n 32)))
-    ∙ ap (λ x. front ++ (text ++ (x ++ rest))) (drop-replicate k n 32 ∙ ap (λ j. replicate (n - j) 32) size)
-    ∙ ap (λ x. front ++ x) (sym (append_assoc text (replicate (n - length text) 32) rest))
+    search (rules, replicate, take_at, drop_at, drop-append-le, length-replicate, drop-replicate, append_assoc)
 
 -- a name and its colon in the margin
 pub named : (k : ℕ) (line name : List ℕ) → k ≡ length name → length name ≤ 10 → line ≡ margin ++ blank_pair
@@ -88,13 +73,7 @@ module _ (j k : ℕ) (line a b : List ℕ) (size_a : j ≡ length a) (size_b : k
 
 pub length-heading : (name : List ℕ) → length name ≤ 10 → length (heading name) ≡ 14
 unfolding indent colon_blank heading
-length-heading name fits =
-    omega (
-      arith,
-      length-append indent (padded 10 name ++ colon_blank),
-      length-append (padded 10 name) colon_blank,
-      length-padded 10 name fits,
-    )
+length-heading name fits = search (rules, length-append, length-padded)
 
 pub margin_head : (line : List ℕ) → line ≡ margin ++ blank_pair → take 14 line ≡ margin
 unfolding margin

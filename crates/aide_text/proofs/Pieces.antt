@@ -1,4 +1,5 @@
 -- Cutting a text into pieces, and the lines that they make.
+use Rattle.std.proofs.lemmas.Grind.{common_steps}
 use Rattle.std.proofs.Common.{◌≡◌, ℕ, zero, suc, ◌+◌, ◌≤◌, ◌<◌, max, List, [], ◌∷◌, ◌++◌, length, take, drop, refl, sym}
 use Rattle.std.proofs.Common.{ap, ◌∙◌, arith, length-drop, true, false, Bool, if◌then◌else◌, append_assoc, subst}
 use Rattle.std.specs.Prelude.{slice_set, not, ◌==◌}
@@ -87,13 +88,7 @@ no_lines a b e = lines_none a b (no_length a (grind (arith, e))) (no_length b (g
 
 pub next_and_later : (a b : List ℕ) → later_lines a b ≡ next_line a b ++ later_lines (drop 32 a) (drop 32 b)
 unfolding next_line
-next_and_later a b = by_more (has_lines a b) refl
-  where
-    by_more : (m : Bool) → has_lines a b ≡ m
-        → later_lines a b ≡ (if m then pair_line margin (take 32 a) (take 32 b) else []) ++ later_lines (drop 32 a) (drop 32 b)
-    by_more true e = some_lines a b e
-    by_more false e = no_lines a b e
-        ∙ sym (lines_none (drop 32 a) (drop 32 b) (drop_all 32 a (grind (arith, e))) (drop_all 32 b (grind (arith, e))))
+next_and_later a b = grind (arith, common_steps, later_lines, some_lines, no_lines, lines_none, drop_all)
 
 pub lines_ended : (a b : List ℕ) → has_lines a b ≡ false → later_lines (drop 32 a) (drop 32 b) ≡ []
 lines_ended a b e =

@@ -1,5 +1,6 @@
 -- Plain bytes, one after another.
-use Rattle.std.proofs.Common.{◌≡◌, ◌∙◌, ℕ, ◌+◌, ◌<◌, List, [], ◌∷◌, ◌++◌, length, take, drop}
+use Rattle.std.proofs.lemmas.Grind.{common_steps}
+use Rattle.std.proofs.Common.{rules, ◌≡◌, ◌∙◌, ℕ, ◌+◌, ◌<◌, List, [], ◌∷◌, ◌++◌, length, take, drop}
 use Rattle.std.proofs.Common.{slice_index, refl, sym, ap, append_assoc, true, false, Bool, arith}
 use Rattle.std.specs.Prelude.{◌≢◌, ◌&&◌}
 use Rattle.std.specs.List.{list_all}
@@ -27,12 +28,7 @@ plain_first b rest plain = rw (percent_decode_not_percent b rest (no_percent b p
 
 pub plain_more : (text : List ℕ) (i : ℕ) → i < length text → is_plain (slice_index text i) ≡ true → IsPlainUpTo text i
     → IsPlainUpTo text (i + 1)
-plain_more text i within plain so_far =
-    so_far
-    ∙ ap (λ xs. take i text ++ printed (percent_decode xs)) (drop_more text i 0 within)
-    ∙ ap (λ xs. take i text ++ xs) (plain_first (slice_index text i) (drop (i + 1) text) plain)
-    ∙ sym (append_assoc (take i text) (slice_index text i ∷ []) (printed (percent_decode (drop (i + 1) text))))
-    ∙ ap (λ xs. xs ++ printed (percent_decode (drop (i + 1) text))) (sym (take_more text i 0 within))
+plain_more text i within plain so_far = grind (arith, common_steps, drop_more, plain_first, slice_index, append_assoc, take_more)
 
 pub nothing_printed : (text : List ℕ) → text ≡ [] → [] ≡ printed (percent_decode text)
 nothing_printed text e = rw (e, percent_decode-nil) refl
@@ -52,13 +48,7 @@ plain_front n text plain =
 -- plain bytes behind plain bytes
 pub plain_then : (text rest : List ℕ) (n m : ℕ) → rest ≡ drop n text → IsPlainUpTo text n → IsPlainUpTo rest m
     → IsPlainUpTo text (n + m)
-plain_then text rest n m from first then =
-    first
-    ∙ ap (λ xs. take n text ++ xs) (ap (λ xs. printed (percent_decode xs)) (sym from) ∙ then)
-    ∙ sym (append_assoc (take n text) (take m rest) (printed (percent_decode (drop m rest))))
-    ∙ ap (λ xs. xs ++ printed (percent_decode (drop m rest))) (ap (λ xs. take n text ++ take m xs) from ∙ sym (take-add n m text))
-    ∙ ap (λ xs. take (n + m) text ++ printed (percent_decode xs))
-    (ap (drop m) from ∙ drop-drop m n text ∙ ap (λ (k : ℕ). drop k text) (omega arith))
+plain_then text rest n m from first then = search (rules, append_assoc, take-add, drop-drop)
 
 and_true : (b : Bool) → (b && true) ≡ b
 and_true true = refl

@@ -1,5 +1,5 @@
 -- What a pen has written, piece by piece.
-use Rattle.std.proofs.Common.{◌≡◌, ◌∙◌, ℕ, ◌<◌, ◌≤◌, Bool, true, false, List, [], ◌++◌, length, take, drop}
+use Rattle.std.proofs.Common.{rules, ◌≡◌, ◌∙◌, ℕ, ◌<◌, ◌≤◌, Bool, true, false, List, [], ◌++◌, length, take, drop}
 use Rattle.std.proofs.Common.{refl, sym, ap, subst, append_assoc, length-append, arith}
 use Rattle.std.proofs.lemmas.List.{append-nil, take-append-drop, length-take-le}
 use Rattle.std.proofs.Math.Seq.{take-append_seam}
@@ -14,23 +14,13 @@ true_false : true ≡ false → ⊥
 true_false e = cc
 
 adds_more : (x y : List ℕ) (a b c : Sheet) → Adds x a b → Adds y b c → Adds (x ++ y) a c
-adds_more x y a b c p q = record {
-  bytes = Appends-Appends a.bytes b.bytes c.bytes x y p.bytes q.bytes;
-  count = omega (arith, p.count, q.count, length-append x y);
-}
+adds_more x y a b c p q = search (rules, Appends-Appends, length-append)
 
 more_by : (x y : List ℕ) (a b c : Sheet) (f g h : Bool) → WroteBy f g x a b → WroteBy g h y b c
     → WroteBy f h (x ++ y) a c
 more_by x y a b c true true h p q = (q.0, q.1 ∙ p.1)
 more_by x y a b c true false h p q = absurd (true_false (sym p.0))
-more_by x y a b c false true true p q = record {
-  front = p.front;
-  rest = p.rest ++ y;
-  whole = ap (λ l. l ++ y) p.whole ∙ append_assoc p.front p.rest y;
-  fewer = omega (arith, p.fewer, length-append x y);
-  adds = subst (λ s. Adds p.front a s) (sym q.1) p.adds;
-  failures = ap (λ s. s.failures) q.1 ∙ p.failures;
-}
+more_by x y a b c false true true p q = search (rules, append_assoc, length-append)
 more_by x y a b c false true false p q = absurd (true_false (sym q.0))
 more_by x y a b c false false true p q = record {
   front = x ++ q.front;
@@ -44,10 +34,7 @@ more_by x y a b c false false false p q = (adds_more x y a b c p.0 q.0, q.1 ∙ 
 
 -- one text was written, and then another
 pub wrote_more : {x y : List ℕ} {a b c : Sheet} → Wrote x a b → Wrote y b c → Wrote (x ++ y) a c
-wrote_more {x} {y} {a} {b} {c} p q = record {
-  as_flags = more_by x y a b c a.failed b.failed c.failed p.as_flags q.as_flags;
-  flushes = q.flushes ∙ p.flushes;
-}
+wrote_more {x} {y} {a} {b} {c} p q = assumption (more_by x y a b c a.failed b.failed c.failed p.as_flags q.as_flags, q.flushes ∙ p.flushes)
 
 nothing_by : (f : Bool) (a : Sheet) → f ≡ a.failed → WroteBy f f [] a a
 nothing_by true a e = (refl, refl)
@@ -55,10 +42,8 @@ nothing_by false a e = (record { bytes = Appends-nothing a.bytes; count = omega 
 
 by_flags : (text : List ℕ) (a b : Sheet) (f h : Bool) → a.failed ≡ f → b.failed ≡ h → b.flushes ≡ a.flushes
     → WroteBy f h text a b → Wrote text a b
-by_flags text a b f h is_f is_h unflushed p = record {
-  as_flags = subst (λ x. WroteBy x b.failed text a b) (sym is_f) (subst (λ x. WroteBy f x text a b) (sym is_h) p);
-  flushes = unflushed;
-}
+by_flags text a b f h is_f is_h unflushed p =
+    assumption (subst (λ x. WroteBy x b.failed text a b) (sym is_f) (subst (λ x. WroteBy f x text a b) (sym is_h) p))
 
 -- the sink has failed within the text
 pub wrote_cut : (text : List ℕ) (a b : Sheet) (n : ℕ) → a.failed ≡ false → b.failed ≡ true → n < length text
@@ -204,22 +189,8 @@ part_by text a b false false fresh p =
 
 -- a part of a text that a pen has written has gone out
 pub wrote_part : {text : List ℕ} {a b : Sheet} → a.failed ≡ false → WritesPart text a b → SendsPart text a.bytes b.bytes
-wrote_part {text} {a} {b} fresh p =
-    let sent = part_by p.writing.front a b a.failed b.failed fresh p.writing.wrote.as_flags in
-    record {
-      front = sent.front;
-      rest = sent.rest ++ p.rest;
-      whole = p.writing.whole ∙ ap (λ l. l ++ p.rest) sent.whole ∙ append_assoc sent.front sent.rest p.rest;
-      bytes = sent.bytes;
-    }
+wrote_part {text} {a} {b} fresh p = search (rules, part_by, append_assoc)
 
 -- a part of the first of two texts has been written
 pub part_first : {x : List ℕ} (y : List ℕ) {a b : Sheet} → WritesPart x a b → WritesPart (x ++ y) a b
-part_first {x} y {a} {b} p = record {
-  rest = p.rest ++ y;
-  writing = record {
-    front = p.writing.front;
-    whole = ap (λ l. l ++ y) p.writing.whole ∙ append_assoc p.writing.front p.rest y;
-    wrote = p.writing.wrote;
-  };
-}
+part_first {x} y {a} {b} p = search (rules, append_assoc)

@@ -1,15 +1,10 @@
-use Rattle.std.proofs.Common.{ap, sym, arith}
-use Rattle.aide_text.specs.PenSheet.{on_sheet}
-use Rattle.aide_text.specs.Layout.{alone}
+use Rattle.std.proofs.Common.{rules, ap, sym, arith}
 use Rattle.aide_text.proofs.Pieces.{later_single, single_first, single_some, single_none, no_length, single_shorter}
 use Rattle.aide_text.proofs.Sheets.{writing_start, writing_more, writing_as, writing_done}
 use Rattle.aide_text.proofs.lines.put_alone.Goals as goal
 
 pub lines-init : goal.lines-init
-lines-init g c =
-    writing_as (ap later_single (sym c.behind-rest.ensures))
-    (writing_more (single_first c.args.name.now c.args.text.now)
-    (writing_start (alone c.args.name.now c.args.text.now) (on_sheet g.W.Sink c.args.out.now c.args.pen.now)) c.put_first.ensures)
+lines-init g c = search (rules, writing_as, later_single, writing_more, single_first, writing_start)
 
 pub lines-smaller : goal.lines-smaller
 lines-smaller g c =

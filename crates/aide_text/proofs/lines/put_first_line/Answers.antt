@@ -1,4 +1,4 @@
-use Rattle.std.proofs.Common.{◌∙◌, ap}
+use Rattle.std.proofs.Common.{rules}
 use Rattle.aide_text.specs.Layout.{pair_line}
 use Rattle.aide_text.proofs.Laying.{heading_blank, heading_head}
 use Rattle.aide_text.proofs.Sheets.{wrote_as, wrote_more}
@@ -13,7 +13,4 @@ lay_pair-len-requires-clause-blank g c =
     heading_blank c.lay_name.new.line c.args.name.now c.if-name-gt10.false c.lay_name.ensures
 
 pub returns : goal.returns
-returns g c =
-    wrote_as (c.lay_pair-len.ensures.laid
-    ∙ ap (λ head. pair_line head c.args.old_piece.now c.args.new_piece.now)
-    (heading_head c.lay_name.new.line c.args.name.now c.if-name-gt10.false c.lay_name.ensures)) c.put.ensures
+returns g c = search (rules, wrote_as, heading_head)

@@ -1,5 +1,4 @@
-use Rattle.std.proofs.Common.{◌∙◌, ap}
-use Rattle.aide_text.specs.Layout.{pair_line}
+use Rattle.std.proofs.Common.{rules}
 use Rattle.aide_text.proofs.Laying.{margin_blank, margin_head}
 use Rattle.aide_text.proofs.Sheets.{wrote_as}
 use Rattle.aide_text.proofs.lines.put_more_line.Goals as goal
@@ -8,7 +7,4 @@ pub lay_pair-len-requires-clause-blank : goal.lay_pair-len-requires-clause-blank
 lay_pair-len-requires-clause-blank g c = margin_blank c.blank_line-line.result c.blank_line-line.ensures
 
 pub returns : goal.returns
-returns g c =
-    wrote_as (c.lay_pair-len.ensures.laid
-    ∙ ap (λ head. pair_line head c.args.old_piece.now c.args.new_piece.now)
-    (margin_head c.blank_line-line.result c.blank_line-line.ensures)) c.put.ensures
+returns g c = search (rules, wrote_as, margin_head)

@@ -1,4 +1,4 @@
-use Rattle.std.proofs.Common.{◌∙◌, sym}
+use Rattle.std.proofs.Common.{rules, ◌∙◌, sym}
 use Rattle.aide_text.specs.PenSheet.{on_sheet}
 use Rattle.aide_text.specs.code.PieceText.{piece_text}
 use Rattle.aide_text.specs.Printed.{printed}
@@ -23,7 +23,4 @@ pieces-preserved g c =
     (c.bytes.ensures ∙ c.of-piece.ensures.piece) c.of-piece.ensures.rest) c.pieces.invariant c.put.ensures
 
 pub returns-then-len-eq0 : goal.returns-then-len-eq0
-returns-then-len-eq0 g c =
-    writing_done (piece_none (printed_rest g.B.Feed.rest c.pieces.text) (piece_text c.of-piece.result)
-    (printed_rest g.B.Feed.rest c.of-piece.new.text)
-    c.of-piece.ensures.piece (sym c.len.ensures.value ∙ c.if-len-eq0.true)) c.pieces.invariant
+returns-then-len-eq0 g c = search (rules, writing_done, piece_none)

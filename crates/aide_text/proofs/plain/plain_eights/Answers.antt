@@ -1,4 +1,4 @@
-use Rattle.std.proofs.Common.{◌≡◌, ◌+◌, ◌-◌, ℕ, length, drop, ap, sym, subst, ◌∙◌, arith, refl}
+use Rattle.std.proofs.Common.{rules, ◌≡◌, ◌+◌, ◌-◌, ℕ, length, drop, ap, sym, subst, ◌∙◌, arith}
 use Rattle.std.specs.List.{list_all}
 use Rattle.std.proofs.lemmas.List.{drop-drop}
 use Rattle.aide_text.specs.code.Plain.{is_plain, IsPlainUpTo}
@@ -6,13 +6,7 @@ use Rattle.aide_text.proofs.PlainLemmas.{plain_front, plain_then}
 use Rattle.aide_text.proofs.plain.plain_eights.Goals as goal
 
 pub eights-init : goal.eights-init
-eights-init c =
-    let none : length c.args.text.now - length c.args.text.now ≡ 0 = omega arith in
-    record {
-      fits = omega arith;
-      behind = rw none refl;
-      plain = rw none refl;
-    }
+eights-init c = search rules
 
 pub eights-preserved : goal.eights-preserved
 eights-preserved c =

@@ -1,15 +1,11 @@
-use Rattle.std.proofs.Common.{rules, arith, take, sym, ◌∙◌}
+use Rattle.std.proofs.lemmas.Grind.{common_steps}
+use Rattle.std.proofs.Common.{arith, take, sym, ◌∙◌}
 use Rattle.std.proofs.lemmas.List.{length-take}
 use Rattle.aide_text.proofs.Pieces.{one_byte, cut_full, cut_short}
 use Rattle.aide_text.proofs.piece.Piece.of.Goals as goal
 
 pub bytes-preserved : goal.bytes-preserved
-bytes-preserved g c = record {
-  fits = omega arith;
-  size = search rules;
-  whole = one_byte c.bytes.bytes (g.T.Feed.rest c.bytes.text) (g.T.Feed.rest c.next_byte.new.self) _ c.bytes.len c.in-Some.c
-      (omega arith) c.bytes.invariant.whole c.in-Some.ensures;
-}
+bytes-preserved g c = grind (arith, common_steps, one_byte)
 
 pub returns-in-None-clause-piece : goal.returns-in-None-clause-piece
 returns-in-None-clause-piece g c =
