@@ -1,6 +1,5 @@
 -- The first and the last line in the order in which they are written.
 use Rattle.std.proofs.Common.{◌≡◌, ◌∙◌, ℕ, List, [], ◌∷◌, ◌++◌, ap, sym, arith, append_assoc}
-use Rattle.std.proofs.lemmas.List.{append-nil}
 use Rattle.aide_json.proofs.ItemLemmas.{behind_append, behind_one}
 use Rattle.aide_json.specs.Object.{behind, joined, line, object}
 

@@ -1,6 +1,8 @@
 pub mod Attribute
 pub mod Entry
 pub mod Ends
+pub mod Frame
+pub mod ReadView
 pub mod SidesView
 pub mod SourceView
 pub mod code

@@ -28,7 +28,7 @@ pub struct Source<'a> {
 }
 
 /// Writes the numbers of entries.
-fn put_counts<W: Sink>(out: &mut W, pen: &mut Pen, counts: &LineCounts)
+pub(crate) fn put_counts<W: Sink>(out: &mut W, pen: &mut Pen, counts: &LineCounts)
     ensures { Wrote (joined (count_members counts.now))
         (on_sheet W.Sink out.old pen.old) (on_sheet W.Sink out.new pen.new) }
 {
@@ -118,7 +118,12 @@ fn put_trusted<W: Sink>(out: &mut W, pen: &mut Pen, counts: &LineCounts, has_tru
 }
 
 /// Writes for how many lines the old entries account, for how many a trusted machine, and for how many nothing.
-fn put_accounts<W: Sink>(out: &mut W, pen: &mut Pen, counts: &LineCounts, has_trusted: bool)
+pub(crate) fn put_accounts<W: Sink>(
+    out: &mut W,
+    pen: &mut Pen,
+    counts: &LineCounts,
+    has_trusted: bool,
+)
     ensures { Wrote (joined (account_members has_trusted counts.now))
         (on_sheet W.Sink out.old pen.old) (on_sheet W.Sink out.new pen.new) }
 {

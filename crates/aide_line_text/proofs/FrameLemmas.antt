@@ -1,0 +1,28 @@
+-- The first and the last line in the order in which they are written.
+use Rattle.std.proofs.Common.{◌≡◌, ◌∙◌, ℕ, List, [], ◌∷◌, ◌++◌, ap, sym, arith, append_assoc}
+use Rattle.aide_json.proofs.ItemLemmas.{behind_append, behind_one}
+use Rattle.aide_json.specs.Object.{behind, joined, line, object}
+
+pub read_parts : (d s : List ℕ)
+    → (123 ∷ []) ++ (d ++ ((44 ∷ []) ++ (s ++ (125 ∷ [])))) ≡ object (d ∷ s ∷ [])
+unfolding object
+read_parts d s = grind (arith, append_assoc)
+
+assemble_closing : (e x y t a r c o b s : List ℕ)
+    → (123 ∷ []) ++ (e ++ ((44 ∷ x) ++ ((44 ∷ y) ++ ((44 ∷ []) ++ (joined (t ∷ a ∷ r ∷ c ∷ []) ++ ((44 ∷ []) ++ ((o ++ b)
+    ++ ((44 ∷ []) ++ (s ++ (125 ∷ 10 ∷ []))))))))))
+    ≡ (123 ∷ ((e ++ ((44 ∷ x) ++ ((44 ∷ y) ++ ((44 ∷ t) ++ ((44 ∷ a) ++ ((44 ∷ r) ++ ((44 ∷ c) ++ ((44 ∷ o) ++ (b ++ (44 ∷ s))))))))))
+    ++ (125 ∷ []))) ++ 10 ∷ []
+assemble_closing e x y t a r c o b s = grind (arith, append_assoc)
+
+-- the last line: both databases, four numbers, those of what accounts for the lines, and the status
+pub closing_parts : (e x y t a r c o s : List ℕ) (more : List (List ℕ))
+    → (123 ∷ []) ++ (e ++ ((44 ∷ x) ++ ((44 ∷ y) ++ ((44 ∷ []) ++ (joined (t ∷ a ∷ r ∷ c ∷ []) ++ ((44 ∷ [])
+    ++ (joined (o ∷ more) ++ ((44 ∷ []) ++ (s ++ (125 ∷ 10 ∷ []))))))))))
+    ≡ line (e ∷ x ∷ y ∷ t ∷ a ∷ r ∷ c ∷ o ∷ (more ++ s ∷ []))
+unfolding line object
+closing_parts e x y t a r c o s more =
+    assemble_closing e x y t a r c o (behind more) s
+    ∙ ap (λ l. (123 ∷ ((e ++ ((44 ∷ x) ++ ((44 ∷ y) ++ ((44 ∷ t) ++ ((44 ∷ a) ++ ((44 ∷ r) ++ ((44 ∷ c) ++ ((44 ∷ o) ++ l))))))))
+    ++ (125 ∷ []))) ++ 10 ∷ [])
+    (ap (λ l. behind more ++ l) (behind_one s) ∙ sym (behind_append more (s ∷ [])))

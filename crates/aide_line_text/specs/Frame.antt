@@ -1,0 +1,35 @@
+-- The first and the last line of lines that are written while the databases are read.
+use Rattle.std.specs.Prelude.{ℕ, Bool, List, [], ◌∷◌, ◌++◌, codes}
+use Rattle.aide_json.specs.Json.{hex_string}
+use Rattle.aide_json.specs.Member.{member, text_member}
+use Rattle.aide_json.specs.Object.{line, object}
+use Rattle.aide_line_text.specs.Ends.{account_members, count_member, count_members, skipped_array}
+use Rattle.aide_line_text.specs.declared.counts.LineCounts.{LineCounts}
+
+-- what is known of a database at its end: the SHA-256 of its bytes, and the set of the columns that were skipped
+pub record ReadFacts : Type 0 where
+  pub digest : List ℕ
+  pub skipped : ℕ
+
+-- what is known of one database at its end, as an object
+unfoldable pub read_object : ReadFacts → List ℕ
+read_object facts =
+    object (member (codes "sha256") (hex_string facts.digest)
+    ∷ member (codes "skipped") (skipped_array facts.skipped) ∷ [])
+
+-- the first line: the format's number, and the configured paths
+unfoldable pub opening_line : (old_path new_path : List ℕ) → List ℕ
+opening_line old_path new_path =
+    line (count_member (codes "format") 4
+    ∷ text_member (codes "old") old_path
+    ∷ text_member (codes "new") new_path ∷ [])
+
+-- the last line, without which the lines were cut: what was read of both databases, the numbers of entries and of what
+-- accounts for them, and the exit status
+unfoldable pub closing_line : (old new : ReadFacts) → (has_trusted : Bool) → LineCounts → ℕ → List ℕ
+closing_line old new has_trusted counts status =
+    line (member (codes "end") (codes "true")
+    ∷ member (codes "old") (read_object old)
+    ∷ member (codes "new") (read_object new)
+    ∷ (count_members counts
+    ++ (account_members has_trusted counts ++ count_member (codes "status") status ∷ [])))

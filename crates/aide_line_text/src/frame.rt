@@ -1,0 +1,88 @@
+//! Writes the first and the last line of lines that are written while the databases are read.
+ghost use Rattle.std.specs.Prelude.{◌∷◌, codes};
+ghost use Rattle.aide_json.specs.Member.{member};
+ghost use Rattle.aide_line_text.specs.Frame.{closing_line, opening_line, read_object};
+ghost use Rattle.aide_line_text.specs.ReadView.{facts_read};
+ghost use Rattle.aide_text.specs.PenSheet.{on_sheet};
+ghost use Rattle.aide_text.specs.Sheet.{Wrote};
+
+use crate::counts::LineCounts;
+use crate::ends::{put_accounts, put_counts};
+use crate::skipped::put_skipped;
+use aide_json::{
+    put_count_member, put_digest_member, put_literal_member, put_name, put_text_member,
+};
+use aide_text::{Pen, Sink, SliceFeed, put};
+
+/// What is known of one database at its end.
+#[derive(Clone, Copy)]
+pub struct Read<'a> {
+    /// The SHA-256 of the bytes.
+    pub digest: &'a [u8; 32],
+    /// Bit c - 1 for each column c that was skipped, counted from 1.
+    pub skipped: u64,
+}
+
+/// Writes what is known of one database at its end.
+fn put_read<W: Sink>(out: &mut W, pen: &mut Pen, read: &Read<'_>)
+    ensures { Wrote (read_object (facts_read read.now))
+        (on_sheet W.Sink out.old pen.old) (on_sheet W.Sink out.new pen.new) }
+{
+    let digest = read.digest;
+    put(out, pen, b"{");
+    put_digest_member(out, pen, b"sha256", digest);
+    put(out, pen, b",");
+    put_name(out, pen, b"skipped");
+    put_skipped(out, pen, read.skipped);
+    put(out, pen, b"}");
+}
+
+/// Writes the first line.
+pub fn put_opening_line<W: Sink>(out: &mut W, pen: &mut Pen, old_path: &[u8], new_path: &[u8])
+    ensures { Wrote (opening_line old_path.now new_path.now)
+        (on_sheet W.Sink out.old pen.old) (on_sheet W.Sink out.new pen.new) }
+{
+    put(out, pen, b"{");
+    put_count_member(out, pen, b"format", 4);
+    put(out, pen, b",");
+    put_text_member(out, pen, b"old", SliceFeed::of(old_path));
+    put(out, pen, b",");
+    put_text_member(out, pen, b"new", SliceFeed::of(new_path));
+    put(out, pen, b"}\n");
+}
+
+/// Writes what is known of a database with this name, behind another member.
+fn put_read_behind<W: Sink>(out: &mut W, pen: &mut Pen, name: &[u8], read: &Read<'_>)
+    ensures { Wrote (44 ∷ member name.now (read_object (facts_read read.now)))
+        (on_sheet W.Sink out.old pen.old) (on_sheet W.Sink out.new pen.new) }
+{
+    put(out, pen, b",");
+    put_name(out, pen, name);
+    put_read(out, pen, read);
+}
+
+/// Writes the last line. Without a trusted machine it has no number for it.
+pub fn put_closing_line<W: Sink>(
+    out: &mut W,
+    pen: &mut Pen,
+    old: &Read<'_>,
+    new: &Read<'_>,
+    counts: &LineCounts,
+    has_trusted: bool,
+    status: u8,
+)
+    ensures { Wrote (closing_line (facts_read old.now) (facts_read new.now) has_trusted counts.now status)
+        (on_sheet W.Sink out.old pen.old) (on_sheet W.Sink out.new pen.new) }
+{
+    put(out, pen, b"{");
+    put_literal_member(out, pen, b"end", b"true");
+    put_read_behind(out, pen, b"old", old);
+    put_read_behind(out, pen, b"new", new);
+    put(out, pen, b",");
+    put_counts(out, pen, counts);
+    put(out, pen, b",");
+    put_accounts(out, pen, counts, has_trusted);
+    put(out, pen, b",");
+    put_count_member(out, pen, b"status", status as u128);
+    put(out, pen, b"}\n");
+}
