@@ -1,5 +1,5 @@
 -- What the flush at the end makes of what was written before it.
-use Rattle.std.proofs.Common.{◌≡◌, ◌∙◌, ◌≤◌, ℕ, List, Option, Bool, true, false, ap, le_refl, refl, subst, sym}
+use Rattle.std.proofs.Common.{◌≡◌, ◌∙◌, ◌≤◌, ℕ, List, Bool, true, false, ap, le_refl, refl, subst, sym}
 use Rattle.std.specs.Prelude.{Result, Ok, Err, IfOk, OnOk}
 use Rattle.aide_db.specs.DeskView.{DeskView}
 use Rattle.aide_db.specs.declared.limits.Limits.{Limits}
@@ -18,7 +18,6 @@ use Rattle.aide_report.specs.code.Passes.{FlushesOnce, KeepsPen, Passes}
 use Rattle.aide_report.specs.Seen.{Seen}
 use Rattle.aide_report.specs.code.WrittenLines.{WritesFrame}
 use Rattle.aide_report.specs.declared.run_fault.RunFault.{RunFault}
-use Rattle.aide_report.specs.declared.run_fault.RunFault.TheVariants.{Write}
 use Rattle.aide_report.proofs.AgreementLemmas.{begins, unflushed}
 use Rattle.aide_report.proofs.LineRunLemmas.{framed}
 use Rattle.aide_report.proofs.PassLemmas.{passes_broken, passes_err, passes_same}

@@ -35,3 +35,6 @@ pub mod MissingLemmas
 pub mod CallLemmas
 pub mod PassLemmas
 pub mod ReadingLemmas
+pub mod OneReadingLemmas
+pub mod LinesRunLemmas
+pub mod CutLemmas

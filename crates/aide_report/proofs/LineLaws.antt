@@ -1,6 +1,6 @@
 -- What ties the lines to the report of the same task, and that there are as many lines of changes as are counted.
-use Rattle.std.proofs.Common.{◌≡◌, ◌≤◌, ◌∙◌, ℕ, ◌+◌, Bool, true, false, cond, List, [], ◌∷◌, refl, sym, ap, arith, length}
-use Rattle.std.specs.Prelude.{count_by, Option, Some, None, Result, Ok, Err, ◌||◌}
+use Rattle.std.proofs.Common.{◌≡◌, ◌≤◌, ◌∙◌, ℕ, Bool, true, false, List, refl, sym, ap, length}
+use Rattle.std.specs.Prelude.{Option, Some, None, Result, Ok, Err, ◌||◌}
 use Rattle.std.proofs.lemmas.List.Sums.{length-filter}
 use Rattle.aide_conf.specs.declared.options.Options.{Options}
 use Rattle.aide_db.specs.Map.{Database}

@@ -12,7 +12,7 @@ use Rattle.aide_db.specs.declared.fault.DbFault.{DbFault}
 use Rattle.aide_db.specs.declared.limits.Limits.{Limits}
 use Rattle.aide_entry.specs.Skipped.{skipped_in}
 use Rattle.aide_line_text.specs.declared.counts.LineCounts.{LineCounts}
-use Rattle.aide_report.specs.Asked.{Asked, asked}
+use Rattle.aide_report.specs.Asked.{asked}
 use Rattle.aide_report.specs.ChangeLines.{by_old}
 use Rattle.aide_report.specs.LineCounts.{line_counts}
 use Rattle.aide_report.specs.LineRuns.{Frames, facts_told, line_outcome, lines_over}
@@ -51,7 +51,7 @@ texts_read old new read told_old told_new = record {
   skipped_new = read.skipped_new new told_new;
 }
 
-counts_of_pass : (limits : Limits) (options : Options) (old new : List ℕ) → IsSound limits old → IsSound limits new
+pub counts_of_pass : (limits : Limits) (options : Options) (old new : List ℕ) → IsSound limits old → IsSound limits new
     → tally options by_old (pass_of old new) ≡ line_counts options by_old (database_of old) (database_of new)
 counts_of_pass limits options old new sound_old sound_new =
     ap (tally options by_old) (sym (pass_is_changes limits old new sound_old sound_new))

@@ -1,6 +1,6 @@
 -- How a run comes to its promise, whatever it writes: by the first readings, and by the writing that follows them.
-use Rattle.std.proofs.Common.{◌≡◌, ◌∙◌, ◌≤◌, ◌+◌, ℕ, List, Option, ap, refl, subst, sym, arith}
-use Rattle.std.specs.Prelude.{true, false, Some, Result, Ok, Err}
+use Rattle.std.proofs.Common.{◌≡◌, ◌∙◌, ◌≤◌, ◌+◌, ℕ, List, Option, refl, subst, sym, arith}
+use Rattle.std.specs.Prelude.{false, Some, Result, Ok, Err}
 use Rattle.aide_db.specs.Database.{IsSound}
 use Rattle.aide_db.specs.DeskView.{DeskView}
 use Rattle.aide_db.specs.declared.fault.DbFault.{DbFault}

@@ -1,9 +1,8 @@
 -- The numbers of the last line, one change after another.
-use Rattle.std.proofs.Common.{◌≡◌, ℕ, ◌+◌, ◌<◌, ◌≤◌, ◌∙◌, Bool, true, false, refl, sym, ap, List, [], ◌∷◌, ◌++◌}
+use Rattle.std.proofs.Common.{◌≡◌, ℕ, ◌+◌, ◌<◌, ◌∙◌, Bool, true, false, refl, sym, ap, List, [], ◌∷◌, ◌++◌}
 use Rattle.std.proofs.Common.{arith, length}
 use Rattle.std.specs.Prelude.{count_by, cond, ◌&&◌, ◌||◌, Option, Some, None}
-use Rattle.std.specs.List.{filter, flat_map}
-use Rattle.std.proofs.lemmas.List.{append-nil}
+use Rattle.std.specs.List.{flat_map}
 use Rattle.std.proofs.lemmas.List.Sums.{count_by-le-length, length-filter, sum_by-append}
 use Rattle.aide_agreement.specs.declared.account.SameAs.{SameAs}
 use Rattle.aide_agreement.specs.declared.account.SameAs.TheVariants.{Old, Trusted}
@@ -18,7 +17,7 @@ use Rattle.aide_report.specs.LineCounts.{account_count, entry_count, is_line_wit
 use Rattle.aide_report.specs.Sections.{all_listed, is_in}
 use Rattle.aide_report.specs.code.ChangeView.{alike_of}
 use Rattle.aide_report.specs.code.LineTally.{AreLinesBelow, sum_of_counts, tally, with_account, with_entry, with_kind}
-use Rattle.aide_report.proofs.SameEntries.{in_none, never_differs}
+use Rattle.aide_report.proofs.SameEntries.{in_none}
 use Rattle.aide_report.proofs.SectionLaws.{first_counted}
 
 -- ---- one more change

@@ -28,6 +28,8 @@ pub mod Seen
 pub mod Agreement
 pub mod Lines
 pub mod LineRuns
+pub mod LinesRead
+pub mod LinesRun
 pub mod Missing
 pub mod Written
 pub mod RunBy

@@ -15,4 +15,5 @@ pub mod Flushes
 pub mod Readings
 pub mod MergeCalls
 pub mod LineTally
+pub mod OneReading
 pub mod WrittenLines

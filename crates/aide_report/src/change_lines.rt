@@ -7,6 +7,7 @@ ghost use Rattle.aide_report.specs.code.ChangeView.{change_of};
 ghost use Rattle.aide_report.specs.code.LineTally.{AreLinesBelow, HasWritten, sum_of_counts, tally};
 ghost use Rattle.aide_report.specs.code.MergeCalls.{IsStopOf, KeepsMerge};
 ghost use Rattle.aide_report.specs.code.Merging.{remaining, IsReady, IsEnded, StandsAt, total_work};
+ghost use Rattle.aide_report.specs.code.OneReading.{IsPassStopped};
 ghost use Rattle.aide_report.specs.code.PassFaults.{Writes};
 ghost use Rattle.aide_text.specs.PenSheet.{on_sheet};
 ghost use Rattle.aide_text.specs.Sheet.{Wrote, WritesSome};
@@ -115,6 +116,7 @@ pub(crate) fn put_change_lines<R: Reel, W: Sink, A: Allocator + Copy>(
     ensures writes_on { OnOk result (pen.new.failed ≡ false) }
     ensures ended { OnOk result (IsEnded merge.new) }
     ensures fault { IfErr result (IsStopOf R.Reel merge.old merge.new desk.old pen.new) }
+    ensures stopped { IfErr result (IsPassStopped R.Reel merge.new) }
 {
     let mut counts = no_counts();
     'pass: loop {

@@ -14,6 +14,7 @@ ghost use Rattle.aide_report.specs.code.MergeCalls.{KeepsCursor, KeepsMerge};
 ghost use Rattle.aide_report.specs.code.Merging.{IsNotDue, IsReady};
 ghost use Rattle.aide_report.specs.code.Upcoming.{IsPassedOn, ShowsNext, upcoming};
 ghost use Rattle.aide_report.specs.code.NextEntry.{next_entry};
+ghost use Rattle.aide_report.specs.code.OneReading.{IsStopped};
 ghost use Rattle.aide_report.specs.code.NextPath.{change_by, next_change, old_after, new_after};
 ghost use Rattle.aide_report.specs.code.Passes.{KeepsDesk};
 ghost use Rattle.aide_report.specs.code.Readings.{ClearsSide, GivesBoth, GivesSide, IsStarted};
@@ -173,6 +174,7 @@ impl<R: Reel> Merge<R> {
         ensures keeps { KeepsMerge R.Reel self.old self.new desk.old desk.new }
         ensures read { OnOk result (HasRead R.Reel self.old self.new desk.old desk.new) }
         ensures fault { IfErr result (IsMergeFault R.Reel self.old self.new desk.old) }
+        ensures stopped { IfErr result (IsStopped R.Reel self.new) }
     {
         self.old_next = advance(&mut self.old_cursor, self.old_next, desk)?;
         self.new_next = advance(&mut self.new_cursor, self.new_next, desk)?;

@@ -107,7 +107,7 @@ pub(crate) fn pass_fault(fault: PassFault, sent: u64) -> RunFault
 }
 
 /// Reads to the end of a database.
-fn read_to_end<R: Reel, A: Allocator + Copy>(
+pub(crate) fn read_to_end<R: Reel, A: Allocator + Copy>(
     cursor: &mut Cursor<R>,
     desk: &mut Desk<A>,
 ) -> Result<(), DbFault>

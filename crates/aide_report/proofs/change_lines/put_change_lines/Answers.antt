@@ -102,6 +102,7 @@ returns-then-pen g c =
       writes_on = tt;
       ended = tt;
       fault = c.if-pen.true;
+      stopped = tt;
     }
 
 pub pass-preserved-else-pen : goal.pass-preserved-else-pen

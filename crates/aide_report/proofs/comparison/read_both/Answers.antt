@@ -3,18 +3,17 @@ use Rattle.std.specs.Prelude.{Some}
 use Rattle.aide_db.specs.Count.{one_more}
 use Rattle.aide_db.specs.Database.{IsSound}
 use Rattle.aide_db.specs.declared.side.Side.TheVariants.{Old, New}
-use Rattle.aide_report.specs.Missing.{IsHindered, IsOfReliable}
-use Rattle.aide_report.specs.RunFaults.{IsFirst, IsLater}
+use Rattle.aide_report.specs.Missing.{IsOfReliable}
+use Rattle.aide_report.specs.RunFaults.{IsFirst}
 use Rattle.aide_text.specs.Failures.{Rose}
-use Rattle.aide_report.proofs.FaultLemmas.{answer_later, answer_new, answer_old, first_later, opens_first}
-use Rattle.aide_report.proofs.FaultLemmas.{right_first, right_later, rose_later, rose_since}
+use Rattle.aide_report.proofs.FaultLemmas.{answer_new, answer_old, opens_first}
+use Rattle.aide_report.proofs.FaultLemmas.{right_first, rose_later, rose_since}
 use Rattle.aide_report.specs.code.Digests.{digest_on}
 use Rattle.sha2.specs.Sha256.{sha256}
-use Rattle.aide_report.proofs.MissingLemmas.{both_there, first_over, later_over, second_over, stops_hindered}
-use Rattle.aide_report.proofs.OpeningLemmas.{refused_first, refused_later}
+use Rattle.aide_report.proofs.MissingLemmas.{both_there, first_over, second_over}
+use Rattle.aide_report.proofs.OpeningLemmas.{refused_first}
 use Rattle.aide_report.proofs.PassLemmas.{sources_then}
-use Rattle.aide_report.proofs.ReadingLemmas.{clears, clears_read, clears_then}
-use Rattle.aide_report.proofs.RunLemmas.{counts_are}
+use Rattle.aide_report.proofs.ReadingLemmas.{clears, clears_read}
 use Rattle.aide_report.proofs.SideLemmas.{of_sides}
 use Rattle.aide_report.proofs.comparison.read_both.Goals as goal
 

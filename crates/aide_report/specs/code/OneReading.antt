@@ -1,0 +1,209 @@
+-- What the calls of a run over both databases promise that reads each of them once.
+use Rattle.std.specs.Prelude.{◌≡◌, ◌<◌, ◌≤◌, ℕ, ◌⊎◌, true, false, ⊤, List, Some, Option, Result, IfErr, OnOk}
+use Rattle.std.specs.Io.KnownBytes.{Appends}
+use Rattle.sha2.specs.Sha256.{sha256}
+use Rattle.aide_entry.specs.Skipped.{skipped_in}
+use Rattle.aide_db.specs.Giving.{columns_of_text}
+use Rattle.aide_report.specs.code.Digests.{digest_on}
+use Rattle.aide_db.specs.Database.{IsSound}
+use Rattle.aide_db.specs.DeskView.{DeskView}
+use Rattle.aide_db.specs.declared.fault.DbFault.{DbFault}
+use Rattle.aide_db.specs.declared.limits.Limits.{Limits}
+use Rattle.aide_db.specs.declared.reel.Reel.{Ghosts as Reels}
+use Rattle.aide_db.specs.declared.side.Side.{Side}
+use Rattle.aide_db.specs.declared.side.Side.TheVariants.{Old, New}
+use Rattle.aide_entry.specs.declared.fault_kind.DbFaultKind.TheVariants.{Read}
+use Rattle.aide_line_text.specs.Frame.{ReadFacts}
+use Rattle.aide_line_text.specs.declared.counts.LineCounts.{LineCounts}
+use Rattle.aide_report.specs.Asked.{Asked}
+use Rattle.aide_report.specs.Bound.{FitsAfterBoth}
+use Rattle.aide_report.specs.ChangeLines.{by_old}
+use Rattle.aide_report.specs.Entries.{PathChange}
+use Rattle.aide_report.specs.LinesRead.{begun_lines, framed_lines, read_of}
+use Rattle.aide_report.specs.Missing.{IsHindered, IsOfReliable, RunsOver, StopsFor, TellsSide}
+use Rattle.aide_report.specs.Openings.{IsNotGiven, IsRefusedThere, OpensAtMost, OpensExactly}
+use Rattle.aide_report.specs.Room.{IsNotMemory, IsNotOfMemory}
+use Rattle.aide_report.specs.RunFaults.{IsCaused, IsRight}
+use Rattle.aide_report.specs.Runs.{IsRunFault, Report}
+use Rattle.aide_report.specs.Seen.{KeepsSources, Seen}
+use Rattle.aide_report.specs.Standing.{IsFaultOf, IsUnfailed}
+use Rattle.aide_report.specs.code.Finding.{pass_of}
+use Rattle.aide_report.specs.code.LineTally.{tally}
+use Rattle.aide_report.specs.code.MergeCalls.{IsCursorFault}
+use Rattle.aide_report.specs.code.Merging.{StandsAt, cursor_at, limits_at, reels_failed}
+use Rattle.aide_report.specs.code.Passes.{KeepsDesk}
+use Rattle.aide_report.specs.declared.change_writer.PassFault.{PassFault}
+use Rattle.aide_report.specs.declared.change_writer.PassFault.TheVariants.{Database, Write}
+use Rattle.aide_report.specs.declared.finding.Readings.{Readings}
+use Rattle.aide_report.specs.declared.merge.Merge.{Merge}
+use Rattle.aide_report.specs.declared.run_fault.RunFault.{RunFault}
+use Rattle.aide_report.specs.declared.run_fault.RunFault.TheVariants.{Changed, Open, Database as OfDatabase, Write as OfWrite}
+use Rattle.aide_text.specs.Failures.{Rose}
+use Rattle.aide_text.specs.Sent.{SendsPart}
+use Rattle.aide_text.specs.Sheet.{Sheet, WritesPart, Wrote}
+use Rattle.aide_text.specs.declared.pen.Pen.{Pen}
+
+-- ---- a merge that has stopped
+
+-- A merge at a fault. If the new side is at fault, the old one can still be read.
+pub record IsStopped {R : Type 0} (r : Reels R) (n : Merge R) (fault : DbFault) : Type 0 where
+  pub old_side : n.old_cursor.side ≡ Old
+  pub unfailed : fault.side ≡ New → IsUnfailed n.old_cursor.stage
+  -- at a failed read the reel of its side has failed
+  pub read : fault.kind ≡ Read → 0 < r.failures (cursor_at n fault.side).reel
+
+-- a merge at the end of a pass that stopped
+abbrev pub IsPassStopped : {R : Type 0} → Reels R → Merge R → PassFault → Type 0
+IsPassStopped r n (Database fault) = IsStopped r n fault
+IsPassStopped r n Write = ⊤
+
+-- The fault stays the first one: it is the old side's, or the old text is sound.
+pub record StaysFirst {R : Type 0} (r : Reels R) (m n : Merge R) (d : DeskView)
+    (fault first : DbFault) : Type 0 where
+  pub same : first ≡ fault
+  pub sound : fault.side ≡ New → (text : List ℕ) → StandsAt r.to_come m d Old text
+      → IsSound (limits_at m Old) text
+  pub read : fault.kind ≡ Read → 0 < reels_failed r.failures n
+
+-- The old side was read to its end if the new one was at fault.
+pub record IsSettled {R : Type 0} (r : Reels R) (m n : Merge R) (d e : DeskView)
+    (fault first : DbFault) : Type 0 where
+  pub room : e.room ≡ d.room
+  pub fits : FitsAfterBoth r.to_come m d e
+  pub answer : StaysFirst r m n d fault first ⊎ IsCursorFault r m.old_cursor n.old_cursor d first
+
+-- The first fault of both sides.
+pub record IsFirstOfBoth {R : Type 0} (r : Reels R) (m n : Merge R) (d : DeskView)
+    (fault : DbFault) : Type 0 where
+  -- it is the first one of its text
+  pub first : (text : List ℕ) → StandsAt r.to_come m d fault.side text
+      → IsFaultOf (limits_at m fault.side) text fault
+  -- before one of the new text the old one is sound
+  pub behind : fault.side ≡ New → (text : List ℕ) → StandsAt r.to_come m d Old text
+      → IsSound (limits_at m Old) text
+  -- at a failed read a reel has failed
+  pub read : fault.kind ≡ Read → 0 < reels_failed r.failures n
+  -- no allocation fails if the longest allowed line fits into the reserved room
+  pub memory : ((side : Side) → (limits_at m side).line ≤ d.room) → IsNotMemory fault
+
+-- why the writing of the changes stopped
+abbrev pub IsLinesStop : {R : Type 0} → Reels R → Merge R → Merge R → DeskView → Pen → PassFault
+    → Type 0
+IsLinesStop r m n d pen (Database fault) = (pen.failed ≡ false) × IsFirstOfBoth r m n d fault
+IsLinesStop r m n d pen Write = pen.failed ≡ true
+
+-- the fault that the run returns
+abbrev pub stop_of : PassFault → ℕ → RunFault
+stop_of (Database fault) sent = OfDatabase fault
+stop_of Write sent = OfWrite sent
+
+-- What is known of both databases, of which a merge has come to its end.
+pub record AreReadAt {R : Type 0} (r : Reels R) (m : Merge R) (d : DeskView)
+    (readings : Readings) : Type 0 where
+  pub digests : (side : Side) (text : List ℕ) → StandsAt r.to_come m d side text
+      → digest_on readings.digests side ≡ sha256 text
+  pub skipped_old : (text : List ℕ) → StandsAt r.to_come m d Old text
+      → readings.skipped_old ≡ skipped_in (columns_of_text text)
+  pub skipped_new : (text : List ℕ) → StandsAt r.to_come m d New text
+      → readings.skipped_new ≡ skipped_in (columns_of_text text)
+
+-- ---- a run
+
+-- What a fault means. `sink` says what a failed write means.
+pub record IsReadFault (limits : Limits) (a b : Seen) (room : ℕ) (sink : Type 0)
+    (fault : RunFault) : Type 0 where
+  -- no side is called changed, and a fault of a text is the first one
+  pub right : IsRight limits a.bytes_of fault
+  pub unchanged : (side : Side) → fault ≡ Changed side → ⊥
+  -- if both texts are known, the fault is the run's only answer
+  pub first : (wish : Asked) → IsRunFault limits wish a.bytes_of fault
+  pub over : (wish : Asked) (old new : Option (List ℕ)) → TellsSide (a.bytes_of Old) (a.is_missing Old) old
+      → TellsSide (a.bytes_of New) (a.is_missing New) new
+      → (r : Result Report RunFault) → RunsOver limits wish old new r
+      → StopsFor r (IsHindered old new (Rose a.failures b.failures) sink) fault
+  -- a side that could not be opened is the one that was opened last, and that opening is not known to have succeeded
+  pub refused : IsRefusedThere a.openings b.openings fault
+  pub not_given : IsNotGiven b.was_given fault
+  -- a device of the sources has failed, or the sink has
+  pub caused : IsCaused (Rose a.failures b.failures) sink fault
+  -- reliable sources fail only at a side that has no bytes
+  pub reliable : a.is_reliable ≡ true → IsOfReliable a.bytes_of fault
+  -- no allocation fails if the longest allowed line fits into the reserved room
+  pub memory : limits.line ≤ room → IsNotOfMemory fault
+
+-- Both sides were opened at most once, and read.
+pub record Reads {T : Type 0} (limits : Limits) (a b : Seen) (d e : DeskView)
+    (sink : Type 0) (result : Result T RunFault) : Type 0 where
+  -- the sources are as they were, but for openings and failures
+  pub sources : KeepsSources a b
+  -- the desk still fits the lines of both texts
+  pub desk : KeepsDesk limits a.bytes_of d e
+  -- each side was opened once, and after a fault not more often
+  pub opens : OnOk result (OpensExactly a.openings b.openings 1)
+  pub opens_some : OpensAtMost a.openings b.openings 1
+  -- what a fault means
+  pub fault : IfErr result (IsReadFault limits a b d.room sink)
+
+-- What was read of the old side alone, whose reel was open.
+pub record IsOldFault (limits : Limits) (a b : Seen) (room : ℕ) (fault : DbFault) : Type 0 where
+  pub of_side : fault.side ≡ Old
+  pub first : (text : List ℕ) → a.bytes_of Old ≡ Some text → IsFaultOf limits text fault
+  pub caused : fault.kind ≡ Read → Rose a.failures b.failures
+  pub reliable : a.is_reliable ≡ true → fault.kind ≡ Read → ⊥
+  pub memory : limits.line ≤ room → IsNotMemory fault
+
+-- ---- what is written
+
+-- the facts of the last line
+abbrev pub old_read : Readings → ReadFacts
+old_read readings = record { digest = readings.digests.of_old; skipped = readings.skipped_old }
+
+abbrev pub new_read : Readings → ReadFacts
+new_read readings = record { digest = readings.digests.of_new; skipped = readings.skipped_new }
+
+-- all lines as the code writes them, over two texts
+unfoldable pub told_lines : Asked → (old new : List ℕ) → List ℕ
+told_lines asked old new = framed_lines asked (read_of old) (read_of new)
+    (tally asked.options by_old (pass_of old new)) (pass_of old new)
+
+-- The first line and the lines of some changes were written and counted, and of them this is true.
+pub record HasBegun (asked : Asked) (counts : LineCounts) (AreAll : List PathChange → Type 0)
+    (a b : Sheet) : Type 0 where
+  pub done : List PathChange
+  pub all : AreAll done
+  pub counted : counts ≡ tally asked.options by_old done
+  pub wrote : Wrote (begun_lines asked done) a b
+
+-- All lines were written, with these counts and facts.
+pub record HasFramed (asked : Asked) (counts : LineCounts) (readings : Readings)
+    (AreAll : List PathChange → Type 0) (a b : Sheet) : Type 0 where
+  pub done : List PathChange
+  pub all : AreAll done
+  pub counted : counts ≡ tally asked.options by_old done
+  pub wrote : Wrote (framed_lines asked (old_read readings) (new_read readings) counts done) a b
+
+-- before a fault other than of writing the last line is not begun
+abbrev pub WritesBegun : Limits → Asked → (old new : List ℕ) → (a b : Sheet) → RunFault → Type 0
+WritesBegun limits asked old new a b (OfWrite written) = (IsSound limits old → IsSound limits new → ⊥)
+    → WritesPart (begun_lines asked (pass_of old new)) a b
+WritesBegun limits asked old new a b _ = WritesPart (begun_lines asked (pass_of old new)) a b
+
+-- before both sides are open nothing is written
+abbrev pub UnlessOpen : (a b : Sheet) → RunFault → Type 0
+UnlessOpen a b (Open side) = b ≡ a
+UnlessOpen a b _ = ⊤
+
+-- All lines have gone out, with these counts and facts.
+pub record HasSent (asked : Asked) (counts : LineCounts) (readings : Readings)
+    (AreAll : List PathChange → Type 0) (before after : Option (List ℕ)) : Type 0 where
+  pub done : List PathChange
+  pub all : AreAll done
+  pub counted : counts ≡ tally asked.options by_old done
+  pub bytes : Appends before after (framed_lines asked (old_read readings) (new_read readings) counts done)
+
+-- before a fault other than of writing the last line is not begun
+abbrev pub SendsBegun : Limits → Asked → (old new : List ℕ) → (before after : Option (List ℕ)) → RunFault
+    → Type 0
+SendsBegun limits asked old new before after (OfWrite written) = (IsSound limits old → IsSound limits new → ⊥)
+    → SendsPart (begun_lines asked (pass_of old new)) before after
+SendsBegun limits asked old new before after _ = SendsPart (begun_lines asked (pass_of old new)) before after
