@@ -3,3 +3,4 @@ pub mod BesideRuns
 pub mod RunBeside
 pub mod Pairs
 pub mod code
+pub mod OneReadingBeside

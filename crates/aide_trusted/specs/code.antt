@@ -4,3 +4,4 @@ pub mod Calls
 pub mod PairPasses
 pub mod Written
 pub mod Over
+pub mod Settled

@@ -6,6 +6,7 @@ ghost use Rattle.aide_entry.specs.View.{entry_in};
 ghost use Rattle.aide_report.specs.code.ChangeView.{change_of};
 ghost use Rattle.aide_report.specs.code.MergeCalls.{IsMergeFault, KeepsMerge};
 ghost use Rattle.aide_report.specs.code.Merging.{IsNotDue, IsReady, remaining};
+ghost use Rattle.aide_report.specs.code.OneReading.{IsStopped};
 ghost use Rattle.aide_agreement.specs.Account.{same_as};
 ghost use Rattle.aide_agreement.specs.Found.{found};
 ghost use Rattle.aide_trusted.specs.code.Calls.{IsSought};
@@ -72,6 +73,7 @@ pub(crate) fn seek<R: Reel, A: Allocator + Copy>(
     ensures sought { OnOk result (IsSought R.Reel (change_of change.entry).0
         merge.old merge.new desk.old desk.new) }
     ensures fault { IfErr result (IsMergeFault R.Reel merge.old merge.new desk.old) }
+    ensures stopped { IfErr result (IsStopped R.Reel merge.new) }
 {
     'seek: loop {
         if let Err(fault) = merge.read_due(desk) {

@@ -1,7 +1,11 @@
 //! The walk over both pairs that writes and counts the lines of all changes.
-ghost use Rattle.std.specs.Prelude.{◌≡◌, ◌<◌, ◌^◌, IfErr, IfOk, OnOk, false};
+ghost use Rattle.std.specs.Prelude.{◌≡◌, ◌<◌, ◌^◌, ℕ, List, IfErr, IfOk, OnOk, false};
+ghost use Rattle.aide_db.specs.Database.{IsSound};
+ghost use Rattle.aide_report.specs.Bound.{FitsAfterBoth};
 ghost use Rattle.aide_report.specs.code.MergeCalls.{IsMergeFault, KeepsMerge};
-ghost use Rattle.aide_report.specs.code.Merging.{IsReady, IsEnded, total_work};
+ghost use Rattle.aide_report.specs.code.Merging.{IsReady, IsEnded, StandsAt, limits_at, total_work};
+ghost use Rattle.aide_report.specs.code.OneReading.{IsFirstOfBoth, IsStopped};
+ghost use Rattle.aide_trusted.specs.code.Settled.{IsFirstStop, IsPairStopped};
 ghost use Rattle.aide_report.specs.code.PassFaults.{Writes};
 ghost use Rattle.aide_text.specs.PenSheet.{on_sheet};
 ghost use Rattle.aide_text.specs.Sheet.{WritesSome};
@@ -14,9 +18,9 @@ ghost use Rattle.aide_trusted.specs.code.Written.{HasLines};
 
 use crate::beside::{account_of, seek};
 use aide_conf::Options;
-use aide_db::{DbFault, Desk, Reel};
+use aide_db::{DbFault, Desk, Reel, Side};
 use aide_line_text::LineCounts;
-use aide_report::{AtPath, Merge, no_counts, put_counted};
+use aide_report::{AtPath, Merge, no_counts, put_counted, settled};
 use aide_text::{Pen, Sink};
 use std::alloc::Allocator;
 
@@ -60,6 +64,7 @@ fn put_accounted<R: Reel, W: Sink, A: Allocator + Copy>(
     ensures ended { OnOk result (IsEnded merge.new) }
     ensures fault { IfErr result (IsPairStop R.Reel merge.old merge.new desk.old
         trusted.old trusted.new trusted_desk.old pen.new) }
+    ensures stopped { IfErr result (IsPairStopped R.Reel merge.new desk.new trusted.new) }
 {
     let mut counts = no_counts();
     'pass: loop {
@@ -92,6 +97,7 @@ fn read_rest<R: Reel, A: Allocator + Copy>(
     ensures keeps { KeepsMerge R.Reel merge.old merge.new desk.old desk.new }
     ensures ended { OnOk result (IsEnded merge.new) }
     ensures fault { IfErr result (IsMergeFault R.Reel merge.old merge.new desk.old) }
+    ensures stopped { IfErr result (IsStopped R.Reel merge.new) }
 {
     'rest: loop {
         if let Err(fault) = merge.read_due(desk) {
@@ -102,6 +108,53 @@ fn read_rest<R: Reel, A: Allocator + Copy>(
             AtPath::Alike => {}
             AtPath::End => return Ok(()),
         }
+    }
+}
+
+/// Reads what a merge has still to give. At a fault it is the first one of both databases.
+fn read_out<R: Reel, A: Allocator + Copy>(
+    merge: &mut Merge<R>,
+    desk: &mut Desk<A>,
+) -> Result<(), DbFault>
+    requires { IsReady merge.old desk.old }
+    ensures room { desk.new.room ≡ desk.old.room }
+    ensures fits { FitsAfterBoth R.to_come merge.old desk.old desk.new }
+    ensures sound { OnOk result ((side : Side) (text : List ℕ)
+        → StandsAt R.to_come merge.old desk.old side text
+        → IsSound (limits_at merge.old side) text) }
+    ensures fault { IfErr result (IsFirstOfBoth R.Reel merge.old merge.new desk.old) }
+{
+    match read_rest(merge, desk) {
+        Ok(()) => Ok(()),
+        Err(fault) => Err(settled(merge, desk, fault)),
+    }
+}
+
+/// Returns the stop that comes first: a fault of the compared pair comes before one of the trusted pair. What comes
+/// before a fault is read to its end.
+pub(crate) fn settle<R: Reel, A: Allocator + Copy>(
+    merge: &mut Merge<R>,
+    desk: &mut Desk<A>,
+    trusted: &mut Merge<R>,
+    trusted_desk: &mut Desk<A>,
+    stop: PairStop,
+) -> PairStop
+    requires { IsPairStopped R.Reel merge.old desk.old trusted.old stop }
+    ensures room { desk.new.room ≡ desk.old.room }
+    ensures trusted_room { trusted_desk.new.room ≡ trusted_desk.old.room }
+    ensures fits { FitsAfterBoth R.to_come merge.old desk.old desk.new }
+    ensures trusted_fits { FitsAfterBoth R.to_come
+        trusted.old trusted_desk.old trusted_desk.new }
+    ensures first { IsFirstStop R.Reel merge.old merge.new desk.old desk.new
+        trusted.old trusted.new trusted_desk.old trusted_desk.new stop result }
+{
+    match stop {
+        PairStop::Compared(fault) => PairStop::Compared(settled(merge, desk, fault)),
+        PairStop::Trusted(fault) => match read_out(merge, desk) {
+            Ok(()) => PairStop::Trusted(settled(trusted, trusted_desk, fault)),
+            Err(first) => PairStop::Compared(first),
+        },
+        PairStop::Write => PairStop::Write,
     }
 }
 
