@@ -1,20 +1,22 @@
 -- From the pass over two texts, each read once, to the lines over their maps.
-use Rattle.std.proofs.Common.{◌≡◌, ◌∙◌, ◌≤◌, ℕ, List, [], ap, refl, subst, sym}
+use Rattle.std.proofs.Common.{◌≡◌, ◌∙◌, ◌≤◌, ◌++◌, ℕ, List, [], ap, refl, subst, sym}
 use Rattle.std.specs.Prelude.{true, false, Some, Result, Ok, Err, IfErr, IfOk}
 use Rattle.std.specs.Io.KnownBytes.{Appends}
 use Rattle.aide_db.specs.Database.{IsSound}
+use Rattle.aide_db.specs.Map.{database_of}
 use Rattle.aide_db.specs.DeskView.{DeskView}
 use Rattle.aide_db.specs.declared.fault.DbFault.{DbFault}
 use Rattle.aide_db.specs.declared.limits.Limits.{Limits}
 use Rattle.aide_db.specs.declared.side.Side.{Side}
 use Rattle.aide_db.specs.declared.side.Side.TheVariants.{Old, New}
+use Rattle.aide_line_text.specs.Frame.{closing_line}
 use Rattle.aide_line_text.specs.declared.counts.LineCounts.{LineCounts}
 use Rattle.aide_report.specs.Asked.{Asked}
 use Rattle.aide_report.specs.ChangeLines.{by_old, change_lines}
 use Rattle.aide_report.specs.Entries.{PathChange}
-use Rattle.aide_report.specs.LineCounts.{account_count, entry_count}
+use Rattle.aide_report.specs.LineCounts.{account_count, entry_count, line_counts, status_by}
 use Rattle.aide_report.specs.LineRuns.{line_outcome}
-use Rattle.aide_report.specs.LinesRead.{begun_lines, framed_lines, lines_read, read_of}
+use Rattle.aide_report.specs.LinesRead.{begun_lines, framed_lines, lines_begun, lines_read, read_of}
 use Rattle.aide_report.specs.LinesRun.{ComesOf, CutsLines, IsLinesRun, KeepsUnopened}
 use Rattle.aide_report.specs.Missing.{IsHindered}
 use Rattle.aide_report.specs.Runs.{HasCause, report_over}
@@ -172,6 +174,18 @@ outcome_are limits wish readings counts old new sound_old sound_new is counted =
     let counts = counted ∙ counts_of_pass limits wish.options old new sound_old sound_new in
     sym (λ i. line_outcome (counts i) (is.skipped_old i) (is.skipped_new i))
 
+-- the lines of two sound texts begin with what comes before the last line
+pub begun_then_closed : (limits : Limits) (wish : Asked) (old new : List ℕ) → IsSound limits old → IsSound limits new
+    → (lines_read wish old new).text
+    ≡ lines_begun wish old new ++ closing_line (read_of old) (read_of new) false
+    (line_counts wish.options by_old (database_of old) (database_of new))
+    (status_by (line_counts wish.options by_old (database_of old) (database_of new)))
+unfolding lines_read framed_lines
+begun_then_closed limits wish old new sound_old sound_new =
+    let counts = line_counts wish.options by_old (database_of old) (database_of new) in
+    λ i. begun_lines wish (pass_is_changes limits old new sound_old sound_new i)
+        ++ closing_line (read_of old) (read_of new) false counts (status_by counts)
+
 -- ---- the whole run
 
 cut_by : {W : Type 0} (s : Sinks W) (out sent : W) (limits : Limits) (wish : Asked) (old new : List ℕ) (fault : RunFault) → SendsPart (told_lines wish old new) (s.delivered out) (s.delivered sent)
@@ -239,6 +253,7 @@ module _ (limits : Limits) (wish : Asked) {a b : Seen} {d e f : DeskView} {W : T
         flushed = flush.flushed;
         flushes = flush.flushes;
         cause = tt;
+        right = tt;
         refused = tt;
         not_given = tt;
         sources_never_fall = reads.sources.never_falls;
@@ -282,6 +297,7 @@ module _ (limits : Limits) (wish : Asked) {a b : Seen} {d e f : DeskView} {W : T
         flushes = flush.flushes;
         cause = comes_of sources sink fault _ _ is.unchanged
             (cause_by limits wish (lines_read wish) a.bytes_of sources sink fault is.caused (is.first wish) is.right);
+        right = is.right;
         refused = is.refused;
         not_given = is.not_given;
         sources_never_fall = reads.sources.never_falls;

@@ -19,7 +19,7 @@ use Rattle.aide_report.specs.Missing.{IsHindered, IsOfReliable, RunsOverBy, Send
 use Rattle.aide_report.specs.Missing.{TellsSide}
 use Rattle.aide_report.specs.Openings.{IsNotGiven, IsRefusedThere, OpensAtMost, OpensExactly}
 use Rattle.aide_report.specs.Room.{IsNotOfMemory}
-use Rattle.aide_report.specs.RunFaults.{CountsWrites, HasWrittenIfAny}
+use Rattle.aide_report.specs.RunFaults.{CountsWrites, HasWrittenIfAny, IsRight}
 use Rattle.aide_report.specs.Runs.{Causes, Report, RunsBy}
 use Rattle.aide_report.specs.Seen.{Seen, SinkSeen}
 use Rattle.aide_report.specs.declared.outcome.Outcome.{Outcome}
@@ -103,6 +103,8 @@ pub record IsLinesRun (limits : Limits) (asked : Asked) (a b : Seen) (d e : Desk
       (Rose o.failures p.failures)
       (λ first. (old new : List ℕ) → a.bytes_of Old ≡ Some old → a.bytes_of New ≡ Some new
       → (r : Result Report DbFault) → RunsBy limits (lines_read asked) old new r → r ≡ Err first))
+  -- A fault of a side whose text is known is the first one of this text.
+  pub right : IfErr result (IsRight limits a.bytes_of)
   -- A side that could not be opened is the one that was opened last, and that opening is not known to have succeeded.
   pub refused : IfErr result (IsRefusedThere a.openings b.openings)
   pub not_given : IfErr result (IsNotGiven b.was_given)
