@@ -19,7 +19,6 @@ use Rattle.aide_report.specs.Failures.{Rose}
 use Rattle.aide_report.specs.FaultStatus.{fault_status, kind_status}
 use Rattle.aide_report.specs.Missing.{IsHindered}
 use Rattle.aide_report.specs.Runs.{Causes, Report}
-use Rattle.aide_report.specs.Sent.{SendsPart}
 use Rattle.aide_report.specs.declared.outcome.Outcome.{Outcome}
 use Rattle.aide_report.specs.declared.run_fault.RunFault.{RunFault}
 use Rattle.aide_report.specs.declared.run_fault.RunFault.TheVariants.{Open, Database, Changed, Write}
@@ -36,9 +35,10 @@ use Rattle.aide_session.specs.Ends.{HasFailed, Puts, Sinks, Starved, Whole, conf
 use Rattle.aide_session.specs.Files.{Files, IsLarge, is_too_large}
 use Rattle.aide_session.specs.Held.{HoldsWithin, most_held}
 use Rattle.aide_session.specs.Lines.{conf_line, kind_line, outcome_lines, run_fault_line, too_large_line, unread_line}
+use Rattle.aide_session.specs.Output.{StartsOut}
 use Rattle.aide_session.specs.TrustedLines.{pair_fault_line, pair_fault_status, trusted_fault_line, trusted_kind_line}
 use Rattle.aide_session.proofs.AnswerSteps.{same_file}
-use Rattle.aide_session.proofs.Endings.{by_reliable, rose_later, same_some}
+use Rattle.aide_session.proofs.Endings.{by_reliable, none_starts, rose_later, same_some}
 use Rattle.aide_session.proofs.PutLemmas.{put_as, put_passed}
 use Rattle.aide_trusted.specs.BesideRuns.{SendsFrontOf, SendsWholeOf, StopsForPair}
 use Rattle.aide_trusted.specs.Pairs.{OfEach}
@@ -76,7 +76,7 @@ there_side files pair old new Old told_old told_new some none = there (files pai
 there_side files pair old new New told_old told_new some none = there (files pair.new_path) new told_new some none
 
 module _ (a : Answer) (named trusted : Named) (v : BesideView) (before count : ℕ) (more : before ≤ count)
-    (sent : SendsPart a.output v.sinks.out_old v.sinks.out_new) where
+    (sent : StartsOut a.output v.sinks.out_old v.sinks.out_new) where
   abbrev Ended : ℕ → Type 0
   Ended status = EndsWithin a named trusted status v.sinks (HasFailed v.is_reliable before v.site_after)
       (HasFailed v.trusted_reliable v.trusted_before v.trusted_after) (Rose v.out_before v.out_after)
@@ -165,7 +165,7 @@ module _ (named trusted : Named) (s : Sinks) where
   well (Err fault) outcome status is put sent = absurd sent
 
   front : (r : Result Report PairFault) → SendsFrontOf r s.out_old s.out_new
-      → SendsPart (answer_beside named trusted r).output s.out_old s.out_new
+      → StartsOut (answer_beside named trusted r).output s.out_old s.out_new
   front (Ok report) sent = sent
   front (Err fault) sent = record { front = []; rest = []; whole = refl; bytes = sent }
 
@@ -265,7 +265,7 @@ module _ (job : BesideText) (status before : ℕ) (v : BesideView) (named : Name
       stops))
       (λ unreliable. inr (inr (record {
         status_is = stops.status_is;
-        output = record { front = []; rest = a.output; whole = refl; bytes = stops.output };
+        output = none_starts a.output v.sinks.out_old v.sinks.out_new stops.output;
         failure = of_compared failed_config;
         cause = (unreliable, cause.0);
         put = put_as _ _ (ap unread_line (sym is.config_is)) stops.put;

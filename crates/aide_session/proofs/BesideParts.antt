@@ -35,6 +35,7 @@ use Rattle.aide_session.specs.code.BesideParts.{HasTextBeside, IsPointed, named_
 use Rattle.aide_session.specs.code.Config.{OpensOneFile}
 use Rattle.aide_session.proofs.AnswerSteps.{IsRead as IsReadFile}
 use Rattle.aide_session.proofs.Closings.{run_cause}
+use Rattle.aide_session.proofs.Comparisons.{caused_by}
 use Rattle.aide_session.proofs.Endings.{rose_later}
 use Rattle.aide_text.specs.declared.sink.Sink.{Ghosts as AnySink}
 use Rattle.aide_trusted.specs.BesideLines.{AreLinesBeside}
@@ -74,8 +75,8 @@ pub means_of : (files : Files) (wish : Asked) (a b : Seen) (room : ℕ) (out : T
       is_flushed = is_flushed;
     }) (Rose a.failures b.failures) out fault
 means_of files wish a b room out config flushes_before flushes_after is_flushed fault pointed enough means = record {
-  cause = run_cause files (named_by config wish) a.bytes_of fault _ out _ _
-      (pointed_tells files wish a.bytes_of a.is_missing pointed config) means.cause means.right (means.memory enough);
+  cause = run_cause files (named_by config wish) a.bytes_of fault _ out
+      (pointed_tells files wish a.bytes_of a.is_missing pointed config) (caused_by _ _ _ _ fault means.cause) means.right (means.memory enough);
   reliable = λ is. of_reliable files wish a.bytes_of a.is_missing pointed config fault (means.reliable is);
   refused = means.refused;
   not_given = means.not_given;

@@ -15,9 +15,8 @@ use Rattle.aide_db.specs.declared.side.Side.TheVariants.{Old, New}
 use Rattle.aide_report.specs.Failures.{Rose}
 use Rattle.aide_report.specs.Openings.{OpensAtMost}
 use Rattle.aide_report.specs.Room.{IsNotOfMemory}
-use Rattle.aide_report.specs.RunFaults.{IsRight}
+use Rattle.aide_report.specs.RunFaults.{IsCaused, IsRight}
 use Rattle.aide_report.specs.Missing.{TellsSide}
-use Rattle.aide_report.specs.Runs.{HasCause, Causes}
 use Rattle.aide_report.specs.declared.run_fault.RunFault.{RunFault}
 use Rattle.aide_report.specs.declared.run_fault.RunFault.TheVariants.{Open, Database, Changed, Write}
 use Rattle.aide_session.specs.Answer.{Named, limits, need_of}
@@ -69,7 +68,7 @@ closes_misused w files words d e f m n course site out none put unopened unflush
       status_is = refl;
       output = (appends_none d, unopened, unflushed);
       opens = tt;
-      opens_some = opens_none course.opened_before course.opened_after w.of_databases.most_openings unopened;
+      opens_some = opens_none course.opened_before course.opened_after w.most_openings unopened;
       put = put;
     }
 
@@ -86,7 +85,7 @@ closes_starved w files words d e f m n course site out put unopened unflushed =
       status_is = refl;
       output = (appends_none d, unopened, unflushed);
       opens = tt;
-      opens_some = opens_none course.opened_before course.opened_after w.of_databases.most_openings unopened;
+      opens_some = opens_none course.opened_before course.opened_after w.most_openings unopened;
       put = put;
     }
 
@@ -106,7 +105,7 @@ closes_unread w files words job d e f m n course site out is failed put unopened
       status_is = refl;
       output = (appends_none d, unopened, unflushed);
       opens = tt;
-      opens_some = opens_none course.opened_before course.opened_after w.of_databases.most_openings unopened;
+      opens_some = opens_none course.opened_before course.opened_after w.most_openings unopened;
       put = put;
     }
 
@@ -124,7 +123,7 @@ closes_large w files words job d e f m n course site out is large put unopened u
       status_is = refl;
       output = (appends_none d, unopened, unflushed);
       opens = tt;
-      opens_some = opens_none course.opened_before course.opened_after w.of_databases.most_openings unopened;
+      opens_some = opens_none course.opened_before course.opened_after w.most_openings unopened;
       put = put;
     }
 
@@ -157,7 +156,7 @@ closes_bad_config w files words config compare fault d e f m n course site out r
       status_is = refl;
       output = (appends_none d, unopened, unflushed);
       opens = tt;
-      opens_some = opens_none course.opened_before course.opened_after w.of_databases.most_openings unopened;
+      opens_some = opens_none course.opened_before course.opened_after w.most_openings unopened;
       put = put;
     }
 
@@ -174,7 +173,7 @@ closes_told w files words config s c d e m course site out read told unopened =
       status_is = refl;
       output = (told, unopened);
       opens = tt;
-      opens_some = opens_none course.opened_before course.opened_after w.of_databases.most_openings unopened;
+      opens_some = opens_none course.opened_before course.opened_after w.most_openings unopened;
       put = put_none e m;
     }
 
@@ -191,24 +190,20 @@ closes_untold w files words config s c d e f m n course site out read untold ros
       status_is = refl;
       output = (untold, unopened);
       opens = tt;
-      opens_some = opens_none course.opened_before course.opened_after w.of_databases.most_openings unopened;
+      opens_some = opens_none course.opened_before course.opened_after w.most_openings unopened;
       put = put;
     }
 
-read_cause : (kind : DbFaultKind) (site first : Type 0) → Causes kind site first → kind ≡ Read → site
-read_cause kind site first stands is = subst (λ (k : DbFaultKind). Causes k site first) is stands
-
 -- the cause of a run's fault, over files that the sources tell
 pub run_cause : (files : Files) (named : Named) (bytes_of : Side → Option (List ℕ)) (fault : RunFault) (site out : Type 0)
-    (first : DbFault → Type 0) (untold : Side → Type 0)
     → ((side : Side) (text : List ℕ) → HasText files named side text → bytes_of side ≡ Some text)
-    → HasCause fault site out first untold → IsRight limits bytes_of fault → IsNotOfMemory fault
+    → IsCaused site out fault → IsRight limits bytes_of fault → IsNotOfMemory fault
     → RunCause files named fault site out
-run_cause files named bytes_of (Open side) site out first untold tells cause right fed = cause
-run_cause files named bytes_of (Database fault) site out first untold tells cause right fed =
-    (read_cause fault.kind site (first fault) cause, (λ text has. right text (tells fault.side text has)), fed)
-run_cause files named bytes_of (Changed side) site out first untold tells cause right fed = λ text has. right text (tells side text has)
-run_cause files named bytes_of (Write written) site out first untold tells cause right fed = cause
+run_cause files named bytes_of (Open side) site out tells cause right fed = cause
+run_cause files named bytes_of (Database fault) site out tells cause right fed =
+    (cause, (λ text has. right text (tells fault.side text has)), fed)
+run_cause files named bytes_of (Changed side) site out tells cause right fed = λ text has. right text (tells side text has)
+run_cause files named bytes_of (Write written) site out tells cause right fed = cause
 
 run_cause_by : (files : Files) (named : Named) (fault : RunFault) (site more out : Type 0) → (site → more)
     → RunCause files named fault site out → RunCause files named fault more out

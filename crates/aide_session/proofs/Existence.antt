@@ -14,7 +14,7 @@ use Rattle.aide_db.specs.declared.side.Side.TheVariants.{Old, New}
 use Rattle.aide_db.proofs.FaultExists.{sound_or_fault}
 use Rattle.aide_report.specs.Runs.{Report, RunsBy}
 use Rattle.aide_session.specs.Answer.{Answer, Named, ComparesBy, IsComparedBy, IsFileAnswerBy, IsJobAnswerBy, IsReadAnswerBy}
-use Rattle.aide_session.specs.Answer.{IsSizedAnswerBy, IsWordsAnswerBy, answer_of_run, asked_by, checked_by, limits, need_of}
+use Rattle.aide_session.specs.Answer.{IsSizedAnswerBy, IsWordsAnswerBy, answer_with, asked_by, checked_by, limits, need_of}
 use Rattle.aide_session.specs.Answer.{refused}
 use Rattle.aide_session.specs.Closing.{AsksToCompare}
 use Rattle.aide_session.specs.Existence.{HasSessionAnswerBy, TellsNamed}
@@ -45,7 +45,8 @@ compared w options named (Some old) None = elim (sound_or_fault limits old (omeg
   | inl sound ↦ (refused (open_line New named.new_path) 18, inl (sound, refl))
 ]
 compared w options named (Some old) (Some new) =
-    let run = run_of (w.of_databases.over (asked_by options named)) old new in (answer_of_run run.0, (run.0, run.1, refl))
+    let run = run_of (w.over (asked_by options named)) old new in
+    (answer_with (w.at_fault (asked_by options named) old new) run.0, (run.0, run.1, refl))
 
 value_of : (path : Option (List ℕ)) → IsSome path → (value : List ℕ) × (path ≡ Some value)
 value_of None some = cc

@@ -7,7 +7,7 @@ use Rattle.aide_conf.specs.Settings.{Configured}
 use Rattle.aide_conf.specs.ReadResult.{ReadsAs}
 use Rattle.aide_db.specs.declared.fault.DbFault.{DbFault}
 use Rattle.aide_report.specs.Runs.{Report, RunsBy}
-use Rattle.aide_session.specs.Answer.{Answer, Named, need_of, limits, asked_by, answer_of_run, IsAnswerBy}
+use Rattle.aide_session.specs.Answer.{Answer, Named, need_of, limits, asked_by, answer_with, IsAnswerBy}
 use Rattle.aide_session.specs.Answer.{ComparesBy, IsJobAnswerBy, IsReadAnswerBy, IsSizedAnswerBy}
 use Rattle.aide_session.specs.Answer.{IsTextAnswerBy, IsWordsAnswerBy}
 use Rattle.aide_session.specs.Asks.{Asks}
@@ -22,10 +22,10 @@ use Rattle.aide_session.proofs.Uniqueness.{one_answer}
 -- to be written.
 pub answer_by_what_is_asked : (w : Writing) (files : Files) (words : List (List ℕ)) (named : Named) (settings : Configured)
     (old new : List ℕ) (run : Result Report DbFault) → Asks files words named settings old new
-    → RunsBy limits (w.of_databases.over (asked_by settings.options named)) old new run
-    → IsAnswerBy w files words named (answer_of_run run)
+    → RunsBy limits (w.over (asked_by settings.options named)) old new run
+    → IsAnswerBy w files words named (answer_with (w.at_fault (asked_by settings.options named) old new) run)
 answer_by_what_is_asked w files words named settings old new run asks runs =
-    let a = answer_of_run run in
+    let a = answer_with (w.at_fault (asked_by settings.options named) old new) run in
     let compared : ComparesBy w files settings named a = record {
       old_is = asks.old_path;
       new_is = asks.new_path;

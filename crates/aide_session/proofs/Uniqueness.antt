@@ -16,6 +16,7 @@ use Rattle.aide_session.specs.Answer.{Answer, Named, ComparesBy, IsComparedBy, I
 use Rattle.aide_session.specs.Answer.{IsAnswerBy, IsSizedAnswerBy, IsTextAnswerBy, IsWordsAnswerBy, asked_by, limits, need_of}
 use Rattle.aide_session.specs.Files.{Files, is_too_large}
 use Rattle.aide_session.specs.Writing.{Writing}
+use Rattle.aide_session.specs.code.Comparing.{out_at_fault}
 use Rattle.aide_words.specs.Job.{JobText, job_of}
 use Rattle.aide_session.proofs.Endings.{answer_by, compared_by, same_some}
 
@@ -38,8 +39,8 @@ module _ (w : Writing) (files : Files) where
   one_comparison options named old new a b p q =
       let one = compared_by w options named old new a p in
       let other = compared_by w options named old new b q in
-      one.2 ∙ ap (λ (r : Result Report RunFault). answer_by named r)
-      (one_run (w.of_databases.over (asked_by options named)) (asked_by options named) old new one.0 other.0 one.1 other.1) ∙ sym other.2
+      one.2 ∙ ap (λ (r : Result Report RunFault). answer_by (out_at_fault w (asked_by options named) old new) named r)
+      (one_run (w.over (asked_by options named)) (asked_by options named) old new one.0 other.0 one.1 other.1) ∙ sym other.2
 
   one_of_paths : (s : Configured) (named : Named) (a b : Answer) → ComparesBy w files s named a
       → ComparesBy w files s named b → a ≡ b

@@ -19,11 +19,12 @@ use Rattle.aide_session.specs.Files.{Files, is_too_large}
 use Rattle.aide_words.specs.Job.{JobText, job_of}
 use Rattle.aide_session.specs.Lines.{usage_line, unread_line, too_large_line, conf_line, open_line}
 use Rattle.aide_session.specs.Lines.{database_line, outcome_lines}
+use Rattle.aide_session.specs.Output.{Output, all_of, nothing}
 use Rattle.aide_session.specs.Writing.{Writing}
 
 -- what a session writes to standard output and to standard error, and its status
 pub record Answer : Type 0 where
-  pub output : List ℕ
+  pub output : Output
   pub errors : List ℕ
   pub status : ℕ
 
@@ -43,29 +44,35 @@ asked_by options named = record {
 
 -- no output, only lines on standard error, and a status
 abbrev pub refused : List ℕ → ℕ → Answer
-refused lines status = record { output = []; errors = lines; status = status }
+refused lines status = record { output = nothing; errors = lines; status = status }
 
 -- the answer for a configuration without a fault that is only checked, if nothing is said of it
 abbrev pub checked : Answer
-checked = record { output = []; errors = []; status = 0 }
+checked = record { output = nothing; errors = []; status = 0 }
 
 -- the same, by what is said of a configuration: the text is written if anything is
 abbrev pub checked_by : Option (Configured → List ℕ) → Configured → Answer
 checked_by None s = checked
-checked_by (Some says) s = record { output = says s; errors = []; status = 0 }
+checked_by (Some says) s = record { output = all_of (says s); errors = []; status = 0 }
 
 -- a line of a database has at most 1,048,576 bytes, and a database at most 2 ^ 40
 abbrev pub limits : Limits
 limits = record { line = 1048576; bytes = 2 ^ 40 }
 
--- the answer of a comparison of two databases: what is written, or the first fault of a database
-abbrev pub answer_of_run : Result Report DbFault → Answer
-answer_of_run (Ok report) = record {
-  output = report.text;
+-- The answer of a comparison of two databases: all that is written, or the first fault of a database. What has gone
+-- out at a fault is given.
+abbrev pub answer_with : (at_fault : Output) → Result Report DbFault → Answer
+answer_with at_fault (Ok report) = record {
+  output = all_of report.text;
   errors = outcome_lines report.outcome;
   status = status_of report.outcome.added report.outcome.removed report.outcome.changed;
 }
-answer_of_run (Err fault) = refused (database_line fault) 24
+answer_with at_fault (Err fault) =
+    record { output = at_fault; errors = database_line fault; status = 24 }
+
+-- the same if nothing goes out at a fault
+abbrev pub answer_of_run : Result Report DbFault → Answer
+answer_of_run run = answer_with nothing run
 
 -- The answer of a comparison, by what is at the paths of the two databases. If there is no old one,
 -- the answer is that the old one was not opened. If only the new one is missing, there are two
@@ -80,8 +87,8 @@ IsComparedBy w options named (Some old) None a =
     × (a ≡ refused (database_line fault) 24))
 IsComparedBy w options named (Some old) (Some new) a =
     (run : Result Report DbFault)
-    × RunsBy limits (w.of_databases.over (asked_by options named)) old new run
-    × (a ≡ answer_of_run run)
+    × RunsBy limits (w.over (asked_by options named)) old new run
+    × (a ≡ answer_with (w.at_fault (asked_by options named) old new) run)
 
 -- The comparison of what is at the two paths that the settings name. At each path there is a
 -- database or no file.

@@ -19,7 +19,6 @@ use Rattle.aide_report.specs.Openings.{IsNotGiven, IsRefusedThere, OpensAtMost, 
 use Rattle.aide_report.specs.Openings.{OpensFirst}
 use Rattle.aide_report.specs.Report.{status_of}
 use Rattle.aide_report.specs.Runs.{Report}
-use Rattle.aide_report.specs.Sent.{SendsPart}
 use Rattle.aide_report.specs.declared.outcome.Outcome.{Outcome}
 use Rattle.aide_report.specs.declared.run_fault.RunFault.{RunFault}
 use Rattle.aide_report.specs.declared.run_fault.RunFault.TheVariants.{Open, Database}
@@ -32,6 +31,7 @@ use Rattle.aide_session.specs.Files.{Files, IsLarge, is_too_large}
 use Rattle.aide_session.specs.Held.{HoldsWithin, most_held}
 use Rattle.aide_session.specs.Lines.{conf_line, memory_line, outcome_lines, too_large_line}
 use Rattle.aide_session.specs.Lines.{unread_line}
+use Rattle.aide_session.specs.Output.{StartsOut}
 use Rattle.aide_session.specs.TrustedLines.{pair_fault_line, pair_fault_status}
 use Rattle.aide_session.specs.TrustedLines.{trusted_database_line, trusted_open_line}
 use Rattle.aide_text.specs.Failures.{CountsFlush}
@@ -96,7 +96,7 @@ BesideFailureCause (trusted_unread fault) site trusted_site out = (fault.kind �
 pub record BrokenBeside (a : Answer) (named trusted : Named) (status : ℕ) (sinks : Sinks)
     (site trusted_site out : Type 0) : Type 0 where
   pub status_is : status ≡ 18
-  pub output : SendsPart a.output sinks.out_old sinks.out_new
+  pub output : StartsOut a.output sinks.out_old sinks.out_new
   pub failure : BesideFailure
   pub cause : BesideFailureCause failure site trusted_site out
   pub put : Puts (beside_failure_line named trusted failure) sinks

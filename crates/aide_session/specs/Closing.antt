@@ -14,12 +14,10 @@ use Rattle.aide_db.specs.declared.side.Side.{Side}
 use Rattle.aide_db.specs.declared.side.Side.TheVariants.{Old, New}
 use Rattle.aide_report.specs.FaultStatus.{fault_status}
 use Rattle.aide_report.specs.Openings.{IsNotGiven, IsRefusedThere, OpensAtMost, OpensExactly}
-use Rattle.aide_report.specs.Openings.{OpensFirst}
 use Rattle.aide_report.specs.Standing.{IsFaultOf}
 use Rattle.aide_report.specs.Room.{IsNotMemory}
 use Rattle.aide_report.specs.Failures.{one_more}
 use Rattle.aide_report.specs.Report.{status_of}
-use Rattle.aide_report.specs.RunFaults.{HasSentNothing}
 use Rattle.aide_report.specs.Sent.{SendsPart}
 use Rattle.aide_report.specs.declared.outcome.Outcome.{Outcome}
 use Rattle.aide_report.specs.declared.run_fault.RunFault.{RunFault}
@@ -108,22 +106,20 @@ IsUntold None s before after flushes_before flushes_after = ⊥
 IsUntold (Some says) s before after flushes_before flushes_after =
     SendsPart (says s) before after × (flushes_after ≡ flushes_before)
 
--- What a session sends, opens and flushes. A good run sends what its outcome determines: a report
--- begins with the head and the summary of the outcome, and is only these two if the options and the
--- outcome call for no more; lines begin and end with those of the outcome. A good run flushes the
--- output once, after its last byte. A run that ends with a fault flushes nothing, and has sent
--- nothing if no write failed and nothing was begun. If it could not open a side, that side was the
--- last one opened. Every other closing opens no side. An accepted configuration that is only
--- checked may have a text, which is sent and flushed; without a text it has only a good closing.
--- Every other closing sends and flushes nothing.
+-- What a session sends, opens and flushes. A good run sends what its outcome determines: a report begins with the head
+-- and the summary of the outcome, and is only these two if the options and the outcome call for no more; lines begin
+-- with the paths and end with what was read and the numbers of the outcome. A good run flushes the output once, after
+-- its last byte. A run that ends with a fault flushes nothing, and has sent nothing where what is written says so. If it
+-- could not open a side, that side was the last one opened. Every other closing opens no side. An accepted
+-- configuration that is only checked may have a text, which is sent and flushed; without a text it has only a good
+-- closing. Every other closing sends and flushes nothing.
 abbrev pub ClosingOutput : Writing → Named → Closing → Course → Option (List ℕ) → Option (List ℕ)
     → Type 0
 ClosingOutput w named (good_run options outcome) course before after =
-    w.of_databases.IsOf (asked_by options named) outcome before after
+    w.IsOf (asked_by options named) outcome before after
     × (course.is_flushed ≡ true) × (course.flushes_after ≡ one_more course.flushes_before)
 ClosingOutput w named (bad_run options fault) course before after =
-    HasSentNothing w.of_databases.openings_before (course.opened_before Old)
-    (course.opened_after Old) before after fault
+    w.KeepsBack course.opened_before course.opened_after before after fault
     × IsRefusedThere course.opened_before course.opened_after fault
     × (course.flushes_after ≡ course.flushes_before)
 ClosingOutput w named (good_config s) course before after =
@@ -205,25 +201,24 @@ ClosingCause files words named (good_run options outcome) site out =
     ((asks : AsksToCompare files words named) × (asks.settings.options ≡ options))
     × AreBothSound files named
 
--- How often the sides were opened. In a good run each side is opened to be read whole, to count,
--- and for what is written: once for each section of entries of a report, and once for lines if the
--- databases differ. The outcome gives this number, and so do both texts if they are known. A run
--- with a fault opens no side more often than this, if both texts are known and sound. In a run that
--- ends with the first fault of a text, no side is opened more than once. In a run that could not
--- open a side, the last opening of that side was refused.
+-- How often the sides were opened. In a good run that writes a report each side is opened to be read whole, to count,
+-- and once for each section of entries; one that writes lines opens each side once. The outcome gives this number, and
+-- so do both texts if they are known. A run with a fault opens no side more often than this, if both texts are known
+-- and sound. In a run that ends with the first fault of a text, no side is opened more than once. In a run that could
+-- not open a side, the last opening of that side was refused.
 abbrev pub ClosingOpens : Writing → Files → Named → Closing → Course → Type 0
 ClosingOpens w files named (good_run options outcome) course =
-    w.of_databases.OpensBy options outcome course.opened_before course.opened_after
+    w.OpensBy options outcome course.opened_before course.opened_after
     × ((old new : List ℕ) → HasText files named Old old → HasText files named New new
     → OpensExactly course.opened_before course.opened_after
-    (w.of_databases.openings (asked_by options named) old new))
+    (w.openings (asked_by options named) old new))
 ClosingOpens w files named (bad_run options fault) course =
-    OpensFirst course.opened_before course.opened_after fault
+    w.OpensAtFault course.opened_before course.opened_after fault
     × IsNotGiven course.given_after fault
     × ((old new : List ℕ) → HasText files named Old old → HasText files named New new
     → IsSound limits old → IsSound limits new
     → OpensAtMost course.opened_before course.opened_after
-    (w.of_databases.openings (asked_by options named) old new))
+    (w.openings (asked_by options named) old new))
 ClosingOpens w files named _ course = ⊤
 
 -- The status, the lines on standard error and the output are those of one closing, whose cause
@@ -236,5 +231,5 @@ pub record ClosesBy (w : Writing) (files : Files) (words : List (List ℕ)) (sta
   pub status_is : status ≡ closing_status closing
   pub output : ClosingOutput w named closing course sinks.out_old sinks.out_new
   pub opens : ClosingOpens w files named closing course
-  pub opens_some : OpensAtMost course.opened_before course.opened_after w.of_databases.most_openings
+  pub opens_some : OpensAtMost course.opened_before course.opened_after w.most_openings
   pub put : Puts (closing_line named closing) sinks

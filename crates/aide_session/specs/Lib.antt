@@ -5,6 +5,7 @@ pub mod TrustedLines
 pub mod Files
 pub mod Pointing
 pub mod Sites
+pub mod Output
 pub mod Writing
 pub mod Answer
 pub mod BesideAnswer

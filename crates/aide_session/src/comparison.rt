@@ -1,10 +1,9 @@
 //! What a session writes: the report, or lines of JSON.
 ghost use Rattle.std.specs.Prelude.{OnOk, OnErr};
 ghost use Rattle.aide_report.specs.Asked.{asked};
-ghost use Rattle.aide_report.specs.RunBy.{IsRunBy};
 ghost use Rattle.aide_report.specs.Seen.{seen, sink_seen};
-ghost use Rattle.aide_session.specs.Answer.{limits};
 ghost use Rattle.aide_session.specs.Closing.{IsTold, IsUntold};
+ghost use Rattle.aide_session.specs.code.Comparing.{IsComparison};
 ghost use Rattle.aide_text.specs.Failures.{Rose};
 
 use crate::telling::{Unwritten, tell_settings};
@@ -29,14 +28,14 @@ pub(crate) trait Comparison: Copy {
     /// What contracts say of what is written.
     ghost writing: { Writing };
 
-    /// Compares two databases and writes what there is to say, as `aide_report::run` does.
+    /// Compares two databases and writes what there is to say, as `aide_report::run` or `run_lines` does.
     fn run<S: Sources, W: Sink>(
         task: &Task<'_>,
         desk: &mut Desk<Global>,
         sources: &mut S,
         out: &mut W,
     ) -> Result<Outcome, RunFault>
-        ensures { IsRunBy writing.of_databases limits (asked task.now)
+        ensures { IsComparison writing (asked task.now)
             (seen S.Sources sources.old) (seen S.Sources sources.new) desk.old desk.new
             (sink_seen W.Sink out.old) (sink_seen W.Sink out.new) result };
 

@@ -2,6 +2,7 @@ use Rattle.aide_db.specs.declared.side.Side.TheVariants.{Old, New}
 use Rattle.aide_report.specs.Asked.{asked}
 use Rattle.aide_report.specs.Failures.{Rose}
 use Rattle.aide_session.specs.Closing.{bad_run, good_run}
+use Rattle.aide_session.specs.code.Comparing.{out_at_fault}
 use Rattle.aide_session.proofs.Closings.{run_cause}
 use Rattle.aide_session.proofs.Endings.{answer_by, ends_as, ends_fault, ends_status, ends_well, put_paths, run_of}
 use Rattle.aide_session.proofs.databases.compare_sides.Goals as goal
@@ -10,9 +11,10 @@ pub returns-in-Ok-clause-ends : goal.returns-in-Ok-clause-ends
 returns-in-Ok-clause-ends g c = λ named a is.
     let by_run = run_of g.C.Comparison.writing (g.S.Sources.bytes_of c.args.devices.now.site.now)
     (g.S.Sources.is_missing c.args.devices.now.site.now) (asked c.args.task.now) named a is in
-    ends_as a (answer_by named by_run.0) named _ _ _ _ by_run.2
-    (ends_status (answer_by named by_run.0) named _ _ _ _ _ c.status.ensures
-    (ends_well by_run.0 c.in-Ok.outcome named _ _ _ _ _ _ _ _
+    let sent = out_at_fault g.C.Comparison.writing (asked c.args.task.now) is.old_file is.new_file in
+    ends_as a (answer_by sent named by_run.0) named _ _ _ _ by_run.2
+    (ends_status (answer_by sent named by_run.0) named _ _ _ _ _ c.status.ensures
+    (ends_well sent by_run.0 c.in-Ok.outcome named _ _ _ _ _ _ _ _
     (c.in-Ok.ensures.over is.old_file is.new_file is.old_told is.new_told by_run.0 by_run.1) c.put_outcome_lines.ensures))
 
 pub returns-in-Ok-clause-closes : goal.returns-in-Ok-clause-closes
@@ -39,12 +41,13 @@ returns-in-Err-clause-ends g c = λ named a is.
     (g.S.Sources.is_missing c.args.devices.now.site.now) (asked c.args.task.now) named a is in
     let rose = Rose (g.S.Sources.failures site) (g.S.Sources.failures c.run.new.sources) in
     let out = Rose (g.W.Sink.failures c.args.devices.now.out.now) (g.W.Sink.failures c.run.new.out) in
-    ends_as a (answer_by named by_run.0) named _ _ _ _ by_run.2
-    (ends_status (answer_by named by_run.0) named _ _ _ _ _ c.status-in-Err.ensures
-    (ends_fault fault by_run.0 named (g.S.Sources.is_reliable site) rose out _ _ (g.S.Sources.bytes_of site)
+    let sent = out_at_fault g.C.Comparison.writing (asked c.args.task.now) is.old_file is.new_file in
+    ends_as a (answer_by sent named by_run.0) named _ _ _ _ by_run.2
+    (ends_status (answer_by sent named by_run.0) named _ _ _ _ _ c.status-in-Err.ensures
+    (ends_fault sent fault by_run.0 named (g.S.Sources.is_reliable site) rose out (g.S.Sources.bytes_of site)
     (g.S.Sources.is_missing site) is.old_file is.new_file _ _ _ _ _ _ is.old_told is.new_told
     (c.in-Err.ensures.over is.old_file is.new_file is.old_told is.new_told by_run.0 by_run.1)
-    (c.in-Err.ensures.memory c.requires.room) c.in-Err.ensures.cause c.in-Err.ensures.reliable
+    (c.in-Err.ensures.memory c.requires.room) c.in-Err.ensures.caused c.in-Err.ensures.reliable
     (put_paths fault named c.args.task.now.old_path.now c.args.task.now.new_path.now _ _ _ _ is.old_is is.new_is c.put_run_fault.ensures)))
 
 pub returns-in-Err-clause-closes : goal.returns-in-Err-clause-closes
@@ -57,11 +60,11 @@ returns-in-Err-clause-closes g c = λ words for.
       named = for.named;
       cause = (
         (for.asks, for.options_are),
-        run_cause files for.named bytes_of fault _ _ _ _ for.gives c.in-Err.ensures.cause
+        run_cause files for.named bytes_of fault _ _ for.gives c.in-Err.ensures.caused
             c.in-Err.ensures.right (c.in-Err.ensures.memory c.requires.room),
       );
       status_is = c.status-in-Err.ensures;
-      output = (c.in-Err.ensures.unsent, c.in-Err.ensures.refused, c.in-Err.ensures.flushes);
+      output = (c.in-Err.ensures.back, c.in-Err.ensures.refused, c.in-Err.ensures.flushes);
       opens = (
         c.in-Err.ensures.opens_first,
         c.in-Err.ensures.not_given,
