@@ -3,11 +3,12 @@ ghost use Rattle.std.specs.Prelude.{◌≡◌, ◌≤◌, ◌+◌, ◌⊎◌, �
 ghost use Rattle.aide_conf.specs.Settings.{Configured};
 ghost use Rattle.aide_db.specs.Longest.{longest_line};
 ghost use Rattle.aide_db.specs.declared.fault.DbFault.{DbFault};
-ghost use Rattle.aide_report.specs.LineRuns.{lines_over};
+ghost use Rattle.aide_report.specs.LinesRead.{lines_begun, lines_read};
 ghost use Rattle.aide_report.specs.Runs.{Report, RunsBy};
-ghost use Rattle.aide_session.specs.Answer.{Named, answer_of_run, asked_by, limits};
+ghost use Rattle.aide_session.specs.Answer.{Named, answer_with, asked_by, limits};
 ghost use Rattle.aide_session.specs.Asks.{Asks};
 ghost use Rattle.aide_session.specs.Ends.{Starved, Whole, sinks_between};
+ghost use Rattle.aide_session.specs.Output.{start_of};
 ghost use Rattle.aide_session.specs.Put.{HasNoFailure};
 
 use aide_db::{Desk, Sources};
@@ -17,7 +18,8 @@ use std::alloc::Global;
 
 /// Runs the whole program that writes lines of JSON on this desk, by [`lines_session_on`].
 ///
-/// Both clauses are those of [`run_program`](crate::run_program), with the lines in place of the report.
+/// Both clauses are those of [`run_program`](crate::run_program), with the lines in place of the report. But at
+/// the first fault of a text a beginning of what comes before the last line has gone out.
 pub fn run_lines_program<S: Site, W: Sink, E: Sink>(
     alloc: Global,
     words: &Words,
@@ -31,10 +33,10 @@ pub fn run_lines_program<S: Site, W: Sink, E: Sink>(
         → HasNoFailure (S.failures site.old) (S.failures site.new)
         → HasNoFailure (W.failures out.old) (W.failures out.new)
         → (right : Result Report DbFault)
-        → RunsBy limits (lines_over (asked_by settings.options named)) old new right
-        → Whole (answer_of_run right) result
+        → RunsBy limits (lines_read (asked_by settings.options named)) old new right
+        → Whole (answer_with (start_of (lines_begun (asked_by settings.options named) old new)) right) result
         (sinks_between W.delivered E.delivered E.failures out.old out.new err.old err.new)
-        ⊎ Starved (answer_of_run right) result
+        ⊎ Starved (answer_with (start_of (lines_begun (asked_by settings.options named) old new)) right) result
         (sinks_between W.delivered E.delivered E.failures out.old out.new err.old err.new) }
     ensures bound { (named : Named) (settings : Configured) (old new : List ℕ)
         → Asks (S.file_at site.old) words.now named settings old new
