@@ -184,7 +184,7 @@ unfolding lines_read framed_lines
 begun_then_closed limits wish old new sound_old sound_new =
     let counts = line_counts wish.options by_old (database_of old) (database_of new) in
     λ i. begun_lines wish (pass_is_changes limits old new sound_old sound_new i)
-        ++ closing_line (read_of old) (read_of new) false counts (status_by counts)
+    ++ closing_line (read_of old) (read_of new) false counts (status_by counts)
 
 -- ---- the whole run
 

@@ -324,8 +324,7 @@ pub run_of : (w : Writing) (bytes_of : Side → Option (List ℕ)) (is_missing :
 run_of w bytes_of is_missing asked named a is =
     let by_run = compared_by w asked.options named is.old_file is.new_file a is.then_is in
     let same = same_asked asked.options asked.options named.old_path asked.old_path named.new_path asked.new_path refl is.old_is
-    is.new_is in
-    (
+    is.new_is in (
       by_run.0,
       subst (λ (wish : Asked). RunsOverBy limits (w.over wish) is.old_file is.new_file by_run.0) same by_run.1,
       subst (λ (wish : Asked). a ≡ answer_by (out_at_fault w wish is.old_file is.new_file) named by_run.0) same by_run.2,
