@@ -1,5 +1,5 @@
 -- The first and the last line of lines that are written while the databases are read.
-use Rattle.std.specs.Prelude.{ℕ, Bool, List, [], ◌∷◌, ◌++◌, codes}
+use Rattle.std.specs.Prelude.{ℕ, Bool, true, List, [], ◌∷◌, ◌++◌, codes}
 use Rattle.aide_json.specs.Json.{hex_string}
 use Rattle.aide_json.specs.Member.{member, text_member}
 use Rattle.aide_json.specs.Object.{line, object}
@@ -33,3 +33,24 @@ closing_line old new has_trusted counts status =
     ∷ member (codes "new") (read_object new)
     ∷ (count_members counts
     ++ (account_members has_trusted counts ++ count_member (codes "status") status ∷ [])))
+
+-- the first line where they are compared beside a trusted pair: the format's number, and all four configured paths
+unfoldable pub opening_line_trusted : (old_path new_path trusted_old trusted_new : List ℕ) → List ℕ
+opening_line_trusted old_path new_path trusted_old trusted_new =
+    line (count_member (codes "format") 4
+    ∷ text_member (codes "old") old_path
+    ∷ text_member (codes "new") new_path
+    ∷ text_member (codes "trusted_old") trusted_old
+    ∷ text_member (codes "trusted_new") trusted_new ∷ [])
+
+-- the last line then: what was read of all four databases, and the same numbers
+unfoldable pub closing_line_trusted : (old new trusted_old trusted_new : ReadFacts) → LineCounts → ℕ
+    → List ℕ
+closing_line_trusted old new trusted_old trusted_new counts status =
+    line (member (codes "end") (codes "true")
+    ∷ member (codes "old") (read_object old)
+    ∷ member (codes "new") (read_object new)
+    ∷ member (codes "trusted_old") (read_object trusted_old)
+    ∷ member (codes "trusted_new") (read_object trusted_new)
+    ∷ (count_members counts
+    ++ (account_members true counts ++ count_member (codes "status") status ∷ [])))

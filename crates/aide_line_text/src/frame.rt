@@ -1,7 +1,8 @@
 //! Writes the first and the last line of lines that are written while the databases are read.
 ghost use Rattle.std.specs.Prelude.{◌∷◌, codes};
-ghost use Rattle.aide_json.specs.Member.{member};
-ghost use Rattle.aide_line_text.specs.Frame.{closing_line, opening_line, read_object};
+ghost use Rattle.aide_json.specs.Member.{member, text_member};
+ghost use Rattle.aide_line_text.specs.Frame.{closing_line, closing_line_trusted, opening_line};
+ghost use Rattle.aide_line_text.specs.Frame.{opening_line_trusted, read_object};
 ghost use Rattle.aide_line_text.specs.ReadView.{facts_read};
 ghost use Rattle.aide_text.specs.PenSheet.{on_sheet};
 ghost use Rattle.aide_text.specs.Sheet.{Wrote};
@@ -21,6 +22,13 @@ pub struct Read<'a> {
     pub digest: &'a [u8; 32],
     /// Bit c - 1 for each column c that was skipped, counted from 1.
     pub skipped: u64,
+}
+
+/// What is known of both databases of a pair at their ends.
+#[derive(Clone, Copy)]
+pub struct ReadPair<'a> {
+    pub old: Read<'a>,
+    pub new: Read<'a>,
 }
 
 /// Writes what is known of one database at its end.
@@ -48,6 +56,36 @@ pub fn put_opening_line<W: Sink>(out: &mut W, pen: &mut Pen, old_path: &[u8], ne
     put_text_member(out, pen, b"old", SliceFeed::of(old_path));
     put(out, pen, b",");
     put_text_member(out, pen, b"new", SliceFeed::of(new_path));
+    put(out, pen, b"}\n");
+}
+
+/// Writes a path with this name, behind another member.
+fn put_path_behind<W: Sink>(out: &mut W, pen: &mut Pen, name: &[u8], path: &[u8])
+    ensures { Wrote (44 ∷ text_member name.now path.now)
+        (on_sheet W.Sink out.old pen.old) (on_sheet W.Sink out.new pen.new) }
+{
+    put(out, pen, b",");
+    put_text_member(out, pen, name, SliceFeed::of(path));
+}
+
+/// Writes the first line where two databases are compared beside a trusted pair.
+pub fn put_opening_line_trusted<W: Sink>(
+    out: &mut W,
+    pen: &mut Pen,
+    old_path: &[u8],
+    new_path: &[u8],
+    trusted_old: &[u8],
+    trusted_new: &[u8],
+)
+    ensures { Wrote (opening_line_trusted old_path.now new_path.now trusted_old.now trusted_new.now)
+        (on_sheet W.Sink out.old pen.old) (on_sheet W.Sink out.new pen.new) }
+{
+    put(out, pen, b"{");
+    put_count_member(out, pen, b"format", 4);
+    put_path_behind(out, pen, b"old", old_path);
+    put_path_behind(out, pen, b"new", new_path);
+    put_path_behind(out, pen, b"trusted_old", trusted_old);
+    put_path_behind(out, pen, b"trusted_new", trusted_new);
     put(out, pen, b"}\n");
 }
 
@@ -82,6 +120,35 @@ pub fn put_closing_line<W: Sink>(
     put_counts(out, pen, counts);
     put(out, pen, b",");
     put_accounts(out, pen, counts, has_trusted);
+    put(out, pen, b",");
+    put_count_member(out, pen, b"status", status as u128);
+    put(out, pen, b"}\n");
+}
+
+/// Writes the last line where two databases are compared beside a trusted pair.
+pub fn put_closing_line_trusted<W: Sink>(
+    out: &mut W,
+    pen: &mut Pen,
+    compared: &ReadPair<'_>,
+    trusted: &ReadPair<'_>,
+    counts: &LineCounts,
+    status: u8,
+)
+    ensures { Wrote (closing_line_trusted
+        (facts_read compared.now.old) (facts_read compared.now.new)
+        (facts_read trusted.now.old) (facts_read trusted.now.new) counts.now status)
+        (on_sheet W.Sink out.old pen.old) (on_sheet W.Sink out.new pen.new) }
+{
+    put(out, pen, b"{");
+    put_literal_member(out, pen, b"end", b"true");
+    put_read_behind(out, pen, b"old", &compared.old);
+    put_read_behind(out, pen, b"new", &compared.new);
+    put_read_behind(out, pen, b"trusted_old", &trusted.old);
+    put_read_behind(out, pen, b"trusted_new", &trusted.new);
+    put(out, pen, b",");
+    put_counts(out, pen, counts);
+    put(out, pen, b",");
+    put_accounts(out, pen, counts, true);
     put(out, pen, b",");
     put_count_member(out, pen, b"status", status as u128);
     put(out, pen, b"}\n");

@@ -13,5 +13,8 @@ mod skipped;
 pub use counts::LineCounts;
 pub use ends::{Source, put_first_line, put_first_line_beside, put_last_line};
 pub use entry::{Remark, kind_word, put_entry_line, type_at};
-pub use frame::{Read, put_closing_line, put_opening_line};
+pub use frame::{
+    Read, ReadPair, put_closing_line, put_closing_line_trusted, put_opening_line,
+    put_opening_line_trusted,
+};
 pub use sides::Sides;
