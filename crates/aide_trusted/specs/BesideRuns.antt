@@ -1,26 +1,31 @@
 -- What a run beside a trusted pair returns, and what it leaves.
-use Rattle.std.specs.Prelude.{◌≡◌, ◌≤◌, ◌*◌, ℕ, ◌⊎◌, Option, Some, None, Result, Ok, Err, List, []}
+use Rattle.std.specs.Prelude.{◌≡◌, ◌≤◌, ◌*◌, ℕ, ◌⊎◌, Option, Some, None, Result, Ok, Err, List}
 use Rattle.std.specs.Prelude.{max, true}
 use Rattle.std.specs.Io.KnownBytes.{Appends}
-use Rattle.aide_db.specs.DeskView.{DeskView}
+use Rattle.aide_db.specs.Database.{IsSound}
 use Rattle.aide_db.specs.Longest.{longest_line}
+use Rattle.aide_db.specs.Map.{entries_of}
 use Rattle.aide_db.specs.declared.fault.DbFault.{DbFault}
 use Rattle.aide_db.specs.declared.limits.Limits.{Limits}
-use Rattle.aide_db.specs.declared.side.Side.{Side}
 use Rattle.aide_db.specs.declared.side.Side.TheVariants.{Old, New}
+use Rattle.aide_entry.specs.Path.{path_cmp}
 use Rattle.aide_report.specs.Asked.{Asked}
 use Rattle.aide_report.specs.Bound.{three_lines}
+use Rattle.aide_report.specs.Entries.{PathChange}
+use Rattle.aide_report.specs.LinesRun.{ComesOf}
 use Rattle.aide_report.specs.Missing.{IsOfReliable, RunsOver}
-use Rattle.aide_report.specs.Openings.{IsNotGiven, IsRefusedThere, OpensAtMost, OpensFirst}
+use Rattle.aide_report.specs.Openings.{IsNotGiven, IsRefusedThere, OpensAtMost}
 use Rattle.aide_report.specs.Room.{IsNotOfMemory}
 use Rattle.aide_report.specs.RunFaults.{IsRight}
-use Rattle.aide_report.specs.Runs.{HasCause, Report, RunsBy, report_over}
-use Rattle.aide_report.specs.Seen.{Seen}
+use Rattle.aide_report.specs.Runs.{Report, RunsBy, report_over}
+use Rattle.aide_report.specs.code.Merged.{merged}
 use Rattle.aide_report.specs.declared.outcome.Outcome.{Outcome}
 use Rattle.aide_report.specs.declared.run_fault.RunFault.{RunFault}
+use Rattle.aide_report.specs.declared.run_fault.RunFault.TheVariants.{Write}
 use Rattle.aide_text.specs.Failures.{Rose}
 use Rattle.aide_text.specs.Sent.{SendsPart}
-use Rattle.aide_trusted.specs.BesideLines.{lines_beside}
+use Rattle.aide_trusted.specs.BesideLines.{BeginsBeside, lines_beside}
+use Rattle.aide_trusted.specs.PairSeen.{Gives, PairSeen}
 use Rattle.aide_trusted.specs.declared.pair_fault.PairFault.{PairFault}
 use Rattle.aide_trusted.specs.declared.pair_fault.PairFault.TheVariants.{Compared, Trusted}
 
@@ -62,11 +67,6 @@ abbrev pub StopsForPair : Result Report PairFault → (PairFault → Type 0) →
 StopsForPair (Ok report) hindered fault = hindered fault
 StopsForPair (Err right) hindered fault = (fault ≡ right) ⊎ hindered fault
 
--- the beginning of the answer's lines has gone out, and nothing if the answer is a fault
-abbrev pub SendsFrontOf : Result Report PairFault → Option (List ℕ) → Option (List ℕ) → Type 0
-SendsFrontOf (Ok report) before after = SendsPart report.text before after
-SendsFrontOf (Err right) before after = Appends before after []
-
 -- the whole of the answer's lines has gone out, and its outcome is returned
 abbrev pub SendsWholeOf : Result Report PairFault → Outcome → Option (List ℕ) → Option (List ℕ)
     → Type 0
@@ -74,58 +74,78 @@ SendsWholeOf (Ok report) outcome before after = (report.outcome ≡ outcome)
     × Appends before after report.text
 SendsWholeOf (Err right) outcome before after = ⊥
 
--- a run ends with this answer, unless a fault keeps the run from it
+-- a run ends with this answer and all that goes with it, unless a fault keeps the run from it
 abbrev pub EndsBeside : Result Report PairFault → (PairFault → Type 0) → Result Outcome PairFault
     → Option (List ℕ) → Option (List ℕ) → Type 0
 EndsBeside r hindered (Ok outcome) before after = SendsWholeOf r outcome before after
-EndsBeside r hindered (Err fault) before after =
-    StopsForPair r hindered fault × SendsFrontOf r before after
+EndsBeside r hindered (Err fault) before after = StopsForPair r hindered fault
+
+-- ---- what has gone out at a fault
+
+-- all four texts are sound
+pub record AreAllSound (limits : Limits) (old new trusted_old trusted_new : List ℕ) : Type 0 where
+  pub of_old : IsSound limits old
+  pub of_new : IsSound limits new
+  pub of_trusted_old : IsSound limits trusted_old
+  pub of_trusted_new : IsSound limits trusted_new
+
+-- the changes of all entry lines of two texts, sound or not
+abbrev pub changes_between : (old new : List ℕ) → List PathChange
+changes_between old new = merged path_cmp (entries_of old) (entries_of new)
+
+-- Never a byte of the last line, unless all four texts are sound and a write has failed.
+abbrev pub CutsBeside : Limits → (asked trusted : Asked)
+    → (old new trusted_old trusted_new : List ℕ)
+    → (before after : Option (List ℕ)) → PairFault
+    → Type 0
+CutsBeside limits asked trusted old new trusted_old trusted_new before after
+    (Compared (Write written)) =
+    (AreAllSound limits old new trusted_old trusted_new
+    → SendsPart (lines_beside asked trusted old new trusted_old trusted_new).text before after)
+    × ((AreAllSound limits old new trusted_old trusted_new → ⊥) → BeginsBeside asked trusted
+    (changes_between old new) (changes_between trusted_old trusted_new) before after)
+CutsBeside limits asked trusted old new trusted_old trusted_new before after _ =
+    BeginsBeside asked trusted
+    (changes_between old new) (changes_between trusted_old trusted_new) before after
 
 -- ---- what a run leaves of each pair
 
 -- What a run leaves of the sources of a pair and of its desk, whatever its end.
-pub record LeavesPair (limits : Limits) (most : ℕ) (a b : Seen) (d e : DeskView) : Type 0 where
+pub record LeavesPair (limits : Limits) (p : PairSeen) : Type 0 where
   -- the count of failures does not fall
-  pub never_falls : a.failures ≤ b.failures
+  pub never_falls : p.before.failures ≤ p.after.failures
   -- no file was looked up
-  pub lookups : b.lookups ≡ a.lookups
-  -- no side was opened more often
-  pub opens_some : OpensAtMost a.openings b.openings most
+  pub lookups : p.after.lookups ≡ p.before.lookups
+  -- no side was opened more than once
+  pub opens_some : OpensAtMost p.before.openings p.after.openings 1
   -- the most that was ever held on the desk does not fall, and rises at most to three lines as long as the limit
-  pub peak : d.peak ≤ e.peak
-  pub below : e.peak ≤ max d.peak (3 * limits.line)
-  -- if each opening gives the same bytes, it rises at most to the longest line of each text and one more line
-  pub bound : (old new : List ℕ) → a.bytes_of Old ≡ Some old → a.bytes_of New ≡ Some new
-      → e.peak ≤ max d.peak (three_lines (longest_line limits old) (longest_line limits new))
+  pub peak : p.desk_before.peak ≤ p.desk_after.peak
+  pub below : p.desk_after.peak ≤ max p.desk_before.peak (3 * limits.line)
+  -- and at most to the longest line of each text and one more line no longer than these
+  pub bound : (old new : List ℕ) → Gives p old new → p.desk_after.peak ≤ max p.desk_before.peak
+      (three_lines (longest_line limits old) (longest_line limits new))
   -- the reserved room stays
-  pub room : e.room ≡ d.room
+  pub room : p.desk_after.room ≡ p.desk_before.room
 
 -- the fault is the answer over the texts of a pair
-abbrev pub IsAnswerOver : Limits → Asked → Seen → DbFault → Type 0
-IsAnswerOver limits asked a fault = (old new : List ℕ) → a.bytes_of Old ≡ Some old
-    → a.bytes_of New ≡ Some new
-    → (r : Result Report DbFault) → RunsBy limits (report_over asked) old new r
+abbrev pub IsAnswerOver : Limits → PairSeen → DbFault → Type 0
+IsAnswerOver limits p fault = (old new : List ℕ) → p.before.bytes_of Old ≡ Some old
+    → p.before.bytes_of New ≡ Some new
+    → (r : Result Report DbFault) → RunsBy limits (report_over p.asked) old new r
     → r ≡ Err fault
 
--- the side tells no text
-abbrev pub IsUntold : Seen → Side → Type 0
-IsUntold a side = (text : List ℕ) → a.bytes_of side ≡ Some text → ⊥
-
 -- What a fault of a pair means. It means what it means in a run over this pair alone.
-pub record IsFaultOfPair (limits : Limits) (asked : Asked) (a b : Seen) (room : ℕ) (sink : Type 0)
+pub record IsFaultOfPair (limits : Limits) (p : PairSeen) (sink : Type 0)
     (fault : RunFault) : Type 0 where
-  -- a side whose openings agree is never called changed, and a fault of its text is its first one
-  pub right : IsRight limits a.bytes_of fault
-  -- why the fault comes
-  pub cause : HasCause fault (Rose a.failures b.failures) sink (IsAnswerOver limits asked a)
-      (IsUntold a)
+  -- a fault of a text is its first one, and no side is called changed
+  pub right : IsRight limits p.before.bytes_of fault
+  -- a device, memory, the first fault of the pair, or the sink: there is no other cause
+  pub cause : ComesOf fault (Rose p.before.failures p.after.failures) sink (IsAnswerOver limits p)
   -- a side that could not be opened is the one that was opened last
-  pub refused : IsRefusedThere a.openings b.openings fault
+  pub refused : IsRefusedThere p.before.openings p.after.openings fault
   -- that opening is not known to have succeeded
-  pub not_given : IsNotGiven b.was_given fault
-  -- a fault of the old text comes before the new side is opened
-  pub opens_first : OpensFirst a.openings b.openings fault
+  pub not_given : IsNotGiven p.after.was_given fault
   -- reliable sources fail only at a side that has no bytes
-  pub reliable : a.is_reliable ≡ true → IsOfReliable a.bytes_of fault
+  pub reliable : p.before.is_reliable ≡ true → IsOfReliable p.before.bytes_of fault
   -- no allocation fails if the longest allowed line fits into the reserved room
-  pub memory : limits.line ≤ room → IsNotOfMemory fault
+  pub memory : limits.line ≤ p.desk_before.room → IsNotOfMemory fault

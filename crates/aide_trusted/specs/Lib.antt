@@ -2,5 +2,7 @@ pub mod BesideLines
 pub mod BesideRuns
 pub mod RunBeside
 pub mod Pairs
+pub mod PairSeen
+pub mod SamePair
+pub mod Sought
 pub mod code
-pub mod OneReadingBeside

@@ -1,6 +1,6 @@
 -- Facts about the faults of a run beside a trusted pair.
-use Rattle.std.specs.Prelude.{◌≡◌, ℕ, Option, Result, Ok, Err, List, ⊤}
-use Rattle.aide_report.specs.RunFaults.{CountsWriteFault, HasSentNothing}
+use Rattle.std.specs.Prelude.{◌≡◌, ℕ, Result, Ok, Err, ⊤}
+use Rattle.aide_report.specs.RunFaults.{CountsWriteFault}
 use Rattle.aide_report.specs.declared.run_fault.RunFault.{RunFault}
 use Rattle.aide_trusted.specs.declared.pair_fault.PairFault.{PairFault}
 use Rattle.aide_trusted.specs.declared.pair_fault.PairFault.TheVariants.{Compared, Trusted}
@@ -13,13 +13,6 @@ OfEach P Q (Trusted fault) = Q fault
 -- a fact about the faults of the compared pair
 abbrev pub OfCompared : (RunFault → Type 0) → PairFault → Type 0
 OfCompared P fault = OfEach P (λ other. ⊤) fault
-
--- if no write failed and the compared old side was opened at most once, nothing has gone out
-abbrev pub SendsNothingFirst : (opened_old opened_new : ℕ) → (old new : Option (List ℕ)) → PairFault
-    → Type 0
-SendsNothingFirst opened_old opened_new old new fault =
-    OfEach (HasSentNothing 1 opened_old opened_new old new)
-    (HasSentNothing 1 opened_old opened_new old new) fault
 
 -- the sink has failed once if the fault is a failed write, and otherwise not at all
 abbrev pub CountsPairWrites : {X : Type 0} → (before after : ℕ) → Result X PairFault → Type 0

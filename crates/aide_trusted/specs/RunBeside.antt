@@ -1,73 +1,76 @@
--- What a run over two databases beside a trusted pair promises.
+-- What a run over two databases beside a trusted pair promises. It reads each of the four once.
 use Rattle.std.specs.Io.KnownBytes.{Appends}
-use Rattle.std.specs.Prelude.{◌≡◌, ℕ, true, [], List, Option, Some, Result, IfErr, IfOk, OnOk}
+use Rattle.std.specs.Prelude.{◌≡◌, ℕ, true, [], List, Option, Some, Result, IfErr, IfOk, OnOk, ⊤}
 use Rattle.aide_db.specs.Database.{IsSound}
-use Rattle.aide_db.specs.DeskView.{DeskView}
 use Rattle.aide_db.specs.declared.limits.Limits.{Limits}
 use Rattle.aide_db.specs.declared.side.Side.{Side}
-use Rattle.aide_db.specs.declared.side.Side.TheVariants.{Old, New}
-use Rattle.aide_report.specs.Asked.{Asked}
-use Rattle.aide_report.specs.LineRuns.{line_openings}
-use Rattle.aide_report.specs.Missing.{IsHindered, TellsSide}
+use Rattle.aide_report.specs.LinesRun.{KeepsUnopened}
+use Rattle.aide_report.specs.Missing.{IsHindered}
 use Rattle.aide_report.specs.Openings.{OpensExactly}
 use Rattle.aide_report.specs.RunFaults.{HasWrittenIfAny}
 use Rattle.aide_report.specs.Runs.{Report}
-use Rattle.aide_report.specs.Seen.{Seen, SinkSeen}
+use Rattle.aide_report.specs.Seen.{SinkSeen}
 use Rattle.aide_report.specs.declared.outcome.Outcome.{Outcome}
 use Rattle.aide_text.specs.Failures.{CountsFlush, Rose}
 use Rattle.aide_trusted.specs.BesideLines.{AreLinesBeside}
-use Rattle.aide_trusted.specs.BesideRuns.{EndsBeside, IsFaultOfPair, LeavesPair, RunsBeside}
-use Rattle.aide_trusted.specs.Pairs.{CountsPairWrites, OfCompared, OfEach, SendsNothingFirst}
+use Rattle.aide_trusted.specs.BesideRuns.{CutsBeside, EndsBeside, IsFaultOfPair, LeavesPair, RunsBeside}
+use Rattle.aide_trusted.specs.PairSeen.{Gives, PairSeen, Told}
+use Rattle.aide_trusted.specs.Pairs.{CountsPairWrites, OfCompared, OfEach}
 use Rattle.aide_trusted.specs.declared.pair_fault.PairFault.{PairFault}
 
--- A run with this result: `a` is seen of the compared sources before it and `b` after it, `d` and `e` of their desk,
--- `s` and `t` of the trusted sources, `u` and `v` of the desk of these, `o` and `p` of the sink.
-pub record IsRunBeside (limits : Limits) (asked trusted_asked : Asked) (a b : Seen)
-    (d e : DeskView) (s t : Seen) (u v : DeskView) (o p : SinkSeen)
+-- the texts of a pair that are known are sound
+abbrev pub AreSoundIn : Limits → PairSeen → Type 0
+AreSoundIn limits p = (side : Side) (text : List ℕ) → p.before.bytes_of side ≡ Some text
+    → IsSound limits text
+
+-- if one of these sides is missing, nothing has gone out
+abbrev pub KeepsMissing : PairSeen → (before after : Option (List ℕ)) → Type 0
+KeepsMissing p before after = (side : Side) → p.before.is_missing side ≡ true
+    → Appends before after []
+
+-- A run over the compared pair `p` beside the trusted pair `q`, with this result: `o` is seen of the sink before it,
+-- `s` after it.
+pub record IsRunBeside (limits : Limits) (p q : PairSeen) (o s : SinkSeen)
     (result : Result Outcome PairFault) : Type 0 where
-  -- If it is told what is at each of the four sides, a text or nothing: the run ends with the right answer, and sends
-  -- its lines, unless an allocation, a side that is there, or the sink has failed. Then the beginning of the lines has
-  -- gone out.
-  pub over : (old new trusted_old trusted_new : Option (List ℕ))
-      → TellsSide (a.bytes_of Old) (a.is_missing Old) old
-      → TellsSide (a.bytes_of New) (a.is_missing New) new
-      → TellsSide (s.bytes_of Old) (s.is_missing Old) trusted_old
-      → TellsSide (s.bytes_of New) (s.is_missing New) trusted_new
+  -- If it is told what is at each of the four sides, a text or nothing: the run ends with the right answer, and all of
+  -- its lines have gone out, unless an allocation, a side that is there, or the sink has failed.
+  pub over : (old new trusted_old trusted_new : Option (List ℕ)) → Told p old new
+      → Told q trusted_old trusted_new
       → (r : Result Report PairFault)
-      → RunsBeside limits asked trusted_asked old new trusted_old trusted_new r
+      → RunsBeside limits p.asked q.asked old new trusted_old trusted_new r
       → EndsBeside r (OfEach
-      (IsHindered old new (Rose a.failures b.failures) (Rose o.failures p.failures))
-      (IsHindered trusted_old trusted_new (Rose s.failures t.failures) ⊥))
-      result o.delivered p.delivered
-  -- After `Ok` all four texts are sound.
-  pub sound : OnOk result ((side : Side) (text : List ℕ) → a.bytes_of side ≡ Some text
-      → IsSound limits text)
-  pub trusted_sound : OnOk result ((side : Side) (text : List ℕ) → s.bytes_of side ≡ Some text
-      → IsSound limits text)
-  -- If one of them is not sound, nothing goes out.
-  pub nothing : (side : Side) (text : List ℕ) → a.bytes_of side ≡ Some text
-      → (IsSound limits text → ⊥) → Appends o.delivered p.delivered []
-  pub trusted_nothing : (side : Side) (text : List ℕ) → s.bytes_of side ≡ Some text
-      → (IsSound limits text → ⊥) → Appends o.delivered p.delivered []
+      (IsHindered old new (Rose p.before.failures p.after.failures) (Rose o.failures s.failures))
+      (IsHindered trusted_old trusted_new (Rose q.before.failures q.after.failures) ⊥))
+      result o.delivered s.delivered
+  -- what has gone out at a fault
+  pub cut : (old new trusted_old trusted_new : List ℕ) → Gives p old new
+      → Gives q trusted_old trusted_new
+      → IfErr result (CutsBeside limits p.asked q.asked old new trusted_old trusted_new
+      o.delivered s.delivered)
+  -- Before all four sides are open nothing goes out.
+  pub unopened : IfErr result (OfEach (KeepsUnopened o.delivered s.delivered)
+      (KeepsUnopened o.delivered s.delivered))
+  pub missing : KeepsMissing p o.delivered s.delivered
+  pub trusted_missing : KeepsMissing q o.delivered s.delivered
+  -- After `Ok` all four texts are sound, and before a fault of the trusted pair the compared ones.
+  pub sound : OnOk result (AreSoundIn limits p)
+  pub trusted_sound : OnOk result (AreSoundIn limits q)
+  pub behind : IfErr result (OfEach (λ fault. ⊤) (λ fault. AreSoundIn limits p))
   -- For any sources, also those that tell no bytes: what has gone out is of the very outcome that is returned.
   pub consistent : IfOk result (λ outcome.
-      AreLinesBeside asked trusted_asked outcome o.delivered p.delivered)
+      AreLinesBeside p.asked q.asked outcome o.delivered s.delivered)
   -- The lines are flushed once, after their last byte, and after a fault not at all.
-  pub flushed : OnOk result (p.is_flushed ≡ true)
-  pub flushes : CountsFlush o.flushes p.flushes result
+  pub flushed : OnOk result (s.is_flushed ≡ true)
+  pub flushes : CountsFlush o.flushes s.flushes result
   -- A failed write is returned with the number of bytes that went out, and none is tried again.
-  pub written : IfErr result (OfCompared (HasWrittenIfAny o.delivered p.delivered))
-  pub sink_fails : CountsPairWrites o.failures p.failures result
-  -- Before all four databases have been read nothing goes out.
-  pub unsent : IfErr result (SendsNothingFirst (a.openings Old) (b.openings Old)
-      o.delivered p.delivered)
+  pub written : IfErr result (OfCompared (HasWrittenIfAny o.delivered s.delivered))
+  pub sink_fails : CountsPairWrites o.failures s.failures result
   -- why a fault comes
-  pub fault : IfErr result (OfEach
-      (IsFaultOfPair limits asked a b d.room (Rose o.failures p.failures))
-      (IsFaultOfPair limits trusted_asked s t u.room ⊥))
+  pub fault : IfErr result (OfEach (IsFaultOfPair limits p (Rose o.failures s.failures))
+      (IsFaultOfPair limits q ⊥))
   -- what each pair is left with
-  pub leaves : LeavesPair limits line_openings a b d e
-  pub trusted_leaves : LeavesPair limits line_openings s t u v
-  -- Each side is opened once to be read whole, and once more with the other three.
-  pub opens : OnOk result (OpensExactly a.openings b.openings line_openings)
-  pub trusted_opens : OnOk result (OpensExactly s.openings t.openings line_openings)
+  pub leaves : LeavesPair limits p
+  pub trusted_leaves : LeavesPair limits q
+  -- Each side is opened once.
+  pub opens : OnOk result (OpensExactly p.before.openings p.after.openings 1)
+  pub trusted_opens : OnOk result (OpensExactly q.before.openings q.after.openings 1)

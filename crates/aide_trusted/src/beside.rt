@@ -10,7 +10,7 @@ ghost use Rattle.aide_report.specs.code.OneReading.{IsStopped};
 ghost use Rattle.aide_agreement.specs.Account.{same_as};
 ghost use Rattle.aide_agreement.specs.Found.{found};
 ghost use Rattle.aide_trusted.specs.code.Calls.{IsSought};
-ghost use Rattle.aide_trusted.specs.code.Sought.{found_at};
+ghost use Rattle.aide_trusted.specs.Sought.{found_at};
 
 use aide_agreement::{SameAs, same_as};
 use aide_db::{DbFault, Desk, Reel, View, cmp_names};

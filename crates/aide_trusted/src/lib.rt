@@ -2,13 +2,12 @@
 #![tactic(auto)]
 
 mod beside;
+mod opening;
 mod pair_fault;
-mod pass;
-mod plan;
-mod readings;
 mod run;
+mod settle;
 mod walk;
 mod write;
 
 pub use pair_fault::PairFault;
-pub use run::run_lines_beside;
+pub use run::{TrustedPair, run_lines_beside};

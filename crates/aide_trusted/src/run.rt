@@ -3,55 +3,75 @@ ghost use Rattle.std.specs.Prelude.{◌≤◌, ◌^◌};
 ghost use Rattle.aide_report.specs.Asked.{asked};
 ghost use Rattle.aide_report.specs.Seen.{seen, sink_seen};
 ghost use Rattle.aide_trusted.specs.RunBeside.{IsRunBeside};
+ghost use Rattle.aide_trusted.specs.PairSeen.{pair_seen};
+ghost use Rattle.aide_trusted.specs.SamePair.{AreSamePair};
 
+use crate::opening::open_four;
 use crate::pair_fault::PairFault;
-use crate::plan::BesidePlan;
-use crate::readings::read_pairs;
-use crate::write::write_beside;
+use crate::walk::Merges;
+use crate::write::{Tasks, write_beside};
 use aide_conf::Task;
 use aide_db::{Desk, Limits, Sources};
-use aide_report::{Outcome, Sink, outcome_of};
+use aide_report::{Outcome, Sink, clear, close_both, outcome_of};
 use std::alloc::Allocator;
 
+/// A trusted pair of databases: what is asked of it, where it is read from, and onto which desk.
+pub struct TrustedPair<'a, S: Sources, A: Allocator + Copy> {
+    /// The paths of both databases.
+    pub task: &'a Task<'a>,
+    /// What is held of them.
+    pub desk: &'a mut Desk<A>,
+    /// What opens them.
+    pub sources: &'a mut S,
+}
+
 /// Compares two databases beside a trusted pair, and writes their changes as lines of JSON, each with what accounts for
-/// the change.
+/// the change. Each of the four databases is opened and read once.
 ///
 /// What [`aide_report::run_lines`] says of its lines holds of these, over four databases: the first fault counts, in
-/// the order old, new, trusted old, trusted new, and each side of both pairs is opened once to be read whole, and once
-/// more with the other three.
+/// the order old, new, trusted old, trusted new. What comes before it is read to its end. Nothing goes out before all
+/// four databases are open, and the last line only when all of them were read to their ends and are sound.
 ///
 /// `limits.line` has to be at least 14, and `limits.bytes` at most 2^60. What is promised is the fields of
 /// `IsRunBeside`.
 pub fn run_lines_beside<S: Sources, W: Sink, A: Allocator + Copy>(
     task: &Task<'_>,
-    trusted_task: &Task<'_>,
     limits: Limits,
     desk: &mut Desk<A>,
     sources: &mut S,
-    trusted_desk: &mut Desk<A>,
-    trusted: &mut S,
+    trusted: &mut TrustedPair<'_, S, A>,
     out: &mut W,
 ) -> Result<Outcome, PairFault>
     requires line { 14 ≤ limits.line }
     requires bytes { limits.bytes ≤ 2 ^ 60 }
-    ensures { IsRunBeside limits (asked task.now) (asked trusted_task.now)
-        (seen S.Sources sources.old) (seen S.Sources sources.new) desk.old desk.new
-        (seen S.Sources trusted.old) (seen S.Sources trusted.new)
-        trusted_desk.old trusted_desk.new
+    ensures same { AreSamePair trusted.old trusted.new }
+    ensures runs { IsRunBeside limits
+        (pair_seen (asked task.now)
+        (seen S.Sources sources.old) (seen S.Sources sources.new) desk.old desk.new)
+        (pair_seen (asked trusted.old.task.now)
+        (seen S.Sources trusted.old.sources.now) (seen S.Sources trusted.new.sources.now)
+        trusted.old.desk.now trusted.new.desk.now)
         (sink_seen W.Sink out.old) (sink_seen W.Sink out.new) result }
 {
-    let readings = match read_pairs(limits, desk, sources, trusted_desk, trusted) {
-        Ok(readings) => readings,
+    clear(limits, desk);
+    clear(limits, trusted.desk);
+    let mut merges = match open_four(limits, desk, sources, trusted.desk, trusted.sources) {
+        Ok(merges) => merges,
         Err(fault) => return Err(fault),
     };
-    let plan = BesidePlan {
-        task,
-        trusted_task,
-        limits,
-        readings: &readings,
+    let tasks = Tasks {
+        compared: task,
+        trusted: trusted.task,
     };
-    match write_beside(&plan, desk, sources, trusted_desk, trusted, out) {
-        Ok(counts) => Ok(outcome_of(&counts, &readings.compared)),
+    let written = write_beside(&mut merges, &tasks, desk, trusted.desk, out);
+    let Merges {
+        compared,
+        trusted: beside,
+    } = merges;
+    close_both(sources, compared);
+    close_both(trusted.sources, beside);
+    match written {
+        Ok(found) => Ok(outcome_of(&found.counts, &found.compared)),
         Err(fault) => Err(fault),
     }
 }

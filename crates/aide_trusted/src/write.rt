@@ -1,167 +1,174 @@
-//! The writing of the lines, once all four databases are known to be sound.
-ghost use Rattle.std.specs.Prelude.{◌≡◌, IfOk, false, true};
-ghost use Rattle.aide_line_text.specs.Ends.{last_line};
-ghost use Rattle.aide_report.specs.LineCounts.{account_count, entry_count, status_by};
-ghost use Rattle.aide_report.specs.LineRuns.{Frames};
-ghost use Rattle.aide_report.specs.code.Digests.{AreDigests};
-ghost use Rattle.aide_report.specs.code.PassFaults.{Writes};
-ghost use Rattle.aide_report.specs.Seen.{AreLimits, seen};
-ghost use Rattle.aide_report.specs.code.WrittenLines.{WritesFrame};
+//! The writing of the lines, while all four databases are read.
+ghost use Rattle.std.specs.Prelude.{◌≡◌, ◌⊎◌, IfErr, IfOk, OnOk, false};
+ghost use Rattle.std.specs.Io.KnownBytes.{Appends};
+ghost use Rattle.aide_line_text.specs.ReadView.{facts_read};
+ghost use Rattle.aide_report.specs.Asked.{asked};
+ghost use Rattle.aide_report.specs.code.OneReading.{new_read, old_read};
 ghost use Rattle.aide_text.specs.Failures.{Rose};
 ghost use Rattle.aide_text.specs.PenSheet.{on_sheet};
-ghost use Rattle.aide_text.specs.Sent.{Sends};
 ghost use Rattle.aide_text.specs.Sheet.{Wrote};
-ghost use Rattle.aide_report.specs.code.LineTally.{tally};
-ghost use Rattle.aide_trusted.specs.code.Over.{OverTexts};
-ghost use Rattle.aide_trusted.specs.code.PairPasses.{FlushesPair, KeepsPairPen, PairPasses};
-ghost use Rattle.aide_trusted.specs.code.Sought.{sought_by};
-ghost use Rattle.aide_trusted.specs.code.Written.{facts_found, first_line_found, written_beside};
+ghost use Rattle.aide_trusted.specs.BesideLines.{closing_beside, opening_beside};
+ghost use Rattle.aide_trusted.specs.code.Settled.{FitsMerges, IsSettledStop};
+ghost use Rattle.aide_trusted.specs.code.Walked.{CanWalk, HasWalked};
+ghost use Rattle.aide_trusted.specs.code.Written.{ArePairsRead, CutsChanges, CutsLast, FlushesPair, HasToldAll};
+ghost use Rattle.aide_trusted.specs.code.Written.{IsFirstFault, facts_found, pair_fault_of};
 
 use crate::pair_fault::PairFault;
-use crate::pass::pair_pass;
-use crate::plan::BesidePlan;
-use aide_db::{Desk, DeviceFault, Sources};
-use aide_line_text::{LineCounts, Source, put_first_line_beside, put_last_line};
-use aide_report::{Readings, RunFault, outcome_of};
+use crate::settle::put_all_accounted;
+use crate::walk::{Merges, PairStop};
+use aide_conf::Task;
+use aide_db::{Desk, DeviceFault, Reel};
+use aide_line_text::{
+    LineCounts, Read, ReadPair, put_closing_line_trusted, put_opening_line_trusted,
+};
+use aide_report::{Readings, RunFault, outcome_of, readings_of};
 use aide_text::{Pen, Sink};
 use std::alloc::Allocator;
 
+/// What is asked of both pairs.
+#[derive(Clone, Copy)]
+pub(crate) struct Tasks<'a> {
+    pub(crate) compared: &'a Task<'a>,
+    pub(crate) trusted: &'a Task<'a>,
+}
+
+/// What a run has found that has read all four databases.
+#[derive(Clone, Copy)]
+pub(crate) struct PairsFound {
+    pub(crate) counts: LineCounts,
+    pub(crate) compared: Readings,
+    pub(crate) trusted: Readings,
+}
+
 /// Writes the first line.
-fn put_first<W: Sink>(out: &mut W, pen: &mut Pen, plan: &BesidePlan<'_>)
-    ensures { Wrote (first_line_found (facts_found plan.now.task.now plan.now.trusted_task.now
-        plan.now.readings.now.compared plan.now.readings.now.trusted))
+fn put_first<W: Sink>(out: &mut W, pen: &mut Pen, tasks: &Tasks<'_>)
+    ensures { Wrote (opening_beside (asked tasks.now.compared.now) (asked tasks.now.trusted.now))
         (on_sheet W.Sink out.old pen.old) (on_sheet W.Sink out.new pen.new) }
 {
-    let compared = &plan.readings.compared;
-    let trusted = &plan.readings.trusted;
-    let old = Source {
-        path: plan.task.old_path.as_bytes(),
-        digest: &compared.digests.of_old,
-        skipped: compared.skipped_old,
-    };
-    let new = Source {
-        path: plan.task.new_path.as_bytes(),
-        digest: &compared.digests.of_new,
-        skipped: compared.skipped_new,
-    };
-    let trusted_old = Source {
-        path: plan.trusted_task.old_path.as_bytes(),
-        digest: &trusted.digests.of_old,
-        skipped: trusted.skipped_old,
-    };
-    let trusted_new = Source {
-        path: plan.trusted_task.new_path.as_bytes(),
-        digest: &trusted.digests.of_new,
-        skipped: trusted.skipped_new,
-    };
-    put_first_line_beside(out, pen, &old, &new, &trusted_old, &trusted_new);
+    put_opening_line_trusted(
+        out,
+        pen,
+        tasks.compared.old_path.as_bytes(),
+        tasks.compared.new_path.as_bytes(),
+        tasks.trusted.old_path.as_bytes(),
+        tasks.trusted.new_path.as_bytes(),
+    );
+}
+
+/// Returns what the last line says of both databases of a pair.
+fn pair_of(readings: &Readings) -> ReadPair<'_>
+    ensures old { facts_read result.old ≡ old_read readings.now }
+    ensures new { facts_read result.new ≡ new_read readings.now }
+{
+    ReadPair {
+        old: Read {
+            digest: &readings.digests.of_old,
+            skipped: readings.skipped_old,
+        },
+        new: Read {
+            digest: &readings.digests.of_new,
+            skipped: readings.skipped_new,
+        },
+    }
 }
 
 /// Writes the last line.
-fn put_last<W: Sink>(out: &mut W, pen: &mut Pen, counts: &LineCounts, readings: &Readings)
-    ensures { Wrote (last_line true counts.now (status_by counts.now))
+fn put_last<W: Sink>(out: &mut W, pen: &mut Pen, found: &PairsFound)
+    ensures { Wrote (closing_beside (facts_found found.now) found.now.counts)
         (on_sheet W.Sink out.old pen.old) (on_sheet W.Sink out.new pen.new) }
 {
-    let status = outcome_of(counts, readings).status();
-    put_last_line(out, pen, counts, true, status);
+    let compared = pair_of(&found.compared);
+    let trusted = pair_of(&found.trusted);
+    let status = outcome_of(&found.counts, &found.compared).status();
+    put_closing_line_trusted(out, pen, &compared, &trusted, &found.counts, status);
 }
 
-/// Writes all lines.
-fn put_lines<S: Sources, W: Sink, A: Allocator + Copy>(
-    plan: &BesidePlan<'_>,
+/// Writes the first line and the lines of the changes, and reads all four databases to their ends.
+fn put_changes<R: Reel, W: Sink, A: Allocator + Copy>(
+    merges: &mut Merges<R>,
+    tasks: &Tasks<'_>,
     desk: &mut Desk<A>,
-    sources: &mut S,
     trusted_desk: &mut Desk<A>,
-    trusted: &mut S,
     out: &mut W,
     pen: &mut Pen,
-) -> Result<LineCounts, PairFault>
-    requires limits { AreLimits plan.now.limits }
-    requires digests { AreDigests (S.bytes_of sources.old)
-        plan.now.readings.now.compared.digests }
-    requires trusted_digests { AreDigests (S.bytes_of trusted.old)
-        plan.now.readings.now.trusted.digests }
-    requires writes_on { pen.old.failed ≡ false }
-    ensures passes { PairPasses plan.now.limits 1
-        (seen S.Sources sources.old) (seen S.Sources sources.new) desk.old desk.new
-        (seen S.Sources trusted.old) (seen S.Sources trusted.new)
-        trusted_desk.old trusted_desk.new (pen.new.failed ≡ true) result }
-    ensures writes { OverTexts (S.bytes_of sources.old) (S.bytes_of trusted.old)
-        (λ changes beside. Writes result (written_beside plan.now.task.now.options
-        (facts_found plan.now.task.now plan.now.trusted_task.now
-        plan.now.readings.now.compared plan.now.readings.now.trusted) changes beside)
-        (on_sheet W.Sink out.old pen.old) (on_sheet W.Sink out.new pen.new)) }
-    ensures counts { IfOk result (λ counts.
-        OverTexts (S.bytes_of sources.old) (S.bytes_of trusted.old)
-        (λ changes beside. counts
-        ≡ tally plan.now.task.now.options (sought_by beside) changes)) }
-    ensures accounted { IfOk result (λ counts. account_count counts ≡ entry_count counts) }
-    ensures frame { IfOk result (λ counts. WritesFrame
-        (first_line_found (facts_found plan.now.task.now plan.now.trusted_task.now
-        plan.now.readings.now.compared plan.now.readings.now.trusted))
-        (last_line true counts (status_by counts)) (entry_count counts)
-        (on_sheet W.Sink out.old pen.old) (on_sheet W.Sink out.new pen.new)) }
-    ensures pen { KeepsPairPen (on_sheet W.Sink out.old pen.old)
-        (on_sheet W.Sink out.new pen.new) pen.new result }
+) -> Result<PairsFound, PairStop>
+    requires { CanWalk merges.old desk.old trusted_desk.old pen.old }
+    ensures fits { FitsMerges R.Reel merges.old
+        desk.old desk.new trusted_desk.old trusted_desk.new }
+    ensures read { IfOk result (ArePairsRead R.Reel merges.old merges.new desk.old desk.new
+        trusted_desk.old trusted_desk.new) }
+    ensures walked { HasWalked R.Reel tasks.now.compared.now.options
+        (opening_beside (asked tasks.now.compared.now) (asked tasks.now.trusted.now))
+        (λ found. found.counts) merges.old desk.old trusted_desk.old
+        (on_sheet W.Sink out.old pen.old) (on_sheet W.Sink out.new pen.new) result }
+    ensures writes_on { OnOk result (pen.new.failed ≡ false) }
+    ensures fault { IfErr result (IsSettledStop R.Reel merges.old merges.new
+        desk.old trusted_desk.old pen.new) }
 {
-    put_first(out, pen, plan);
+    put_first(out, pen, tasks);
     if pen.failed {
-        return Err(PairFault::Compared(RunFault::Write { written: pen.sent }));
+        return Err(PairStop::Write);
     }
-    let counts = match pair_pass(plan, desk, sources, trusted_desk, trusted, out, pen) {
+    let options = &tasks.compared.options;
+    let counts = match put_all_accounted(merges, desk, trusted_desk, out, pen, options) {
         Ok(counts) => counts,
-        Err(fault) => return Err(fault),
+        Err(stop) => return Err(stop),
     };
-    put_last(out, pen, &counts, &plan.readings.compared);
-    if pen.failed {
-        return Err(PairFault::Compared(RunFault::Write { written: pen.sent }));
+    Ok(PairsFound {
+        counts,
+        compared: readings_of(&merges.compared),
+        trusted: readings_of(&merges.trusted),
+    })
+}
+
+/// The fault that the run returns, with the number of bytes that have gone out.
+fn pair_fault(stop: PairStop, sent: u64) -> PairFault
+    ensures { result ≡ pair_fault_of stop sent }
+{
+    match stop {
+        PairStop::Compared(fault) => PairFault::Compared(RunFault::Database(fault)),
+        PairStop::Trusted(fault) => PairFault::Trusted(RunFault::Database(fault)),
+        PairStop::Write => PairFault::Compared(RunFault::Write { written: sent }),
     }
-    Ok(counts)
 }
 
 /// Writes all lines, and flushes them once.
-pub(crate) fn write_beside<S: Sources, W: Sink, A: Allocator + Copy>(
-    plan: &BesidePlan<'_>,
+pub(crate) fn write_beside<R: Reel, W: Sink, A: Allocator + Copy>(
+    merges: &mut Merges<R>,
+    tasks: &Tasks<'_>,
     desk: &mut Desk<A>,
-    sources: &mut S,
     trusted_desk: &mut Desk<A>,
-    trusted: &mut S,
     out: &mut W,
-) -> Result<LineCounts, PairFault>
-    requires limits { AreLimits plan.now.limits }
-    requires digests { AreDigests (S.bytes_of sources.old)
-        plan.now.readings.now.compared.digests }
-    requires trusted_digests { AreDigests (S.bytes_of trusted.old)
-        plan.now.readings.now.trusted.digests }
-    ensures passes { PairPasses plan.now.limits 1
-        (seen S.Sources sources.old) (seen S.Sources sources.new) desk.old desk.new
-        (seen S.Sources trusted.old) (seen S.Sources trusted.new)
-        trusted_desk.old trusted_desk.new
-        (Rose (W.failures out.old) (W.failures out.new)) result }
-    ensures sends { OverTexts (S.bytes_of sources.old) (S.bytes_of trusted.old)
-        (λ changes beside. Sends result (written_beside plan.now.task.now.options
-        (facts_found plan.now.task.now plan.now.trusted_task.now
-        plan.now.readings.now.compared plan.now.readings.now.trusted) changes beside)
-        (W.delivered out.old) (W.delivered out.new)) }
-    ensures counts { IfOk result (λ counts.
-        OverTexts (S.bytes_of sources.old) (S.bytes_of trusted.old)
-        (λ changes beside. counts
-        ≡ tally plan.now.task.now.options (sought_by beside) changes)) }
-    ensures accounted { IfOk result (λ counts. account_count counts ≡ entry_count counts) }
-    ensures frames { IfOk result (λ counts. Frames
-        (first_line_found (facts_found plan.now.task.now plan.now.trusted_task.now
-        plan.now.readings.now.compared plan.now.readings.now.trusted))
-        (last_line true counts (status_by counts)) (entry_count counts)
-        (W.delivered out.old) (W.delivered out.new)) }
+) -> Result<PairsFound, PairFault>
+    requires { CanWalk merges.old desk.old trusted_desk.old (record { sent = 0; failed = false }) }
+    ensures fits { FitsMerges R.Reel merges.old
+        desk.old desk.new trusted_desk.old trusted_desk.new }
+    ensures told { IfOk result (λ found. HasToldAll R.Reel
+        (asked tasks.now.compared.now) (asked tasks.now.trusted.now) merges.old merges.new
+        desk.old desk.new trusted_desk.old trusted_desk.new found
+        (Appends (W.delivered out.old) (W.delivered out.new))) }
+    ensures cut { IfErr result (λ fault. CutsChanges R.Reel
+        (asked tasks.now.compared.now) (asked tasks.now.trusted.now) merges.old
+        desk.old trusted_desk.old (W.delivered out.old) (W.delivered out.new) fault
+        ⊎ CutsLast R.Reel
+        (asked tasks.now.compared.now) (asked tasks.now.trusted.now) merges.old merges.new
+        desk.old desk.new trusted_desk.old trusted_desk.new
+        (W.delivered out.old) (W.delivered out.new) fault) }
+    ensures fault { IfErr result (IsFirstFault R.Reel merges.old merges.new
+        desk.old trusted_desk.old (Rose (W.failures out.old) (W.failures out.new))) }
     ensures sink { FlushesPair W.Sink out.old out.new result }
 {
     let mut pen = Pen::new();
-    let counts = match put_lines(plan, desk, sources, trusted_desk, trusted, out, &mut pen) {
-        Ok(counts) => counts,
-        Err(fault) => return Err(fault),
+    let found = match put_changes(merges, tasks, desk, trusted_desk, out, &mut pen) {
+        Ok(found) => found,
+        Err(stop) => return Err(pair_fault(stop, pen.sent)),
     };
+    put_last(out, &mut pen, &found);
+    if pen.failed {
+        return Err(PairFault::Compared(RunFault::Write { written: pen.sent }));
+    }
     if let Err(DeviceFault) = out.flush() {
         return Err(PairFault::Compared(RunFault::Write { written: pen.sent }));
     }
-    Ok(counts)
+    Ok(found)
 }

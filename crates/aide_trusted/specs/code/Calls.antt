@@ -7,7 +7,8 @@ use Rattle.aide_text.specs.declared.pen.Pen.{Pen}
 use Rattle.aide_report.specs.code.MergeCalls.{IsMergeFault}
 use Rattle.aide_report.specs.code.Merging.{IsNotDue, IsReady, StandsAt, remaining}
 use Rattle.aide_report.specs.declared.merge.Merge.{Merge}
-use Rattle.aide_trusted.specs.code.Sought.{seek}
+use Rattle.aide_trusted.specs.Sought.{seek}
+use Rattle.aide_trusted.specs.declared.walk.Merges.{Merges}
 use Rattle.aide_trusted.specs.declared.walk.PairStop.{PairStop}
 use Rattle.aide_trusted.specs.declared.walk.PairStop.TheVariants.{Compared, Trusted, Write}
 
@@ -22,10 +23,11 @@ pub record IsSought {R : Type 0} (r : Reels R) (path : List ℕ) (m n : Merge R)
       → remaining n e old new ≡ seek path (remaining m d old new)
 
 -- Why a walk over both pairs stopped: a fault of either merge while every write succeeded, or a failed write.
-abbrev pub IsPairStop : {R : Type 0} → Reels R → Merge R → Merge R → DeskView
-    → Merge R → Merge R → DeskView
-    → Pen → PairStop
+abbrev pub IsPairStop : {R : Type 0} → Reels R → (m n : Merges R) → (d u : DeskView) → Pen
+    → PairStop
     → Type 0
-IsPairStop r m n d t u e pen (Compared fault) = (pen.failed ≡ false) × IsMergeFault r m n d fault
-IsPairStop r m n d t u e pen (Trusted fault) = (pen.failed ≡ false) × IsMergeFault r t u e fault
-IsPairStop r m n d t u e pen Write = pen.failed ≡ true
+IsPairStop r m n d u pen (Compared fault) = (pen.failed ≡ false)
+    × IsMergeFault r m.compared n.compared d fault
+IsPairStop r m n d u pen (Trusted fault) = (pen.failed ≡ false)
+    × IsMergeFault r m.trusted n.trusted u fault
+IsPairStop r m n d u pen Write = pen.failed ≡ true

@@ -1,41 +1,112 @@
--- The lines as the code writes them, from what was found.
-use Rattle.std.specs.Prelude.{◌≡◌, ℕ, List, []}
-use Rattle.aide_conf.specs.declared.options.Options.{Options}
-use Rattle.aide_conf.specs.declared.task.Task.{Task}
-use Rattle.aide_line_text.specs.Ends.{first_line_beside}
-use Rattle.aide_line_text.specs.declared.counts.LineCounts.{LineCounts}
-use Rattle.aide_report.specs.Entries.{PathChange}
-use Rattle.aide_report.specs.LineCounts.{account_count, entry_count}
-use Rattle.aide_report.specs.code.WrittenLines.{new_facts, old_facts}
-use Rattle.aide_report.specs.declared.finding.Readings.{Readings}
-use Rattle.aide_trusted.specs.BesideLines.{PairFacts, all_lines_beside}
+-- What was written of both pairs, by what has gone out and what was found.
+use Rattle.std.specs.Prelude.{◌≡◌, ℕ, List, ◌++◌, Option, Result, Ok, Err, IfErr, OnOk, true, ⊤}
+use Rattle.aide_db.specs.DeskView.{DeskView}
+use Rattle.aide_db.specs.declared.reel.Reel.{Ghosts as Reels}
+use Rattle.aide_report.specs.Asked.{Asked}
+use Rattle.aide_report.specs.RunFaults.{HasWrittenIfAny}
 use Rattle.aide_report.specs.code.LineTally.{tally}
-use Rattle.aide_text.specs.Sheet.{Sheet, Wrote}
-use Rattle.aide_trusted.specs.code.Sought.{sought_by}
+use Rattle.aide_report.specs.code.Merging.{IsEnded}
+use Rattle.aide_report.specs.code.OneReading.{AreReadAt, IsFirstOfBoth, new_read, old_read}
+use Rattle.aide_report.specs.declared.run_fault.RunFault.TheVariants.{Database, Write}
+use Rattle.aide_text.specs.Failures.{CountsFlush}
+use Rattle.aide_text.specs.Sent.{SendsPart}
+use Rattle.aide_text.specs.declared.sink.Sink.{Ghosts as Sinks}
+use Rattle.aide_trusted.specs.BesideLines.{PairFacts, closing_beside, opening_beside}
+use Rattle.aide_trusted.specs.Pairs.{CountsPairWrites, OfCompared}
+use Rattle.aide_trusted.specs.Sought.{Accounted, accounted_lines, sought_by}
+use Rattle.aide_trusted.specs.code.Over.{AreDone, OverMerges}
+use Rattle.aide_trusted.specs.code.Settled.{AreReadSound}
+use Rattle.aide_trusted.specs.code.Tallied.{tally_of}
+use Rattle.aide_trusted.specs.code.Walked.{KeepsMerges}
+use Rattle.aide_trusted.specs.declared.pair_fault.PairFault.{PairFault}
+use Rattle.aide_trusted.specs.declared.pair_fault.PairFault.TheVariants.{Compared, Trusted}
+use Rattle.aide_trusted.specs.declared.walk.Merges.{Merges}
+use Rattle.aide_trusted.specs.declared.walk.PairStop.{PairStop}
+use Rattle.aide_trusted.specs.declared.walk.PairStop.TheVariants as stop
+use Rattle.aide_trusted.specs.declared.write.PairsFound.{PairsFound}
 
--- what the first line says of all four databases
-abbrev pub facts_found : (task trusted_task : Task) → (compared trusted : Readings) → PairFacts
-facts_found task trusted_task compared trusted = record {
-  of_old = old_facts task compared;
-  of_new = new_facts task compared;
-  of_trusted_old = old_facts trusted_task trusted;
-  of_trusted_new = new_facts trusted_task trusted;
+-- what the last line says of all four databases
+abbrev pub facts_found : PairsFound → PairFacts
+facts_found found = record {
+  of_old = old_read found.compared;
+  of_new = new_read found.compared;
+  of_trusted_old = old_read found.trusted;
+  of_trusted_new = new_read found.trusted;
 }
 
--- the first line
-abbrev pub first_line_found : PairFacts → List ℕ
-first_line_found facts =
-    first_line_beside facts.of_old facts.of_new facts.of_trusted_old facts.of_trusted_new
+-- what has gone out, but the last line
+abbrev pub begun_beside : (asked trusted : Asked) → List Accounted → List ℕ
+begun_beside asked trusted done = opening_beside asked trusted ++ accounted_lines asked.options done
 
--- all lines over the changes that a pass over both pairs meets
-unfoldable pub written_beside : Options → PairFacts → (changes trusted : List PathChange) → List ℕ
-written_beside options facts changes trusted =
-    all_lines_beside options facts (sought_by trusted)
-    (tally options (sought_by trusted) changes) changes
+-- all lines
+abbrev pub told_beside : (asked trusted : Asked) → List Accounted → PairsFound → List ℕ
+told_beside asked trusted done found = begun_beside asked trusted done
+    ++ closing_beside (facts_found found) found.counts
 
--- Lines were written and counted: none if none is counted, and what accounts for them are as many as they are.
-pub record HasLines (counts : LineCounts) (a b : Sheet) : Type 0 where
-  pub lines : List ℕ
-  pub wrote : Wrote lines a b
-  pub alone : entry_count counts ≡ 0 → lines ≡ []
-  pub accounted : account_count counts ≡ entry_count counts
+-- Both pairs were read to their ends.
+pub record ArePairsRead {R : Type 0} (r : Reels R) (m n : Merges R) (d e u v : DeskView)
+    (found : PairsFound) : Type 0 where
+  pub keeps : KeepsMerges r m n d e u v
+  pub ended : IsEnded n.compared
+  pub trusted_ended : IsEnded n.trusted
+  pub read : AreReadAt r n.compared e found.compared
+  pub trusted_read : AreReadAt r n.trusted v found.trusted
+
+-- All lines have been made, of these changes.
+pub record HasToldAll {R : Type 0} (r : Reels R) (asked trusted : Asked) (m n : Merges R)
+    (d e u v : DeskView) (found : PairsFound) (Goes : List ℕ → Type 0) : Type 0 where
+  pub read : ArePairsRead r m n d e u v found
+  pub done : List Accounted
+  pub are : AreDone {X = PairsFound} {E = PairFault} r asked.options m d u done (Ok found)
+  pub counted : found.counts ≡ tally_of asked.options done
+  pub counts : OverMerges r m.compared d m.trusted u (λ all beside.
+      found.counts ≡ tally asked.options (sought_by beside) all)
+  pub goes : Goes (told_beside asked trusted done found)
+
+-- A beginning of the lines has gone out, and no byte of the last one.
+pub record CutsChanges {R : Type 0} (r : Reels R) (asked trusted : Asked) (m : Merges R)
+    (d u : DeskView) (before after : Option (List ℕ)) (fault : PairFault) : Type 0 where
+  pub done : List Accounted
+  pub are : AreDone {X = PairsFound} r asked.options m d u done (Err fault)
+  pub part : SendsPart (begun_beside asked trusted done) before after
+
+-- a write
+abbrev pub IsWrite : PairFault → Type 0
+IsWrite (Compared (Write written)) = ⊤
+IsWrite _ = ⊥
+
+-- A write of the last line has failed, or the flush after it.
+pub record CutsLast {R : Type 0} (r : Reels R) (asked trusted : Asked) (m n : Merges R)
+    (d e u v : DeskView) (before after : Option (List ℕ)) (fault : PairFault) : Type 0 where
+  pub written : IsWrite fault
+  pub found : PairsFound
+  pub told : HasToldAll r asked trusted m n d e u v found (λ text. SendsPart text before after)
+
+-- why the writing ends: the first fault of all four databases, or a failed write
+abbrev pub IsFirstFault : {R : Type 0} → Reels R → (m n : Merges R) → (d u : DeskView)
+    → (sink : Type 0) → PairFault
+    → Type 0
+IsFirstFault r m n d u sink (Compared (Database first)) =
+    IsFirstOfBoth r m.compared n.compared d first
+IsFirstFault r m n d u sink (Compared (Write written)) = sink
+IsFirstFault r m n d u sink (Trusted (Database first)) =
+    IsFirstOfBoth r m.trusted n.trusted u first × AreReadSound r m.compared d
+IsFirstFault r m n d u sink _ = ⊥
+
+-- the fault that the run returns, with the number of bytes that have gone out
+abbrev pub pair_fault_of : PairStop → ℕ → PairFault
+pair_fault_of (stop.Compared fault) sent = Compared (Database fault)
+pair_fault_of (stop.Trusted fault) sent = Trusted (Database fault)
+pair_fault_of stop.Write sent = Compared (Write sent)
+
+-- What all lines leave of the sink.
+pub record FlushesPair {W X : Type 0} (w : Sinks W) (a b : W)
+    (result : Result X PairFault) : Type 0 where
+  -- after `Ok` the sink was flushed after its last byte
+  pub flushed : OnOk result (w.is_flushed b ≡ true)
+  -- it was flushed once, and after a fault not at all
+  pub flushes : CountsFlush (w.flushes a) (w.flushes b) result
+  -- a fault of a write has the number of bytes that went out
+  pub written : IfErr result (OfCompared (HasWrittenIfAny (w.delivered a) (w.delivered b)))
+  -- a failed write or flush is reported, and none is tried again
+  pub fails : CountsPairWrites (w.failures a) (w.failures b) result

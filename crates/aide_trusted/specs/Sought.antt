@@ -1,10 +1,12 @@
 -- What the trusted pair has at the path of a change, by its own changes that are still to come.
 use Rattle.std.specs.Prelude.{ℕ, if◌then◌else◌, List, [], ◌∷◌, map, Option, None}
+use Rattle.std.specs.List.{flat_map}
 use Rattle.std.specs.Ordering.{is_eq, is_lt}
 use Rattle.aide_agreement.specs.Account.{Pair, same_as}
 use Rattle.aide_agreement.specs.declared.account.SameAs.{SameAs}
 use Rattle.aide_entry.specs.Path.{path_cmp}
-use Rattle.aide_report.specs.ChangeLines.{Accounts}
+use Rattle.aide_conf.specs.declared.options.Options.{Options}
+use Rattle.aide_report.specs.ChangeLines.{Accounts, listed_line}
 use Rattle.aide_report.specs.Entries.{PathChange}
 
 -- the changes from the first path on that is not before this one
@@ -28,3 +30,15 @@ Accounted = PathChange × Option SameAs
 -- each change, and what accounts for it, by the changes of the trusted pair
 abbrev pub all_sought : List PathChange → List PathChange → List Accounted
 all_sought changes trusted = map (λ change. (change, sought_by trusted change)) changes
+
+-- the changes alone
+abbrev pub changes_of : List Accounted → List PathChange
+changes_of accounted = map (λ each. each.0) accounted
+
+-- the line of a change, by what accounts for it, and nothing for a change that the report lists nowhere
+abbrev pub accounted_line : Options → Accounted → List ℕ
+accounted_line options each = listed_line options (λ any. each.1) each.0
+
+-- their lines, in their order
+abbrev pub accounted_lines : Options → List Accounted → List ℕ
+accounted_lines options accounted = flat_map (accounted_line options) accounted
