@@ -200,7 +200,7 @@ cut_by s out sent limits wish old new (Write written) sends begun = (
   begun,
 )
 
-comes_of : (sources sink : Type 0) (fault : RunFault) (first : DbFault → Type 0) (untold : Side → Type 0)
+pub comes_of : (sources sink : Type 0) (fault : RunFault) (first : DbFault → Type 0) (untold : Side → Type 0)
     → ((side : Side) → fault ≡ Changed side → ⊥) → HasCause fault sources sink first untold → ComesOf fault sources sink first
 comes_of sources sink (Open side) first untold unchanged cause = cause
 comes_of sources sink (Database fault) first untold unchanged cause = cause

@@ -200,7 +200,7 @@ hindered_as old new sources sink next (Changed side) f h = h
 hindered_as old new sources sink next (Write written) f h = f h
 
 -- another answer
-fault_as : {limits : Limits} {a b : Seen} {room : ℕ} {sink next : Type 0} {fault : RunFault} → (sink → next)
+pub fault_as : {limits : Limits} {a b : Seen} {room : ℕ} {sink next : Type 0} {fault : RunFault} → (sink → next)
     → IsReadFault limits a b room sink fault → IsReadFault limits a b room next fault
 fault_as {a = a} {b = b} {sink = sink} {next = next} {fault = fault} f p =
     let sources = Rose a.failures b.failures in
@@ -250,7 +250,7 @@ desk_read p opened room fits = record {
 module _ {R : Type 0} {r : Reels R} {limits : Limits} {a b c : Seen} {e : DeskView} {m n : Merge R} {sink : Type 0} {before : ℕ}
     (sources : KeepsSources a b) (closes : KeepsSources b c) (there : (side : Side) → a.is_missing side ≡ false)
     (opened : IsOpened r limits a.bytes_of m e) (room : e.room ≡ before) where
-  stops_at : (side : Side) (fault : DbFault) → fault.side ≡ side
+  pub stops_at : (side : Side) (fault : DbFault) → fault.side ≡ side
       → (0 < reels_failed r.failures n → Rose b.failures c.failures) → (b.is_reliable ≡ true → reels_failed r.failures n ≡ 0)
       → IsFirstOfBoth r m n e fault → IsReadFault limits a c before sink (Database fault)
   stops_at Old fault at rose unfailed is =

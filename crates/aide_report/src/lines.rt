@@ -101,7 +101,7 @@ fn read_old<S: Sources, A: Allocator + Copy>(
 
 /// Opens both sides, the old one first. If the new one is refused, the old one is read to its end, since a fault of it
 /// comes first.
-fn open_in_order<S: Sources, A: Allocator + Copy>(
+pub fn open_in_order<S: Sources, A: Allocator + Copy>(
     sources: &mut S,
     limits: Limits,
     desk: &mut Desk<A>,
@@ -127,7 +127,7 @@ fn open_in_order<S: Sources, A: Allocator + Copy>(
 }
 
 /// What is known of both databases at their ends.
-fn readings_of<R: Reel>(merge: &Merge<R>) -> Readings
+pub fn readings_of<R: Reel>(merge: &Merge<R>) -> Readings
     requires { IsEnded merge.now }
     ensures { (desk : DeskView) → AreReadAt R.Reel merge.now desk result }
 {

@@ -38,7 +38,7 @@ use std::alloc::Allocator;
 
 /// Lets go of what a desk still holds from an earlier run.
 #[inline(never)]
-pub(crate) fn clear<A: Allocator + Copy>(limits: Limits, desk: &mut Desk<A>)
+pub fn clear<A: Allocator + Copy>(limits: Limits, desk: &mut Desk<A>)
     requires { AreLimits limits }
     ensures old { list_of Side.Old desk.new ≡ [] }
     ensures new { list_of Side.New desk.new ≡ [] }

@@ -20,7 +20,7 @@ use Rattle.aide_report.specs.code.Merged.{merged}
 use Rattle.aide_report.proofs.MergeLemmas.{and_second, below_sorted, changes-merged, find-merged, find_below, paired, sorted-merged}
 use Rattle.aide_report.proofs.RunLemmas.{pass_is_changes}
 use Rattle.aide_trusted.specs.BesideLines.{by_trusted}
-use Rattle.aide_trusted.specs.code.Sought.{found_at, seek, sought_by}
+use Rattle.aide_trusted.specs.Sought.{found_at, seek, sought_by}
 use Rattle.aide_trusted.proofs.SoughtLemmas.{T_true}
 
 -- what is found at a path, or nothing on either side

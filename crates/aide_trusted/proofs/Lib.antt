@@ -1,9 +1,9 @@
 pub mod SoughtLemmas
 pub mod TallyLemmas
+pub mod WalkLemmas
+pub mod SettleLemmas
 pub mod Laws
-pub mod PairPassLemmas
 pub mod PairLemmas
-pub mod PairRunLemmas
-pub mod AnswerLemmas
+pub mod ReadLemmas
 pub mod EndLemmas
-pub mod FrameLemmas
+pub mod RunLemmas

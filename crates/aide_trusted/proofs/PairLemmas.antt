@@ -7,13 +7,12 @@ use Rattle.aide_db.specs.declared.limits.Limits.{Limits}
 use Rattle.aide_db.specs.declared.side.Side.{Side}
 use Rattle.aide_db.specs.declared.side.Side.TheVariants.{Old, New}
 use Rattle.aide_db.proofs.MapLaws.{first_fault_unsound}
-use Rattle.aide_text.proofs.Sending.{Appends-nothing}
 use Rattle.aide_report.specs.Asked.{Asked}
 use Rattle.aide_report.specs.Missing.{RunsOver, StopsFor, TellsSide, run_answer}
 use Rattle.aide_report.specs.Runs.{Report, Runs, report_over}
 use Rattle.aide_report.specs.declared.run_fault.RunFault.{RunFault}
-use Rattle.aide_report.proofs.MissingLemmas.{nothing_front, over_texts}
-use Rattle.aide_trusted.specs.BesideRuns.{SendsFrontOf, StopsForPair, answer_by}
+use Rattle.aide_report.proofs.MissingLemmas.{over_texts}
+use Rattle.aide_trusted.specs.BesideRuns.{StopsForPair, answer_by}
 use Rattle.aide_trusted.specs.Pairs.{OfEach}
 use Rattle.aide_trusted.specs.declared.pair_fault.PairFault.{PairFault}
 use Rattle.aide_trusted.specs.declared.pair_fault.PairFault.TheVariants.{Compared, Trusted}
@@ -70,8 +69,3 @@ module _ (limits : Limits) (asked : Asked) where
       over_texts limits (report_over asked) bytes_of is_missing old new IsOkay told told_new there
       (λ old_text new_text is_old is_new run runs. okay_run old_text new_text run (sound Old old_text is_old) (sound New new_text is_new)
       runs)
-
--- nothing is a front of every answer
-pub nothing_front_of : (r : Result Report PairFault) (bytes : Option (List ℕ)) → SendsFrontOf r bytes bytes
-nothing_front_of (Ok report) bytes = nothing_front (Ok report) bytes
-nothing_front_of (Err fault) bytes = Appends-nothing bytes

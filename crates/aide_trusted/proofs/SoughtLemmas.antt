@@ -14,7 +14,7 @@ use Rattle.aide_entry.proofs.PathLaws.{path_cmp_total}
 use Rattle.aide_report.specs.Entries.{PathChange}
 use Rattle.aide_report.specs.code.ChangeView.{alike_of}
 use Rattle.aide_report.proofs.MergeLemmas.{and_first, and_second}
-use Rattle.aide_trusted.specs.code.Sought.{Accounted, all_sought, found_at, seek, sought_by}
+use Rattle.aide_trusted.specs.Sought.{Accounted, all_sought, found_at, seek, sought_by}
 
 -- ---- what is sought
 

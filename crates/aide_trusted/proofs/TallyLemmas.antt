@@ -2,6 +2,8 @@
 use Rattle.std.proofs.Common.{◌≡◌, ℕ, ◌+◌, ◌-◌, ◌<◌, ◌^◌, ◌∙◌, Bool, true, false, refl, sym, ap, List, [], ◌∷◌, ◌++◌, arith}
 use Rattle.std.specs.Prelude.{count_by, cond, ◌&&◌, Option, map}
 use Rattle.std.specs.List.{flat_map}
+use Rattle.std.proofs.lemmas.Grind.{flat_map-append}
+use Rattle.std.proofs.lemmas.List.{append-nil}
 use Rattle.std.proofs.lemmas.List.Sums.{count_by-le-length, sum_by-append}
 use Rattle.aide_agreement.specs.declared.account.SameAs.{SameAs}
 use Rattle.aide_conf.specs.declared.options.Options.{Options}
@@ -11,33 +13,16 @@ use Rattle.aide_report.specs.ChangeLines.{Accounts, change_line, change_lines, l
 use Rattle.aide_report.specs.Changed.{differ_by}
 use Rattle.aide_report.specs.Changes.{is_added, is_removed, is_changed, is_of_new}
 use Rattle.aide_report.specs.Entries.{PathChange}
-use Rattle.aide_report.specs.LineCounts.{is_old, is_other, is_trusted}
+use Rattle.aide_report.specs.LineCounts.{account_count, entry_count, is_old, is_other, is_trusted}
 use Rattle.aide_report.specs.Sections.{all_listed, is_in}
 use Rattle.aide_report.specs.code.ChangeView.{alike_of}
 use Rattle.aide_report.specs.code.LineTally.{AreLinesBelow, sum_of_counts, tally}
 use Rattle.aide_report.proofs.SameEntries.{in_none, never_differs}
 use Rattle.aide_report.proofs.SectionLaws.{first_counted}
-use Rattle.aide_trusted.specs.code.Sought.{Accounted, all_sought, sought_by}
-
--- whether the change passes
-abbrev of_change : (PathChange → Bool) → Accounted → Bool
-of_change passes m = passes m.0
-
--- whether the change has a line, and what accounts for it passes
-abbrev of_account : Options → (Option SameAs → Bool) → Accounted → Bool
-of_account options passes m = is_in options all_listed m.0 && passes m.1
-
--- the numbers of changes with what accounts for them
-abbrev pub tally_of : Options → List Accounted → LineCounts
-tally_of options ms = record {
-  total = count_by (of_change is_of_new) ms;
-  added = count_by (of_change is_added) ms;
-  removed = count_by (of_change is_removed) ms;
-  changed = count_by (of_change (is_changed (differ_by options.ignore))) ms;
-  same_as_old = count_by (of_account options is_old) ms;
-  same_as_trusted = count_by (of_account options is_trusted) ms;
-  others = count_by (of_account options is_other) ms;
-}
+use Rattle.aide_report.proofs.LineLemmas.{lines_one}
+use Rattle.aide_report.proofs.TallyLemmas.{tally_accounted, tally_alone}
+use Rattle.aide_trusted.specs.Sought.{Accounted, accounted_line, accounted_lines, all_sought, sought_by}
+use Rattle.aide_trusted.specs.code.Tallied.{of_account, of_change, tally_of}
 
 counted_pairs : (p : Accounted → Bool) (account : Accounts) (cs : List PathChange)
     → count_by (λ c. p (c, account c)) cs ≡ count_by p (map (λ c. (c, account c)) cs)
@@ -54,6 +39,9 @@ counted_pairs p account (c ∷ cs) =
 one_more : (p : Accounted → Bool) (m : Accounted) (a : ℕ) (rest more : List Accounted) → rest ≡ (m ∷ []) ++ more
     → (a + count_by p (m ∷ [])) + count_by p more ≡ a + count_by p rest
 one_more p m a rest more is = omega (arith, ap (count_by p) is, sum_by-append (λ x. cond (p x) 1 0) (m ∷ []) more)
+
+counted_behind : (p : Accounted → Bool) (ms ns : List Accounted) → count_by p (ms ++ ns) ≡ count_by p ms + count_by p ns
+counted_behind p ms ns = sum_by-append (λ x. cond (p x) 1 0) ms ns
 
 small_one : (p : Accounted → Bool) (m : Accounted) (a top k n : ℕ) → n < k → a < top - k → a + count_by p (m ∷ []) < top - n
 small_one p m a top k n less small = omega (arith, less, small, count_by-le-length p (m ∷ []))
@@ -182,16 +170,12 @@ module _ (options : Options) where
 
   -- ---- the lines
 
-  -- the line of a change, by what accounts for it
-  abbrev pub line_of : Accounted → List ℕ
-  line_of m = listed_line options (λ c. m.1) m.0
-
   pub lines_of_sought : (cs trusted : List PathChange)
-      → flat_map line_of (all_sought cs trusted) ≡ change_lines options (sought_by trusted) cs
+      → accounted_lines options (all_sought cs trusted) ≡ change_lines options (sought_by trusted) cs
   unfolding change_lines listed_line change_line
   lines_of_sought [] trusted = refl
   lines_of_sought (c ∷ cs) trusted =
-      ap (λ l. line_of (c, sought_by trusted c) ++ l) (lines_of_sought cs trusted) ∙ by_test (is_in options all_listed c)
+      ap (λ l. accounted_line options (c, sought_by trusted c) ++ l) (lines_of_sought cs trusted) ∙ by_test (is_in options all_listed c)
     where
       by_test : (b : Bool) → (cond b (change_line options (sought_by trusted) c) []) ++ flat_map (change_line options (sought_by trusted))
           (listed_changes options cs)
@@ -200,6 +184,58 @@ module _ (options : Options) where
       by_test false = refl
 
   -- an entry that both databases have alike has none
-  pub line_alike : (entry : Entry) (account : Option SameAs) → line_of (alike_of entry, account) ≡ []
+  pub line_alike : (entry : Entry) (account : Option SameAs) → accounted_line options (alike_of entry, account) ≡ []
   unfolding listed_line
   line_alike entry account = ap (λ b. cond b (change_line options (λ c. account) (alike_of entry)) []) (in_none options all_listed entry)
+
+  -- ---- one more behind those that were counted
+
+  pub tally_behind : (ms ns : List Accounted)
+      → sum_of_counts (tally_of options ms) (tally_of options ns) ≡ tally_of options (ms ++ ns)
+  tally_behind ms ns = sym (λ i. record {
+    total = counted_behind (of_change is_of_new) ms ns i;
+    added = counted_behind (of_change is_added) ms ns i;
+    removed = counted_behind (of_change is_removed) ms ns i;
+    changed = counted_behind (of_change differs) ms ns i;
+    same_as_old = counted_behind (of_account options is_old) ms ns i;
+    same_as_trusted = counted_behind (of_account options is_trusted) ms ns i;
+    others = counted_behind (of_account options is_other) ms ns i;
+  })
+
+  pub tally_next : (a b : LineCounts) (ms : List Accounted) (m : Accounted) → a ≡ tally_of options ms
+      → b ≡ sum_of_counts a (tally_of options (m ∷ [])) → b ≡ tally_of options (ms ++ m ∷ [])
+  tally_next a b ms m counted grows =
+      grows ∙ ap (λ (c : LineCounts). sum_of_counts c (tally_of options (m ∷ []))) counted ∙ tally_behind ms (m ∷ [])
+
+  pub lines_next : (ms : List Accounted) (m : Accounted)
+      → accounted_lines options ms ++ accounted_line options m ≡ accounted_lines options (ms ++ m ∷ [])
+  lines_next ms m = sym (flat_map-append (accounted_line options) ms (m ∷ [])
+      ∙ ap (λ l. accounted_lines options ms ++ l) (append-nil (accounted_line options m)))
+
+  -- ---- as many accounts as lines, and no line if none is counted
+
+  sum_accounted : (a b : LineCounts) → account_count a ≡ entry_count a → account_count b ≡ entry_count b
+      → account_count (sum_of_counts a b) ≡ entry_count (sum_of_counts a b)
+  sum_accounted a b is also = omega (arith, is, also)
+
+  one_accounted : (m : Accounted) → account_count (tally_of options (m ∷ [])) ≡ entry_count (tally_of options (m ∷ []))
+  one_accounted m = tally_accounted options (λ any. m.1) (m.0 ∷ [])
+
+  pub all_accounted : (ms : List Accounted) → account_count (tally_of options ms) ≡ entry_count (tally_of options ms)
+  all_accounted [] = refl
+  all_accounted (m ∷ ms) =
+      let split = tally_behind (m ∷ []) ms in
+      ap account_count (sym split)
+      ∙ sum_accounted (tally_of options (m ∷ [])) (tally_of options ms) (one_accounted m) (all_accounted ms) ∙ ap entry_count split
+
+  none_of_both : (a b : LineCounts) → entry_count (sum_of_counts a b) ≡ 0 → (entry_count a ≡ 0) × (entry_count b ≡ 0)
+  none_of_both a b none = (omega (arith, none), omega (arith, none))
+
+  one_alone : (m : Accounted) → entry_count (tally_of options (m ∷ [])) ≡ 0 → accounted_line options m ≡ []
+  one_alone m none = lines_one options (λ any. m.1) m.0 ∙ tally_alone options (λ any. m.1) (m.0 ∷ []) none
+
+  pub all_alone : (ms : List Accounted) → entry_count (tally_of options ms) ≡ 0 → accounted_lines options ms ≡ []
+  all_alone [] none = refl
+  all_alone (m ∷ ms) none =
+      let both = none_of_both (tally_of options (m ∷ [])) (tally_of options ms) (ap entry_count (tally_behind (m ∷ []) ms) ∙ none) in
+      λ i. one_alone m both.0 i ++ all_alone ms both.1 i

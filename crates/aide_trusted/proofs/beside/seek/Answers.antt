@@ -1,7 +1,7 @@
 use Rattle.std.proofs.Common.{◌∙◌, arith, refl, sym, ap}
 use Rattle.aide_db.specs.declared.side.Side.TheVariants.{Old, New}
 use Rattle.aide_report.specs.code.ChangeView.{change_of}
-use Rattle.aide_trusted.specs.code.Sought.{seek}
+use Rattle.aide_trusted.specs.Sought.{seek}
 use Rattle.aide_report.specs.code.Merging.{remaining}
 use Rattle.aide_report.proofs.CallLemmas.{merge_fault, merge_none, merge_then}
 use Rattle.aide_trusted.proofs.SoughtLemmas.{seek_here, seek_none, seek_past}

@@ -2,7 +2,7 @@
 use Rattle.std.proofs.Common.{◌≡◌, ℕ, List}
 use Rattle.aide_db.specs.declared.side.Side.TheVariants.{Old, New}
 use Rattle.aide_report.specs.code.ChangeView.{change_of}
-use Rattle.aide_trusted.specs.code.Sought.{seek}
+use Rattle.aide_trusted.specs.Sought.{seek}
 use Rattle.aide_report.specs.code.MergeCalls.{KeepsMerge}
 use Rattle.aide_report.specs.code.Merging.{remaining, IsReady, StandsAt, total_work}
 use Rattle.aide_trusted.proofs.beside.seek.Given as goal

@@ -1,94 +1,147 @@
-use Rattle.std.proofs.Common.{◌∙◌, ◌≤◌, ap, refl, subst, sym}
-use Rattle.aide_text.specs.Failures.{one_more}
+use Rattle.std.proofs.Common.{◌∙◌, ap, inl, inr, refl}
+use Rattle.aide_text.specs.Failures.{Rose, one_more}
+use Rattle.aide_text.proofs.Sheets.{part_whole, some_more, some_of, wrote_more, wrote_part}
 use Rattle.aide_report.proofs.AgreementLemmas.{unflushed}
-use Rattle.aide_trusted.proofs.PairPassLemmas.{pair_counts, pair_written, pairs_broken, pairs_err, pairs_same}
-use Rattle.aide_report.proofs.LineRunLemmas.{framed}
-use Rattle.aide_report.proofs.ReportLemmas.{flushed_whole, flushed_part, flushed_count, never_falls, count_of_pen}
-use Rattle.aide_report.proofs.ReportLemmas.{rises_by_one, rose_by_one, rose_of_pen, unfailed}
-use Rattle.aide_text.proofs.Sheets.{wrote_part}
+use Rattle.aide_report.proofs.ReportLemmas.{count_of_pen, counts_of_pen, flushed_count, flushed_part, flushed_whole, never_falls}
+use Rattle.aide_report.proofs.ReportLemmas.{rose_by_one, rose_of_pen, unfailed}
+use Rattle.aide_report.specs.declared.run_fault.RunFault.TheVariants.{Write}
+use Rattle.aide_trusted.proofs.SettleLemmas.{first_of_stop, pair_counts, pair_written, stop_written}
 use Rattle.aide_trusted.proofs.write.write_beside.Goals as goal
 
-pub returns-clause-passes : goal.returns-clause-passes
-returns-clause-passes g c = pairs_same c.in-Ok.ensures.passes
+pub put_changes-requires : goal.put_changes-requires
+put_changes-requires g c = record {
+  ready = c.requires.ready;
+  trusted_ready = c.requires.trusted_ready;
+  short = c.requires.short;
+  writes_on = ap (λ pen. pen.failed) c.new-pen.ensures;
+}
 
-pub returns-clause-sends : goal.returns-clause-sends
-returns-clause-sends g c old new trusted_old trusted_new told_old told_new told_trusted_old told_trusted_new in_order =
-    let fresh = ap (λ pen. pen.failed) c.new-pen.ensures in
-    flushed_whole (g.W.Sink.delivered c.flush.new.self) fresh c.in-Ok.ensures.pen.writes_on
-    (c.in-Ok.ensures.writes old new trusted_old trusted_new told_old told_new told_trusted_old told_trusted_new in_order)
-    c.flush.ensures.bytes
+-- ---- a stop before the last line
 
-pub returns-clause-accounted : goal.returns-clause-accounted
-returns-clause-accounted g c = c.in-Ok.ensures.accounted
+pub returns-in-Err-clause-cut : goal.returns-in-Err-clause-cut
+returns-in-Err-clause-cut g c =
+    let walked = c.in-Err.ensures.walked in
+    inl (record {
+      done = walked.done;
+      are = record { changes = walked.are.changes; lines = walked.are.lines };
+      part = wrote_part (ap (λ pen. pen.failed) c.new-pen.ensures) (part_whole walked.wrote);
+    })
 
-pub returns-clause-frames : goal.returns-clause-frames
-returns-clause-frames g c =
-    let fresh = ap (λ pen. pen.failed) c.new-pen.ensures in
-    framed (g.W.Sink.delivered c.flush.new.self) fresh c.in-Ok.ensures.pen.writes_on c.in-Ok.ensures.frame c.flush.ensures.bytes
-
-pub returns-clause-sink : goal.returns-clause-sink
-returns-clause-sink g c =
-    let fresh = ap (λ pen. pen.failed) c.new-pen.ensures in
-    let pen = c.in-Ok.ensures.pen in
-    let e = never_falls fresh pen.some in
-    record {
-      flushed = c.in_default.ensures.flushed;
-      flushes = c.in_default.ensures.flushes ∙ ap one_more (unflushed pen.some);
-      written = tt;
-      never_falls = subst (λ n. g.W.Sink.failures c.args.out.now ≤ n) (sym c.in_default.ensures.fault) e;
-      fails = c.in_default.ensures.fault ∙ unfailed fresh pen.writes_on pen.some;
-    }
-
-pub returns-in-Err-flush-clause-passes : goal.returns-in-Err-flush-clause-passes
-returns-in-Err-flush-clause-passes g c =
-    let fresh = ap (λ pen. pen.failed) c.new-pen.ensures in
-    let e = never_falls fresh c.in-Ok.ensures.pen.some in
-    pairs_broken _ c.put_lines.new.pen.sent c.in-Ok.ensures.passes (rose_by_one _ _ _ e c.in-Err-flush.ensures.fault)
-
-pub returns-in-Err-flush-clause-sends : goal.returns-in-Err-flush-clause-sends
-returns-in-Err-flush-clause-sends g c old new trusted_old trusted_new told_old told_new told_trusted_old told_trusted_new in_order =
-    let fresh = ap (λ pen. pen.failed) c.new-pen.ensures in
-    flushed_part (g.W.Sink.delivered c.flush.new.self) fresh c.in-Ok.ensures.pen.writes_on
-    (c.in-Ok.ensures.writes old new trusted_old trusted_new told_old told_new told_trusted_old told_trusted_new in_order)
-    c.flush.ensures.bytes
-
-pub returns-in-Err-flush-clause-sink : goal.returns-in-Err-flush-clause-sink
-returns-in-Err-flush-clause-sink g c =
-    let fresh = ap (λ pen. pen.failed) c.new-pen.ensures in
-    let start = ap (λ pen. pen.sent) c.new-pen.ensures in
-    let pen = c.in-Ok.ensures.pen in
-    let e = never_falls fresh pen.some in
-    record {
-      flushed = tt;
-      flushes = c.in-Err-flush.ensures.flushes ∙ unflushed pen.some;
-      written = flushed_count (g.W.Sink.delivered c.flush.new.self) fresh start pen.some c.flush.ensures.bytes;
-      never_falls = rises_by_one _ _ _ e c.in-Err-flush.ensures.fault;
-      fails = c.in-Err-flush.ensures.fault ∙ ap one_more (unfailed fresh pen.writes_on pen.some);
-    }
-
-pub returns-in-Err-clause-passes : goal.returns-in-Err-clause-passes
-returns-in-Err-clause-passes g c =
-    let fresh = ap (λ pen. pen.failed) c.new-pen.ensures in
-    pairs_err (rose_of_pen fresh c.in-Err.ensures.pen.some) c.in-Err.ensures.passes
-
-pub returns-in-Err-clause-sends : goal.returns-in-Err-clause-sends
-returns-in-Err-clause-sends g c old new trusted_old trusted_new told_old told_new told_trusted_old told_trusted_new in_order =
-    let fresh = ap (λ pen. pen.failed) c.new-pen.ensures in
-    wrote_part fresh (c.in-Err.ensures.writes old new trusted_old trusted_new told_old told_new told_trusted_old told_trusted_new in_order)
+pub returns-in-Err-clause-fault : goal.returns-in-Err-clause-fault
+returns-in-Err-clause-fault g c =
+    rw c.pair_fault.ensures (first_of_stop g.R.Reel c.args.merges.now c.put_changes.new.merges c.args.desk.now c.args.trusted_desk.now
+    c.put_changes.new.pen (Rose (g.W.Sink.failures c.args.out.now) (g.W.Sink.failures c.put_changes.new.out)) c.put_changes.new.pen.sent
+    c.in-Err.stop (rose_of_pen (ap (λ pen. pen.failed) c.new-pen.ensures) (some_of c.in-Err.ensures.walked.wrote)) c.in-Err.ensures.fault)
 
 pub returns-in-Err-clause-sink : goal.returns-in-Err-clause-sink
 returns-in-Err-clause-sink g c =
     let fresh = ap (λ pen. pen.failed) c.new-pen.ensures in
     let start = ap (λ pen. pen.sent) c.new-pen.ensures in
-    let pen = c.in-Err.ensures.pen in
+    let some = some_of c.in-Err.ensures.walked.wrote in
+    let pen = c.put_changes.new.pen in
+    let written = stop_written g.R.Reel c.args.merges.now c.put_changes.new.merges c.args.desk.now c.args.trusted_desk.now pen
+    c.in-Err.stop c.in-Err.ensures.fault in
+    rw c.pair_fault.ensures (record {
+      flushed = tt;
+      flushes = unflushed some;
+      written = pair_written pen (g.W.Sink.delivered c.args.out.now) (g.W.Sink.delivered c.put_changes.new.out) _
+          (count_of_pen fresh start some) written;
+      fails = pair_counts pen _ refl fresh some written;
+    })
+
+-- ---- a failed write of the last line
+
+pub returns-then-pen-clause-cut : goal.returns-then-pen-clause-cut
+returns-then-pen-clause-cut g c =
+    let walked = c.in-Ok.ensures.walked in
+    inr (record {
+      written = tt;
+      found = c.in-Ok.found;
+      told = record {
+        read = c.in-Ok.ensures.read;
+        done = walked.done;
+        are = record { changes = walked.are.changes; lines = walked.are.lines };
+        counted = walked.counted;
+        counts = walked.counts;
+        goes = wrote_part (ap (λ pen. pen.failed) c.new-pen.ensures) (part_whole (wrote_more walked.wrote c.put_last.ensures));
+      };
+    })
+
+pub returns-then-pen-clause-fault : goal.returns-then-pen-clause-fault
+returns-then-pen-clause-fault g c =
+    rose_of_pen (ap (λ pen. pen.failed) c.new-pen.ensures)
+    (some_more (some_of c.in-Ok.ensures.walked.wrote) (some_of c.put_last.ensures)) c.if-pen.true
+
+pub returns-then-pen-clause-sink : goal.returns-then-pen-clause-sink
+returns-then-pen-clause-sink g c =
+    let fresh = ap (λ pen. pen.failed) c.new-pen.ensures in
+    let start = ap (λ pen. pen.sent) c.new-pen.ensures in
+    let some = some_more (some_of c.in-Ok.ensures.walked.wrote) (some_of c.put_last.ensures) in
     record {
       flushed = tt;
-      flushes = unflushed pen.some;
-      written = pair_written c.put_lines.new.pen (g.W.Sink.delivered c.args.out.now) (g.W.Sink.delivered c.put_lines.new.out)
-          c.in-Err.fault (count_of_pen fresh start pen.some) pen.written;
-      never_falls = never_falls fresh pen.some;
-      fails = pair_counts c.put_lines.new.pen c.in-Err.fault refl fresh pen.some pen.written;
+      flushes = unflushed some;
+      written = count_of_pen fresh start some;
+      fails = counts_of_pen c.put_last.new.pen (Write c.put_last.new.pen.sent) refl fresh some (c.if-pen.true, refl);
     }
 
-pub put_lines-requires-clause-writes_on : goal.put_lines-requires-clause-writes_on
-put_lines-requires-clause-writes_on g c = ap (λ pen. pen.failed) c.new-pen.ensures
+-- ---- a failed flush
+
+pub returns-in-Err-flush-clause-cut : goal.returns-in-Err-flush-clause-cut
+returns-in-Err-flush-clause-cut g c =
+    let walked = c.in-Ok.ensures.walked in
+    inr (record {
+      written = tt;
+      found = c.in-Ok.found;
+      told = record {
+        read = c.in-Ok.ensures.read;
+        done = walked.done;
+        are = record { changes = walked.are.changes; lines = walked.are.lines };
+        counted = walked.counted;
+        counts = walked.counts;
+        goes = flushed_part (g.W.Sink.delivered c.flush.new.self) (ap (λ pen. pen.failed) c.new-pen.ensures) c.if-pen.false
+            (wrote_more walked.wrote c.put_last.ensures) c.flush.ensures.bytes;
+      };
+    })
+
+pub returns-in-Err-flush-clause-fault : goal.returns-in-Err-flush-clause-fault
+returns-in-Err-flush-clause-fault g c =
+    let some = some_more (some_of c.in-Ok.ensures.walked.wrote) (some_of c.put_last.ensures) in
+    rose_by_one _ _ _ (never_falls (ap (λ pen. pen.failed) c.new-pen.ensures) some) c.in-Err-flush.ensures.fault
+
+pub returns-in-Err-flush-clause-sink : goal.returns-in-Err-flush-clause-sink
+returns-in-Err-flush-clause-sink g c =
+    let fresh = ap (λ pen. pen.failed) c.new-pen.ensures in
+    let start = ap (λ pen. pen.sent) c.new-pen.ensures in
+    let some = some_more (some_of c.in-Ok.ensures.walked.wrote) (some_of c.put_last.ensures) in
+    record {
+      flushed = tt;
+      flushes = c.in-Err-flush.ensures.flushes ∙ unflushed some;
+      written = flushed_count (g.W.Sink.delivered c.flush.new.self) fresh start some c.flush.ensures.bytes;
+      fails = c.in-Err-flush.ensures.fault ∙ ap one_more (unfailed fresh c.if-pen.false some);
+    }
+
+-- ---- all was written
+
+pub returns-clause-told : goal.returns-clause-told
+returns-clause-told g c =
+    let walked = c.in-Ok.ensures.walked in
+    record {
+      read = c.in-Ok.ensures.read;
+      done = walked.done;
+      are = record { changes = walked.are.changes; lines = walked.are.lines };
+      counted = walked.counted;
+      counts = walked.counts;
+      goes = flushed_whole (g.W.Sink.delivered c.flush.new.self) (ap (λ pen. pen.failed) c.new-pen.ensures) c.if-pen.false
+          (wrote_more walked.wrote c.put_last.ensures) c.flush.ensures.bytes;
+    }
+
+pub returns-clause-sink : goal.returns-clause-sink
+returns-clause-sink g c =
+    let fresh = ap (λ pen. pen.failed) c.new-pen.ensures in
+    let some = some_more (some_of c.in-Ok.ensures.walked.wrote) (some_of c.put_last.ensures) in
+    record {
+      flushed = c.in_default.ensures.flushed;
+      flushes = c.in_default.ensures.flushes ∙ ap one_more (unflushed some);
+      written = tt;
+      fails = c.in_default.ensures.fault ∙ unfailed fresh c.if-pen.false some;
+    }

@@ -1,6 +1,6 @@
 use Rattle.aide_report.proofs.BoundLemmas.{fits_further}
 use Rattle.aide_report.proofs.OneReadingLemmas.{ends_sound, settled_first}
-use Rattle.aide_trusted.proofs.walk.read_out.Goals as goal
+use Rattle.aide_trusted.proofs.settle.read_out.Goals as goal
 
 pub returns-in-Ok-clause-sound : goal.returns-in-Ok-clause-sound
 returns-in-Ok-clause-sound g c side text s = ends_sound c.read_rest.ensures.keeps c.in-Ok.ensures.ended side text s
