@@ -13,7 +13,8 @@ use Rattle.aide_report.specs.Seen.{SinkSeen}
 use Rattle.aide_report.specs.declared.outcome.Outcome.{Outcome}
 use Rattle.aide_text.specs.Failures.{CountsFlush, Rose}
 use Rattle.aide_trusted.specs.BesideLines.{AreLinesBeside}
-use Rattle.aide_trusted.specs.BesideRuns.{CutsBeside, EndsBeside, IsFaultOfPair, LeavesPair, RunsBeside}
+use Rattle.aide_trusted.specs.BesideRuns.{CutsBeside, EndsBeside, IsFaultOfPair, LeavesPair}
+use Rattle.aide_trusted.specs.BesideRuns.{RunsBeside}
 use Rattle.aide_trusted.specs.PairSeen.{Gives, PairSeen, Told}
 use Rattle.aide_trusted.specs.Pairs.{CountsPairWrites, OfCompared, OfEach}
 use Rattle.aide_trusted.specs.declared.pair_fault.PairFault.{PairFault}

@@ -26,7 +26,8 @@ pub(crate) fn open_four<S: Sources, A: Allocator + Copy>(
     ensures keeps { KeepsPair limits (seen S.Sources sources.old) (seen S.Sources sources.new)
         desk.old desk.new }
     ensures trusted_keeps { KeepsPair limits
-        (seen S.Sources trusted.old) (seen S.Sources trusted.new) trusted_desk.old trusted_desk.new }
+        (seen S.Sources trusted.old) (seen S.Sources trusted.new)
+        trusted_desk.old trusted_desk.new }
     ensures opened { IfOk result (λ merges. AreOpened S.R.Reel limits
         (seen S.Sources sources.old) (seen S.Sources sources.new) desk.new merges.compared) }
     ensures trusted_opened { IfOk result (λ merges. AreOpened S.R.Reel limits

@@ -16,6 +16,7 @@ use aide_report::{Outcome, Sink, clear, close_both, outcome_of};
 use std::alloc::Allocator;
 
 /// A trusted pair of databases: what is asked of it, where it is read from, and onto which desk.
+#[derive(Drop)]
 pub struct TrustedPair<'a, S: Sources, A: Allocator + Copy> {
     /// The paths of both databases.
     pub task: &'a Task<'a>,

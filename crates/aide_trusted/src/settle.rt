@@ -3,8 +3,8 @@ ghost use Rattle.std.specs.Prelude.{◌≡◌, [], IfErr, OnOk};
 ghost use Rattle.aide_report.specs.Bound.{FitsAfterBoth};
 ghost use Rattle.aide_report.specs.code.OneReading.{IsFirstOfBoth};
 ghost use Rattle.aide_text.specs.PenSheet.{on_sheet};
-ghost use Rattle.aide_trusted.specs.code.Settled.{AreReadSound, FitsMerges, IsFirstStop, IsPairStopped};
-ghost use Rattle.aide_trusted.specs.code.Settled.{IsSettledStop};
+ghost use Rattle.aide_trusted.specs.code.Settled.{AreReadSound, FitsMerges, IsFirstStop};
+ghost use Rattle.aide_trusted.specs.code.Settled.{IsPairStopped, IsSettledStop};
 ghost use Rattle.aide_trusted.specs.code.Walked.{CanWalk, HasEnded, HasWalked, KeepsMerges};
 ghost use Rattle.aide_report.specs.code.Merging.{IsReady};
 

@@ -6,7 +6,8 @@ ghost use Rattle.aide_report.specs.code.OneReading.{IsStopped};
 ghost use Rattle.aide_text.specs.PenSheet.{on_sheet};
 ghost use Rattle.aide_trusted.specs.code.Calls.{IsPairStop};
 ghost use Rattle.aide_trusted.specs.code.Settled.{IsPairStopped};
-ghost use Rattle.aide_trusted.specs.code.Walked.{CanWalk, HasEnded, HasWalked, IsAtEnd, KeepsMerges};
+ghost use Rattle.aide_trusted.specs.code.Walked.{CanWalk, HasEnded, HasWalked, IsAtEnd};
+ghost use Rattle.aide_trusted.specs.code.Walked.{KeepsMerges};
 
 use crate::beside::{account_of, seek};
 use aide_conf::Options;

@@ -10,8 +10,9 @@ ghost use Rattle.aide_text.specs.Sheet.{Wrote};
 ghost use Rattle.aide_trusted.specs.BesideLines.{closing_beside, opening_beside};
 ghost use Rattle.aide_trusted.specs.code.Settled.{FitsMerges, IsSettledStop};
 ghost use Rattle.aide_trusted.specs.code.Walked.{CanWalk, HasWalked};
-ghost use Rattle.aide_trusted.specs.code.Written.{ArePairsRead, CutsChanges, CutsLast, FlushesPair, HasToldAll};
-ghost use Rattle.aide_trusted.specs.code.Written.{IsFirstFault, facts_found, pair_fault_of};
+ghost use Rattle.aide_trusted.specs.code.Written.{ArePairsRead, CutsChanges, CutsLast, FlushesPair};
+ghost use Rattle.aide_trusted.specs.code.Written.{HasToldAll, IsFirstFault, facts_found};
+ghost use Rattle.aide_trusted.specs.code.Written.{pair_fault_of};
 
 use crate::pair_fault::PairFault;
 use crate::settle::put_all_accounted;
