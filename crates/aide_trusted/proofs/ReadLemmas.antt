@@ -1,6 +1,6 @@
 -- What a run beside a trusted pair reads of each pair, and what a fault of a pair means.
 use Rattle.std.specs.Prelude.{ℕ, ◌≡◌, ◌<◌, ◌≤◌, true, false, ⊤, Option, Some, List, Result, Ok}
-use Rattle.std.proofs.Common.{refl, sym, subst, arith}
+use Rattle.std.proofs.Common.{refl, sym, subst}
 use Rattle.aide_db.specs.Database.{IsSound}
 use Rattle.aide_db.specs.DeskView.{DeskView}
 use Rattle.aide_db.specs.declared.fault.DbFault.{DbFault}
@@ -26,7 +26,7 @@ use Rattle.aide_report.proofs.BoundLemmas.{fits_limit, fits_within}
 use Rattle.aide_report.proofs.FaultLemmas.{cause_by}
 use Rattle.aide_report.proofs.LinesRunLemmas.{comes_of}
 use Rattle.aide_report.proofs.OneReadingLemmas.{desk_read, fault_as, fault_of_write, stops_at}
-use Rattle.aide_report.proofs.PassLemmas.{desk_none, desk_then, sources_none, sources_then}
+use Rattle.aide_report.proofs.PassLemmas.{desk_then, sources_then}
 use Rattle.aide_report.proofs.ReadingLemmas.{clears_then}
 use Rattle.aide_trusted.specs.BesideRuns.{IsFaultOfPair, LeavesPair, RunsBeside, StopsForPair, over_sides}
 use Rattle.aide_trusted.specs.BesideLines.{lines_beside}
@@ -41,19 +41,6 @@ use Rattle.aide_trusted.specs.declared.walk.Merges.{Merges}
 use Rattle.aide_trusted.proofs.PairLemmas.{okay_over, stops_compared, stops_trusted}
 
 -- ---- the reading of a pair
-
--- a pair that was not touched
-pub keeps_none : (limits : Limits) (a : Seen) (d : DeskView) → KeepsPair limits a a d d
-keeps_none limits a d = record {
-  sources = sources_none a;
-  desk = desk_none limits a.bytes_of d;
-  opens_some = record { of_old = omega arith; of_new = omega arith };
-}
-
--- a pair that could not be opened
-pub keeps_reads : {T : Type 0} {limits : Limits} {a b : Seen} {d e : DeskView} {sink : Type 0} {result : Result T RunFault}
-    → Reads limits a b d e sink result → KeepsPair limits a b d e
-keeps_reads p = record { sources = p.sources; desk = p.desk; opens_some = p.opens_some }
 
 -- a pair that was opened, and whose reading has begun
 pub keeps_begun : {T : Type 0} {limits : Limits} {a b : Seen} {d e f : DeskView} {sink : Type 0} {opened : T}

@@ -15,7 +15,6 @@ use Rattle.aide_report.specs.code.ChangeView.{alike_of}
 use Rattle.aide_report.specs.code.LineTally.{sum_of_counts}
 use Rattle.aide_report.specs.code.Merging.{StandsAt, remaining}
 use Rattle.aide_report.specs.declared.merge.Merge.{Merge}
-use Rattle.aide_report.proofs.CallLemmas.{merge_then}
 use Rattle.aide_text.specs.Sheet.{Sheet, Wrote}
 use Rattle.aide_text.proofs.Sheets.{wrote_as, wrote_more, wrote_nothing}
 use Rattle.aide_trusted.specs.Sought.{Accounted, accounted_line, accounted_lines, all_sought, changes_of, found_at, seek, sought_by}
@@ -212,7 +211,3 @@ walked_late answer stop also_in p = record {
   counted = tt;
   counts = tt;
 }
-
-pub merges_then : {R : Type 0} {r : Reels R} {m n k : Merges R} {d e f u v w : DeskView}
-    → KeepsMerges r m n d e u v → KeepsMerges r n k e f v w → KeepsMerges r m k d f u w
-merges_then p q = record { compared = merge_then p.compared q.compared; trusted = merge_then p.trusted q.trusted }
