@@ -1,13 +1,14 @@
 //! What the whole program promises if its arguments name a trusted pair, in three clauses.
-ghost use Rattle.std.specs.Prelude.{◌≡◌, ◌≤◌, ◌+◌, ◌⊎◌, ℕ, List, Result, max};
+ghost use Rattle.std.specs.Prelude.{◌≡◌, ◌≤◌, ◌+◌, ◌⊎◌, ℕ, List, Some, Result, max};
 ghost use Rattle.aide_conf.specs.Settings.{Configured};
 ghost use Rattle.aide_db.specs.Longest.{longest_line};
 ghost use Rattle.aide_headline.specs.Beside.{IsRightBeside};
 ghost use Rattle.aide_report.specs.Runs.{Report};
 ghost use Rattle.aide_session.specs.Answer.{Named, asked_by, limits};
 ghost use Rattle.aide_session.specs.AsksBeside.{AsksBeside};
-ghost use Rattle.aide_session.specs.BesideAnswer.{answer_beside, trusted_of};
-ghost use Rattle.aide_session.specs.Ends.{Starved, Whole, sinks_between};
+ghost use Rattle.aide_session.specs.BesideAnswer.{answer_beside, out_beside, trusted_of};
+ghost use Rattle.aide_session.specs.BesideEnds.{StarvedBeside, WholeBeside};
+ghost use Rattle.aide_session.specs.Ends.{sinks_between};
 ghost use Rattle.aide_session.specs.Put.{HasNoFailure};
 ghost use Rattle.aide_trusted.specs.declared.pair_fault.PairFault.{PairFault};
 ghost use Rattle.aide_words.specs.BesideJob.{BesideText};
@@ -23,8 +24,8 @@ use std::alloc::Global;
 /// - If the arguments ask for a comparison beside a trusted pair, there is a text at each of the four
 ///   paths, and no device counts a failure, the program ends with the right answer over the four texts
 ///   or out of memory. If all four are sound, exactly the lines go out that the definitions assign to
-///   the four maps. Otherwise nothing goes out, and the first fault is named, in the order old, new,
-///   trusted old, trusted new.
+///   the four maps. Otherwise the first fault is named, in the order old, new, trusted old, trusted new,
+///   and a beginning of what comes before the last line has gone out.
 /// - Neither desk holds more than the longest line of each text of its pair and one more line no longer
 ///   than these.
 ///
@@ -49,9 +50,11 @@ pub fn run_beside_program<S: Site, W: Sink, E: Sink>(
         → (right : Result Report PairFault)
         → IsRightBeside limits (asked_by settings.options named)
         (asked_by settings.options (trusted_of job)) old new trusted_old trusted_new right
-        → Whole (answer_beside named (trusted_of job) right) result
+        → WholeBeside (answer_beside (out_beside (asked_by settings.options named)
+        (asked_by settings.options (trusted_of job)) (Some old) (Some new) (Some trusted_old) (Some trusted_new))
+        named (trusted_of job) right) result
         (sinks_between W.delivered E.delivered E.failures out.old out.new err.old err.new)
-        ⊎ Starved (answer_beside named (trusted_of job) right) result
+        ⊎ StarvedBeside result
         (sinks_between W.delivered E.delivered E.failures out.old out.new err.old err.new) }
     ensures bound { (job : BesideText) (named : Named) (settings : Configured)
         (old new trusted_old trusted_new : List ℕ)

@@ -2,49 +2,72 @@
 use Rattle.std.proofs.Common.{◌≡◌, ◌∙◌, ℕ, ◌≤◌, List, [], Option, Some, None, refl, sym, ap, Bool, true, false, Ok, Err, inl, inr, ◌⊎◌}
 use Rattle.std.proofs.Common.{arith}
 use Rattle.std.specs.Prelude.{Result, IsSome, max}
-use Rattle.std.specs.Io.KnownBytes.{Keeps}
+use Rattle.std.specs.Io.KnownBytes.{Appends, Keeps}
 use Rattle.std.proofs.Math.Path.{subst}
+use Rattle.std.proofs.lemmas.List.{append-nil}
 use Rattle.aide_conf.specs.Settings.{Configured}
 use Rattle.aide_conf.specs.declared.fault.ConfFault.{ConfFault}
 use Rattle.aide_conf.specs.declared.options.Options.{Options}
 use Rattle.aide_conf.specs.declared.task.Need.TheVariants.{Compare}
 use Rattle.aide_conf.proofs.Laws.{no_configuration_has_two_answers}
+use Rattle.aide_db.proofs.Laws.{no_sound_text_has_a_fault}
+use Rattle.aide_db.specs.Database.{IsSound}
 use Rattle.aide_db.specs.Side.{by_side}
+use Rattle.aide_db.specs.declared.fault.DbFault.{DbFault}
 use Rattle.aide_db.specs.declared.side.Side.{Side}
 use Rattle.aide_db.specs.declared.side.Side.TheVariants.{Old, New}
 use Rattle.aide_entry.specs.Cause.{is_memory}
 use Rattle.aide_entry.specs.declared.fault_kind.DbFaultKind.{DbFaultKind}
 use Rattle.aide_entry.specs.declared.fault_kind.DbFaultKind.TheVariants as db
+use Rattle.aide_report.specs.Asked.{Asked}
 use Rattle.aide_report.specs.Failures.{Rose}
 use Rattle.aide_report.specs.FaultStatus.{fault_status, kind_status}
-use Rattle.aide_report.specs.Missing.{IsHindered}
-use Rattle.aide_report.specs.Runs.{Causes, Report}
+use Rattle.aide_report.specs.Missing.{IsHindered, RunsOver, run_answer}
+use Rattle.aide_report.specs.Runs.{Causes, Report, Runs}
+use Rattle.aide_report.specs.Sent.{SendsPart}
 use Rattle.aide_report.specs.declared.outcome.Outcome.{Outcome}
 use Rattle.aide_report.specs.declared.run_fault.RunFault.{RunFault}
 use Rattle.aide_report.specs.declared.run_fault.RunFault.TheVariants.{Open, Database, Changed, Write}
-use Rattle.aide_session.specs.Answer.{Answer, Named, refused}
+use Rattle.aide_session.specs.Answer.{Named, asked_by, limits}
 use Rattle.aide_session.specs.BesideAnswer.{IsAnswerBeside, IsFileBeside, IsReadBeside, IsSizedBeside, IsTextBeside, ComparesBeside}
-use Rattle.aide_session.specs.BesideAnswer.{answer_beside, trusted_of}
+use Rattle.aide_session.specs.BesideAnswer.{AnswerBeside, GoesOutBeside, OutputBeside, StartsBeside, all_lines, answer_beside, no_line}
+use Rattle.aide_session.specs.BesideAnswer.{out_beside, refused_beside, start_of_lines, trusted_of}
 use Rattle.aide_session.specs.BesideEnds.{BesideFailure, BesideFailureCause, BesideView, ClosesBeside, ComparesPairs, EndsBesideBy}
 use Rattle.aide_session.specs.BesideEnds.{EndsWithin, HasReadBeside, MeansOfPair, StopCause, StopsWith, beside_failure_line}
 use Rattle.aide_session.specs.BesideEnds.{compared_line, compared_status, of_compared, stop_line, stop_status}
-use Rattle.aide_session.specs.BesideEnds.{trusted_unopened, trusted_unread}
+use Rattle.aide_session.specs.BesideEnds.{StarvedBeside, WholeBeside, trusted_unopened, trusted_unread}
 use Rattle.aide_session.specs.BesideEnds.{config_refused, config_too_large, config_unread, no_memory_left, EarlyStop}
 use Rattle.aide_session.specs.Closing.{HasText}
-use Rattle.aide_session.specs.Ends.{HasFailed, Puts, Sinks, Starved, Whole, config_unread as failed_config, unopened, unread, unwritten}
+use Rattle.aide_session.specs.Ends.{HasFailed, Puts, Sinks, config_unread as failed_config, unopened, unread, unwritten}
 use Rattle.aide_session.specs.Files.{Files, IsLarge, is_too_large}
 use Rattle.aide_session.specs.Held.{HoldsWithin, most_held}
 use Rattle.aide_session.specs.Lines.{conf_line, kind_line, outcome_lines, run_fault_line, too_large_line, unread_line}
-use Rattle.aide_session.specs.Output.{StartsOut}
 use Rattle.aide_session.specs.TrustedLines.{pair_fault_line, pair_fault_status, trusted_fault_line, trusted_kind_line}
 use Rattle.aide_session.proofs.AnswerSteps.{same_file}
-use Rattle.aide_session.proofs.Endings.{by_reliable, none_starts, rose_later, same_some}
+use Rattle.aide_session.proofs.Endings.{by_reliable, rose_later, same_some}
 use Rattle.aide_session.proofs.PutLemmas.{put_as, put_passed}
-use Rattle.aide_trusted.specs.BesideRuns.{SendsFrontOf, SendsWholeOf, StopsForPair}
+use Rattle.aide_trusted.specs.BesideLines.{BeginsBeside, lines_beside}
+use Rattle.aide_trusted.specs.BesideRuns.{AreAllSound, CutsBeside, RunsBeside, SendsWholeOf, StopsForPair, answer_by, changes_between}
+use Rattle.aide_trusted.proofs.BesideLaws.{begins_what_is_written, begins_with_nothing}
 use Rattle.aide_trusted.specs.Pairs.{OfEach}
 use Rattle.aide_trusted.specs.declared.pair_fault.PairFault.{PairFault}
 use Rattle.aide_trusted.specs.declared.pair_fault.PairFault.TheVariants.{Compared, Trusted}
 use Rattle.aide_words.specs.BesideJob.{BesideText}
+
+-- ---- what has gone out
+
+-- nothing is a beginning of anything
+none_starts : (sent : OutputBeside) (before after : Option (List ℕ)) → Appends before after [] → StartsBeside sent before after
+none_starts (all_lines text) before after none = record { front = []; rest = text; whole = refl; bytes = none }
+none_starts (start_of_lines asked trusted changes beside) before after none =
+    begins_with_nothing asked trusted changes beside before after none
+
+-- what has gone out is a beginning of itself
+goes_then_starts : (sent : OutputBeside) (before after : Option (List ℕ)) → GoesOutBeside sent before after
+    → StartsBeside sent before after
+goes_then_starts (all_lines text) before after all =
+    record { front = text; rest = []; whole = sym (append-nil text); bytes = all }
+goes_then_starts (start_of_lines asked trusted changes beside) before after part = part
 
 -- ---- a run that is kept from its answer
 
@@ -75,8 +98,8 @@ there_side : (files : Files) (pair : Named) (old new : Option (List ℕ)) (side 
 there_side files pair old new Old told_old told_new some none = there (files pair.old_path) old told_old some none
 there_side files pair old new New told_old told_new some none = there (files pair.new_path) new told_new some none
 
-module _ (a : Answer) (named trusted : Named) (v : BesideView) (before count : ℕ) (more : before ≤ count)
-    (sent : StartsOut a.output v.sinks.out_old v.sinks.out_new) where
+module _ (a : AnswerBeside) (named trusted : Named) (v : BesideView) (before count : ℕ) (more : before ≤ count)
+    (sent : StartsBeside a.output v.sinks.out_old v.sinks.out_new) where
   abbrev Ended : ℕ → Type 0
   Ended status = EndsWithin a named trusted status v.sinks (HasFailed v.is_reliable before v.site_after)
       (HasFailed v.trusted_reliable v.trusted_before v.trusted_after) (Rose v.out_before v.out_after)
@@ -151,31 +174,127 @@ module _ (a : Answer) (named trusted : Named) (v : BesideView) (before count : �
       hindered =
       trusted_hindered fault trusted_old trusted_new status told_trusted_old told_trusted_new is put means hindered
 
+-- ---- what has gone out at a fault
+
+-- a beginning of what is to be written has gone out, or this if the answer is a fault
+abbrev SendsFront : OutputBeside → Result Report PairFault → (before after : Option (List ℕ)) → Type 0
+SendsFront sent (Ok report) before after = SendsPart report.text before after
+SendsFront sent (Err fault) before after = GoesOutBeside sent before after
+
+none_front : (r : Result Report PairFault) (before after : Option (List ℕ)) → Appends before after [] → SendsFront no_line r before after
+none_front (Ok report) before after none = record { front = []; rest = report.text; whole = refl; bytes = none }
+none_front (Err fault) before after none = none
+
+ok_is_no_fault : (report : Report) (fault : RunFault) → Ok report ≡ Err fault → ⊥
+ok_is_no_fault report fault e = cc
+
+-- two texts of which the answer is a report are both sound
+sound_run : (wish : Asked) (old new : List ℕ) (report : Report) (run : Result Report DbFault) → Runs limits wish old new run
+    → Ok report ≡ run_answer run → IsSound limits old × IsSound limits new
+sound_run wish old new report (Ok other) is same = (is.0, is.1)
+sound_run wish old new report (Err fault) is same = absurd (ok_is_no_fault report (Database fault) same)
+
+sound_pair : (wish : Asked) (old new : List ℕ) (report : Report) → RunsOver limits wish (Some old) (Some new) (Ok report)
+    → IsSound limits old × IsSound limits new
+sound_pair wish old new report runs = sound_run wish old new report runs.0 runs.1 runs.2
+
+-- two texts of which the answer is a fault are not
+unsound_run : (wish : Asked) (old new : List ℕ) (fault : RunFault) (run : Result Report DbFault) → Runs limits wish old new run
+    → Err fault ≡ run_answer run → IsSound limits old → IsSound limits new → ⊥
+unsound_run wish old new fault (Ok other) is same sound_old sound_new = absurd (ok_is_no_fault other fault (sym same))
+unsound_run wish old new fault (Err first) is same sound_old sound_new = elim is [
+  | inl of_old ↦ no_sound_text_has_a_fault limits old first.line first.kind of_old.1 sound_old
+  | inr of_new ↦ no_sound_text_has_a_fault limits new first.line first.kind of_new.1.1 sound_new
+]
+
+unsound_pair : (wish : Asked) (old new : List ℕ) (fault : RunFault) → RunsOver limits wish (Some old) (Some new) (Err fault)
+    → IsSound limits old → IsSound limits new → ⊥
+unsound_pair wish old new fault runs = unsound_run wish old new fault runs.0 runs.1 runs.2
+
+module _ (wish beside : Asked) (old new trusted_old trusted_new : List ℕ) (before after : Option (List ℕ)) where
+  abbrev AllSound : Type 0
+  AllSound = AreAllSound limits old new trusted_old trusted_new
+
+  abbrev Cut : PairFault → Type 0
+  Cut fault = CutsBeside limits wish beside old new trusted_old trusted_new before after fault
+
+  sound_cut : (fault : PairFault) → AllSound → Cut fault
+      → SendsPart (lines_beside wish beside old new trusted_old trusted_new).text before after
+  sound_cut (Compared (Write written)) sound cut = cut.0 sound
+  sound_cut (Compared (Open side)) sound cut =
+      begins_what_is_written limits wish beside old new trusted_old trusted_new sound before after cut
+  sound_cut (Compared (Database fault)) sound cut =
+      begins_what_is_written limits wish beside old new trusted_old trusted_new sound before after cut
+  sound_cut (Compared (Changed side)) sound cut =
+      begins_what_is_written limits wish beside old new trusted_old trusted_new sound before after cut
+  sound_cut (Trusted fault) sound cut =
+      begins_what_is_written limits wish beside old new trusted_old trusted_new sound before after cut
+
+  abbrev Begun : Type 0
+  Begun = BeginsBeside wish beside (changes_between old new) (changes_between trusted_old trusted_new) before after
+
+  unsound_cut : (fault : PairFault) → (AllSound → ⊥) → Cut fault → Begun
+  unsound_cut (Compared (Write written)) unsound cut = cut.1 unsound
+  unsound_cut (Compared (Open side)) unsound cut = cut
+  unsound_cut (Compared (Database fault)) unsound cut = cut
+  unsound_cut (Compared (Changed side)) unsound cut = cut
+  unsound_cut (Trusted fault) unsound cut = cut
+
+  front_by : (compared trusted : Result Report RunFault) (r : Result Report PairFault) (fault : PairFault)
+      → RunsOver limits wish (Some old) (Some new) compared → RunsOver limits beside (Some trusted_old) (Some trusted_new) trusted
+      → answer_by compared trusted (Some (lines_beside wish beside old new trusted_old trusted_new)) r
+      → Cut fault
+      → SendsFront (out_beside wish beside (Some old) (Some new) (Some trusted_old) (Some trusted_new)) r before after
+  front_by (Err first) trusted r fault runs trusted_runs is cut =
+      subst (λ (x : Result Report PairFault). SendsFront (out_beside wish beside (Some old) (Some new) (Some trusted_old)
+      (Some trusted_new)) x before after) (sym is)
+      (unsound_cut fault (λ sound. unsound_pair wish old new first runs sound.of_old sound.of_new) cut)
+  front_by (Ok report) (Err first) r fault runs trusted_runs is cut =
+      subst (λ (x : Result Report PairFault). SendsFront (out_beside wish beside (Some old) (Some new) (Some trusted_old)
+      (Some trusted_new)) x before after) (sym is)
+      (unsound_cut fault (λ sound. unsound_pair beside trusted_old trusted_new first trusted_runs sound.of_trusted_old
+      sound.of_trusted_new) cut)
+  front_by (Ok report) (Ok other) r fault runs trusted_runs is cut =
+      let compared = sound_pair wish old new report runs in
+      let trusted = sound_pair beside trusted_old trusted_new other trusted_runs in
+      subst (λ (x : Result Report PairFault). SendsFront (out_beside wish beside (Some old) (Some new) (Some trusted_old)
+      (Some trusted_new)) x before after) (sym is)
+      (sound_cut fault (record {
+        of_old = compared.0;
+        of_new = compared.1;
+        of_trusted_old = trusted.0;
+        of_trusted_new = trusted.1;
+      }) cut)
+
 -- ---- a comparison and its answer
 
-module _ (named trusted : Named) (s : Sinks) where
+module _ (sent : OutputBeside) (named trusted : Named) (s : Sinks) where
   well : (r : Result Report PairFault) (outcome : Outcome) (status : ℕ) → status ≡ compared_status (Ok outcome)
       → Puts (outcome_lines outcome) s → SendsWholeOf r outcome s.out_old s.out_new
-      → Whole (answer_beside named trusted r) status s
-  well (Ok report) outcome status is put sent = record {
-    status_is = is ∙ ap (λ (o : Outcome). compared_status (Ok o)) (sym sent.0);
-    output = sent.1;
-    put = subst (λ (o : Outcome). Puts (outcome_lines o) s) (sym sent.0) put;
+      → WholeBeside (answer_beside sent named trusted r) status s
+  well (Ok report) outcome status is put all = record {
+    status_is = is ∙ ap (λ (o : Outcome). compared_status (Ok o)) (sym all.0);
+    output = all.1;
+    put = subst (λ (o : Outcome). Puts (outcome_lines o) s) (sym all.0) put;
   }
-  well (Err fault) outcome status is put sent = absurd sent
+  well (Err fault) outcome status is put all = absurd all
 
-  front : (r : Result Report PairFault) → SendsFrontOf r s.out_old s.out_new
-      → StartsOut (answer_beside named trusted r).output s.out_old s.out_new
-  front (Ok report) sent = sent
-  front (Err fault) sent = record { front = []; rest = []; whole = refl; bytes = sent }
+  front : (r : Result Report PairFault) → SendsFront sent r s.out_old s.out_new
+      → StartsBeside (answer_beside sent named trusted r).output s.out_old s.out_new
+  front (Ok report) part = part
+  front (Err fault) part = goes_then_starts sent s.out_old s.out_new part
 
   right : (r : Result Report PairFault) (fault : PairFault) (status : ℕ) → status ≡ pair_fault_status fault
       → Puts (pair_fault_line named.old_path named.new_path trusted.old_path trusted.new_path fault) s
-      → SendsFrontOf r s.out_old s.out_new → r ≡ Err fault
-      → Whole (answer_beside named trusted r) status s
-  right r fault status is put sent same =
-      subst (λ (x : Result Report PairFault). Whole (answer_beside named trusted x) status s) (sym same)
-      (record { status_is = is; output = subst (λ (x : Result Report PairFault). SendsFrontOf x s.out_old s.out_new) same sent; put = put })
+      → SendsFront sent r s.out_old s.out_new → r ≡ Err fault
+      → WholeBeside (answer_beside sent named trusted r) status s
+  right r fault status is put part same =
+      subst (λ (x : Result Report PairFault). WholeBeside (answer_beside sent named trusted x) status s) (sym same)
+      (record {
+        status_is = is;
+        output = subst (λ (x : Result Report PairFault). SendsFront sent x s.out_old s.out_new) same part;
+        put = put;
+      })
 
   -- a run stops for the fault that is the answer, or for one that hindered it
   by_stop : (r : Result Report PairFault) (hindered : PairFault → Type 0) (fault : PairFault) (P : Type 0)
@@ -190,36 +309,63 @@ PeaksRise v = (v.peak_before ≤ v.peak_after) × (v.peak_after ≤ max v.peak_b
     × (v.trusted_peak_after ≤ max v.trusted_peak_before most_held)
 
 -- how a session ends, by its answer
-abbrev EndsFor : Answer → (named trusted : Named) → (status before : ℕ) → BesideView → Type 0
+abbrev EndsFor : AnswerBeside → (named trusted : Named) → (status before : ℕ) → BesideView → Type 0
 EndsFor a named trusted status before v = EndsWithin a named trusted status v.sinks (HasFailed v.is_reliable before v.site_after)
     (HasFailed v.trusted_reliable v.trusted_before v.trusted_after) (Rose v.out_before v.out_after)
 
 module _ (job : BesideText) (status before count : ℕ) (v : BesideView) (s : Configured) (named : Named) (more : before ≤ count)
-    (a : Answer) (is : ComparesBeside v.files v.trusted_files job s named a) where
+    (a : AnswerBeside) (is : ComparesBeside v.files v.trusted_files job s named a) where
+  abbrev sent : OutputBeside
+  sent = out_beside (asked_by s.options named) (asked_by s.options (trusted_of job)) is.old_file is.new_file is.trusted_old_file
+      is.trusted_new_file
+
+  -- at a fault of four files
+  front_of : (fault : PairFault) (old new trusted_old trusted_new : Option (List ℕ)) (r : Result Report PairFault)
+      → ComparesPairs named (trusted_of job) s.options (Err fault) (Rose count v.site_after) v
+      → v.files named.old_path ≡ Some old → v.files named.new_path ≡ Some new
+      → v.trusted_files job.trusted_old ≡ Some trusted_old → v.trusted_files job.trusted_new ≡ Some trusted_new
+      → RunsBeside limits (asked_by s.options named) (asked_by s.options (trusted_of job)) old new trusted_old trusted_new r
+      → SendsFront (out_beside (asked_by s.options named) (asked_by s.options (trusted_of job)) old new trusted_old trusted_new) r
+      v.sinks.out_old v.sinks.out_new
+  front_of fault None new trusted_old trusted_new r compares is_old is_new is_trusted_old is_trusted_new runs =
+      none_front r v.sinks.out_old v.sinks.out_new (compares.missing Old is_old)
+  front_of fault (Some old) None trusted_old trusted_new r compares is_old is_new is_trusted_old is_trusted_new runs =
+      none_front r v.sinks.out_old v.sinks.out_new (compares.missing New is_new)
+  front_of fault (Some old) (Some new) None trusted_new r compares is_old is_new is_trusted_old is_trusted_new runs =
+      none_front r v.sinks.out_old v.sinks.out_new (compares.trusted_missing Old is_trusted_old)
+  front_of fault (Some old) (Some new) (Some trusted_old) None r compares is_old is_new is_trusted_old is_trusted_new runs =
+      none_front r v.sinks.out_old v.sinks.out_new (compares.trusted_missing New is_trusted_new)
+  front_of fault (Some old) (Some new) (Some trusted_old) (Some trusted_new) r compares is_old is_new is_trusted_old is_trusted_new runs =
+      front_by (asked_by s.options named) (asked_by s.options (trusted_of job)) old new trusted_old trusted_new v.sinks.out_old
+      v.sinks.out_new runs.compared runs.trusted r fault runs.compared_runs runs.trusted_runs runs.answer
+      (compares.cut old new trusted_old trusted_new is_old is_new is_trusted_old is_trusted_new)
+
   compared_ends : (result : Result Outcome PairFault)
       → ComparesPairs named (trusted_of job) s.options result (Rose count v.site_after) v
       → status ≡ compared_status result → Puts (compared_line named (trusted_of job) result) v.sinks
-      → EndsFor (answer_beside named (trusted_of job) is.run) named (trusted_of job) status before v
+      → EndsFor (answer_beside sent named (trusted_of job) is.run) named (trusted_of job) status before v
   compared_ends (Ok outcome) compares status_is put =
-      inl (well named (trusted_of job) v.sinks is.run outcome status status_is put
+      inl (well sent named (trusted_of job) v.sinks is.run outcome status status_is put
       (compares.over is.old_file is.new_file is.trusted_old_file is.trusted_new_file is.old_told is.new_told is.trusted_old_told
       is.trusted_new_told is.run is.runs))
   compared_ends (Err fault) compares status_is put =
-      let ends = compares.over is.old_file is.new_file is.trusted_old_file is.trusted_new_file is.old_told is.new_told
+      let stops = compares.over is.old_file is.new_file is.trusted_old_file is.trusted_new_file is.old_told is.new_told
       is.trusted_old_told is.trusted_new_told is.run is.runs in
-      by_stop named (trusted_of job) v.sinks is.run
+      let part = front_of fault is.old_file is.new_file is.trusted_old_file is.trusted_new_file is.run compares is.old_told is.new_told
+      is.trusted_old_told is.trusted_new_told is.runs in
+      by_stop sent named (trusted_of job) v.sinks is.run
       (OfEach (IsHindered is.old_file is.new_file (Rose count v.site_after) (Rose v.out_before v.out_after))
       (IsHindered is.trusted_old_file is.trusted_new_file (Rose v.trusted_before v.trusted_after) ⊥)) fault
-      (EndsFor (answer_beside named (trusted_of job) is.run) named (trusted_of job) status before v)
-      (λ same. inl (right named (trusted_of job) v.sinks is.run fault status status_is put ends.1 same))
-      (λ hindered. hindered_ends (answer_beside named (trusted_of job) is.run) named (trusted_of job) v before count more
-      (front named (trusted_of job) v.sinks is.run ends.1) fault is.old_file is.new_file is.trusted_old_file is.trusted_new_file status
+      (EndsFor (answer_beside sent named (trusted_of job) is.run) named (trusted_of job) status before v)
+      (λ same. inl (right sent named (trusted_of job) v.sinks is.run fault status status_is put part same))
+      (λ hindered. hindered_ends (answer_beside sent named (trusted_of job) is.run) named (trusted_of job) v before count more
+      (front sent named (trusted_of job) v.sinks is.run part) fault is.old_file is.new_file is.trusted_old_file is.trusted_new_file status
       is.old_told is.new_told is.trusted_old_told is.trusted_new_told status_is put compares.fault hindered)
-      ends.0
+      stops
 
 -- ---- from the answer to a job to that of its configuration
 
-module _ (files trusted_files : Files) (job : BesideText) (named : Named) (a : Answer) where
+module _ (files trusted_files : Files) (job : BesideText) (named : Named) (a : AnswerBeside) where
   of_text : (file : Option (List ℕ)) (text : List ℕ) → file ≡ Some text → is_too_large text ≡ false
       → IsFileBeside files trusted_files job file named a → IsTextBeside files trusted_files job text named a
   of_text file text same small is =
@@ -227,12 +373,12 @@ module _ (files trusted_files : Files) (job : BesideText) (named : Named) (a : A
       (subst (λ (o : Option (List ℕ)). IsFileBeside files trusted_files job o named a) same is)
 
   of_large : (file : Option (List ℕ)) → IsLarge file → IsFileBeside files trusted_files job file named a
-      → a ≡ refused too_large_line 17
+      → a ≡ refused_beside too_large_line 17
   of_large None large is = absurd large
   of_large (Some text) large is = subst (λ (b : Bool). IsSizedBeside files trusted_files job b text named a) large is
 
   of_none : (file : Option (List ℕ)) → file ≡ None → IsFileBeside files trusted_files job file named a
-      → a ≡ refused (unread_line job.config) 18
+      → a ≡ refused_beside (unread_line job.config) 18
   of_none file none is = subst (λ (o : Option (List ℕ)). IsFileBeside files trusted_files job o named a) none is
 
   -- the answer of the reading that was made
@@ -245,13 +391,13 @@ module _ (files trusted_files : Files) (job : BesideText) (named : Named) (a : A
 
 -- ---- the end of a session
 
-whole_stop : (a : Answer) (line : List ℕ) (code status : ℕ) (v : BesideView) → a ≡ refused line code → StopsWith line code status v
-    → Whole a status v.sinks
+whole_stop : (a : AnswerBeside) (line : List ℕ) (code status : ℕ) (v : BesideView) → a ≡ refused_beside line code → StopsWith line code status v
+    → WholeBeside a status v.sinks
 whole_stop a line code status v is stops =
-    subst (λ (x : Answer). Whole x status v.sinks) (sym is)
+    subst (λ (x : AnswerBeside). WholeBeside x status v.sinks) (sym is)
     (record { status_is = stops.status_is; output = stops.output; put = stops.put })
 
-module _ (job : BesideText) (status before : ℕ) (v : BesideView) (named : Named) (a : Answer)
+module _ (job : BesideText) (status before : ℕ) (v : BesideView) (named : Named) (a : AnswerBeside)
     (is : IsAnswerBeside v.files v.trusted_files job named a) where
   stop_ends : (stop : EarlyStop) → StopCause v.files v.is_reliable job (Rose before v.site_after) stop
       → StopsWith (stop_line job stop) (stop_status stop) status v
@@ -293,7 +439,7 @@ module _ (job : BesideText) (status before : ℕ) (v : BesideView) (named : Name
         let compares = of_read v.files v.trusted_files job named a (Ok closes.settings) closes.read is in
         let same = same_paths closes in
         let result = closes.closes.result in
-        subst (λ (x : Answer). EndsFor x named (trusted_of job) status before v) (sym compares.then_is)
+        subst (λ (x : AnswerBeside). EndsFor x named (trusted_of job) status before v) (sym compares.then_is)
         (compared_ends job status before closes.count v closes.settings named closes.later a compares result
         (subst (λ (n : Named). ComparesPairs n (trusted_of job) closes.settings.options result (Rose closes.count v.site_after) v) same
         closes.closes.compares)
@@ -353,9 +499,9 @@ no_failure_left (trusted_unopened side) site trusted_site out none trusted_none 
 no_failure_left (trusted_unread fault) site trusted_site out none trusted_none out_none cause = trusted_none cause.1
 
 -- an ending without a failure
-pub unfailed_beside : (a : Answer) (named trusted : Named) (status : ℕ) (s : Sinks) (site trusted_site out : Type 0) → (site → ⊥)
+pub unfailed_beside : (a : AnswerBeside) (named trusted : Named) (status : ℕ) (s : Sinks) (site trusted_site out : Type 0) → (site → ⊥)
     → (trusted_site → ⊥) → (out → ⊥) → EndsWithin a named trusted status s site trusted_site out
-    → Whole a status s ⊎ Starved a status s
+    → WholeBeside a status s ⊎ StarvedBeside status s
 unfailed_beside a named trusted status s site trusted_site out none trusted_none out_none ends = elim ends [
   | inl whole ↦ inl whole
   | inr rest ↦ elim rest [
@@ -392,12 +538,14 @@ module _ (v : BesideView) (bytes : Option (List ℕ)) (count : ℕ) (kept : Keep
       over = c.over;
       sound = c.sound;
       trusted_sound = c.trusted_sound;
-      nothing = c.nothing;
-      trusted_nothing = c.trusted_nothing;
+      cut = c.cut;
+      unopened = c.unopened;
+      missing = c.missing;
+      trusted_missing = c.trusted_missing;
+      behind = c.behind;
       consistent = c.consistent;
       flushed = c.flushed;
       flushes = c.flushes;
-      unsent = c.unsent;
       fault = c.fault;
       opens = c.opens;
       trusted_opens = c.trusted_opens;

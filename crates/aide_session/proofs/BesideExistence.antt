@@ -14,9 +14,9 @@ use Rattle.aide_report.specs.Missing.{RunsOver}
 use Rattle.aide_report.specs.Runs.{Report}
 use Rattle.aide_report.specs.declared.run_fault.RunFault.{RunFault}
 use Rattle.aide_report.proofs.MissingLemmas.{RunsOver-exists}
-use Rattle.aide_session.specs.Answer.{Answer, Named, asked_by, limits, refused}
+use Rattle.aide_session.specs.Answer.{Named, asked_by, limits}
 use Rattle.aide_session.specs.BesideAnswer.{HasAnswerBeside, IsReadBeside, IsSizedBeside, IsTextBeside, TellsBeside}
-use Rattle.aide_session.specs.BesideAnswer.{ComparesBeside, answer_beside, trusted_of}
+use Rattle.aide_session.specs.BesideAnswer.{AnswerBeside, ComparesBeside, answer_beside, out_beside, refused_beside, trusted_of}
 use Rattle.aide_session.specs.Files.{Files, is_too_large}
 use Rattle.aide_session.specs.Lines.{conf_line, too_large_line, unread_line}
 use Rattle.aide_session.proofs.Closings.{only_config}
@@ -94,10 +94,10 @@ value_of (Some value) some = (value, refl)
 module _ (files trusted_files : Files) (job : BesideText) (tells : TellsBeside files trusted_files job) where
   module _ (text : List ℕ) (known : files job.config ≡ Some (Some text)) where
     abbrev Read : Result Configured ConfFault → Type 0
-    Read read = (named : Named) × (a : Answer) × (named.config ≡ job.config) × IsReadBeside files trusted_files job read named a
+    Read read = (named : Named) × (a : AnswerBeside) × (named.config ≡ job.config) × IsReadBeside files trusted_files job read named a
 
     of_read : (read : Result Configured ConfFault) → ReadsAs Compare job.before text job.after read → Read read
-    of_read (Err fault) reads = (only_config job.config, refused (conf_line fault) 17, refl, refl)
+    of_read (Err fault) reads = (only_config job.config, refused_beside (conf_line fault) 17, refl, refl)
     of_read (Ok s) reads =
         let both = what_is_compared_is_named job.before text job.after s reads in
         let old_path = value_of s.old_path both.0 in
@@ -109,7 +109,9 @@ module _ (files trusted_files : Files) (job : BesideText) (tells : TellsBeside f
         let trusted_new = tells.trusted New in
         let run = RunsBeside-exists limits (asked_by s.options named) (asked_by s.options (trusted_of job)) old.0 new.0 trusted_old.0
         trusted_new.0 (omega arith) in
-        let compares : ComparesBeside files trusted_files job s named (answer_beside named (trusted_of job) run.0) = record {
+        let a = answer_beside (out_beside (asked_by s.options named) (asked_by s.options (trusted_of job)) old.0 new.0 trusted_old.0
+        trusted_new.0) named (trusted_of job) run.0 in
+        let compares : ComparesBeside files trusted_files job s named a = record {
           old_is = old_path.1;
           new_is = new_path.1;
           old_file = old.0;
@@ -124,12 +126,12 @@ module _ (files trusted_files : Files) (job : BesideText) (tells : TellsBeside f
           runs = run.1;
           then_is = refl;
         } in
-        (named, answer_beside named (trusted_of job) run.0, refl, compares)
+        (named, a, refl, compares)
 
     of_size : (large : Bool) → is_too_large text ≡ large → HasAnswerBeside files trusted_files job
     of_size true large =
         let named = only_config job.config in
-        let a = refused too_large_line 17 in (
+        let a = refused_beside too_large_line 17 in (
           named,
           a,
           record {
@@ -157,7 +159,7 @@ module _ (files trusted_files : Files) (job : BesideText) (tells : TellsBeside f
   of_file : (file : Option (List ℕ)) → files job.config ≡ Some file → HasAnswerBeside files trusted_files job
   of_file None known = (
     only_config job.config,
-    refused (unread_line job.config) 18,
+    refused_beside (unread_line job.config) 18,
     record { config_is = refl; file = None; known = known; then_is = refl },
   )
   of_file (Some text) known = of_size text known (is_too_large text) refl

@@ -12,10 +12,10 @@ use Rattle.aide_report.specs.Asked.{Asked}
 use Rattle.aide_report.specs.Runs.{Report}
 use Rattle.aide_report.specs.declared.run_fault.RunFault.{RunFault}
 use Rattle.aide_report.proofs.MissingLemmas.{RunsOver-unique}
-use Rattle.aide_session.specs.Answer.{Answer, Named, asked_by, limits}
+use Rattle.aide_session.specs.Answer.{Named, asked_by, limits}
 use Rattle.aide_session.specs.AsksBeside.{AsksBeside}
 use Rattle.aide_session.specs.BesideAnswer.{ComparesBeside, HasAnswerBeside, IsAnswerBeside, IsFileBeside, IsReadBeside, IsSizedBeside}
-use Rattle.aide_session.specs.BesideAnswer.{IsTextBeside, TellsBeside, answer_beside, trusted_of}
+use Rattle.aide_session.specs.BesideAnswer.{AnswerBeside, IsTextBeside, TellsBeside, answer_beside, out_beside, trusted_of}
 use Rattle.aide_session.specs.Files.{Files, is_too_large}
 use Rattle.aide_session.proofs.BesideExistence.{answered_beside}
 use Rattle.aide_session.proofs.Endings.{same_some}
@@ -31,9 +31,12 @@ pub answer_by_what_is_asked_beside : (files trusted_files : Files) (words : List
     → AsksBeside files trusted_files words job named settings old new trusted_old trusted_new
     → RunsBeside limits (asked_by settings.options named) (asked_by settings.options (trusted_of job))
     (Some old) (Some new) (Some trusted_old) (Some trusted_new) run
-    → IsAnswerBeside files trusted_files job named (answer_beside named (trusted_of job) run)
+    → IsAnswerBeside files trusted_files job named (answer_beside
+    (out_beside (asked_by settings.options named) (asked_by settings.options (trusted_of job))
+    (Some old) (Some new) (Some trusted_old) (Some trusted_new)) named (trusted_of job) run)
 answer_by_what_is_asked_beside files trusted_files words job named settings old new trusted_old trusted_new run asks runs =
-    let a = answer_beside named (trusted_of job) run in
+    let a = answer_beside (out_beside (asked_by settings.options named) (asked_by settings.options (trusted_of job))
+    (Some old) (Some new) (Some trusted_old) (Some trusted_new)) named (trusted_of job) run in
     let compared : ComparesBeside files trusted_files job settings named a = record {
       old_is = asks.old_path;
       new_is = asks.new_path;
@@ -91,14 +94,14 @@ four_sides_have_one_answer limits wish beside old new trusted_old trusted_new r 
 
 module _ (files trusted_files : Files) (job : BesideText) where
   -- the same settings and the same configuration name the same paths
-  same_named : (s : Configured) (named other : Named) (a b : Answer) → other.config ≡ named.config
+  same_named : (s : Configured) (named other : Named) (a b : AnswerBeside) → other.config ≡ named.config
       → ComparesBeside files trusted_files job s named a → ComparesBeside files trusted_files job s other b → other ≡ named
   same_named s named other a b same p q =
       let old = same_some s.old_path other.old_path named.old_path q.old_is p.old_is in
       let new = same_some s.new_path other.new_path named.new_path q.new_is p.new_is in
       λ i. record { config = same i; old_path = old i; new_path = new i }
 
-  one_comparison : (s : Configured) (named : Named) (a b : Answer) → ComparesBeside files trusted_files job s named a
+  one_comparison : (s : Configured) (named : Named) (a b : AnswerBeside) → ComparesBeside files trusted_files job s named a
       → ComparesBeside files trusted_files job s named b → a ≡ b
   one_comparison s named a b p q =
       let old = one_file (files named.old_path) p.old_file q.old_file p.old_told q.old_told in
@@ -111,36 +114,38 @@ module _ (files trusted_files : Files) (job : BesideText) where
       (subst (λ (o : Option (List ℕ)). RunsBeside limits wish beside q.old_file o p.trusted_old_file p.trusted_new_file q.run) new
       (subst (λ (o : Option (List ℕ)). RunsBeside limits wish beside q.old_file q.new_file o p.trusted_new_file q.run) told
       (subst (λ (o : Option (List ℕ)). RunsBeside limits wish beside q.old_file q.new_file q.trusted_old_file o q.run) tnew q.runs))) in
-      p.then_is ∙ ap (λ (r : Result Report PairFault). answer_beside named (trusted_of job) r)
-      (four_sides_have_one_answer limits wish beside p.old_file p.new_file p.trusted_old_file p.trusted_new_file p.run q.run p.runs runs)
+      let run = four_sides_have_one_answer limits wish beside p.old_file p.new_file p.trusted_old_file p.trusted_new_file p.run q.run
+      p.runs runs in
+      p.then_is
+      ∙ (λ i. answer_beside (out_beside wish beside (sym old i) (sym new i) (sym told i) (sym tnew i)) named (trusted_of job) (run i))
       ∙ sym q.then_is
 
-  one_reading : (read : Result Configured ConfFault) (named other : Named) (a b : Answer) → other.config ≡ named.config
+  one_reading : (read : Result Configured ConfFault) (named other : Named) (a b : AnswerBeside) → other.config ≡ named.config
       → IsReadBeside files trusted_files job read named a → IsReadBeside files trusted_files job read other b → a ≡ b
   one_reading (Err fault) named other a b same p q = p ∙ sym q
   one_reading (Ok s) named other a b same p q =
       one_comparison s named a b p
       (subst (λ (n : Named). ComparesBeside files trusted_files job s n b) (same_named s named other a b same p q) q)
 
-  one_text : (text : List ℕ) (named other : Named) (a b : Answer) → other.config ≡ named.config
+  one_text : (text : List ℕ) (named other : Named) (a b : AnswerBeside) → other.config ≡ named.config
       → IsTextBeside files trusted_files job text named a → IsTextBeside files trusted_files job text other b → a ≡ b
   one_text text named other a b same p q =
       one_reading p.read named other a b same p.then_is
       (subst (λ (r : Result Configured ConfFault). IsReadBeside files trusted_files job r other b)
       (no_configuration_has_two_answers Compare job.before text job.after p.read q.read p.reads q.reads) q.then_is)
 
-  one_size : (large : Bool) (text : List ℕ) (named other : Named) (a b : Answer) → other.config ≡ named.config
+  one_size : (large : Bool) (text : List ℕ) (named other : Named) (a b : AnswerBeside) → other.config ≡ named.config
       → IsSizedBeside files trusted_files job large text named a → IsSizedBeside files trusted_files job large text other b → a ≡ b
   one_size true text named other a b same p q = p ∙ sym q
   one_size false text named other a b same p q = one_text text named other a b same p q
 
-  one_of_file : (file : Option (List ℕ)) (named other : Named) (a b : Answer) → other.config ≡ named.config
+  one_of_file : (file : Option (List ℕ)) (named other : Named) (a b : AnswerBeside) → other.config ≡ named.config
       → IsFileBeside files trusted_files job file named a → IsFileBeside files trusted_files job file other b → a ≡ b
   one_of_file None named other a b same p q = p ∙ sym q
   one_of_file (Some text) named other a b same p q = one_size (is_too_large text) text named other a b same p q
 
   -- A job has only one answer.
-  pub no_job_beside_has_two_answers : (named other : Named) (a b : Answer) → IsAnswerBeside files trusted_files job named a
+  pub no_job_beside_has_two_answers : (named other : Named) (a b : AnswerBeside) → IsAnswerBeside files trusted_files job named a
       → IsAnswerBeside files trusted_files job other b → a ≡ b
   no_job_beside_has_two_answers named other a b p q =
       one_of_file p.file named other a b (q.config_is ∙ sym p.config_is) p.then_is

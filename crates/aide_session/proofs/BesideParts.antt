@@ -1,7 +1,7 @@
 -- The parts of a session beside a trusted pair, over what is seen of both sites.
-use Rattle.std.proofs.Common.{◌≡◌, ◌∙◌, ℕ, ◌≤◌, List, Option, Some, None, sym, ap, Bool, false, Ok, Err, inl, inr, ◌⊎◌}
+use Rattle.std.proofs.Common.{◌≡◌, ◌∙◌, ℕ, ◌≤◌, List, Option, Some, None, sym, ap, Bool, true, false, Ok, Err, inl, inr, ◌⊎◌}
 use Rattle.std.proofs.Common.{arith}
-use Rattle.std.specs.Prelude.{Result, IfErr, IfOk}
+use Rattle.std.specs.Prelude.{Result, IfErr, IfOk, ⊤}
 use Rattle.std.proofs.Math.Path.{subst}
 use Rattle.std.proofs.lemmas.Result.{IfErr-weaker, on_ok_weaker}
 use Rattle.aide_conf.specs.Cutting.{places}
@@ -12,13 +12,14 @@ use Rattle.aide_conf.specs.declared.fault.ConfFaultKind.TheVariants.{Memory}
 use Rattle.aide_conf.specs.declared.options.Options.{Options}
 use Rattle.aide_conf.specs.declared.task.Need.TheVariants.{Compare}
 use Rattle.aide_db.specs.DeskView.{DeskView}
+use Rattle.aide_db.specs.Side.{by_side}
 use Rattle.aide_db.specs.declared.side.Side.{Side}
 use Rattle.aide_db.specs.declared.side.Side.TheVariants.{Old, New}
 use Rattle.aide_db.specs.declared.sources.Sources.{Ghosts as AnySources}
 use Rattle.aide_report.specs.Asked.{Asked}
 use Rattle.aide_report.specs.Failures.{Rose}
 use Rattle.aide_report.specs.Missing.{IsOfReliable}
-use Rattle.aide_report.specs.Seen.{Seen, seen, sink_seen}
+use Rattle.aide_report.specs.Seen.{seen, sink_seen}
 use Rattle.aide_report.specs.declared.outcome.Outcome.{Outcome}
 use Rattle.aide_report.specs.declared.run_fault.RunFault.{RunFault}
 use Rattle.aide_report.specs.declared.run_fault.RunFault.TheVariants.{Open, Database, Changed, Write}
@@ -27,7 +28,7 @@ use Rattle.aide_session.specs.BesideEnds.{BesideView, ClosesCompared, ComparesPa
 use Rattle.aide_session.specs.BesideEnds.{MeansOfPair, StopCause}
 use Rattle.aide_session.specs.BesideEnds.{config_refused, config_too_large, config_unread, no_memory_left}
 use Rattle.aide_session.specs.BesideSession.{beside_view}
-use Rattle.aide_session.specs.Closing.{HasText}
+use Rattle.aide_session.specs.Closing.{Course, HasText}
 use Rattle.aide_session.specs.Files.{Files, is_too_large}
 use Rattle.aide_session.specs.Pointing.{KeepsFiles}
 use Rattle.aide_session.specs.Session.{view_between}
@@ -35,11 +36,12 @@ use Rattle.aide_session.specs.code.BesideParts.{HasTextBeside, IsPointed, named_
 use Rattle.aide_session.specs.code.Config.{OpensOneFile}
 use Rattle.aide_session.proofs.AnswerSteps.{IsRead as IsReadFile}
 use Rattle.aide_session.proofs.Closings.{run_cause}
-use Rattle.aide_session.proofs.Comparisons.{caused_by}
+use Rattle.aide_session.proofs.Comparisons.{caused_of}
 use Rattle.aide_session.proofs.Endings.{rose_later}
 use Rattle.aide_text.specs.declared.sink.Sink.{Ghosts as AnySink}
 use Rattle.aide_trusted.specs.BesideLines.{AreLinesBeside}
-use Rattle.aide_trusted.specs.BesideRuns.{IsFaultOfPair, RunsBeside}
+use Rattle.aide_trusted.specs.BesideRuns.{CutsBeside, IsFaultOfPair, RunsBeside}
+use Rattle.aide_trusted.specs.PairSeen.{PairSeen, pair_seen}
 use Rattle.aide_trusted.specs.Pairs.{OfEach}
 use Rattle.aide_trusted.specs.RunBeside.{IsRunBeside}
 use Rattle.aide_trusted.specs.declared.pair_fault.PairFault.{PairFault}
@@ -62,25 +64,25 @@ module _ (files : Files) (wish : Asked) (bytes_of : Side → Option (List ℕ)) 
   of_reliable (Write written) none = tt
 
 -- what a fault of a pair means over the files that its site is pointed at
-pub means_of : (files : Files) (wish : Asked) (a b : Seen) (room : ℕ) (out : Type 0) (config : List ℕ)
+pub means_of : (files : Files) (p : PairSeen) (out : Type 0) (config : List ℕ)
     (flushes_before flushes_after : ℕ) (is_flushed : Bool) (fault : RunFault)
-    → IsPointed files wish a.bytes_of a.is_missing → limits.line ≤ room
-    → IsFaultOfPair limits wish a b room out fault
-    → MeansOfPair files (named_by config wish) a.is_reliable (record {
-      opened_before = a.openings;
-      opened_after = b.openings;
-      given_after = b.was_given;
+    → IsPointed files p.asked p.before.bytes_of p.before.is_missing → limits.line ≤ p.desk_before.room
+    → IsFaultOfPair limits p out fault
+    → MeansOfPair files (named_by config p.asked) p.before.is_reliable (record {
+      opened_before = p.before.openings;
+      opened_after = p.after.openings;
+      given_after = p.after.was_given;
       flushes_before = flushes_before;
       flushes_after = flushes_after;
       is_flushed = is_flushed;
-    }) (Rose a.failures b.failures) out fault
-means_of files wish a b room out config flushes_before flushes_after is_flushed fault pointed enough means = record {
-  cause = run_cause files (named_by config wish) a.bytes_of fault _ out
-      (pointed_tells files wish a.bytes_of a.is_missing pointed config) (caused_by _ _ _ _ fault means.cause) means.right (means.memory enough);
-  reliable = λ is. of_reliable files wish a.bytes_of a.is_missing pointed config fault (means.reliable is);
+    }) (Rose p.before.failures p.after.failures) out fault
+means_of files p out config flushes_before flushes_after is_flushed fault pointed enough means = record {
+  cause = run_cause files (named_by config p.asked) p.before.bytes_of fault _ out
+      (pointed_tells files p.asked p.before.bytes_of p.before.is_missing pointed config) (caused_of _ _ _ fault means.cause) means.right
+      (means.memory enough);
+  reliable = λ is. of_reliable files p.asked p.before.bytes_of p.before.is_missing pointed config fault (means.reliable is);
   refused = means.refused;
   not_given = means.not_given;
-  opens_first = means.opens_first;
 }
 
 -- the same sites are pointed after a call that keeps what is known of the files
@@ -96,32 +98,45 @@ same_wish config wish options same = λ i. record { options = sym same i; old_pa
 
 -- ---- a run over sites that are pointed at their paths
 
-faults_mean : (files beside_files : Files) (wish beside : Asked) (a b s t : Seen) (room beside_room : ℕ) (out : Type 0) (config : List ℕ)
-    (flushes_before flushes_after : ℕ) (is_flushed : Bool) (fault : PairFault)
-    → IsPointed files wish a.bytes_of a.is_missing → IsPointed beside_files beside s.bytes_of s.is_missing
-    → limits.line ≤ room → limits.line ≤ beside_room
-    → OfEach (IsFaultOfPair limits wish a b room out) (IsFaultOfPair limits beside s t beside_room ⊥) fault
-    → OfEach (MeansOfPair files (named_by config wish) a.is_reliable (record {
-      opened_before = a.openings;
-      opened_after = b.openings;
-      given_after = b.was_given;
-      flushes_before = flushes_before;
-      flushes_after = flushes_after;
-      is_flushed = is_flushed;
-    }) (Rose a.failures b.failures) out) (MeansOfPair beside_files (named_by config beside) s.is_reliable (record {
-      opened_before = s.openings;
-      opened_after = t.openings;
-      given_after = t.was_given;
-      flushes_before = flushes_before;
-      flushes_after = flushes_after;
-      is_flushed = is_flushed;
-    }) (Rose s.failures t.failures) ⊥) fault
-faults_mean files beside_files wish beside a b s t room beside_room out config flushes_before flushes_after is_flushed (Compared fault)
-    pointed beside_pointed enough beside_enough means =
-    means_of files wish a b room out config flushes_before flushes_after is_flushed fault pointed enough means
-faults_mean files beside_files wish beside a b s t room beside_room out config flushes_before flushes_after is_flushed (Trusted fault)
-    pointed beside_pointed enough beside_enough means =
-    means_of beside_files beside s t beside_room ⊥ config flushes_before flushes_after is_flushed fault beside_pointed beside_enough means
+module _ (files beside_files : Files) (p q : PairSeen) (out : Type 0) (config : List ℕ) (flushes_before flushes_after : ℕ)
+    (is_flushed : Bool) where
+  abbrev course_seen : PairSeen → Course
+  course_seen r = record {
+    opened_before = r.before.openings;
+    opened_after = r.after.openings;
+    given_after = r.after.was_given;
+    flushes_before = flushes_before;
+    flushes_after = flushes_after;
+    is_flushed = is_flushed;
+  }
+
+  faults_mean : (fault : PairFault)
+      → IsPointed files p.asked p.before.bytes_of p.before.is_missing
+      → IsPointed beside_files q.asked q.before.bytes_of q.before.is_missing
+      → limits.line ≤ p.desk_before.room → limits.line ≤ q.desk_before.room
+      → OfEach (IsFaultOfPair limits p out) (IsFaultOfPair limits q ⊥) fault
+      → OfEach (MeansOfPair files (named_by config p.asked) p.before.is_reliable (course_seen p)
+      (Rose p.before.failures p.after.failures) out)
+      (MeansOfPair beside_files (named_by config q.asked) q.before.is_reliable (course_seen q)
+      (Rose q.before.failures q.after.failures) ⊥) fault
+  faults_mean (Compared fault) pointed beside_pointed enough beside_enough means =
+      means_of files p out config flushes_before flushes_after is_flushed fault pointed enough means
+  faults_mean (Trusted fault) pointed beside_pointed enough beside_enough means =
+      means_of beside_files q ⊥ config flushes_before flushes_after is_flushed fault beside_pointed beside_enough means
+
+-- a file that is not there is a side that is missing
+missing_file : (files : Files) (wish : Asked) (bytes_of : Side → Option (List ℕ)) (is_missing : Side → Bool) (config : List ℕ) (P : Type 0)
+    → IsPointed files wish bytes_of is_missing → ((side : Side) → is_missing side ≡ true → P) → (side : Side)
+    → files (by_side (named_by config wish).old_path (named_by config wish).new_path side) ≡ Some None → P
+missing_file files wish bytes_of is_missing config P pointed then Old gone = then Old (pointed.of_old None gone)
+missing_file files wish bytes_of is_missing config P pointed then New gone = then New (pointed.of_new None gone)
+
+-- before a fault of the trusted pair the compared texts are sound
+sound_behind : (A B : Type 0) (result : Result Outcome PairFault) → (A → B)
+    → IfErr result (OfEach (λ fault. ⊤) (λ fault. A)) → IfErr result (OfEach (λ fault. ⊤) (λ fault. B))
+sound_behind A B (Ok outcome) f sound = tt
+sound_behind A B (Err (Compared fault)) f sound = tt
+sound_behind A B (Err (Trusted fault)) f sound = f sound
 
 -- the comparison of both pairs is that of the files at their paths
 pub compares_pairs : {S R W E : Type 0} (src : AnySources S R) (w : AnySink W) (e : AnySink E) (x y p q : S) (out_old out_new : W)
@@ -129,7 +144,7 @@ pub compares_pairs : {S R W E : Type 0} (src : AnySources S R) (w : AnySink W) (
     → IsPointed (src.file_at x) wish (src.bytes_of x) (src.is_missing x)
     → IsPointed (src.file_at p) beside (src.bytes_of p) (src.is_missing p)
     → beside.options ≡ wish.options → limits.line ≤ d.room → limits.line ≤ u.room
-    → IsRunBeside limits wish beside (seen src x) (seen src y) d f (seen src p) (seen src q) u v
+    → IsRunBeside limits (pair_seen wish (seen src x) (seen src y) d f) (pair_seen beside (seen src p) (seen src q) u v)
     (sink_seen w out_old) (sink_seen w out_new) result
     → ComparesPairs (named_by config wish) (named_by config beside) wish.options result (Rose (src.failures x) (src.failures y))
     (beside_view (view_between src w e x y out_old out_new err_old err_new) (view_between src w e p q out_old out_new err_old err_new)
@@ -138,23 +153,30 @@ compares_pairs src w e x y p q out_old out_new err_old err_new d f u v wish besi
     beside_enough ran =
     let tells = pointed_tells (src.file_at x) wish (src.bytes_of x) (src.is_missing x) pointed config in
     let beside_tells = pointed_tells (src.file_at p) beside (src.bytes_of p) (src.is_missing p) beside_pointed config in
+    let asks = same_wish config beside wish.options same in
     record {
       over = λ old new trusted_old trusted_new is_old is_new is_trusted_old is_trusted_new r runs.
-          ran.over old new trusted_old trusted_new (pointed.of_old old is_old) (pointed.of_new new is_new)
-          (beside_pointed.of_old trusted_old is_trusted_old) (beside_pointed.of_new trusted_new is_trusted_new) r
-          (subst (λ (o : Asked). RunsBeside limits wish o old new trusted_old trusted_new r)
-          (same_wish config beside wish.options same) runs);
+          ran.over old new trusted_old trusted_new (pointed.of_old old is_old, pointed.of_new new is_new)
+          (beside_pointed.of_old trusted_old is_trusted_old, beside_pointed.of_new trusted_new is_trusted_new) r
+          (subst (λ (o : Asked). RunsBeside limits wish o old new trusted_old trusted_new r) asks runs);
+      cut = λ old new trusted_old trusted_new has_old has_new has_trusted_old has_trusted_new.
+          subst (λ (o : Asked). IfErr result (CutsBeside limits wish o old new trusted_old trusted_new (w.delivered out_old)
+          (w.delivered out_new))) (sym asks)
+          (ran.cut old new trusted_old trusted_new (tells Old old has_old, tells New new has_new)
+          (beside_tells Old trusted_old has_trusted_old, beside_tells New trusted_new has_trusted_new));
+      unopened = ran.unopened;
+      missing = missing_file (src.file_at x) wish (src.bytes_of x) (src.is_missing x) config _ pointed ran.missing;
+      trusted_missing = missing_file (src.file_at p) beside (src.bytes_of p) (src.is_missing p) config _ beside_pointed ran.trusted_missing;
       sound = on_ok_weaker result (λ sound side text has. sound side text (tells side text has)) ran.sound;
       trusted_sound = on_ok_weaker result (λ sound side text has. sound side text (beside_tells side text has)) ran.trusted_sound;
-      nothing = λ side text has. ran.nothing side text (tells side text has);
-      trusted_nothing = λ side text has. ran.trusted_nothing side text (beside_tells side text has);
+      behind = sound_behind _ _ result (λ sound side text has. sound side text (tells side text has)) ran.behind;
       consistent = subst (λ (o : Asked). IfOk result (λ outcome. AreLinesBeside wish o outcome (w.delivered out_old) (w.delivered out_new)))
-          (sym (same_wish config beside wish.options same)) ran.consistent;
+          (sym asks) ran.consistent;
       flushed = ran.flushed;
       flushes = ran.flushes;
-      unsent = ran.unsent;
       fault = IfErr-weaker result _ _ (λ fault means.
-          faults_mean (src.file_at x) (src.file_at p) wish beside (seen src x) (seen src y) (seen src p) (seen src q) d.room u.room
+          faults_mean (src.file_at x) (src.file_at p) (pair_seen wish (seen src x) (seen src y) d f)
+          (pair_seen beside (seen src p) (seen src q) u v)
           (Rose (w.failures out_old) (w.failures out_new)) config (w.flushes out_old) (w.flushes out_new) (w.is_flushed out_new) fault
           pointed beside_pointed enough beside_enough means) ran.fault;
       opens = ran.opens;
@@ -163,11 +185,11 @@ compares_pairs src w e x y p q out_old out_new err_old err_new d f u v wish besi
       trusted_opens_some = ran.trusted_leaves.opens_some;
       peak = ran.leaves.peak;
       below = ran.leaves.below;
-      bound = λ old new has_old has_new. ran.leaves.bound old new (tells Old old has_old) (tells New new has_new);
+      bound = λ old new has_old has_new. ran.leaves.bound old new (tells Old old has_old, tells New new has_new);
       trusted_peak = ran.trusted_leaves.peak;
       trusted_below = ran.trusted_leaves.below;
       trusted_bound = λ old new has_old has_new.
-          ran.trusted_leaves.bound old new (beside_tells Old old has_old) (beside_tells New new has_new);
+          ran.trusted_leaves.bound old new (beside_tells Old old has_old, beside_tells New new has_new);
     }
 
 -- ---- what is seen from an earlier moment

@@ -1,19 +1,25 @@
 -- The answer of a session beside a trusted pair: its output, its error lines and its status. The
 -- job and the files determine it.
-use Rattle.std.specs.Prelude.{◌≡◌, ◌⊎◌, ℕ, Bool, true, false, List, Ok, Err, Result, Option}
+use Rattle.std.specs.Prelude.{◌≡◌, ◌⊎◌, ℕ, Bool, true, false, List, [], Ok, Err, Result, Option}
 use Rattle.std.specs.Prelude.{Some, None}
+use Rattle.std.specs.Io.KnownBytes.{Appends}
 use Rattle.aide_conf.specs.ReadResult.{ReadsAs}
 use Rattle.aide_conf.specs.Settings.{Configured}
 use Rattle.aide_conf.specs.declared.fault.ConfFault.{ConfFault}
 use Rattle.aide_conf.specs.declared.task.Need.TheVariants.{Compare}
 use Rattle.aide_db.specs.Side.{by_side}
 use Rattle.aide_db.specs.declared.side.Side.{Side}
+use Rattle.aide_report.specs.Asked.{Asked}
+use Rattle.aide_report.specs.Entries.{PathChange}
+use Rattle.aide_report.specs.Report.{status_of}
 use Rattle.aide_report.specs.Runs.{Report}
-use Rattle.aide_session.specs.Answer.{Answer, Named, answer_of_run, asked_by, limits, refused}
+use Rattle.aide_session.specs.Answer.{Named, asked_by, limits}
 use Rattle.aide_session.specs.Files.{Files, is_too_large}
-use Rattle.aide_session.specs.Lines.{conf_line, too_large_line, unread_line}
+use Rattle.aide_session.specs.Lines.{conf_line, outcome_lines, too_large_line, unread_line}
 use Rattle.aide_session.specs.TrustedLines.{pair_fault_line, pair_fault_status}
-use Rattle.aide_trusted.specs.BesideRuns.{RunsBeside}
+use Rattle.aide_text.specs.Sent.{SendsPart}
+use Rattle.aide_trusted.specs.BesideLines.{BeginsBeside}
+use Rattle.aide_trusted.specs.BesideRuns.{RunsBeside, changes_between}
 use Rattle.aide_trusted.specs.declared.pair_fault.PairFault.{PairFault}
 use Rattle.aide_words.specs.BesideJob.{BesideText}
 
@@ -25,19 +31,67 @@ trusted_of job = record {
   new_path = job.trusted_new;
 }
 
+-- What goes out: all of a text. Or no more than a beginning of the first line and of the lines of some changes, each with
+-- what accounts for it by those of a trusted pair.
+pub data OutputBeside : Type 0 where
+  all_lines : List ℕ → OutputBeside
+  start_of_lines : (asked trusted : Asked) → (changes beside : List PathChange) → OutputBeside
+
+-- nothing goes out
+abbrev pub no_line : OutputBeside
+no_line = all_lines []
+
+-- this has gone out between two moments
+abbrev pub GoesOutBeside : OutputBeside → (before after : Option (List ℕ)) → Type 0
+GoesOutBeside (all_lines text) before after = Appends before after text
+GoesOutBeside (start_of_lines asked trusted changes beside) before after =
+    BeginsBeside asked trusted changes beside before after
+
+-- no more than a beginning of it has gone out
+abbrev pub StartsBeside : OutputBeside → (before after : Option (List ℕ)) → Type 0
+StartsBeside (all_lines text) before after = SendsPart text before after
+StartsBeside (start_of_lines asked trusted changes beside) before after =
+    BeginsBeside asked trusted changes beside before after
+
+-- what a session beside a trusted pair writes to standard output and to standard error, and its
+-- status
+pub record AnswerBeside : Type 0 where
+  pub output : OutputBeside
+  pub errors : List ℕ
+  pub status : ℕ
+
+-- no output, only lines on standard error, and a status
+abbrev pub refused_beside : List ℕ → ℕ → AnswerBeside
+refused_beside lines status = record { output = no_line; errors = lines; status = status }
+
+-- What has gone out when a fault is the answer, by what is at the four paths: a beginning of what comes before the
+-- last line, and nothing if a file is not there.
+abbrev pub out_beside : (asked trusted : Asked)
+    → (old new trusted_old trusted_new : Option (List ℕ)) → OutputBeside
+out_beside asked trusted (Some old) (Some new) (Some trusted_old) (Some trusted_new) =
+    start_of_lines asked trusted (changes_between old new) (changes_between trusted_old trusted_new)
+out_beside asked trusted _ _ _ _ = no_line
+
 -- The answer of a comparison beside a trusted pair, by the paths of both: what is written, or the
--- line and the status of the fault.
-abbrev pub answer_beside : (named trusted : Named) → Result Report PairFault → Answer
-answer_beside named trusted (Ok report) = answer_of_run (Ok report)
-answer_beside named trusted (Err fault) =
-    refused (pair_fault_line named.old_path named.new_path trusted.old_path trusted.new_path fault)
-    (pair_fault_status fault)
+-- line and the status of the fault. What has gone out at a fault is given.
+abbrev pub answer_beside : (at_fault : OutputBeside) → (named trusted : Named)
+    → Result Report PairFault → AnswerBeside
+answer_beside at_fault named trusted (Ok report) = record {
+  output = all_lines report.text;
+  errors = outcome_lines report.outcome;
+  status = status_of report.outcome.added report.outcome.removed report.outcome.changed;
+}
+answer_beside at_fault named trusted (Err fault) = record {
+  output = at_fault;
+  errors = pair_fault_line named.old_path named.new_path trusted.old_path trusted.new_path fault;
+  status = pair_fault_status fault;
+}
 
 -- The comparison of what is at the paths that the settings and the arguments name. At each path
 -- there is a database or no file. The answer is that of `RunsBeside`: the lines over four maps, or
 -- the first fault, in the order old, new, trusted old, trusted new.
 pub record ComparesBeside (files trusted_files : Files) (job : BesideText) (s : Configured)
-    (named : Named) (a : Answer) : Type 0 where
+    (named : Named) (a : AnswerBeside) : Type 0 where
   pub old_is : s.old_path ≡ Some named.old_path
   pub new_is : s.new_path ≡ Some named.new_path
   pub old_file : Option (List ℕ)
@@ -51,36 +105,38 @@ pub record ComparesBeside (files trusted_files : Files) (job : BesideText) (s : 
   pub run : Result Report PairFault
   pub runs : RunsBeside limits (asked_by s.options named) (asked_by s.options (trusted_of job))
       old_file new_file trusted_old_file trusted_new_file run
-  pub then_is : a ≡ answer_beside named (trusted_of job) run
+  pub then_is : a ≡ answer_beside (out_beside (asked_by s.options named)
+      (asked_by s.options (trusted_of job)) old_file new_file trusted_old_file trusted_new_file)
+      named (trusted_of job) run
 
 -- the answer, by whether the configuration reads as settings or has a fault
 abbrev pub IsReadBeside : (files trusted_files : Files) → BesideText
-    → Result Configured ConfFault → Named → Answer
+    → Result Configured ConfFault → Named → AnswerBeside
     → Type 0
 IsReadBeside files trusted_files job (Ok s) named a =
     ComparesBeside files trusted_files job s named a
-IsReadBeside files trusted_files job (Err fault) named a = a ≡ refused (conf_line fault) 17
+IsReadBeside files trusted_files job (Err fault) named a = a ≡ refused_beside (conf_line fault) 17
 
 -- the answer if the configuration has this text
 pub record IsTextBeside (files trusted_files : Files) (job : BesideText) (text : List ℕ)
-    (named : Named) (a : Answer) : Type 0 where
+    (named : Named) (a : AnswerBeside) : Type 0 where
   pub read : Result Configured ConfFault
   pub reads : ReadsAs Compare job.before text job.after read
   pub then_is : IsReadBeside files trusted_files job read named a
 
 -- the answer, by whether the configuration is too large
 abbrev pub IsSizedBeside : (files trusted_files : Files) → BesideText → Bool → List ℕ → Named
-    → Answer
+    → AnswerBeside
     → Type 0
-IsSizedBeside files trusted_files job true text named a = a ≡ refused too_large_line 17
+IsSizedBeside files trusted_files job true text named a = a ≡ refused_beside too_large_line 17
 IsSizedBeside files trusted_files job false text named a =
     IsTextBeside files trusted_files job text named a
 
 -- the answer, by what is at the configuration's path
 abbrev pub IsFileBeside : (files trusted_files : Files) → BesideText → Option (List ℕ) → Named
-    → Answer
+    → AnswerBeside
     → Type 0
-IsFileBeside files trusted_files job None named a = a ≡ refused (unread_line job.config) 18
+IsFileBeside files trusted_files job None named a = a ≡ refused_beside (unread_line job.config) 18
 IsFileBeside files trusted_files job (Some text) named a =
     IsSizedBeside files trusted_files job (is_too_large text) text named a
 
@@ -88,7 +144,7 @@ IsFileBeside files trusted_files job (Some text) named a =
 -- the configuration or of a database, or else the lines. A named file that is not there counts as a
 -- fault. `named` has the paths that the arguments and the configuration name.
 pub record IsAnswerBeside (files trusted_files : Files) (job : BesideText) (named : Named)
-    (a : Answer) : Type 0 where
+    (a : AnswerBeside) : Type 0 where
   pub config_is : named.config ≡ job.config
   pub file : Option (List ℕ)
   pub known : files job.config ≡ Some file
@@ -108,4 +164,4 @@ pub record TellsBeside (files trusted_files : Files) (job : BesideText) : Type 0
 -- the job has an answer over these files
 abbrev pub HasAnswerBeside : (files trusted_files : Files) → BesideText → Type 0
 HasAnswerBeside files trusted_files job =
-    (named : Named) × (a : Answer) × IsAnswerBeside files trusted_files job named a
+    (named : Named) × (a : AnswerBeside) × IsAnswerBeside files trusted_files job named a

@@ -7,37 +7,35 @@ use Rattle.aide_conf.specs.Settings.{Configured}
 use Rattle.aide_conf.specs.declared.fault.ConfFault.{ConfFault}
 use Rattle.aide_conf.specs.declared.options.Options.{Options}
 use Rattle.aide_conf.specs.declared.task.Need.TheVariants.{Compare}
-use Rattle.aide_db.specs.Database.{IsSound}
 use Rattle.aide_db.specs.Side.{by_side}
 use Rattle.aide_db.specs.declared.fault.DbFault.{DbFault}
 use Rattle.aide_db.specs.declared.side.Side.{Side}
-use Rattle.aide_db.specs.declared.side.Side.TheVariants.{Old}
+use Rattle.aide_db.specs.declared.side.Side.TheVariants.{Old, New}
 use Rattle.aide_entry.specs.declared.fault_kind.DbFaultKind.TheVariants.{Read}
 use Rattle.aide_report.specs.Failures.{Rose}
+use Rattle.aide_report.specs.LinesRun.{KeepsUnopened}
 use Rattle.aide_report.specs.Missing.{IsHindered}
 use Rattle.aide_report.specs.Openings.{IsNotGiven, IsRefusedThere, OpensAtMost, OpensExactly}
-use Rattle.aide_report.specs.Openings.{OpensFirst}
 use Rattle.aide_report.specs.Report.{status_of}
 use Rattle.aide_report.specs.Runs.{Report}
 use Rattle.aide_report.specs.declared.outcome.Outcome.{Outcome}
 use Rattle.aide_report.specs.declared.run_fault.RunFault.{RunFault}
 use Rattle.aide_report.specs.declared.run_fault.RunFault.TheVariants.{Open, Database}
-use Rattle.aide_session.specs.Answer.{Answer, Named, asked_by, limits}
-use Rattle.aide_session.specs.BesideAnswer.{trusted_of}
+use Rattle.aide_session.specs.Answer.{Named, asked_by, limits}
+use Rattle.aide_session.specs.BesideAnswer.{AnswerBeside, GoesOutBeside, StartsBeside, trusted_of}
 use Rattle.aide_session.specs.Closing.{AreBothSound, Course, HasText, RunCause}
-use Rattle.aide_session.specs.Ends.{Failure, FailureCause, Puts, Sinks, Starved, Whole}
+use Rattle.aide_session.specs.Ends.{Failure, FailureCause, Puts, Sinks}
 use Rattle.aide_session.specs.Ends.{failure_line}
 use Rattle.aide_session.specs.Files.{Files, IsLarge, is_too_large}
 use Rattle.aide_session.specs.Held.{HoldsWithin, most_held}
 use Rattle.aide_session.specs.Lines.{conf_line, memory_line, outcome_lines, too_large_line}
 use Rattle.aide_session.specs.Lines.{unread_line}
-use Rattle.aide_session.specs.Output.{StartsOut}
 use Rattle.aide_session.specs.TrustedLines.{pair_fault_line, pair_fault_status}
 use Rattle.aide_session.specs.TrustedLines.{trusted_database_line, trusted_open_line}
 use Rattle.aide_text.specs.Failures.{CountsFlush}
 use Rattle.aide_trusted.specs.BesideLines.{AreLinesBeside}
-use Rattle.aide_trusted.specs.BesideRuns.{EndsBeside, RunsBeside}
-use Rattle.aide_trusted.specs.Pairs.{OfEach, SendsNothingFirst}
+use Rattle.aide_trusted.specs.BesideRuns.{CutsBeside, EndsBeside, RunsBeside}
+use Rattle.aide_trusted.specs.Pairs.{OfEach}
 use Rattle.aide_trusted.specs.declared.pair_fault.PairFault.{PairFault}
 use Rattle.aide_words.specs.BesideJob.{BesideText}
 
@@ -91,23 +89,35 @@ BesideFailureCause (of_compared failure) site trusted_site out = FailureCause fa
 BesideFailureCause (trusted_unopened side) site trusted_site out = trusted_site
 BesideFailureCause (trusted_unread fault) site trusted_site out = (fault.kind ≡ Read) × trusted_site
 
+-- the session ends with the whole answer
+pub record WholeBeside (a : AnswerBeside) (status : ℕ) (sinks : Sinks) : Type 0 where
+  pub status_is : status ≡ a.status
+  pub output : GoesOutBeside a.output sinks.out_old sinks.out_new
+  pub put : Puts a.errors sinks
+
+-- the session ends out of memory, without any output
+pub record StarvedBeside (status : ℕ) (sinks : Sinks) : Type 0 where
+  pub status_is : status ≡ 22
+  pub output : Appends sinks.out_old sinks.out_new []
+  pub put : Puts memory_line sinks
+
 -- The session ends with a failure of a site or of the output, after the first bytes of the answer's
 -- output (none, some or all).
-pub record BrokenBeside (a : Answer) (named trusted : Named) (status : ℕ) (sinks : Sinks)
+pub record BrokenBeside (a : AnswerBeside) (named trusted : Named) (status : ℕ) (sinks : Sinks)
     (site trusted_site out : Type 0) : Type 0 where
   pub status_is : status ≡ 18
-  pub output : StartsOut a.output sinks.out_old sinks.out_new
+  pub output : StartsBeside a.output sinks.out_old sinks.out_new
   pub failure : BesideFailure
   pub cause : BesideFailureCause failure site trusted_site out
   pub put : Puts (beside_failure_line named trusted failure) sinks
 
 -- A session ends with the answer, out of memory, or with a failure. `site`, `trusted_site` and
 -- `out` mean that the first site, that of the trusted pair or the output has counted a failure.
-abbrev pub EndsWithin : Answer → (named trusted : Named) → ℕ → Sinks
+abbrev pub EndsWithin : AnswerBeside → (named trusted : Named) → ℕ → Sinks
     → (site trusted_site out : Type 0)
     → Type 0
-EndsWithin a named trusted status sinks site trusted_site out = Whole a status sinks
-    ⊎ (Starved a status sinks
+EndsWithin a named trusted status sinks site trusted_site out = WholeBeside a status sinks
+    ⊎ (StarvedBeside status sinks
     ⊎ BrokenBeside a named trusted status sinks site trusted_site out)
 
 -- ---- how a session ends over any sites
@@ -184,8 +194,12 @@ pub record MeansOfPair (files : Files) (named : Named) (is_reliable : Bool) (cou
   -- refused
   pub refused : IsRefusedThere course.opened_before course.opened_after fault
   pub not_given : IsNotGiven course.given_after fault
-  -- a fault of the old text comes before the new side is opened
-  pub opens_first : OpensFirst course.opened_before course.opened_after fault
+
+-- if one of the files of a pair is not there, nothing has gone out
+abbrev pub KeepsMissingFile : Files → Named → Sinks → Type 0
+KeepsMissingFile files named sinks = (side : Side)
+    → files (by_side named.old_path named.new_path side) ≡ Some None
+    → Appends sinks.out_old sinks.out_new []
 
 -- the status of a comparison
 abbrev pub compared_status : Result Outcome PairFault → ℕ
@@ -204,7 +218,7 @@ pub record ComparesPairs (named trusted : Named) (options : Options)
     (result : Result Outcome PairFault) (site : Type 0) (v : BesideView) : Type 0 where
   -- If it is known what is at each of the four paths, a text or nothing: the comparison ends with
   -- the right answer and sends its lines, unless an allocation, a file that is there, or the output
-  -- has failed. Then the beginning of the lines has gone out.
+  -- has failed.
   pub over : (old new trusted_old trusted_new : Option (List ℕ))
       → v.files named.old_path ≡ Some old → v.files named.new_path ≡ Some new
       → v.trusted_files trusted.old_path ≡ Some trusted_old
@@ -215,36 +229,41 @@ pub record ComparesPairs (named trusted : Named) (options : Options)
       → EndsBeside r (OfEach (IsHindered old new site (Rose v.out_before v.out_after))
       (IsHindered trusted_old trusted_new (Rose v.trusted_before v.trusted_after) ⊥))
       result v.sinks.out_old v.sinks.out_new
-  -- After a good comparison all four texts are sound. If one of them is not sound, nothing goes
-  -- out.
+  -- What has gone out at a fault: never a byte of the last line, unless all four texts are sound
+  -- and a write has failed.
+  pub cut : (old new trusted_old trusted_new : List ℕ) → HasText v.files named Old old
+      → HasText v.files named New new → HasText v.trusted_files trusted Old trusted_old
+      → HasText v.trusted_files trusted New trusted_new
+      → IfErr result (CutsBeside limits (asked_by options named) (asked_by options trusted)
+      old new trusted_old trusted_new v.sinks.out_old v.sinks.out_new)
+  -- Before all four databases are open nothing goes out.
+  pub unopened : IfErr result (OfEach (KeepsUnopened v.sinks.out_old v.sinks.out_new)
+      (KeepsUnopened v.sinks.out_old v.sinks.out_new))
+  pub missing : KeepsMissingFile v.files named v.sinks
+  pub trusted_missing : KeepsMissingFile v.trusted_files trusted v.sinks
+  -- After a good comparison all four texts are sound, and before a fault of the trusted pair the
+  -- compared ones.
   pub sound : OnOk result (AreBothSound v.files named)
   pub trusted_sound : OnOk result (AreBothSound v.trusted_files trusted)
-  pub nothing : (side : Side) (text : List ℕ) → HasText v.files named side text
-      → (IsSound limits text → ⊥) → Appends v.sinks.out_old v.sinks.out_new []
-  pub trusted_nothing : (side : Side) (text : List ℕ) → HasText v.trusted_files trusted side text
-      → (IsSound limits text → ⊥) → Appends v.sinks.out_old v.sinks.out_new []
+  pub behind : IfErr result (OfEach (λ fault. ⊤) (λ fault. AreBothSound v.files named))
   -- For any sites, also those that tell no files: what has gone out is of the very outcome that is
   -- returned.
   pub consistent : IfOk result (λ outcome. AreLinesBeside (asked_by options named)
       (asked_by options trusted) outcome v.sinks.out_old v.sinks.out_new)
-  -- The lines are flushed once, after their last byte, and after a fault not at all. Before all
-  -- four databases have been read nothing goes out.
+  -- The lines are flushed once, after their last byte, and after a fault not at all.
   pub flushed : OnOk result (v.course.is_flushed ≡ true)
   pub flushes : CountsFlush v.course.flushes_before v.course.flushes_after result
-  pub unsent : IfErr result (SendsNothingFirst (v.course.opened_before Old)
-      (v.course.opened_after Old) v.sinks.out_old v.sinks.out_new)
   -- what a fault means, by the pair that it is of; no write fails because of the trusted pair
   pub fault : IfErr result (OfEach (MeansOfPair v.files named v.is_reliable v.course site
       (Rose v.out_before v.out_after)) (MeansOfPair v.trusted_files trusted v.trusted_reliable
       v.trusted_course (Rose v.trusted_before v.trusted_after) ⊥))
-  -- Each side of both pairs is opened twice: to be read whole, and with the other three. After a
-  -- fault no side was opened more often.
-  pub opens : OnOk result (OpensExactly v.course.opened_before v.course.opened_after 2)
+  -- Each side of both pairs is opened once, and after a fault not more often.
+  pub opens : OnOk result (OpensExactly v.course.opened_before v.course.opened_after 1)
   pub trusted_opens : OnOk result (OpensExactly v.trusted_course.opened_before
-      v.trusted_course.opened_after 2)
-  pub opens_some : OpensAtMost v.course.opened_before v.course.opened_after 2
+      v.trusted_course.opened_after 1)
+  pub opens_some : OpensAtMost v.course.opened_before v.course.opened_after 1
   pub trusted_opens_some : OpensAtMost v.trusted_course.opened_before
-      v.trusted_course.opened_after 2
+      v.trusted_course.opened_after 1
   -- what each desk has held
   pub peak : v.peak_before ≤ v.peak_after
   pub below : v.peak_after ≤ max v.peak_before most_held

@@ -2,11 +2,12 @@
 use Rattle.std.specs.Prelude.{◌≡◌, ◌≤◌, ◌⊎◌, ℕ, true, List, Some, None, max}
 use Rattle.aide_db.specs.Count.{one_more}
 use Rattle.aide_report.specs.Failures.{Rose}
-use Rattle.aide_session.specs.Answer.{Answer, Named}
-use Rattle.aide_session.specs.BesideAnswer.{HasAnswerBeside, IsAnswerBeside, TellsBeside}
+use Rattle.aide_session.specs.Answer.{Named}
+use Rattle.aide_session.specs.BesideAnswer.{AnswerBeside, HasAnswerBeside, IsAnswerBeside, TellsBeside}
 use Rattle.aide_session.specs.BesideAnswer.{trusted_of}
 use Rattle.aide_session.specs.BesideEnds.{BesideView, EndsBesideBy, EndsWithin}
-use Rattle.aide_session.specs.Ends.{HasFailed, Starved, Whole}
+use Rattle.aide_session.specs.BesideEnds.{StarvedBeside, WholeBeside}
+use Rattle.aide_session.specs.Ends.{HasFailed}
 use Rattle.aide_session.specs.Held.{HoldsWithin, most_held}
 use Rattle.aide_session.specs.Put.{HasNoFailure}
 use Rattle.aide_session.specs.Session.{HoldsBy, IsSessionBy, SessionView}
@@ -50,20 +51,20 @@ pub record IsSessionBeside (job : BesideText) (status : ℕ) (s t : SessionView)
   -- - out of memory, with no output;
   -- - with a failure that was counted, after the first bytes of the answer's output (none, some or all). Only the
   --   output or a site that is not reliable can fail so.
-  pub ends : (named : Named) (a : Answer) → IsAnswerBeside s.files t.files job named a
+  pub ends : (named : Named) (a : AnswerBeside) → IsAnswerBeside s.files t.files job named a
       → EndsWithin a named (trusted_of job) status s.sinks
       (HasFailed s.is_reliable s.site_before s.site_after)
       (HasFailed t.is_reliable t.site_before t.site_after) (Rose s.out_before s.out_after)
   -- If no failure was counted, the session ends with the answer to the job or out of memory.
-  pub exact : (named : Named) (a : Answer) → IsAnswerBeside s.files t.files job named a
+  pub exact : (named : Named) (a : AnswerBeside) → IsAnswerBeside s.files t.files job named a
       → HasNoFailure s.site_before s.site_after → HasNoFailure t.site_before t.site_after
       → HasNoFailure s.out_before s.out_after
-      → Whole a status s.sinks ⊎ Starved a status s.sinks
+      → WholeBeside a status s.sinks ⊎ StarvedBeside status s.sinks
   -- Over reliable sites, if the output counts no failure, the session ends with the answer to the
   -- job or out of memory.
-  pub reliable : (named : Named) (a : Answer) → IsAnswerBeside s.files t.files job named a
+  pub reliable : (named : Named) (a : AnswerBeside) → IsAnswerBeside s.files t.files job named a
       → s.is_reliable ≡ true → t.is_reliable ≡ true → HasNoFailure s.out_before s.out_after
-      → Whole a status s.sinks ⊎ Starved a status s.sinks
+      → WholeBeside a status s.sinks ⊎ StarvedBeside status s.sinks
   -- If standard error counts no failure, the lines have been passed on.
   pub passed_on : HasNoFailure s.sinks.err_before s.sinks.err_after → s.is_passed_on ≡ true
   -- If it is known what is at the paths of the named files, there is an answer.
@@ -80,9 +81,9 @@ pub record IsSessionBeside (job : BesideText) (status : ℕ) (s t : SessionView)
   pub trusted_peak : desks.trusted_before ≤ desks.trusted_after
   pub trusted_below : desks.trusted_after ≤ max desks.trusted_before most_held
   -- If the texts of a pair are known, the peak of its desk rises at most to three of their lines.
-  pub bound : (named : Named) (a : Answer) → IsAnswerBeside s.files t.files job named a
+  pub bound : (named : Named) (a : AnswerBeside) → IsAnswerBeside s.files t.files job named a
       → HoldsWithin s.files named desks.before desks.after
-  pub trusted_bound : (named : Named) (a : Answer) → IsAnswerBeside s.files t.files job named a
+  pub trusted_bound : (named : Named) (a : AnswerBeside) → IsAnswerBeside s.files t.files job named a
       → HoldsWithin t.files (trusted_of job) desks.trusted_before desks.trusted_after
 
 -- A session that writes lines of JSON, whose arguments may name a trusted pair. If they name none,

@@ -7,6 +7,7 @@ ghost use Rattle.aide_session.specs.Lines.{memory_line};
 ghost use Rattle.aide_session.specs.Pointing.{KeepsFiles};
 ghost use Rattle.aide_session.specs.code.BesideParts.{IsPointed, beside_between, named_by};
 ghost use Rattle.aide_session.specs.code.Parts.{AreSame};
+ghost use Rattle.aide_trusted.specs.SamePair.{AreSamePair};
 
 use crate::comparison::{AsLines, LIMITS, LONGEST};
 use crate::devices::Devices;
@@ -17,7 +18,7 @@ use crate::trusted_lines::{pair_status, put_pair_fault};
 use aide_conf::Task;
 use aide_db::{Desk, Side};
 use aide_report::Sink;
-use aide_trusted::run_lines_beside;
+use aide_trusted::{TrustedPair, run_lines_beside};
 use aide_words::Memory;
 use std::alloc::Global;
 
@@ -47,6 +48,43 @@ fn prepare<S: Site>(
 }
 
 /// Compares the databases that both sites are pointed at. Each desk has room for any line.
+fn compare_pairs<S: Site, W: Sink, E: Sink>(
+    task: &Task<'_>,
+    devices: &mut Devices<'_, AsLines, S, W, E>,
+    pair: &mut TrustedPair<'_, S, Global>,
+) -> u8
+    requires room { 1048576 ≤ devices.old.desk.now.room }
+    requires trusted_room { 1048576 ≤ pair.old.desk.now.room }
+    ensures same { AreSame devices.old devices.new }
+    ensures same_pair { AreSamePair pair.old pair.new }
+    ensures closes { (config : List ℕ)
+        → IsPointed (S.file_at devices.old.site.now) (asked task.now)
+        (S.bytes_of devices.old.site.now) (S.is_missing devices.old.site.now)
+        → IsPointed (S.file_at pair.old.sources.now) (asked pair.old.task.now)
+        (S.bytes_of pair.old.sources.now) (S.is_missing pair.old.sources.now)
+        → pair.old.task.now.options ≡ task.now.options
+        → ClosesCompared (named_by config (asked task.now))
+        (named_by config (asked pair.old.task.now)) task.now.options result
+        (Rose (S.failures devices.old.site.now) (S.failures devices.new.site.now))
+        (beside_between S.Sources W.Sink E.Sink devices.old devices.new
+        pair.old.desk.now pair.new.desk.now pair.old.sources.now pair.new.sources.now) }
+    ensures lookups { S.lookups devices.new.site.now ≡ S.lookups devices.old.site.now }
+    ensures trusted_lookups { S.lookups pair.new.sources.now ≡ S.lookups pair.old.sources.now }
+{
+    let trusted_task = pair.task;
+    match run_lines_beside(task, LIMITS, devices.desk, devices.site, pair, devices.out) {
+        Ok(outcome) => {
+            put_outcome_lines(devices.err, &outcome);
+            outcome.status()
+        }
+        Err(fault) => {
+            put_pair_fault(devices.err, task, trusted_task, fault);
+            pair_status(fault)
+        }
+    }
+}
+
+/// Compares the databases of both tasks, which the sites are pointed at.
 fn run_pairs<S: Site, W: Sink, E: Sink>(
     task: &Task<'_>,
     trusted_task: &Task<'_>,
@@ -71,25 +109,12 @@ fn run_pairs<S: Site, W: Sink, E: Sink>(
     ensures lookups { S.lookups devices.new.site.now ≡ S.lookups devices.old.site.now }
     ensures trusted_lookups { S.lookups trusted.new ≡ S.lookups trusted.old }
 {
-    match run_lines_beside(
-        task,
-        trusted_task,
-        LIMITS,
-        devices.desk,
-        devices.site,
-        trusted_desk,
-        trusted,
-        devices.out,
-    ) {
-        Ok(outcome) => {
-            put_outcome_lines(devices.err, &outcome);
-            outcome.status()
-        }
-        Err(fault) => {
-            put_pair_fault(devices.err, task, trusted_task, fault);
-            pair_status(fault)
-        }
-    }
+    let mut pair = TrustedPair {
+        task: &*trusted_task,
+        desk: trusted_desk,
+        sources: trusted,
+    };
+    compare_pairs(task, devices, &mut pair)
 }
 
 /// Points both sites at their databases, reserves what a comparison may hold, and compares the

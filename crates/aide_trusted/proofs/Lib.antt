@@ -6,4 +6,5 @@ pub mod Laws
 pub mod PairLemmas
 pub mod ReadLemmas
 pub mod EndLemmas
+pub mod BesideLaws
 pub mod RunLemmas

@@ -1,7 +1,7 @@
 use Rattle.std.proofs.Common.{arith}
 use Rattle.std.specs.Prelude.{Some}
 use Rattle.aide_session.specs.Answer.{asked_by, limits}
-use Rattle.aide_session.specs.BesideAnswer.{answer_beside, trusted_of}
+use Rattle.aide_session.specs.BesideAnswer.{answer_beside, out_beside, trusted_of}
 use Rattle.aide_session.proofs.BesideExistence.{RunsBeside-exists}
 use Rattle.aide_session.proofs.BesideLaws.{answer_by_what_is_asked_beside}
 use Rattle.aide_headline.proofs.BesideLaws.{right_is_the_answer}
@@ -9,7 +9,9 @@ use Rattle.aide_headline.proofs.beside_program.run_beside_program.Goals as goal
 
 pub returns-clause-answer : goal.returns-clause-answer
 returns-clause-answer g c job named settings old new trusted_old trusted_new asks site trusted out right is =
-    (c.lines_session_beside_on.ensures.session.beside job asks.job_is).exact named (answer_beside named (trusted_of job) right)
+    (c.lines_session_beside_on.ensures.session.beside job asks.job_is).exact named
+    (answer_beside (out_beside (asked_by settings.options named) (asked_by settings.options (trusted_of job)) (Some old) (Some new)
+    (Some trusted_old) (Some trusted_new)) named (trusted_of job) right)
     (answer_by_what_is_asked_beside (g.S.Sources.file_at c.args.site.now) (g.S.Sources.file_at c.args.trusted.now) c.args.words.now job
     named
     settings old new trusted_old trusted_new right asks
@@ -23,7 +25,9 @@ returns-clause-bound g c job named settings old new trusted_old trusted_new asks
     let right = RunsBeside-exists limits (asked_by settings.options named) (asked_by settings.options (trusted_of job)) (Some old)
     (Some new)
     (Some trusted_old) (Some trusted_new) (omega arith) in
-    (c.lines_session_beside_on.ensures.session.beside job asks.job_is).bound named (answer_beside named (trusted_of job) right.0)
+    (c.lines_session_beside_on.ensures.session.beside job asks.job_is).bound named
+    (answer_beside (out_beside (asked_by settings.options named) (asked_by settings.options (trusted_of job)) (Some old) (Some new)
+    (Some trusted_old) (Some trusted_new)) named (trusted_of job) right.0)
     (answer_by_what_is_asked_beside (g.S.Sources.file_at c.args.site.now) (g.S.Sources.file_at c.args.trusted.now) c.args.words.now job
     named
     settings old new trusted_old trusted_new right.0 asks right.1)
@@ -34,7 +38,9 @@ returns-clause-trusted_bound g c job named settings old new trusted_old trusted_
     let right = RunsBeside-exists limits (asked_by settings.options named) (asked_by settings.options (trusted_of job)) (Some old)
     (Some new)
     (Some trusted_old) (Some trusted_new) (omega arith) in
-    (c.lines_session_beside_on.ensures.session.beside job asks.job_is).trusted_bound named (answer_beside named (trusted_of job) right.0)
+    (c.lines_session_beside_on.ensures.session.beside job asks.job_is).trusted_bound named
+    (answer_beside (out_beside (asked_by settings.options named) (asked_by settings.options (trusted_of job)) (Some old) (Some new)
+    (Some trusted_old) (Some trusted_new)) named (trusted_of job) right.0)
     (answer_by_what_is_asked_beside (g.S.Sources.file_at c.args.site.now) (g.S.Sources.file_at c.args.trusted.now) c.args.words.now job
     named
     settings old new trusted_old trusted_new right.0 asks right.1)
