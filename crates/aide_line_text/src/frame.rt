@@ -103,19 +103,19 @@ fn put_read_behind<W: Sink>(out: &mut W, pen: &mut Pen, name: &[u8], read: &Read
 pub fn put_closing_line<W: Sink>(
     out: &mut W,
     pen: &mut Pen,
-    old: &Read<'_>,
-    new: &Read<'_>,
+    pair: &ReadPair<'_>,
     counts: &LineCounts,
     has_trusted: bool,
     status: u8,
 )
-    ensures { Wrote (closing_line (facts_read old.now) (facts_read new.now) has_trusted counts.now status)
+    ensures { Wrote (closing_line (facts_read pair.now.old) (facts_read pair.now.new)
+        has_trusted counts.now status)
         (on_sheet W.Sink out.old pen.old) (on_sheet W.Sink out.new pen.new) }
 {
     put(out, pen, b"{");
     put_literal_member(out, pen, b"end", b"true");
-    put_read_behind(out, pen, b"old", old);
-    put_read_behind(out, pen, b"new", new);
+    put_read_behind(out, pen, b"old", &pair.old);
+    put_read_behind(out, pen, b"new", &pair.new);
     put(out, pen, b",");
     put_counts(out, pen, counts);
     put(out, pen, b",");

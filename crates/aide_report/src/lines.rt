@@ -31,7 +31,7 @@ use crate::pass::{close_both, read_to_end};
 use crate::run_fault::RunFault;
 use aide_conf::Task;
 use aide_db::{DbFault, Desk, Limits, OpenFault, Reel, Side, Sources};
-use aide_line_text::{LineCounts, Read, put_closing_line, put_opening_line};
+use aide_line_text::{LineCounts, Read, ReadPair, put_closing_line, put_opening_line};
 use aide_text::{Pen, Sink};
 use std::alloc::Allocator;
 
@@ -65,7 +65,7 @@ fn put_last<W: Sink>(out: &mut W, pen: &mut Pen, found: &Found)
         skipped: found.readings.skipped_new,
     };
     let status = outcome_of(&found.counts, &found.readings).status();
-    put_closing_line(out, pen, &old, &new, &found.counts, false, status);
+    put_closing_line(out, pen, &ReadPair { old, new }, &found.counts, false, status);
 }
 
 /// Reads the old database to its end, and closes it.

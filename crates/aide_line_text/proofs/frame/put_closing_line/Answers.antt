@@ -12,8 +12,8 @@ unfolding closing_line
 returns g c =
     let n = c.args.counts.now in
     wrote_as (closing_parts (member (codes "end") (codes "true"))
-    (member (codes "old") (read_object (facts_read c.args.old.now)))
-    (member (codes "new") (read_object (facts_read c.args.new.now)))
+    (member (codes "old") (read_object (facts_read c.args.pair.now.old)))
+    (member (codes "new") (read_object (facts_read c.args.pair.now.new)))
     (count_member (codes "total") n.total)
     (count_member (codes "added") n.added) (count_member (codes "removed") n.removed)
     (count_member (codes "changed") n.changed) (count_member (codes "same_as_old") n.same_as_old)
