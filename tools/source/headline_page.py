@@ -21,8 +21,7 @@ PROGRAM = "crates/aide_headline/src/program.rt"
 COMPARE_LINES = "crates/aide_headline/src/lines.rt"
 PROGRAM_LINES = "crates/aide_headline/src/lines_program.rt"
 PROGRAM_BESIDE = "crates/aide_headline/src/beside_program.rt"
-RUN = "crates/aide_report/src/comparison.rt"
-RUN_BY = "crates/aide_report/specs/RunBy.antt"
+RUN_RECORD = "crates/aide_report/specs/Run.antt"
 # What contracts see of a desk, which no clause names by its type.
 DESK = ("aide_db", "DeskView", "DeskView")
 # What a configuration means and what arguments ask for are premises of the second call. Their
@@ -75,9 +74,8 @@ OF_PROGRAM = "The whole program, by arguments and files"
 OF_PAIR = "The whole program, if its arguments name a trusted pair"
 FILES = """\
 Contracts do not see the bytes of a machine's files, so no clause above speaks
-of them. Two fields of the record that `run` promises do. In them `w` is
-`as_report`, `a` and `b` are the sources before and after the call, and `o` and
-`p` the output:"""
+of them. Two fields of the record that `run` promises do. In them `a` and `b`
+are the sources before and after the call, and `o` and `p` the output:"""
 
 
 def contract_of(text, name):
@@ -172,10 +170,10 @@ def begun(intro, definitions, calls, printed=()):
 
 def pages():
     """The texts of both pages, by their names."""
-    definitions, run = Definitions(crates()), read(RUN)
+    definitions, record = Definitions(crates()), read(RUN_RECORD)
     calls = [(OF_TWO, COMPARE, "compare_databases"), (OF_PROGRAM, PROGRAM, "run_program")]
     made, (compare, program) = begun(INTRO, definitions, calls)
-    told = "\n".join(fields_of(read(RUN_BY), ["consistent", "opens_told"]))
+    told = "\n".join(fields_of(record, ["consistent", "opens_told"]))
     made.part("What the first call rests on", [], compare, imports_of(read(COMPARE)))
     made.part(
         "What the second call has besides",
@@ -188,8 +186,8 @@ def pages():
     made.part(
         "Only for files that tell no bytes",
         [FILES, "", "```text", told, "```", ""],
-        told + " as_report",
-        imports_of(run),
+        told,
+        imports_of(record),
     )
     made.add(
         "",

@@ -28,7 +28,7 @@ use Rattle.aide_report.specs.LineRuns.{facts_of, lines_over}
 use Rattle.aide_report.specs.LineCounts.{line_counts, status_by}
 use Rattle.aide_report.specs.Lines.{all_lines}
 use Rattle.aide_report.specs.Sections.{all_listed, is_in}
-use Rattle.aide_report.specs.code.Merged.{merged, weave}
+use Rattle.aide_report.specs.Merged.{merged, weave}
 use Rattle.aide_report.proofs.MergeLemmas.{changes-merged}
 use Rattle.aide_line_text.specs.Ends.{last_line}
 use Rattle.aide_line_text.specs.declared.counts.LineCounts.{LineCounts}

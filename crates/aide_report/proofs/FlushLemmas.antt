@@ -11,15 +11,12 @@ use Rattle.aide_text.specs.declared.pen.Pen.{Pen}
 use Rattle.aide_text.specs.declared.sink.Sink.{Ghosts as Sinks}
 use Rattle.aide_text.proofs.Sheets.{wrote_part}
 use Rattle.aide_report.specs.Agreement.{BeginsWith}
-use Rattle.aide_report.specs.LineRuns.{Frames}
 use Rattle.aide_report.specs.code.Flushes.{EndsFlushed}
 use Rattle.aide_report.specs.code.PassFaults.{Writes}
 use Rattle.aide_report.specs.code.Passes.{FlushesOnce, KeepsPen, Passes}
 use Rattle.aide_report.specs.Seen.{Seen}
-use Rattle.aide_report.specs.code.WrittenLines.{WritesFrame}
 use Rattle.aide_report.specs.declared.run_fault.RunFault.{RunFault}
 use Rattle.aide_report.proofs.AgreementLemmas.{begins, unflushed}
-use Rattle.aide_report.proofs.LineRunLemmas.{framed}
 use Rattle.aide_report.proofs.PassLemmas.{passes_broken, passes_err, passes_same}
 use Rattle.aide_report.proofs.ReportLemmas.{count_of_pen, counts_of_pen, flushed_count, flushed_part, flushed_whole, never_falls}
 use Rattle.aide_report.proofs.ReportLemmas.{rises_by_one, rose_by_one, rose_of_pen, unfailed, written_of_pen}
@@ -91,22 +88,3 @@ module _ {W : Type 0} (s : Sinks W) (start a b : W) (first pen : Pen) (is_new : 
   flushed_begins text more (Ok answer) (Err fault) ends kept begun = tt
   flushed_begins {T} text more (Err fault) result ends kept begun =
       subst (λ (r : Result T RunFault). OnOk r (BeginsWith text more (s.delivered start) (s.delivered b))) (sym ends.0) tt
-
-  pub flushed_answer : {T : Type 0} (P : T → Type 0) (written result : Result T RunFault)
-      → EndsFlushed s a b pen.sent written result → IfOk written P → IfOk result P
-  flushed_answer P (Ok answer) (Ok done) ends holds = subst P (sym ends.answers) holds
-  flushed_answer P (Ok answer) (Err fault) ends holds = tt
-  flushed_answer {T} P (Err fault) result ends holds = subst (λ (r : Result T RunFault). IfOk r P) (sym ends.0) tt
-
-  pub flushed_frames : {T : Type 0} (first_line last_line : T → List ℕ) (lines : T → ℕ) (written result : Result T RunFault)
-      → EndsFlushed s a b pen.sent written result → KeepsPen (on_sheet s start first) (on_sheet s a pen) pen written
-      → IfOk written (λ counts. WritesFrame (first_line counts) (last_line counts) (lines counts)
-      (on_sheet s start first) (on_sheet s a pen))
-      → IfOk result (λ counts. Frames (first_line counts) (last_line counts) (lines counts) (s.delivered start) (s.delivered b))
-  flushed_frames first_line last_line lines (Ok answer) (Ok done) ends kept frame =
-      subst (λ counts. Frames (first_line counts) (last_line counts) (lines counts) (s.delivered start) (s.delivered b))
-      (sym ends.answers) (framed (s.delivered b) fresh kept.writes_on frame ends.bytes)
-  flushed_frames first_line last_line lines (Ok answer) (Err fault) ends kept frame = tt
-  flushed_frames {T} first_line last_line lines (Err fault) result ends kept frame =
-      subst (λ (r : Result T RunFault). IfOk r (λ counts. Frames (first_line counts) (last_line counts) (lines counts)
-      (s.delivered start) (s.delivered b))) (sym ends.0) tt

@@ -23,7 +23,7 @@ pub mod BoundLemmas
 pub mod CountLemmas
 pub mod FirstFaults
 pub mod RunLemmas
-pub mod RunByLemmas
+pub mod RunRecords
 pub mod FlushLemmas
 pub mod LineRunLemmas
 pub mod FaultLemmas
@@ -37,4 +37,3 @@ pub mod PassLemmas
 pub mod ReadingLemmas
 pub mod OneReadingLemmas
 pub mod LinesRunLemmas
-pub mod CutLemmas

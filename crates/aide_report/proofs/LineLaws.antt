@@ -16,7 +16,7 @@ use Rattle.aide_report.specs.Compare.{changes}
 use Rattle.aide_report.specs.Entries.{PathChange}
 use Rattle.aide_report.specs.LineCounts.{account_count, entry_count, is_line_with, is_old, is_other, is_trusted}
 use Rattle.aide_report.specs.LineCounts.{line_counts}
-use Rattle.aide_report.specs.LineRuns.{lines_over}
+use Rattle.aide_report.specs.LinesRead.{lines_read}
 use Rattle.aide_report.specs.Missing.{RunsOverBy, run_answer}
 use Rattle.aide_report.specs.Runs.{Report, RunsBy, report_over}
 use Rattle.aide_report.specs.Sections.{all_listed, is_in}
@@ -62,8 +62,8 @@ at_widest wish = record wish { options = widest wish.options }
 
 -- The outcome of the lines is that of the report at that level, and so are the status and the counts.
 pub lines_have_the_outcome_of_the_report : (wish : Asked) (old new : List ℕ)
-    → (lines_over wish old new).outcome ≡ (report_over (at_widest wish) old new).outcome
-unfolding lines_over report_over
+    → (lines_read wish old new).outcome ≡ (report_over (at_widest wish) old new).outcome
+unfolding lines_read report_over
 lines_have_the_outcome_of_the_report wish old new = refl
 
 or_nothing : (b : Bool) → b ≡ (b || false)
@@ -87,12 +87,12 @@ lines_are_of_all_entries options change = refl
 -- ---- the right answer of a run that writes lines
 
 abbrev pub HasLines : Limits → Asked → Option (List ℕ) → Option (List ℕ) → Type 0
-HasLines limits wish old new = (r : Result Report RunFault) × RunsOverBy limits (lines_over wish) old new r
+HasLines limits wish old new = (r : Result Report RunFault) × RunsOverBy limits (lines_read wish) old new r
 
 lines_for : (limits : Limits) (wish : Asked) (old new : List ℕ) (run : Result Report DbFault)
     → RunsBy limits (report_over wish) old new run → HasLines limits wish (Some old) (Some new)
 lines_for limits wish old new (Ok report) runs =
-    (Ok (lines_over wish old new), (Ok (lines_over wish old new), (runs.0, runs.1, refl), refl))
+    (Ok (lines_read wish old new), (Ok (lines_read wish old new), (runs.0, runs.1, refl), refl))
 lines_for limits wish old new (Err fault) runs = (run_answer (Err fault), (Err fault, runs, refl))
 
 -- Whatever is at each side, a text or nothing, there is a right answer.
@@ -105,8 +105,8 @@ every_pair_has_lines limits wish (Some old) (Some new) le =
 
 -- There are no two.
 pub no_pair_has_two_lines : (limits : Limits) (wish : Asked) (old new : Option (List ℕ)) (r s : Result Report RunFault)
-    → RunsOverBy limits (lines_over wish) old new r → RunsOverBy limits (lines_over wish) old new s → r ≡ s
+    → RunsOverBy limits (lines_read wish) old new r → RunsOverBy limits (lines_read wish) old new s → r ≡ s
 no_pair_has_two_lines limits wish None new r s a b = RunsOver-unique limits wish None new r s a b
 no_pair_has_two_lines limits wish (Some old) None r s a b = RunsOver-unique limits wish (Some old) None r s a b
 no_pair_has_two_lines limits wish (Some old) (Some new) r s a b =
-    a.2 ∙ ap run_answer (RunsBy-unique limits (lines_over wish) old new a.0 b.0 a.1 b.1) ∙ sym b.2
+    a.2 ∙ ap run_answer (RunsBy-unique limits (lines_read wish) old new a.0 b.0 a.1 b.1) ∙ sym b.2

@@ -188,7 +188,8 @@ begun_then_closed limits wish old new sound_old sound_new =
 
 -- ---- the whole run
 
-cut_by : {W : Type 0} (s : Sinks W) (out sent : W) (limits : Limits) (wish : Asked) (old new : List ℕ) (fault : RunFault) → SendsPart (told_lines wish old new) (s.delivered out) (s.delivered sent)
+cut_by : {W : Type 0} (s : Sinks W) (out sent : W) (limits : Limits) (wish : Asked) (old new : List ℕ) (fault : RunFault)
+    → SendsPart (told_lines wish old new) (s.delivered out) (s.delivered sent)
     → SendsBegun limits wish old new (s.delivered out) (s.delivered sent) fault
     → CutsLines limits wish old new (s.delivered out) (s.delivered sent) fault
 cut_by s out sent limits wish old new (Open side) sends begun = begun
@@ -286,7 +287,8 @@ module _ (limits : Limits) (wish : Asked) {a b : Seen} {d e f : DeskView} {W : T
       record {
         over = λ old new told_old told_new r runs. stops_for_other limits (report_over wish) (lines_read wish)
             (IsHindered old new sources sink) fault old new r (λ x answers. is.over wish old new told_old told_new x answers) runs;
-        cut = λ old new told_old told_new. cut_by s out sent limits wish old new fault (sends old new told_old told_new) (begun old new told_old told_new);
+        cut = λ old new told_old told_new. cut_by s out sent limits wish old new fault (sends old new told_old told_new)
+            (begun old new told_old told_new);
         unopened = unopened;
         missing = missing;
         reliable = is.reliable;

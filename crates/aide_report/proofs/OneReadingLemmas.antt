@@ -209,7 +209,8 @@ fault_as {a = a} {b = b} {sink = sink} {next = next} {fault = fault} f p =
       unchanged = p.unchanged;
       first = p.first;
       over = λ wish old new told_old told_new r runs.
-          stops_by r (IsHindered old new sources sink) (IsHindered old new sources next) fault (hindered_as old new sources sink next fault f)
+          stops_by r (IsHindered old new sources sink) (IsHindered old new sources next) fault
+              (hindered_as old new sources sink next fault f)
           (p.over wish old new told_old told_new r runs);
       refused = p.refused;
       not_given = p.not_given;
@@ -277,7 +278,8 @@ module _ {R : Type 0} {r : Reels R} {limits : Limits} {a b c : Seen} {e : DeskVi
 
 -- why the pass over both sides was broken off
 pub stops_pass : {R : Type 0} {r : Reels R} {limits : Limits} {a b c : Seen} {e : DeskView} {m : Merge R} {before : ℕ}
-    (n : Merge R) (fault : PassFault) (sent : ℕ) (pen : Pen) → KeepsSources a b → KeepsSources b c → ((side : Side) → a.is_missing side ≡ false)
+    (n : Merge R) (fault : PassFault) (sent : ℕ) (pen : Pen) → KeepsSources a b → KeepsSources b c
+    → ((side : Side) → a.is_missing side ≡ false)
     → IsOpened r limits a.bytes_of m e → e.room ≡ before
     → (0 < reels_failed r.failures n → Rose b.failures c.failures) → (b.is_reliable ≡ true → reels_failed r.failures n ≡ 0)
     → IsLinesStop r m n e pen fault → IsReadFault limits a c before (pen.failed ≡ true) (stop_of fault sent)

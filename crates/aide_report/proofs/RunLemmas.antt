@@ -18,7 +18,7 @@ use Rattle.aide_report.specs.Changed.{differ_by}
 use Rattle.aide_report.specs.Changes.{is_added, is_removed, is_changed, is_of_new}
 use Rattle.aide_report.specs.Compare.{changes, added, removed, changed}
 use Rattle.aide_report.specs.code.Counts.{Completes}
-use Rattle.aide_report.specs.code.Merged.{merged}
+use Rattle.aide_report.specs.Merged.{merged}
 use Rattle.aide_report.specs.Entries.{is_shown_entry}
 use Rattle.aide_report.specs.code.Finding.{IsFinding, old_origin, new_origin, pass_of}
 use Rattle.aide_report.specs.declared.outcome.Outcome.{Outcome}

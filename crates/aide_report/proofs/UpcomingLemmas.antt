@@ -7,7 +7,7 @@ use Rattle.aide_db.specs.declared.side.Side.TheVariants.{Old, New}
 use Rattle.aide_entry.specs.Path.{path_cmp}
 use Rattle.aide_report.specs.Entries.{PathChange}
 use Rattle.aide_report.specs.Standing.{rest_of}
-use Rattle.aide_report.specs.code.Merged.{merged}
+use Rattle.aide_report.specs.Merged.{merged}
 use Rattle.aide_report.specs.code.Merging.{IsNotDue, IsReady, remaining}
 use Rattle.aide_report.specs.code.NextEntry.{ahead}
 use Rattle.aide_report.specs.code.NextPath.{old_after, new_after}

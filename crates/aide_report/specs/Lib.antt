@@ -10,6 +10,7 @@ pub use Rattle.aide_text.specs.Overview
 pub use Rattle.aide_text.specs.Titles
 pub mod Compare
 pub mod Changes
+pub mod Merged
 pub mod Standing
 pub mod Bound
 pub mod Changed
@@ -26,11 +27,9 @@ pub mod Room
 pub mod Runs
 pub mod Seen
 pub mod Agreement
-pub mod Lines
 pub mod LineRuns
 pub mod LinesRead
 pub mod LinesRun
 pub mod Missing
-pub mod Written
-pub mod RunBy
+pub mod Run
 pub mod code

@@ -13,7 +13,7 @@ use Rattle.aide_report.specs.Compare.{changes}
 use Rattle.aide_report.specs.Entries.{PathChange}
 use Rattle.aide_report.specs.LineCounts.{line_counts, status_by}
 use Rattle.aide_report.specs.Runs.{Report, report_over}
-use Rattle.aide_report.specs.code.Merged.{merged}
+use Rattle.aide_report.specs.Merged.{merged}
 
 -- what the last line says of a database: the SHA-256 of its text, and the columns that were skipped
 abbrev pub read_of : List ℕ → ReadFacts

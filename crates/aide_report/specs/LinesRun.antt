@@ -1,7 +1,7 @@
 -- What a run that writes lines of JSON promises. It reads each database once.
 use Rattle.std.specs.Io.KnownBytes.{Appends}
-use Rattle.std.specs.Prelude.{◌≡◌, ◌≤◌, ◌*◌, ℕ, ◌++◌, true, false, [], List, Option, Some, Result, Ok, Err}
-use Rattle.std.specs.Prelude.{IfErr, IfOk, OnOk, max, ⊤}
+use Rattle.std.specs.Prelude.{◌≡◌, ◌≤◌, ◌*◌, ℕ, ◌++◌, true, false, [], List, Option, Some, Result}
+use Rattle.std.specs.Prelude.{Ok, Err, IfErr, IfOk, OnOk, max, ⊤}
 use Rattle.aide_db.specs.Database.{IsSound}
 use Rattle.aide_db.specs.DeskView.{DeskView}
 use Rattle.aide_db.specs.Longest.{longest_line}
@@ -25,7 +25,8 @@ use Rattle.aide_report.specs.Seen.{Seen, SinkSeen}
 use Rattle.aide_report.specs.declared.outcome.Outcome.{Outcome}
 use Rattle.aide_db.specs.declared.fault.DbFault.{DbFault}
 use Rattle.aide_report.specs.declared.run_fault.RunFault.{RunFault}
-use Rattle.aide_report.specs.declared.run_fault.RunFault.TheVariants.{Open, Database, Changed, Write}
+use Rattle.aide_report.specs.declared.run_fault.RunFault.TheVariants.{Open, Database, Changed}
+use Rattle.aide_report.specs.declared.run_fault.RunFault.TheVariants.{Write}
 use Rattle.aide_text.specs.Failures.{CountsFlush, Rose}
 use Rattle.aide_text.specs.Sent.{SendsPart}
 
@@ -36,11 +37,13 @@ EndsBy r hindered (Ok outcome) before after = SendsWhole r outcome before after
 EndsBy r hindered (Err fault) before after = StopsFor r hindered fault
 
 -- What has gone out at a fault: never a byte of the last line, unless both texts are sound and a write has failed.
-abbrev pub CutsLines : Limits → Asked → (old new : List ℕ) → (before after : Option (List ℕ)) → RunFault
-    → Type 0
+abbrev pub CutsLines : Limits → Asked → (old new : List ℕ) → (before after : Option (List ℕ))
+    → RunFault → Type 0
 CutsLines limits asked old new before after (Write written) =
-    (IsSound limits old → IsSound limits new → SendsPart (lines_read asked old new).text before after)
-    × ((IsSound limits old → IsSound limits new → ⊥) → SendsPart (lines_begun asked old new) before after)
+    (IsSound limits old → IsSound limits new
+    → SendsPart (lines_read asked old new).text before after)
+    × ((IsSound limits old → IsSound limits new → ⊥)
+    → SendsPart (lines_begun asked old new) before after)
 CutsLines limits asked old new before after _ = SendsPart (lines_begun asked old new) before after
 
 -- if a side could not be opened, nothing has gone out
@@ -55,9 +58,10 @@ ComesOf (Database fault) sources sink first = Causes fault.kind sources (first f
 ComesOf (Changed side) sources sink first = ⊥
 ComesOf (Write written) sources sink first = sink
 
--- The first line has gone out with the paths, the last line with some digests, the skipped columns and the counts of this
--- outcome, and bytes between them only if an entry was added, removed or changed.
-pub record AreLinesRead (asked : Asked) (outcome : Outcome) (old new : Option (List ℕ)) : Type 0 where
+-- The first line has gone out with the paths, the last line with some digests, the skipped columns and the counts of
+-- this outcome, and bytes between them only if an entry was added, removed or changed.
+pub record AreLinesRead (asked : Asked) (outcome : Outcome)
+    (old new : Option (List ℕ)) : Type 0 where
   pub old_digest : List ℕ
   pub new_digest : List ℕ
   pub counts : LineCounts
@@ -66,15 +70,16 @@ pub record AreLinesRead (asked : Asked) (outcome : Outcome) (old new : Option (L
   pub between : List ℕ
   pub bytes : Appends old new ((opening_line asked.old_path asked.new_path ++ between)
       ++ closing_line (record { digest = old_digest; skipped = outcome.skipped_old })
-      (record { digest = new_digest; skipped = outcome.skipped_new }) false counts (status_by counts))
+      (record { digest = new_digest; skipped = outcome.skipped_new }) false counts
+      (status_by counts))
   pub alone : entry_count counts ≡ 0 → between ≡ []
 
 -- A run with this result: `a` is seen of the sources before it and `b` after it, `d` and `e` of the desk, `o` and `p`
 -- of the sink.
 pub record IsLinesRun (limits : Limits) (asked : Asked) (a b : Seen) (d e : DeskView)
     (o p : SinkSeen) (result : Result Outcome RunFault) : Type 0 where
-  -- If it is told what is at each side, a text or nothing: the run ends with the right answer, and all of its lines have
-  -- gone out, unless an allocation, a side that is there, or the sink has failed.
+  -- If it is told what is at each side, a text or nothing: the run ends with the right answer, and all of its lines
+  -- have gone out, unless an allocation, a side that is there, or the sink has failed.
   pub over : (old new : Option (List ℕ)) → TellsSide (a.bytes_of Old) (a.is_missing Old) old
       → TellsSide (a.bytes_of New) (a.is_missing New) new
       → (r : Result Report RunFault) → RunsOverBy limits (lines_read asked) old new r

@@ -1,5 +1,4 @@
 -- Definitions for steps inside the code. No clause of a public call cites them.
-pub mod Merged
 pub mod NextEntry
 pub mod NextPath
 pub mod Merging
@@ -16,4 +15,3 @@ pub mod Readings
 pub mod MergeCalls
 pub mod LineTally
 pub mod OneReading
-pub mod WrittenLines

@@ -3,10 +3,9 @@ ghost use Rattle.std.specs.Prelude.{◌≤◌, ◌^◌, ℕ, List, Option, Resul
 ghost use Rattle.aide_report.specs.Asked.{Asked, asked};
 ghost use Rattle.aide_report.specs.Missing.{IsHindered, RunsOver, StopsFor, TellsSide};
 ghost use Rattle.aide_report.specs.Openings.{OpensExactly, OpensAtMost};
-ghost use Rattle.aide_report.specs.RunBy.{IsRunBy};
+ghost use Rattle.aide_report.specs.Run.{IsRun};
 ghost use Rattle.aide_report.specs.Runs.{Report};
 ghost use Rattle.aide_report.specs.Seen.{AreLimits, KeepsSources, seen, sink_seen};
-ghost use Rattle.aide_report.specs.Written.{as_report};
 ghost use Rattle.aide_report.specs.code.Readings.{AreRead, ClearsDesk, IsFindingFault, IsFound};
 ghost use Rattle.aide_text.specs.Failures.{Rose};
 
@@ -123,7 +122,7 @@ pub(crate) fn compare<S: Sources, A: Allocator + Copy>(
 ///   peak is the most that it ever held.
 /// - If `limits.line` is at most the room that was reserved on the desk, the run never lacks memory for a line.
 ///
-/// `limits.line` has to be at least 14, and `limits.bytes` at most 2^60. What is promised is the fields of `IsRunBy`.
+/// `limits.line` has to be at least 14, and `limits.bytes` at most 2^60. What is promised is the fields of `IsRun`.
 pub fn run<S: Sources, W: Sink, A: Allocator + Copy>(
     task: &Task<'_>,
     limits: Limits,
@@ -133,7 +132,7 @@ pub fn run<S: Sources, W: Sink, A: Allocator + Copy>(
 ) -> Result<Outcome, RunFault>
     requires line { 14 ≤ limits.line }
     requires bytes { limits.bytes ≤ 2 ^ 60 }
-    ensures { IsRunBy as_report limits (asked task.now)
+    ensures { IsRun limits (asked task.now)
         (seen S.Sources sources.old) (seen S.Sources sources.new) desk.old desk.new
         (sink_seen W.Sink out.old) (sink_seen W.Sink out.new) result }
 {

@@ -64,8 +64,7 @@ pub(crate) fn put_all_changes<R: Reel, W: Sink, A: Allocator + Copy>(
         → remaining merge.old desk.old old new ≡ done)
         (on_sheet W.Sink out.old pen.old) (on_sheet W.Sink out.new pen.new)) }
     ensures some { WritesSome (on_sheet W.Sink out.old pen.old) (on_sheet W.Sink out.new pen.new) }
-    ensures writes_on { OnOk result (pen.new.failed ≡ false) }
-    ensures ended { OnOk result (IsEnded merge.new) }
+    ensures ended { OnOk result (IsEnded merge.new × (pen.new.failed ≡ false)) }
     ensures fault { IfErr result (IsLinesStop R.Reel merge.old merge.new desk.old pen.new) }
 {
     match put_change_lines(merge, desk, out, pen, options) {

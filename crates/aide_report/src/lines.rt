@@ -9,11 +9,13 @@ ghost use Rattle.aide_report.specs.LinesRead.{begun_lines};
 ghost use Rattle.aide_report.specs.Seen.{AreLimits, KeepsSources, seen};
 ghost use Rattle.aide_report.specs.code.Finding.{pass_of};
 ghost use Rattle.aide_report.specs.code.Merging.{IsEnded};
-ghost use Rattle.aide_report.specs.code.OneReading.{AreReadAt, HasBegun, HasFramed, HasSent, IsOldFault};
-ghost use Rattle.aide_report.specs.code.OneReading.{Reads, SendsBegun, UnlessOpen};
-ghost use Rattle.aide_report.specs.code.OneReading.{WritesBegun, new_read, old_read, stop_of, told_lines};
+ghost use Rattle.aide_report.specs.code.OneReading.{AreReadAt, HasBegun, HasFramed, HasSent};
+ghost use Rattle.aide_report.specs.code.OneReading.{IsOldFault, Reads, SendsBegun, UnlessOpen};
+ghost use Rattle.aide_report.specs.code.OneReading.{WritesBegun, new_read, old_read, stop_of};
+ghost use Rattle.aide_report.specs.code.OneReading.{told_lines};
 ghost use Rattle.aide_report.specs.LinesRun.{KeepsUnopened};
-ghost use Rattle.aide_report.specs.code.Passes.{FlushesOnce, KeepsDesk, KeepsPen, WritesOver, on_sheet};
+ghost use Rattle.aide_report.specs.code.Passes.{FlushesOnce, KeepsDesk, KeepsPen, WritesOver};
+ghost use Rattle.aide_report.specs.code.Passes.{on_sheet};
 ghost use Rattle.aide_report.specs.code.Readings.{AreRead, GivesBoth, GivesSide};
 ghost use Rattle.aide_text.specs.Failures.{Rose};
 ghost use Rattle.aide_text.specs.Sent.{Sends};
@@ -165,7 +167,8 @@ fn lines_pass<S: Sources, W: Sink, A: Allocator + Copy>(
     requires writes_on { pen.old.failed ≡ false }
     ensures reads { Reads limits (seen S.Sources sources.old) (seen S.Sources sources.new)
         desk.old desk.new (pen.new.failed ≡ true) result }
-    ensures read { IfOk result (λ found. AreRead limits (seen S.Sources sources.old) found.readings) }
+    ensures read { IfOk result (λ found.
+        AreRead limits (seen S.Sources sources.old) found.readings) }
     ensures writes { WritesOver (S.bytes_of sources.old)
         (λ old new. begun_lines (asked task.now) (pass_of old new))
         result (on_sheet W.Sink out.old pen.old) (on_sheet W.Sink out.new pen.new) }
@@ -216,7 +219,8 @@ fn put_lines<S: Sources, W: Sink, A: Allocator + Copy>(
     requires writes_on { pen.old.failed ≡ false }
     ensures reads { Reads limits (seen S.Sources sources.old) (seen S.Sources sources.new)
         desk.old desk.new (pen.new.failed ≡ true) result }
-    ensures read { IfOk result (λ found. AreRead limits (seen S.Sources sources.old) found.readings) }
+    ensures read { IfOk result (λ found.
+        AreRead limits (seen S.Sources sources.old) found.readings) }
     ensures writes { WritesOver (S.bytes_of sources.old) (told_lines (asked task.now))
         result (on_sheet W.Sink out.old pen.old) (on_sheet W.Sink out.new pen.new) }
     ensures begun { IfErr result (λ fault. (old new : List ℕ)
@@ -256,14 +260,16 @@ pub(crate) fn write_lines<S: Sources, W: Sink, A: Allocator + Copy>(
     requires { AreLimits limits }
     ensures reads { Reads limits (seen S.Sources sources.old) (seen S.Sources sources.new)
         desk.old desk.new (Rose (W.failures out.old) (W.failures out.new)) result }
-    ensures read { IfOk result (λ found. AreRead limits (seen S.Sources sources.old) found.readings) }
+    ensures read { IfOk result (λ found.
+        AreRead limits (seen S.Sources sources.old) found.readings) }
     ensures sends { (old new : List ℕ) → S.bytes_of sources.old Side.Old ≡ Some old
         → S.bytes_of sources.old Side.New ≡ Some new
         → Sends result (told_lines (asked task.now) old new)
         (W.delivered out.old) (W.delivered out.new) }
     ensures begun { IfErr result (λ fault. (old new : List ℕ)
         → S.bytes_of sources.old Side.Old ≡ Some old → S.bytes_of sources.old Side.New ≡ Some new
-        → SendsBegun limits (asked task.now) old new (W.delivered out.old) (W.delivered out.new) fault) }
+        → SendsBegun limits (asked task.now) old new
+        (W.delivered out.old) (W.delivered out.new) fault) }
     ensures lines { IfOk result (λ found. HasSent (asked task.now) found.counts found.readings
         (λ done. (old new : List ℕ) → S.bytes_of sources.old Side.Old ≡ Some old
         → S.bytes_of sources.old Side.New ≡ Some new → pass_of old new ≡ done)

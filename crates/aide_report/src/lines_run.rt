@@ -22,8 +22,8 @@ use std::alloc::Allocator;
 ///
 /// - After `Ok` exactly the lines have gone out, and were flushed after their last byte. The outcome is that of the
 ///   report.
-/// - After a fault other than a failed write the last line has not gone out: at most the beginning of the first line and
-///   the lines of changes. If a side could not be opened or is missing, nothing has gone out.
+/// - After a fault other than a failed write the last line has not gone out: at most the beginning of the first line
+///   and the lines of changes. If a side could not be opened or is missing, nothing has gone out.
 /// - The first fault of the old text comes before a missing or a faulty new side. For this the old side is read to its
 ///   end at a fault of the new one. No fault is [`RunFault::Changed`].
 ///

@@ -16,7 +16,7 @@ ghost use Rattle.aide_report.specs.code.Counts.{Completes};
 ghost use Rattle.aide_report.specs.code.Digests.{AreDigests};
 ghost use Rattle.aide_report.specs.code.LaterFault.{later_of};
 ghost use Rattle.aide_report.specs.code.MergeCalls.{IsCursorFault, KeepsCursor};
-ghost use Rattle.aide_report.specs.code.Merged.{merged};
+ghost use Rattle.aide_report.specs.Merged.{merged};
 ghost use Rattle.aide_report.specs.code.Merging.{reels_failed};
 ghost use Rattle.aide_report.specs.code.PassFaults.{pass_fault_of};
 ghost use Rattle.aide_report.specs.code.Passes.{KeepsPen, Passes, WritesOver, on_sheet};

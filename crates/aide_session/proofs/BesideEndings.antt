@@ -391,7 +391,8 @@ module _ (files trusted_files : Files) (job : BesideText) (named : Named) (a : A
 
 -- ---- the end of a session
 
-whole_stop : (a : AnswerBeside) (line : List ℕ) (code status : ℕ) (v : BesideView) → a ≡ refused_beside line code → StopsWith line code status v
+whole_stop : (a : AnswerBeside) (line : List ℕ) (code status : ℕ) (v : BesideView) → a ≡ refused_beside line code
+    → StopsWith line code status v
     → WholeBeside a status v.sinks
 whole_stop a line code status v is stops =
     subst (λ (x : AnswerBeside). WholeBeside x status v.sinks) (sym is)

@@ -17,11 +17,10 @@ use Rattle.aide_report.specs.LinesRead.{lines_begun, lines_read}
 use Rattle.aide_report.specs.LinesRun.{ComesOf, CutsLines, EndsBy as EndsLinesBy, IsLinesRun}
 use Rattle.aide_report.specs.Missing.{EndsOver, RunsOverBy, SendsFront as SendsReport, TellsSide, run_answer}
 use Rattle.aide_report.specs.Openings.{OpensExactly}
-use Rattle.aide_report.specs.RunBy.{IsRunBy}
+use Rattle.aide_report.specs.Run.{IsRun}
 use Rattle.aide_report.specs.RunFaults.{IsCaused}
 use Rattle.aide_report.specs.Runs.{Causes, HasCause, Report, RunsBy}
 use Rattle.aide_report.specs.Seen.{Seen, SinkSeen}
-use Rattle.aide_report.specs.Written.{as_report}
 use Rattle.aide_report.specs.declared.outcome.Outcome.{Outcome}
 use Rattle.aide_report.specs.declared.run_fault.RunFault.{RunFault}
 use Rattle.aide_report.specs.declared.run_fault.RunFault.TheVariants.{Open, Database, Changed, Write}
@@ -192,7 +191,7 @@ module _ (wish : Asked) (a b : Seen) (d e : DeskView) (o p : SinkSeen) where
         (report_front r o.delivered p.delivered ends.1),
   )
 
-  pub report_comparison : (result : Result Outcome RunFault) → IsRunBy as_report limits wish a b d e o p result
+  pub report_comparison : (result : Result Outcome RunFault) → IsRun limits wish a b d e o p result
       → IsComparison the_report wish a b d e o p result
   report_comparison result ran = record {
     over = λ old new told_old told_new r runs.

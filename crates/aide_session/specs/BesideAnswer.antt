@@ -31,8 +31,8 @@ trusted_of job = record {
   new_path = job.trusted_new;
 }
 
--- What goes out: all of a text. Or no more than a beginning of the first line and of the lines of some changes, each with
--- what accounts for it by those of a trusted pair.
+-- What goes out: all of a text. Or no more than a beginning of the first line and of the lines of some changes, each
+-- with what accounts for it by those of a trusted pair.
 pub data OutputBeside : Type 0 where
   all_lines : List ℕ → OutputBeside
   start_of_lines : (asked trusted : Asked) → (changes beside : List PathChange) → OutputBeside

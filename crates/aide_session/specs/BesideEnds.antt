@@ -24,8 +24,7 @@ use Rattle.aide_report.specs.declared.run_fault.RunFault.TheVariants.{Open, Data
 use Rattle.aide_session.specs.Answer.{Named, asked_by, limits}
 use Rattle.aide_session.specs.BesideAnswer.{AnswerBeside, GoesOutBeside, StartsBeside, trusted_of}
 use Rattle.aide_session.specs.Closing.{AreBothSound, Course, HasText, RunCause}
-use Rattle.aide_session.specs.Ends.{Failure, FailureCause, Puts, Sinks}
-use Rattle.aide_session.specs.Ends.{failure_line}
+use Rattle.aide_session.specs.Ends.{Failure, FailureCause, Puts, Sinks, failure_line}
 use Rattle.aide_session.specs.Files.{Files, IsLarge, is_too_large}
 use Rattle.aide_session.specs.Held.{HoldsWithin, most_held}
 use Rattle.aide_session.specs.Lines.{conf_line, memory_line, outcome_lines, too_large_line}

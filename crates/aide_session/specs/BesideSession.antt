@@ -3,8 +3,8 @@ use Rattle.std.specs.Prelude.{◌≡◌, ◌≤◌, ◌⊎◌, ℕ, true, List, 
 use Rattle.aide_db.specs.Count.{one_more}
 use Rattle.aide_report.specs.Failures.{Rose}
 use Rattle.aide_session.specs.Answer.{Named}
-use Rattle.aide_session.specs.BesideAnswer.{AnswerBeside, HasAnswerBeside, IsAnswerBeside, TellsBeside}
-use Rattle.aide_session.specs.BesideAnswer.{trusted_of}
+use Rattle.aide_session.specs.BesideAnswer.{AnswerBeside, HasAnswerBeside, IsAnswerBeside}
+use Rattle.aide_session.specs.BesideAnswer.{TellsBeside, trusted_of}
 use Rattle.aide_session.specs.BesideEnds.{BesideView, EndsBesideBy, EndsWithin}
 use Rattle.aide_session.specs.BesideEnds.{StarvedBeside, WholeBeside}
 use Rattle.aide_session.specs.Ends.{HasFailed}
@@ -83,7 +83,8 @@ pub record IsSessionBeside (job : BesideText) (status : ℕ) (s t : SessionView)
   -- If the texts of a pair are known, the peak of its desk rises at most to three of their lines.
   pub bound : (named : Named) (a : AnswerBeside) → IsAnswerBeside s.files t.files job named a
       → HoldsWithin s.files named desks.before desks.after
-  pub trusted_bound : (named : Named) (a : AnswerBeside) → IsAnswerBeside s.files t.files job named a
+  pub trusted_bound : (named : Named) (a : AnswerBeside)
+      → IsAnswerBeside s.files t.files job named a
       → HoldsWithin t.files (trusted_of job) desks.trusted_before desks.trusted_after
 
 -- A session that writes lines of JSON, whose arguments may name a trusted pair. If they name none,

@@ -109,8 +109,8 @@ IsUntold (Some says) s before after flushes_before flushes_after =
 -- What a session sends, opens and flushes. A good run sends what its outcome determines: a report begins with the head
 -- and the summary of the outcome, and is only these two if the options and the outcome call for no more; lines begin
 -- with the paths and end with what was read and the numbers of the outcome. A good run flushes the output once, after
--- its last byte. A run that ends with a fault flushes nothing, and has sent nothing where what is written says so. If it
--- could not open a side, that side was the last one opened. Every other closing opens no side. An accepted
+-- its last byte. A run that ends with a fault flushes nothing, and has sent nothing where what is written says so. If
+-- it could not open a side, that side was the last one opened. Every other closing opens no side. An accepted
 -- configuration that is only checked may have a text, which is sent and flushed; without a text it has only a good
 -- closing. Every other closing sends and flushes nothing.
 abbrev pub ClosingOutput : Writing → Named → Closing → Course → Option (List ℕ) → Option (List ℕ)

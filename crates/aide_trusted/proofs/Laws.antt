@@ -16,7 +16,7 @@ use Rattle.aide_entry.proofs.PathLaws.{path_cmp_total, path_cmp-IsAntisymmetric}
 use Rattle.aide_report.specs.Compare.{compared}
 use Rattle.aide_report.specs.Entries.{PathChange}
 use Rattle.aide_report.specs.code.Finding.{pass_of}
-use Rattle.aide_report.specs.code.Merged.{merged}
+use Rattle.aide_report.specs.Merged.{merged}
 use Rattle.aide_report.proofs.MergeLemmas.{and_second, below_sorted, changes-merged, find-merged, find_below, paired, sorted-merged}
 use Rattle.aide_report.proofs.RunLemmas.{pass_is_changes}
 use Rattle.aide_trusted.specs.BesideLines.{by_trusted}

@@ -18,7 +18,7 @@ use Rattle.aide_report.specs.Openings.{IsNotGiven, IsRefusedThere, OpensAtMost}
 use Rattle.aide_report.specs.Room.{IsNotOfMemory}
 use Rattle.aide_report.specs.RunFaults.{IsRight}
 use Rattle.aide_report.specs.Runs.{Report, RunsBy, report_over}
-use Rattle.aide_report.specs.code.Merged.{merged}
+use Rattle.aide_report.specs.Merged.{merged}
 use Rattle.aide_report.specs.declared.outcome.Outcome.{Outcome}
 use Rattle.aide_report.specs.declared.run_fault.RunFault.{RunFault}
 use Rattle.aide_report.specs.declared.run_fault.RunFault.TheVariants.{Write}

@@ -7,7 +7,7 @@ use Rattle.aide_db.specs.Map.{database_of, entries_of}
 use Rattle.aide_entry.specs.Path.{path_cmp}
 use Rattle.aide_entry.specs.Skipped.{skipped_in}
 use Rattle.aide_report.specs.Entries.{PathChange}
-use Rattle.aide_report.specs.code.Merged.{merged}
+use Rattle.aide_report.specs.Merged.{merged}
 use Rattle.aide_report.specs.Report.{Origin, counts_of}
 use Rattle.aide_report.specs.declared.finding.Finding.{Finding}
 

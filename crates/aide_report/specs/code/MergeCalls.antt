@@ -20,7 +20,7 @@ use Rattle.aide_report.specs.Bound.{FitsAfter, FitsAfterBoth, OpensWithin, Takes
 use Rattle.aide_report.specs.Compare.{Change}
 use Rattle.aide_report.specs.code.ChangeView.{ShowsPath}
 use Rattle.aide_report.specs.code.NextEntry.{ahead, work}
-use Rattle.aide_report.specs.code.Merged.{merged}
+use Rattle.aide_report.specs.Merged.{merged}
 use Rattle.aide_report.specs.code.Merging.{IsEnded, IsNotDue, IsReady, StandsAt, limits_at}
 use Rattle.aide_report.specs.code.Merging.{reels_failed, remaining, total_work}
 use Rattle.aide_report.specs.Room.{IsNotMemory}

@@ -10,7 +10,7 @@ use Rattle.aide_db.specs.declared.side.Side.{Side}
 use Rattle.aide_db.specs.declared.side.Side.TheVariants.{Old, New}
 use Rattle.aide_report.specs.Compare.{Change}
 use Rattle.aide_report.specs.code.NextEntry.{ahead, work}
-use Rattle.aide_report.specs.code.Merged.{merged}
+use Rattle.aide_report.specs.Merged.{merged}
 use Rattle.aide_db.specs.Answer.{Stands}
 use Rattle.aide_report.specs.Standing.{rest_of, left_of, IsUnfailed}
 use Rattle.aide_db.specs.declared.stage.Stage.TheVariants.{Ended as AtEnd}

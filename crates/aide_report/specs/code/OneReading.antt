@@ -1,5 +1,6 @@
 -- What the calls of a run over both databases promise that reads each of them once.
-use Rattle.std.specs.Prelude.{◌≡◌, ◌<◌, ◌≤◌, ℕ, ◌⊎◌, true, false, ⊤, List, Some, Option, Result, IfErr, OnOk}
+use Rattle.std.specs.Prelude.{◌≡◌, ◌<◌, ◌≤◌, ℕ, ◌⊎◌, true, false, ⊤, List, Some, Option, Result}
+use Rattle.std.specs.Prelude.{IfErr, OnOk}
 use Rattle.std.specs.Io.KnownBytes.{Appends}
 use Rattle.sha2.specs.Sha256.{sha256}
 use Rattle.aide_entry.specs.Skipped.{skipped_in}
@@ -37,7 +38,9 @@ use Rattle.aide_report.specs.declared.change_writer.PassFault.TheVariants.{Datab
 use Rattle.aide_report.specs.declared.finding.Readings.{Readings}
 use Rattle.aide_report.specs.declared.merge.Merge.{Merge}
 use Rattle.aide_report.specs.declared.run_fault.RunFault.{RunFault}
-use Rattle.aide_report.specs.declared.run_fault.RunFault.TheVariants.{Changed, Open, Database as OfDatabase, Write as OfWrite}
+use Rattle.aide_report.specs.declared.run_fault.RunFault.TheVariants.{Changed, Open}
+use Rattle.aide_report.specs.declared.run_fault.RunFault.TheVariants.{Database as OfDatabase}
+use Rattle.aide_report.specs.declared.run_fault.RunFault.TheVariants.{Write as OfWrite}
 use Rattle.aide_text.specs.Failures.{Rose}
 use Rattle.aide_text.specs.Sent.{SendsPart}
 use Rattle.aide_text.specs.Sheet.{Sheet, WritesPart, Wrote}
@@ -117,7 +120,8 @@ pub record IsReadFault (limits : Limits) (a b : Seen) (room : ℕ) (sink : Type 
   pub unchanged : (side : Side) → fault ≡ Changed side → ⊥
   -- if both texts are known, the fault is the run's only answer
   pub first : (wish : Asked) → IsRunFault limits wish a.bytes_of fault
-  pub over : (wish : Asked) (old new : Option (List ℕ)) → TellsSide (a.bytes_of Old) (a.is_missing Old) old
+  pub over : (wish : Asked) (old new : Option (List ℕ))
+      → TellsSide (a.bytes_of Old) (a.is_missing Old) old
       → TellsSide (a.bytes_of New) (a.is_missing New) new
       → (r : Result Report RunFault) → RunsOver limits wish old new r
       → StopsFor r (IsHindered old new (Rose a.failures b.failures) sink) fault
@@ -184,7 +188,8 @@ pub record HasFramed (asked : Asked) (counts : LineCounts) (readings : Readings)
 
 -- before a fault other than of writing the last line is not begun
 abbrev pub WritesBegun : Limits → Asked → (old new : List ℕ) → (a b : Sheet) → RunFault → Type 0
-WritesBegun limits asked old new a b (OfWrite written) = (IsSound limits old → IsSound limits new → ⊥)
+WritesBegun limits asked old new a b (OfWrite written) =
+    (IsSound limits old → IsSound limits new → ⊥)
     → WritesPart (begun_lines asked (pass_of old new)) a b
 WritesBegun limits asked old new a b _ = WritesPart (begun_lines asked (pass_of old new)) a b
 
@@ -199,11 +204,14 @@ pub record HasSent (asked : Asked) (counts : LineCounts) (readings : Readings)
   pub done : List PathChange
   pub all : AreAll done
   pub counted : counts ≡ tally asked.options by_old done
-  pub bytes : Appends before after (framed_lines asked (old_read readings) (new_read readings) counts done)
+  pub bytes : Appends before after
+      (framed_lines asked (old_read readings) (new_read readings) counts done)
 
 -- before a fault other than of writing the last line is not begun
-abbrev pub SendsBegun : Limits → Asked → (old new : List ℕ) → (before after : Option (List ℕ)) → RunFault
-    → Type 0
-SendsBegun limits asked old new before after (OfWrite written) = (IsSound limits old → IsSound limits new → ⊥)
+abbrev pub SendsBegun : Limits → Asked → (old new : List ℕ) → (before after : Option (List ℕ))
+    → RunFault → Type 0
+SendsBegun limits asked old new before after (OfWrite written) =
+    (IsSound limits old → IsSound limits new → ⊥)
     → SendsPart (begun_lines asked (pass_of old new)) before after
-SendsBegun limits asked old new before after _ = SendsPart (begun_lines asked (pass_of old new)) before after
+SendsBegun limits asked old new before after _ =
+    SendsPart (begun_lines asked (pass_of old new)) before after

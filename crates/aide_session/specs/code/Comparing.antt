@@ -8,7 +8,8 @@ use Rattle.aide_db.specs.declared.side.Side.{Side}
 use Rattle.aide_db.specs.declared.side.Side.TheVariants.{Old, New}
 use Rattle.aide_report.specs.Asked.{Asked}
 use Rattle.aide_report.specs.Bound.{three_lines}
-use Rattle.aide_report.specs.Missing.{IsHindered, IsOfReliable, RunsOverBy, SendsWhole, StopsFor, TellsSide}
+use Rattle.aide_report.specs.Missing.{IsHindered, IsOfReliable, RunsOverBy, SendsWhole, StopsFor}
+use Rattle.aide_report.specs.Missing.{TellsSide}
 use Rattle.aide_report.specs.Openings.{IsNotGiven, IsRefusedThere, OpensAtMost, OpensExactly}
 use Rattle.aide_report.specs.Room.{IsNotOfMemory}
 use Rattle.aide_report.specs.RunFaults.{IsCaused, IsRight}
@@ -36,7 +37,8 @@ SendsFront output (Err right) before after = GoesOut output before after
 abbrev pub EndsBy : Output → Result Report RunFault → (RunFault → Type 0) → Result Outcome RunFault
     → (before after : Option (List ℕ)) → Type 0
 EndsBy output r hindered (Ok outcome) before after = SendsWhole r outcome before after
-EndsBy output r hindered (Err fault) before after = StopsFor r hindered fault × SendsFront output r before after
+EndsBy output r hindered (Err fault) before after = StopsFor r hindered fault
+    × SendsFront output r before after
 
 -- A comparison with this result: `a` is seen of the sources before it and `b` after it, `d` and `e` of the desk, `o`
 -- and `p` of the sink. The fields are those of the runs that write a report or lines.

@@ -3,8 +3,7 @@ use Rattle.aide_db.specs.declared.side.Side.TheVariants.{Old, New}
 use Rattle.aide_report.specs.Asked.{asked}
 use Rattle.aide_report.specs.Report.{section_count}
 use Rattle.aide_report.specs.Seen.{sink_seen}
-use Rattle.aide_report.specs.Written.{as_report}
-use Rattle.aide_report.proofs.RunByLemmas.{run_breaks, run_ends, run_stops}
+use Rattle.aide_report.proofs.RunRecords.{run_breaks, run_ends, run_stops}
 use Rattle.aide_report.proofs.RunLemmas.{ends_well, ends_early, sections_are}
 use Rattle.aide_report.proofs.SectionsLemmas.{fitting, most_sections, opens_more, sections_few}
 use Rattle.aide_text.specs.Section.{row, row_of}
@@ -22,7 +21,7 @@ write_report-requires-clause-digests g c side text told =
 
 pub returns-in-Err : goal.returns-in-Err
 returns-in-Err g c =
-    run_stops as_report c.args.limits (asked c.args.task.now) 2 (sink_seen g.W.Sink c.args.out.now) two_of_six
+    run_stops c.args.limits (asked c.args.task.now) 2 (sink_seen g.W.Sink c.args.out.now) two_of_six
     (λ old new. two_and _) c.compare.ensures.sources c.compare.ensures.opens_some c.in-Err.ensures.fault
     c.in-Err.ensures.over c.compare.ensures.desk
 
@@ -32,7 +31,7 @@ returns-in-Ok-write_report g c =
     let found = c.in-Ok.ensures.found in
     let same = c.compare.ensures.sources.same in
     let count = section_count c.args.task.now.options c.in-Ok.finding.counts in
-    run_ends as_report c.args.limits (asked c.args.task.now) 2 count g.W.Sink c.args.out.now c.write_report.new.out
+    run_ends c.args.limits (asked c.args.task.now) 2 count g.W.Sink c.args.out.now c.write_report.new.out
     (record {
       kept = c.compare.ensures.sources;
       opened = c.in-Ok.ensures.opens;
@@ -62,7 +61,7 @@ returns-in-Err-write_report g c =
     let found = c.in-Ok.ensures.found in
     let same = c.compare.ensures.sources.same in
     let count = section_count c.args.task.now.options c.in-Ok.finding.counts in
-    run_breaks as_report c.args.limits (asked c.args.task.now) 2 count g.W.Sink c.args.out.now c.write_report.new.out
+    run_breaks c.args.limits (asked c.args.task.now) 2 count g.W.Sink c.args.out.now c.write_report.new.out
     (record {
       kept = c.compare.ensures.sources;
       opened = c.in-Ok.ensures.opens;

@@ -40,7 +40,7 @@ returns-in-Ok-put_all_changes-clause-reads g c =
 pub returns-in-Ok-put_all_changes-clause-read : goal.returns-in-Ok-put_all_changes-clause-read
 returns-in-Ok-put_all_changes-clause-read g c =
     let opened = c.start-merge.ensures.opened (g.S.Sources.bytes_of c.args.sources.now) c.in-Ok.ensures.gives in
-    are_read c.in-Ok.ensures.there opened c.in-Ok-put_all_changes.ensures.keeps c.in-Ok-put_all_changes.ensures.ended
+    are_read c.in-Ok.ensures.there opened c.in-Ok-put_all_changes.ensures.keeps c.in-Ok-put_all_changes.ensures.ended.0
     (c.readings_of-readings.ensures c.put_all_changes.new.desk)
 
 pub returns-in-Ok-put_all_changes-clause-writes : goal.returns-in-Ok-put_all_changes-clause-writes
@@ -66,7 +66,7 @@ returns-in-Ok-put_all_changes-clause-lines g c =
 pub returns-in-Ok-put_all_changes-clause-pen : goal.returns-in-Ok-put_all_changes-clause-pen
 returns-in-Ok-put_all_changes-clause-pen g c = record {
   some = some_more (some_of c.put_first.ensures) c.put_all_changes.ensures.some;
-  writes_on = c.in-Ok-put_all_changes.ensures.writes_on;
+  writes_on = c.in-Ok-put_all_changes.ensures.ended.1;
   written = tt;
 }
 
@@ -78,7 +78,8 @@ returns-in-Err-put_all_changes-clause-reads g c =
     let start = c.start-merge.ensures.desk bytes_of in
     let closed = c.close_both-in-Err-put_all_changes.ensures in
     reads_stop reads (desk_read start opened c.put_all_changes.ensures.room c.put_all_changes.ensures.fits) closed.keeps closed.openings
-    (rw c.stop_fault.ensures (stops_pass c.put_all_changes.new.merge c.in-Err-put_all_changes.fault c.put_all_changes.new.pen.sent c.put_all_changes.new.pen
+    (rw c.stop_fault.ensures (stops_pass c.put_all_changes.new.merge c.in-Err-put_all_changes.fault c.put_all_changes.new.pen.sent
+    c.put_all_changes.new.pen
     reads.sources closed.keeps c.in-Ok.ensures.there opened (start.room ∙ reads.desk.room) closed.rose closed.unfailed
     c.in-Err-put_all_changes.ensures.fault))
 

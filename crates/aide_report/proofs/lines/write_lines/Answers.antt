@@ -28,7 +28,8 @@ returns-clause-begun g c =
     let put = c.put_lines-written in
     let bytes_of = g.S.Sources.bytes_of c.args.sources.now in
     told_err (λ old. bytes_of Old ≡ Some old) (λ new. bytes_of New ≡ Some new)
-    (λ old new. SendsBegun c.args.limits (asked c.args.task.now) old new (g.W.Sink.delivered c.args.out.now) (g.W.Sink.delivered c.flush_written.new.out))
+    (λ old new. SendsBegun c.args.limits (asked c.args.task.now) old new (g.W.Sink.delivered c.args.out.now)
+    (g.W.Sink.delivered c.flush_written.new.out))
     c.flush_written.result (λ old new told_old told_new.
     flushed_begun g.W.Sink c.args.out.now put.new.out c.flush_written.new.out c.new-pen.result put.new.pen c.new-pen.ensures
     c.args.limits (asked c.args.task.now) old new put.result c.flush_written.result c.flush_written.ensures

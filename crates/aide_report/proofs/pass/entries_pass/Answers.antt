@@ -4,7 +4,7 @@ use Rattle.aide_db.specs.Desk.{list_of, columns_of_side}
 use Rattle.aide_db.specs.Map.{entries_of}
 use Rattle.aide_entry.specs.Path.{path_cmp}
 use Rattle.aide_db.specs.declared.side.Side.TheVariants.{Old, New}
-use Rattle.aide_report.specs.code.Merged.{merged}
+use Rattle.aide_report.specs.Merged.{merged}
 use Rattle.aide_report.specs.code.Merging.{cursor_at}
 use Rattle.aide_report.specs.code.Passes.{on_sheet}
 use Rattle.std.specs.List.{flat_map}

@@ -16,8 +16,8 @@ returns-in-Ok-clause-closes g c = λ config pointed trusted_pointed options_are.
       result = c.run_lines_beside.result;
       status_is = c.status.ensures ∙ ap compared_status (sym c.in-Ok.is);
       put = put_as _ _ (ap (compared_line (named_by config wish) (named_by config beside)) (sym c.in-Ok.is)) c.put_outcome_lines.ensures;
-      compares = compares_pairs g.S.Sources g.W.Sink g.E.Sink devices.site.now ran.sources c.args.pair.now.sources.now ran.trusted.sources.now
-          devices.out.now ran.out devices.err.now c.put_outcome_lines.new.err devices.desk.now ran.desk
+      compares = compares_pairs g.S.Sources g.W.Sink g.E.Sink devices.site.now ran.sources c.args.pair.now.sources.now
+          ran.trusted.sources.now devices.out.now ran.out devices.err.now c.put_outcome_lines.new.err devices.desk.now ran.desk
           c.args.pair.now.desk.now ran.trusted.desk.now wish beside config c.run_lines_beside.result pointed trusted_pointed options_are
           c.requires.room c.requires.trusted_room c.run_lines_beside.ensures.runs;
     }
@@ -32,8 +32,8 @@ returns-in-Err-clause-closes g c = λ config pointed trusted_pointed options_are
       result = c.run_lines_beside.result;
       status_is = c.pair_status.ensures ∙ ap compared_status (sym c.in-Err.is);
       put = put_as _ _ (ap (compared_line (named_by config wish) (named_by config beside)) (sym c.in-Err.is)) c.put_pair_fault.ensures;
-      compares = compares_pairs g.S.Sources g.W.Sink g.E.Sink devices.site.now ran.sources c.args.pair.now.sources.now ran.trusted.sources.now
-          devices.out.now ran.out devices.err.now c.put_pair_fault.new.err devices.desk.now ran.desk
+      compares = compares_pairs g.S.Sources g.W.Sink g.E.Sink devices.site.now ran.sources c.args.pair.now.sources.now
+          ran.trusted.sources.now devices.out.now ran.out devices.err.now c.put_pair_fault.new.err devices.desk.now ran.desk
           c.args.pair.now.desk.now ran.trusted.desk.now wish beside config c.run_lines_beside.result pointed trusted_pointed options_are
           c.requires.room c.requires.trusted_room c.run_lines_beside.ensures.runs;
     }

@@ -1,7 +1,7 @@
 use Rattle.std.proofs.Common.{◌∙◌, ◌++◌, ap}
 use Rattle.aide_db.specs.Desk.{desk_entry}
 use Rattle.aide_db.specs.declared.side.Side.TheVariants.{Old, New}
-use Rattle.aide_report.specs.code.Merged.{merged}
+use Rattle.aide_report.specs.Merged.{merged}
 use Rattle.aide_report.specs.code.Upcoming.{upcoming}
 use Rattle.aide_report.specs.code.NextEntry.{ahead}
 use Rattle.aide_report.specs.code.NextPath.{old_after, new_after}

@@ -3,7 +3,7 @@ use Rattle.aide_entry.specs.Path.{path_cmp}
 use Rattle.std.specs.Prelude.{Some}
 use Rattle.aide_db.specs.declared.limits.Limits.{Limits}
 use Rattle.aide_db.specs.declared.side.Side.TheVariants.{Old}
-use Rattle.aide_report.specs.code.Merged.{merged}
+use Rattle.aide_report.specs.Merged.{merged}
 use Rattle.aide_report.specs.code.Merging.{StandsAt}
 use Rattle.aide_report.specs.declared.merge.Merge.{Merge}
 use Rattle.aide_report.specs.declared.merge.NextEntry.TheVariants.{Due}

@@ -1,4 +1,4 @@
--- How a run comes to its promise, whatever it writes: by the first readings, and by the writing that follows them.
+-- How a run that writes the report comes to its promise: by the first readings, and by the writing that follows them.
 use Rattle.std.proofs.Common.{◌≡◌, ◌∙◌, ◌≤◌, ◌+◌, ℕ, List, Option, refl, subst, sym, arith}
 use Rattle.std.specs.Prelude.{false, Some, Result, Ok, Err}
 use Rattle.aide_db.specs.Database.{IsSound}
@@ -10,14 +10,14 @@ use Rattle.aide_db.specs.declared.side.Side.TheVariants.{Old, New}
 use Rattle.aide_text.specs.Failures.{Rose}
 use Rattle.aide_text.specs.declared.sink.Sink.{Ghosts as AnySink}
 use Rattle.aide_text.proofs.Sending.{Appends-nothing}
+use Rattle.aide_report.specs.Agreement.{IsOfOutcome, OpensByOutcome}
 use Rattle.aide_report.specs.Asked.{Asked}
 use Rattle.aide_report.specs.Missing.{IsHindered, IsOfReliable, RunsOver, StopsFor, TellsSide}
 use Rattle.aide_report.specs.Openings.{OpensAtMost, OpensExactly}
-use Rattle.aide_report.specs.RunBy.{IsRunBy}
+use Rattle.aide_report.specs.Run.{IsRun}
 use Rattle.aide_report.specs.RunFaults.{HasSentNothing, HasWrittenIfAny, IsCaused, IsLater}
-use Rattle.aide_report.specs.Runs.{EndsEarly, EndsWell, Report, RunsBy, report_over}
+use Rattle.aide_report.specs.Runs.{EndsEarly, EndsWell, Report, Runs, openings_over, report_over}
 use Rattle.aide_report.specs.Seen.{KeepsSources, Seen, SinkSeen, sink_seen}
-use Rattle.aide_report.specs.Written.{Written}
 use Rattle.aide_report.specs.code.Passes.{FlushesOnce, Passes}
 use Rattle.aide_report.specs.code.Readings.{ClearsDesk, IsFindingFault}
 use Rattle.aide_report.specs.declared.outcome.Outcome.{Outcome}
@@ -25,7 +25,6 @@ use Rattle.aide_report.specs.declared.run_fault.RunFault.{RunFault}
 use Rattle.aide_report.specs.declared.run_fault.RunFault.TheVariants.{Open, Database, Changed, Write}
 use Rattle.aide_report.proofs.BoundLemmas.{fits_limit, fits_within}
 use Rattle.aide_report.proofs.FaultLemmas.{answer_later, cause_by, first_later, right_later, rose_later, rose_since}
-use Rattle.aide_report.proofs.LineRunLemmas.{stops_for_other}
 use Rattle.aide_report.proofs.MissingLemmas.{front_by, hindered_by, later_over, nothing_front, stops_by, stops_hindered}
 use Rattle.aide_report.proofs.MissingLemmas.{whole_by}
 use Rattle.aide_report.proofs.OpeningLemmas.{refused_later, unsent_begun, unsent_nothing}
@@ -46,27 +45,26 @@ nothing_written sources bytes (Database first) caused = tt
 nothing_written sources bytes (Changed side) caused = tt
 nothing_written sources bytes (Write written) caused = absurd caused
 
--- what a fault of the readings says of the answer, at whatever is to be written
+-- what a fault of the readings says of the answer
 abbrev pub StopsFirst : Limits → (a b : Seen) → RunFault → Type 0
 StopsFirst limits a b fault = (wish : Asked) (old new : Option (List ℕ)) → TellsSide (a.bytes_of Old) (a.is_missing Old) old
     → TellsSide (a.bytes_of New) (a.is_missing New) new
     → (r : Result Report RunFault) → RunsOver limits wish old new r
     → StopsFor r (IsHindered old new (Rose a.failures b.failures) ⊥) fault
 
-pub run_stops : (w : Written) (limits : Limits) (wish : Asked) (n : ℕ) {a b : Seen} {d e : DeskView} (o : SinkSeen) {fault : RunFault}
-    → n ≤ w.most_openings → ((old new : List ℕ) → n ≤ w.openings wish old new)
+pub run_stops : (limits : Limits) (wish : Asked) (n : ℕ) {a b : Seen} {d e : DeskView} (o : SinkSeen) {fault : RunFault}
+    → n ≤ 6 → ((old new : List ℕ) → n ≤ openings_over wish old new)
     → KeepsSources a b → OpensAtMost a.openings b.openings n → IsFindingFault limits a b d.room fault
     → StopsFirst limits a b fault → ClearsDesk limits a.bytes_of d e
-    → IsRunBy w limits wish a b d e o o (Err fault)
-run_stops w limits wish n {a} {b} {d} {e} o {fault} most within kept few is stops cleared =
+    → IsRun limits wish a b d e o o (Err fault)
+run_stops limits wish n {a} {b} {d} {e} o {fault} most within kept few is stops cleared =
     let sources = Rose a.failures b.failures in
     let sink = Rose o.failures o.failures in
     let peaks = fits_limit a.bytes_of limits d e cleared.fits in
     record {
       over = λ old new told_old told_new r runs. (
         stops_by r (IsHindered old new sources ⊥) (IsHindered old new sources sink) fault (hindered_by old new sources sink fault)
-            (stops_for_other limits (report_over wish) (w.over wish) (IsHindered old new sources ⊥) fault old new r
-            (λ s answers. stops wish old new told_old told_new s answers) runs),
+            (stops wish old new told_old told_new r runs),
         nothing_front r o.delivered,
       );
       reliable = is.reliable;
@@ -76,8 +74,8 @@ run_stops w limits wish n {a} {b} {d} {e} o {fault} most within kept few is stop
       consistent = tt;
       flushed = tt;
       flushes = refl;
-      unsent = unsent_nothing w.openings_before (a.openings Old) (b.openings Old) o.delivered fault;
-      cause = cause_by limits wish (w.over wish) a.bytes_of sources sink fault
+      unsent = unsent_nothing 2 (a.openings Old) (b.openings Old) o.delivered fault;
+      cause = cause_by limits wish (report_over wish) a.bytes_of sources sink fault
           (caused_as sources ⊥ sink fault (λ none. absurd none) is.caused) (is.first wish) is.right;
       right = is.right;
       refused = is.refused;
@@ -111,24 +109,24 @@ pub record ReadsFirst (limits : Limits) (n : ℕ) (a b : Seen) (d e : DeskView) 
   pub sound : (side : Side) (text : List ℕ) → a.bytes_of side ≡ Some text → IsSound limits text
   pub there : (side : Side) → a.is_missing side ≡ false
 
-module _ (w : Written) (limits : Limits) (wish : Asked) (n m : ℕ) {a b c : Seen} {d e f : DeskView} {W : Type 0} (s : AnySink W)
+module _ (limits : Limits) (wish : Asked) (n m : ℕ) {a b c : Seen} {d e f : DeskView} {W : Type 0} (s : AnySink W)
     (out sent : W) (read : ReadsFirst limits n a b d e) where
   -- what is written is the whole of the answer
   pub run_ends : {T : Type 0} {answer : T} {sink : Type 0} (outcome : Outcome)
       → Passes limits m b c e f sink (Ok answer) → FlushesOnce {T = T} s out sent (Ok answer)
-      → n + m ≤ w.most_openings
-      → ((old new : List ℕ) → a.bytes_of Old ≡ Some old → a.bytes_of New ≡ Some new → w.openings wish old new ≡ n + m)
-      → w.IsOf wish outcome (s.delivered out) (s.delivered sent)
-      → w.OpensBy wish.options outcome a.openings c.openings
+      → n + m ≤ 6
+      → ((old new : List ℕ) → a.bytes_of Old ≡ Some old → a.bytes_of New ≡ Some new → openings_over wish old new ≡ n + m)
+      → IsOfOutcome wish.options outcome (s.delivered out) (s.delivered sent)
+      → OpensByOutcome wish.options outcome a.openings c.openings
       → ((old new : List ℕ) → a.bytes_of Old ≡ Some old → a.bytes_of New ≡ Some new
-      → (r : Result Report DbFault) → RunsBy limits (w.over wish) old new r → EndsWell r outcome (s.delivered out) (s.delivered sent))
-      → IsRunBy w limits wish a c d f (sink_seen s out) (sink_seen s sent) (Ok outcome)
+      → (r : Result Report DbFault) → Runs limits wish old new r → EndsWell r outcome (s.delivered out) (s.delivered sent))
+      → IsRun limits wish a c d f (sink_seen s out) (sink_seen s sent) (Ok outcome)
   run_ends outcome passes flush most are is_of told well =
       let kept = sources_then read.kept passes.sources in
       let cleared = clears_then read.kept.same read.cleared passes.desk in
       let peaks = fits_limit a.bytes_of limits d f cleared.fits in
       record {
-        over = λ old new told_old told_new r runs. whole_by limits (w.over wish) a.bytes_of a.is_missing old new outcome
+        over = λ old new told_old told_new r runs. whole_by limits (report_over wish) a.bytes_of a.is_missing old new outcome
             (s.delivered out) (s.delivered sent) told_old told_new read.there well r runs;
         reliable = λ is. tt;
         sound = read.sound;
@@ -162,12 +160,12 @@ module _ (w : Written) (limits : Limits) (wish : Asked) (n m : ℕ) {a b c : See
   pub run_breaks : {T : Type 0} {fault : RunFault}
       → Passes {T = T} limits m b c e f (Rose (s.failures out) (s.failures sent)) (Err fault)
       → FlushesOnce {T = T} s out sent (Err fault)
-      → n + m ≤ w.most_openings
-      → ((old new : List ℕ) → a.bytes_of Old ≡ Some old → a.bytes_of New ≡ Some new → w.openings wish old new ≡ n + m)
-      → w.openings_before ≡ n
+      → n + m ≤ 6
+      → ((old new : List ℕ) → a.bytes_of Old ≡ Some old → a.bytes_of New ≡ Some new → openings_over wish old new ≡ n + m)
+      → 2 ≡ n
       → ((old new : List ℕ) → a.bytes_of Old ≡ Some old → a.bytes_of New ≡ Some new
-      → (r : Result Report DbFault) → RunsBy limits (w.over wish) old new r → EndsEarly r (s.delivered out) (s.delivered sent))
-      → IsRunBy w limits wish a c d f (sink_seen s out) (sink_seen s sent) (Err fault)
+      → (r : Result Report DbFault) → Runs limits wish old new r → EndsEarly r (s.delivered out) (s.delivered sent))
+      → IsRun limits wish a c d f (sink_seen s out) (sink_seen s sent) (Err fault)
   run_breaks {fault = fault} passes flush most are before early =
       let kept = sources_then read.kept passes.sources in
       let cleared = clears_then read.kept.same read.cleared passes.desk in
@@ -183,8 +181,8 @@ module _ (w : Written) (limits : Limits) (wish : Asked) (n m : ℕ) {a b c : See
         over = λ old new told_old told_new r runs. (
           stops_hindered r (IsHindered old new sources sink) fault
               (later_over limits a.bytes_of a.is_missing old new sources sink fault told_old told_new read.there read.sound later caused),
-          front_by limits (w.over wish) a.bytes_of a.is_missing old new (s.delivered out) (s.delivered sent) told_old told_new read.there
-              early r runs,
+          front_by limits (report_over wish) a.bytes_of a.is_missing old new (s.delivered out) (s.delivered sent) told_old told_new
+              read.there early r runs,
         );
         reliable = λ are_reliable. subst (λ bytes. IsOfReliable bytes fault) read.kept.same
             (is.reliable (read.kept.reliable_same ∙ are_reliable));
@@ -197,7 +195,7 @@ module _ (w : Written) (limits : Limits) (wish : Asked) (n m : ℕ) {a b c : See
         unsent = subst (λ n. HasSentNothing n (a.openings Old) (c.openings Old) (s.delivered out) (s.delivered sent) fault) (sym before)
             (unsent_begun n (a.openings Old) (b.openings Old) (c.openings Old) (s.delivered out) (s.delivered sent) fault
             read.opened.of_old is.begun);
-        cause = cause_by limits wish (w.over wish) a.bytes_of sources sink fault caused
+        cause = cause_by limits wish (report_over wish) a.bytes_of sources sink fault caused
             (answer_later limits wish a.bytes_of b.bytes_of fault is.later) right;
         right = right;
         refused = refused_later a.openings b.openings c.openings n fault read.opened is.refused;

@@ -1,4 +1,4 @@
--- What a run over two databases promises, by what it writes. Every call that makes one promises this.
+-- What a run over two databases promises that writes the report.
 use Rattle.std.specs.Io.KnownBytes.{Appends}
 use Rattle.std.specs.Prelude.{◌≡◌, ◌≤◌, ◌*◌, ℕ, true, [], List, Option, Some, Result, Err, IfErr}
 use Rattle.std.specs.Prelude.{IfOk, OnOk, max}
@@ -9,29 +9,29 @@ use Rattle.aide_db.specs.declared.fault.DbFault.{DbFault}
 use Rattle.aide_db.specs.declared.limits.Limits.{Limits}
 use Rattle.aide_db.specs.declared.side.Side.{Side}
 use Rattle.aide_db.specs.declared.side.Side.TheVariants.{Old, New}
+use Rattle.aide_report.specs.Agreement.{IsOfOutcome, OpensByOutcome}
 use Rattle.aide_report.specs.Asked.{Asked}
 use Rattle.aide_report.specs.Bound.{three_lines}
-use Rattle.aide_report.specs.Missing.{EndsOver, IsHindered, IsOfReliable, RunsOverBy, TellsSide}
+use Rattle.aide_report.specs.Missing.{EndsOver, IsHindered, IsOfReliable, RunsOver, TellsSide}
 use Rattle.aide_report.specs.Openings.{IsNotGiven, IsRefusedThere, OpensAtMost, OpensExactly}
 use Rattle.aide_report.specs.Openings.{OpensFirst}
 use Rattle.aide_report.specs.Room.{IsNotOfMemory}
 use Rattle.aide_report.specs.RunFaults.{CountsWrites, HasSentNothing, HasWrittenIfAny, IsRight}
-use Rattle.aide_report.specs.Runs.{HasCause, Report, RunsBy}
+use Rattle.aide_report.specs.Runs.{HasCause, Report, Runs, openings_over}
 use Rattle.aide_report.specs.Seen.{Seen, SinkSeen}
-use Rattle.aide_report.specs.Written.{Written}
 use Rattle.aide_report.specs.declared.outcome.Outcome.{Outcome}
 use Rattle.aide_report.specs.declared.run_fault.RunFault.{RunFault}
 use Rattle.aide_text.specs.Failures.{CountsFlush, Rose}
 
 -- A run with this result: `a` is seen of the sources before it and `b` after it, `d` and `e` of the desk, `o` and `p`
 -- of the sink.
-pub record IsRunBy (w : Written) (limits : Limits) (asked : Asked) (a b : Seen) (d e : DeskView)
+pub record IsRun (limits : Limits) (asked : Asked) (a b : Seen) (d e : DeskView)
     (o p : SinkSeen) (result : Result Outcome RunFault) : Type 0 where
-  -- If it is told what is at each side, a text or nothing: the run ends with the right answer, and sends what is to be
-  -- written, unless an allocation, a side that is there, or the sink has failed. Then its beginning has gone out.
+  -- If it is told what is at each side, a text or nothing: the run ends with the right answer, and sends its report,
+  -- unless an allocation, a side that is there, or the sink has failed. Then its beginning has gone out.
   pub over : (old new : Option (List ℕ)) → TellsSide (a.bytes_of Old) (a.is_missing Old) old
       → TellsSide (a.bytes_of New) (a.is_missing New) new
-      → (r : Result Report RunFault) → RunsOverBy limits (w.over asked) old new r
+      → (r : Result Report RunFault) → RunsOver limits asked old new r
       → EndsOver r (IsHindered old new (Rose a.failures b.failures) (Rose o.failures p.failures))
       result o.delivered p.delivered
   -- Over reliable sources no side that is there fails.
@@ -45,18 +45,19 @@ pub record IsRunBy (w : Written) (limits : Limits) (asked : Asked) (a b : Seen) 
   -- A failed write is returned with the number of bytes that went out.
   pub written : IfErr result (HasWrittenIfAny o.delivered p.delivered)
   -- For any sources, also those that tell no bytes: what has gone out is of the very outcome that is returned.
-  pub consistent : IfOk result (λ outcome. w.IsOf asked outcome o.delivered p.delivered)
+  pub consistent : IfOk result (λ outcome.
+      IsOfOutcome asked.options outcome o.delivered p.delivered)
   -- It is flushed once, after its last byte, and after a fault not at all.
   pub flushed : OnOk result (p.is_flushed ≡ true)
   pub flushes : CountsFlush o.flushes p.flushes result
-  -- Before both databases have been read, and counted if a report is written, nothing goes out.
-  pub unsent : IfErr result (HasSentNothing w.openings_before (a.openings Old) (b.openings Old)
+  -- Before both databases have been read and counted, nothing goes out.
+  pub unsent : IfErr result (HasSentNothing 2 (a.openings Old) (b.openings Old)
       o.delivered p.delivered)
   -- why a fault comes
   pub cause : IfErr result (λ fault. HasCause fault (Rose a.failures b.failures)
       (Rose o.failures p.failures)
       (λ first. (old new : List ℕ) → a.bytes_of Old ≡ Some old → a.bytes_of New ≡ Some new
-      → (r : Result Report DbFault) → RunsBy limits (w.over asked) old new r → r ≡ Err first)
+      → (r : Result Report DbFault) → Runs limits asked old new r → r ≡ Err first)
       (λ side. (text : List ℕ) → a.bytes_of side ≡ Some text → ⊥))
   -- A side whose openings agree is never called changed, and a fault of its text is its first one.
   pub right : IfErr result (IsRight limits a.bytes_of)
@@ -67,15 +68,16 @@ pub record IsRunBy (w : Written) (limits : Limits) (asked : Asked) (a b : Seen) 
   pub sources_never_fall : a.failures ≤ b.failures
   -- A failed write or flush is returned, and none is tried again.
   pub sink_fails : CountsWrites o.failures p.failures result
-  -- Each side is opened as often as what is written needs it.
+  -- Each side is opened as often as the report needs it: to be read whole, to count, and for each section of entries.
   pub opens : OnOk result ((old new : List ℕ) → a.bytes_of Old ≡ Some old
       → a.bytes_of New ≡ Some new
-      → OpensExactly a.openings b.openings (w.openings asked old new))
-  pub opens_told : IfOk result (λ outcome. w.OpensBy asked.options outcome a.openings b.openings)
+      → OpensExactly a.openings b.openings (openings_over asked old new))
+  pub opens_told : IfOk result (λ outcome.
+      OpensByOutcome asked.options outcome a.openings b.openings)
   pub opens_within : (old new : List ℕ) → a.bytes_of Old ≡ Some old → a.bytes_of New ≡ Some new
       → IsSound limits old → IsSound limits new
-      → OpensAtMost a.openings b.openings (w.openings asked old new)
-  pub opens_some : OpensAtMost a.openings b.openings w.most_openings
+      → OpensAtMost a.openings b.openings (openings_over asked old new)
+  pub opens_some : OpensAtMost a.openings b.openings 6
   -- A fault of the old text comes before the new side is opened.
   pub opens_first : IfErr result (OpensFirst a.openings b.openings)
   -- The greatest number of bytes ever held on the desk does not fall, and rises at most to three lines as long as the
