@@ -45,3 +45,15 @@ closing_trusted_parts e x y z w t a r c o s more =
     ∙ ap (λ l. (123 ∷ ((e ++ ((44 ∷ x) ++ ((44 ∷ y) ++ ((44 ∷ z) ++ ((44 ∷ w) ++ ((44 ∷ t) ++ ((44 ∷ a) ++ ((44 ∷ r) ++ ((44 ∷ c)
     ++ ((44 ∷ o) ++ l)))))))))) ++ (125 ∷ []))) ++ 10 ∷ [])
     (ap (λ l. behind more ++ l) (behind_one s) ∙ sym (behind_append more (s ∷ [])))
+
+pub opening_parts : (f x y : List ℕ)
+    → (123 ∷ []) ++ (f ++ ((44 ∷ []) ++ (x ++ ((44 ∷ []) ++ (y ++ (125 ∷ 10 ∷ []))))))
+    ≡ line (f ∷ x ∷ y ∷ [])
+unfolding line object
+opening_parts f x y = grind (arith, append_assoc)
+
+pub opening_trusted_parts : (f x y z w : List ℕ)
+    → (123 ∷ []) ++ (f ++ ((44 ∷ x) ++ ((44 ∷ y) ++ ((44 ∷ z) ++ ((44 ∷ w) ++ (125 ∷ 10 ∷ []))))))
+    ≡ line (f ∷ x ∷ y ∷ z ∷ w ∷ [])
+unfolding line object
+opening_trusted_parts f x y z w = grind (arith, append_assoc)

@@ -1,12 +1,11 @@
--- The first and the last line: what is said of both databases at once.
+-- What the last line says of both databases at once: numbers, and columns that were skipped.
 use Rattle.std.specs.Prelude.{ℕ, zero, suc, ◌+◌, ◌-◌, ◌==◌, Bool, true, false, List, [], ◌∷◌}
 use Rattle.std.specs.Prelude.{◌++◌, map, codes}
 use Rattle.std.specs.Int.{bit_at}
 use Rattle.std.specs.List.{filter}
-use Rattle.aide_json.specs.Json.{hex_string}
-use Rattle.aide_json.specs.Member.{member, text_member}
+use Rattle.aide_json.specs.Member.{member}
 use Rattle.aide_json.specs.Number.{json_count}
-use Rattle.aide_json.specs.Object.{array, line, object}
+use Rattle.aide_json.specs.Object.{array}
 use Rattle.aide_line_text.specs.declared.counts.LineCounts.{LineCounts}
 
 -- a member whose value is a count
@@ -34,38 +33,6 @@ is_skipped columns column = bit_at columns (column - 1) == 1
 unfoldable pub skipped_array : ℕ → List ℕ
 skipped_array columns = array (map json_count (filter (is_skipped columns) (numbers 1 64)))
 
--- what the first line says of one database: its configured path, the SHA-256 of its bytes, and the
--- set of the columns that were skipped
-pub record DatabaseFacts : Type 0 where
-  pub path : List ℕ
-  pub digest : List ℕ
-  pub skipped : ℕ
-
--- what is said of one database, as an object
-unfoldable pub facts_object : DatabaseFacts → List ℕ
-facts_object facts =
-    object (text_member (codes "path") facts.path
-    ∷ member (codes "sha256") (hex_string facts.digest)
-    ∷ member (codes "skipped") (skipped_array facts.skipped) ∷ [])
-
--- the first line: the format's number, and both databases
-unfoldable pub first_line : (old_facts new_facts : DatabaseFacts) → List ℕ
-first_line old_facts new_facts =
-    line (count_member (codes "format") 3
-    ∷ member (codes "old") (facts_object old_facts)
-    ∷ member (codes "new") (facts_object new_facts) ∷ [])
-
--- the same where they are compared beside a trusted pair: the format's number, and all four databases
-unfoldable pub first_line_beside : (old_facts new_facts : DatabaseFacts)
-    → (trusted_old_facts trusted_new_facts : DatabaseFacts)
-    → List ℕ
-first_line_beside old_facts new_facts trusted_old_facts trusted_new_facts =
-    line (count_member (codes "format") 3
-    ∷ member (codes "old") (facts_object old_facts)
-    ∷ member (codes "new") (facts_object new_facts)
-    ∷ member (codes "trusted_old") (facts_object trusted_old_facts)
-    ∷ member (codes "trusted_new") (facts_object trusted_new_facts) ∷ [])
-
 -- for how many lines a trusted machine accounts, if there is one
 abbrev pub trusted_members : (has_trusted : Bool) → LineCounts → List (List ℕ)
 trusted_members false counts = []
@@ -78,11 +45,3 @@ abbrev pub account_members : (has_trusted : Bool) → LineCounts → List (List 
 account_members has_trusted counts =
     count_member (codes "same_as_old") counts.same_as_old
     ∷ (trusted_members has_trusted counts ++ count_member (codes "others") counts.others ∷ [])
-
--- the last line, without which the lines were cut: the numbers of entries and of what accounts for
--- them, and the exit status
-unfoldable pub last_line : (has_trusted : Bool) → LineCounts → ℕ → List ℕ
-last_line has_trusted counts status =
-    line (member (codes "end") (codes "true")
-    ∷ (count_members counts
-    ++ (account_members has_trusted counts ++ count_member (codes "status") status ∷ [])))

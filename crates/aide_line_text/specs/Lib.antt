@@ -4,5 +4,4 @@ pub mod Ends
 pub mod Frame
 pub mod ReadView
 pub mod SidesView
-pub mod SourceView
 pub mod code

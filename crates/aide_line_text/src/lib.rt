@@ -11,7 +11,6 @@ mod sides;
 mod skipped;
 
 pub use counts::LineCounts;
-pub use ends::{Source, put_first_line, put_first_line_beside, put_last_line};
 pub use entry::{Remark, kind_word, put_entry_line, type_at};
 pub use frame::{
     Read, ReadPair, put_closing_line, put_closing_line_trusted, put_opening_line,
