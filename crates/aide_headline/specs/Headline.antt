@@ -23,4 +23,5 @@ EndsAs (Err right) (Err fault) before after = (fault ≡ Database right) × Appe
 abbrev pub StopsAt : DbFault → (begun : List ℕ) → Result Outcome RunFault
     → (before after : Option (List ℕ)) → Type 0
 StopsAt right begun (Ok outcome) before after = ⊥
-StopsAt right begun (Err fault) before after = (fault ≡ Database right) × SendsPart begun before after
+StopsAt right begun (Err fault) before after = (fault ≡ Database right)
+    × SendsPart begun before after

@@ -51,7 +51,8 @@ pub fn run_beside_program<S: Site, W: Sink, E: Sink>(
         → IsRightBeside limits (asked_by settings.options named)
         (asked_by settings.options (trusted_of job)) old new trusted_old trusted_new right
         → WholeBeside (answer_beside (out_beside (asked_by settings.options named)
-        (asked_by settings.options (trusted_of job)) (Some old) (Some new) (Some trusted_old) (Some trusted_new))
+        (asked_by settings.options (trusted_of job))
+        (Some old) (Some new) (Some trusted_old) (Some trusted_new))
         named (trusted_of job) right) result
         (sinks_between W.delivered E.delivered E.failures out.old out.new err.old err.new)
         ⊎ StarvedBeside result

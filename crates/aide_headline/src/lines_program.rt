@@ -34,9 +34,11 @@ pub fn run_lines_program<S: Site, W: Sink, E: Sink>(
         → HasNoFailure (W.failures out.old) (W.failures out.new)
         → (right : Result Report DbFault)
         → RunsBy limits (lines_read (asked_by settings.options named)) old new right
-        → Whole (answer_with (start_of (lines_begun (asked_by settings.options named) old new)) right) result
+        → Whole (answer_with
+        (start_of (lines_begun (asked_by settings.options named) old new)) right) result
         (sinks_between W.delivered E.delivered E.failures out.old out.new err.old err.new)
-        ⊎ Starved (answer_with (start_of (lines_begun (asked_by settings.options named) old new)) right) result
+        ⊎ Starved (answer_with
+        (start_of (lines_begun (asked_by settings.options named) old new)) right) result
         (sinks_between W.delivered E.delivered E.failures out.old out.new err.old err.new) }
     ensures bound { (named : Named) (settings : Configured) (old new : List ℕ)
         → Asks (S.file_at site.old) words.now named settings old new

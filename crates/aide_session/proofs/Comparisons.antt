@@ -161,6 +161,7 @@ module _ (wish : Asked) (a b : Seen) (d e : DeskView) (o p : SinkSeen) where
     consistent = ran.consistent;
     flushed = ran.flushed;
     flushes = ran.flushes;
+    cut = ran.cut;
     back = ran.unopened;
     caused = IfErr-weaker result _ _ (λ fault cause. caused_of _ _ _ fault cause) ran.cause;
     right = ran.right;
@@ -201,6 +202,7 @@ module _ (wish : Asked) (a b : Seen) (d e : DeskView) (o p : SinkSeen) where
     consistent = ran.consistent;
     flushed = ran.flushed;
     flushes = ran.flushes;
+    cut = λ old new told_old told_new. unsaid result;
     back = ran.unsent;
     caused = IfErr-weaker result _ _ (λ fault cause. caused_by _ _ _ _ fault cause) ran.cause;
     right = ran.right;

@@ -221,6 +221,15 @@ ClosingOpens w files named (bad_run options fault) course =
     (w.openings (asked_by options named) old new))
 ClosingOpens w files named _ course = ⊤
 
+-- What has gone out at the fault of a run over two known texts: of lines never a byte of the last one, unless both
+-- texts are sound and a write has failed.
+abbrev pub ClosingCut : Writing → Files → Named → Closing → (before after : Option (List ℕ))
+    → Type 0
+ClosingCut w files named (bad_run options fault) before after = (old new : List ℕ)
+    → HasText files named Old old → HasText files named New new
+    → w.IsCut limits (asked_by options named) old new before after fault
+ClosingCut w files named _ before after = ⊤
+
 -- The status, the lines on standard error and the output are those of one closing, whose cause
 -- holds.
 pub record ClosesBy (w : Writing) (files : Files) (words : List (List ℕ)) (status : ℕ)
@@ -230,6 +239,7 @@ pub record ClosesBy (w : Writing) (files : Files) (words : List (List ℕ)) (sta
   pub cause : ClosingCause files words named closing site out
   pub status_is : status ≡ closing_status closing
   pub output : ClosingOutput w named closing course sinks.out_old sinks.out_new
+  pub cut : ClosingCut w files named closing sinks.out_old sinks.out_new
   pub opens : ClosingOpens w files named closing course
   pub opens_some : OpensAtMost course.opened_before course.opened_after w.most_openings
   pub put : Puts (closing_line named closing) sinks

@@ -3,12 +3,13 @@
 use Rattle.std.specs.Prelude.{ℕ, List, Option, Some, None, ⊤}
 use Rattle.aide_conf.specs.Settings.{Configured}
 use Rattle.aide_conf.specs.declared.options.Options.{Options}
+use Rattle.aide_db.specs.declared.limits.Limits.{Limits}
 use Rattle.aide_db.specs.declared.side.Side.{Side}
 use Rattle.aide_db.specs.declared.side.Side.TheVariants.{Old}
 use Rattle.aide_report.specs.Agreement.{IsOfOutcome, OpensByOutcome}
 use Rattle.aide_report.specs.Asked.{Asked}
 use Rattle.aide_report.specs.LinesRead.{lines_begun, lines_read}
-use Rattle.aide_report.specs.LinesRun.{AreLinesRead, KeepsUnopened}
+use Rattle.aide_report.specs.LinesRun.{AreLinesRead, CutsLines, KeepsUnopened}
 use Rattle.aide_report.specs.Openings.{OpensExactly, OpensFirst}
 use Rattle.aide_report.specs.RunFaults.{HasSentNothing}
 use Rattle.aide_report.specs.Runs.{Report, openings_over, report_over}
@@ -25,6 +26,9 @@ pub record Writing : Type 1 where
   pub at_fault : Asked → (old new : List ℕ) → Output
   -- what an outcome determines of the bytes that have gone out
   pub IsOf : Asked → Outcome → (before after : Option (List ℕ)) → Type 0
+  -- what has gone out at a fault, if both texts are known
+  pub IsCut : Limits → Asked → (old new : List ℕ) → (before after : Option (List ℕ)) → RunFault
+      → Type 0
   -- when nothing has gone out at a fault, by how often the sides were opened
   pub KeepsBack : (opened_before opened_after : Side → ℕ) → (before after : Option (List ℕ))
       → RunFault → Type 0
@@ -47,6 +51,7 @@ the_report = record {
   over = report_over;
   at_fault = λ asked old new. nothing;
   IsOf = λ asked outcome before after. IsOfOutcome asked.options outcome before after;
+  IsCut = λ limits asked old new before after fault. ⊤;
   KeepsBack = λ opened_before opened_after before after fault.
       HasSentNothing 2 (opened_before Old) (opened_after Old) before after fault;
   openings = openings_over;
@@ -68,6 +73,7 @@ the_lines = record {
   over = lines_read;
   at_fault = λ asked old new. start_of (lines_begun asked old new);
   IsOf = AreLinesRead;
+  IsCut = CutsLines;
   KeepsBack = λ opened_before opened_after before after fault. KeepsUnopened before after fault;
   openings = λ asked old new. 1;
   OpensBy = λ options outcome opened_before opened_after. OpensExactly opened_before opened_after 1;

@@ -56,6 +56,8 @@ pub record IsComparison (w : Writing) (asked : Asked) (a b : Seen) (d e : DeskVi
   pub consistent : IfOk result (λ outcome. w.IsOf asked outcome o.delivered p.delivered)
   pub flushed : OnOk result (p.is_flushed ≡ true)
   pub flushes : CountsFlush o.flushes p.flushes result
+  pub cut : (old new : List ℕ) → a.bytes_of Old ≡ Some old → a.bytes_of New ≡ Some new
+      → IfErr result (w.IsCut limits asked old new o.delivered p.delivered)
   pub back : IfErr result (w.KeepsBack a.openings b.openings o.delivered p.delivered)
   pub caused : IfErr result (IsCaused (Rose a.failures b.failures) (Rose o.failures p.failures))
   pub right : IfErr result (IsRight limits a.bytes_of)

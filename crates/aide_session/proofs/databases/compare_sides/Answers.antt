@@ -24,6 +24,7 @@ returns-in-Ok-clause-closes g c = λ words for. record {
   cause = ((for.asks, for.options_are), λ side text has. c.in-Ok.ensures.sound side text (for.gives side text has));
   status_is = c.status.ensures;
   output = (rw (for.old_is, for.new_is) c.in-Ok.ensures.consistent, c.in-Ok.ensures.flushed, c.in-Ok.ensures.flushes);
+  cut = tt;
   opens = (
     c.in-Ok.ensures.opens_told,
     λ old new has_old has_new.
@@ -65,6 +66,8 @@ returns-in-Err-clause-closes g c = λ words for.
       );
       status_is = c.status-in-Err.ensures;
       output = (c.in-Err.ensures.back, c.in-Err.ensures.refused, c.in-Err.ensures.flushes);
+      cut = λ old new has_old has_new.
+          rw (for.old_is, for.new_is) (c.in-Err.ensures.cut old new (for.gives Old old has_old) (for.gives New new has_new));
       opens = (
         c.in-Err.ensures.opens_first,
         c.in-Err.ensures.not_given,
