@@ -1,35 +1,296 @@
--- The lines over two sound texts of bytes beside a trusted pair are lines of JSON.
-use Rattle.std.proofs.Common.{ℕ, List, true}
+-- The lines of two databases beside a trusted pair: they are lines of JSON, a reader finds in them the paths and digests of
+-- all four, and without their last line they are never complete.
+use Rattle.std.proofs.Common.{◌≡◌, ◌∙◌, ℕ, true, false, List, [], ◌∷◌, ◌++◌, Some, Ok, Err, refl, append_assoc}
+use Rattle.std.proofs.Common.{if◌then◌else◌, Option}
+use Rattle.std.specs.Prelude.{codes, ⊤}
+use Rattle.std.specs.List.{AllByRecursion}
+use Rattle.aide_conf.specs.declared.options.Options.{Options}
 use Rattle.aide_db.specs.Database.{IsSound}
 use Rattle.aide_db.specs.Map.{database_of}
 use Rattle.aide_db.specs.declared.limits.Limits.{Limits}
+use Rattle.aide_db.specs.declared.side.Side.TheVariants.{Old, New}
+use Rattle.aide_line_text.specs.Frame.{ReadFacts}
+use Rattle.aide_line_text.specs.declared.counts.LineCounts.{LineCounts}
 use Rattle.aide_report.specs.Asked.{Asked}
+use Rattle.aide_report.specs.ChangeLines.{change_line, change_lines, listed_changes, listed_line}
 use Rattle.aide_report.specs.Compare.{changes}
 use Rattle.aide_report.specs.LineCounts.{line_counts, status_by}
-use Rattle.aide_report.specs.LineRuns.{facts_of}
-use Rattle.aide_trusted.specs.BesideLines.{all_lines_beside, by_trusted, lines_beside}
+use Rattle.aide_report.specs.LinesRead.{read_of}
+use Rattle.aide_report.specs.Runs.{report_over}
+use Rattle.aide_report.specs.Sections.{all_listed, is_in}
+use Rattle.aide_report.specs.Seen.{SinkSeen}
+use Rattle.aide_report.specs.declared.outcome.Outcome.{Outcome}
+use Rattle.aide_report.specs.declared.run_fault.RunFault.TheVariants.{Open, Database, Changed, Write}
+use Rattle.aide_trusted.specs.BesideLines.{BeginsBeside, all_lines_beside, by_trusted, closing_beside, facts_of_texts, lines_beside}
+use Rattle.aide_trusted.specs.BesideLines.{opening_beside}
+use Rattle.aide_trusted.specs.BesideRuns.{AreAllSound, CutsBeside, changes_between}
+use Rattle.aide_trusted.specs.PairSeen.{Gives, PairSeen}
+use Rattle.aide_trusted.specs.RunBeside.{IsRunBeside}
+use Rattle.aide_trusted.specs.Sought.{Accounted, accounted_lines, changes_of}
+use Rattle.aide_trusted.specs.declared.pair_fault.PairFault.{PairFault}
+use Rattle.aide_trusted.specs.declared.pair_fault.PairFault.TheVariants.{Compared, Trusted}
 use Rattle.aide_line_laws.specs.ByteValues.{AreBytes}
+use Rattle.aide_line_laws.specs.Complete.{AreComplete, EndsWithDigests, digest_under}
+use Rattle.aide_line_laws.specs.Field.{Field, text_field}
+use Rattle.aide_line_laws.specs.Fields.{closing_fields_trusted, opening_fields_trusted}
 use Rattle.aide_line_laws.specs.JsonLine.{AreJsonLines}
-use Rattle.aide_line_laws.specs.TextFields.{fields_beside}
-use Rattle.aide_line_laws.proofs.EndLaws.{first_line_beside_is_json}
-use Rattle.aide_line_laws.proofs.TextLaws.{all_lines_are_json, changes_bytes, sha256_bytes}
+use Rattle.aide_line_laws.specs.Reading.{text_under}
+use Rattle.aide_line_laws.specs.TextFields.{change_fields, fields_begun, fields_beside}
+use Rattle.aide_line_laws.proofs.CompleteLaws.{IsNoEnd, complete_by, never_begins, no_end, only_all, sent_begins}
+use Rattle.aide_line_laws.proofs.EndLaws.{closing_line_trusted_is_json, opening_line_trusted_is_json}
+use Rattle.aide_line_laws.proofs.Laws.{change_line_is_json}
+use Rattle.aide_line_laws.proofs.ReadingLaws.{chosen, no_change_is_the_end, past_text, read_in_base_16, text_is_read}
+use Rattle.aide_line_laws.proofs.TextLaws.{IsChangeOfBytes, all_lines_are_json, begun_bytes, changes_bytes, lines_both, one_line}
+use Rattle.aide_line_laws.proofs.TextLaws.{sha256_bytes}
+
+-- the configured paths of a pair are of bytes
+abbrev pub ArePathsOfBytes : Asked → Type 0
+ArePathsOfBytes asked = AreBytes asked.old_path × AreBytes asked.new_path
+
+-- ---- lines of JSON
 
 -- The lines over two sound texts of bytes beside a trusted pair are lines of JSON, whatever is asked and whatever the
 -- trusted texts are: each has the members that belong to the changes of the two databases, in their order, and says
 -- what accounts for its change by the trusted maps.
 pub lines_beside_are_json : (limits : Limits) (wish trusted : Asked) (old new trusted_old trusted_new : List ℕ)
-    → IsSound limits old → IsSound limits new → AreBytes old → AreBytes new
-    → AreBytes wish.old_path → AreBytes wish.new_path → AreBytes trusted.old_path → AreBytes trusted.new_path
+    → IsSound limits old → IsSound limits new → AreBytes old → AreBytes new → ArePathsOfBytes wish → ArePathsOfBytes trusted
     → AreJsonLines (lines_beside wish trusted old new trusted_old trusted_new).text
     (fields_beside wish trusted old new trusted_old trusted_new)
 unfolding lines_beside all_lines_beside
-lines_beside_are_json limits wish trusted old new trusted_old trusted_new
-    old_sound new_sound old_bytes new_bytes old_path new_path trusted_old_path trusted_new_path =
+lines_beside_are_json limits wish trusted old new trusted_old trusted_new old_sound new_sound old_bytes new_bytes paths others =
     let account = by_trusted (database_of trusted_old) (database_of trusted_new) in
     let found = line_counts wish.options account (database_of old) (database_of new) in
-    all_lines_are_json wish.options account (changes (database_of old) (database_of new)) _ _ true found (status_by found)
+    all_lines_are_json wish.options account (changes (database_of old) (database_of new)) _ _ _ _
     (changes_bytes limits old new old_sound new_sound old_bytes new_bytes)
-    (first_line_beside_is_json (facts_of wish.old_path old) (facts_of wish.new_path new)
-    (facts_of trusted.old_path trusted_old) (facts_of trusted.new_path trusted_new)
-    (old_path, sha256_bytes old) (new_path, sha256_bytes new)
-    (trusted_old_path, sha256_bytes trusted_old) (trusted_new_path, sha256_bytes trusted_new))
+    (opening_line_trusted_is_json wish.old_path wish.new_path trusted.old_path trusted.new_path paths.0 paths.1 others.0 others.1)
+    (closing_line_trusted_is_json (read_of old) (read_of new) (read_of trusted_old) (read_of trusted_new) found (status_by found)
+    (sha256_bytes old) (sha256_bytes new) (sha256_bytes trusted_old) (sha256_bytes trusted_new))
+
+-- the members of the line of a change, by what accounts for it, if it has a line
+abbrev accounted_fields : Options → Accounted → List (List Field)
+accounted_fields options each =
+    if is_in options all_listed each.0 then change_fields options (λ any. each.1) each.0 ∷ [] else []
+
+-- those of all lines
+abbrev all_accounted_fields : Options → List Accounted → List (List Field)
+all_accounted_fields options [] = []
+all_accounted_fields options (each ∷ all) = accounted_fields options each ++ all_accounted_fields options all
+
+accounted_is_json : (options : Options) (each : Accounted) → IsChangeOfBytes each.0
+    → AreJsonLines (listed_line options (λ any. each.1) each.0) (accounted_fields options each)
+unfolding listed_line
+accounted_is_json options each h =
+    elim (is_in options all_listed each.0) as (λ b. AreJsonLines
+    (if b then change_line options (λ any. each.1) each.0 else [])
+    (if b then change_fields options (λ any. each.1) each.0 ∷ [] else [])) [
+      | true ↦ one_line (change_line options (λ any. each.1) each.0) (change_fields options (λ any. each.1) each.0)
+          (change_line_is_json options (λ any. each.1) each.0 h.0 h.1.0 h.1.1)
+      | false ↦ refl
+    ]
+
+all_accounted_are_json : (options : Options) (all : List Accounted) → AllByRecursion IsChangeOfBytes (changes_of all)
+    → AreJsonLines (accounted_lines options all) (all_accounted_fields options all)
+all_accounted_are_json options [] h = refl
+all_accounted_are_json options (each ∷ all) h =
+    lines_both (listed_line options (λ any. each.1) each.0) (accounted_lines options all) (accounted_fields options each)
+    (all_accounted_fields options all) (accounted_is_json options each h.0) (all_accounted_are_json options all h.1)
+
+-- ---- what is read back
+
+-- In the first line what is under each name is the configured path.
+pub paths_beside_are_read_back : (old_path new_path trusted_old trusted_new : List ℕ) → AreBytes old_path → AreBytes new_path
+    → AreBytes trusted_old → AreBytes trusted_new
+    → (text_under (codes "old") (opening_fields_trusted old_path new_path trusted_old trusted_new) ≡ Some old_path)
+    × (text_under (codes "new") (opening_fields_trusted old_path new_path trusted_old trusted_new) ≡ Some new_path)
+    × (text_under (codes "trusted_old") (opening_fields_trusted old_path new_path trusted_old trusted_new) ≡ Some trusted_old)
+    × (text_under (codes "trusted_new") (opening_fields_trusted old_path new_path trusted_old trusted_new) ≡ Some trusted_new)
+paths_beside_are_read_back old_path new_path trusted_old trusted_new h k l m =
+    let last = text_field (codes "trusted_new") trusted_new ∷ [] in
+    let third = text_field (codes "trusted_old") trusted_old ∷ last in
+    let second = text_field (codes "new") new_path ∷ third in (
+      text_is_read (codes "old") old_path second h refl refl refl
+          (past_text (codes "old") (codes "new") new_path third refl refl
+          ∙ past_text (codes "old") (codes "trusted_old") trusted_old last refl refl
+          ∙ past_text (codes "old") (codes "trusted_new") trusted_new [] refl refl),
+      (λ i. chosen (past_text (codes "new") (codes "old") old_path second refl refl i)
+          (past_text (codes "new_hex") (codes "old") old_path second refl refl i))
+          ∙ text_is_read (codes "new") new_path third k refl refl refl
+          (past_text (codes "new") (codes "trusted_old") trusted_old last refl refl
+          ∙ past_text (codes "new") (codes "trusted_new") trusted_new [] refl refl),
+      (λ i. chosen ((past_text (codes "trusted_old") (codes "old") old_path second refl refl
+          ∙ past_text (codes "trusted_old") (codes "new") new_path third refl refl) i)
+          ((past_text (codes "trusted_old_hex") (codes "old") old_path second refl refl
+          ∙ past_text (codes "trusted_old_hex") (codes "new") new_path third refl refl) i))
+          ∙ text_is_read (codes "trusted_old") trusted_old last l refl refl refl
+          (past_text (codes "trusted_old") (codes "trusted_new") trusted_new [] refl refl),
+      (λ i. chosen ((past_text (codes "trusted_new") (codes "old") old_path second refl refl
+          ∙ past_text (codes "trusted_new") (codes "new") new_path third refl refl
+          ∙ past_text (codes "trusted_new") (codes "trusted_old") trusted_old last refl refl) i)
+          ((past_text (codes "trusted_new_hex") (codes "old") old_path second refl refl
+          ∙ past_text (codes "trusted_new_hex") (codes "new") new_path third refl refl
+          ∙ past_text (codes "trusted_new_hex") (codes "trusted_old") trusted_old last refl refl) i))
+          ∙ text_is_read (codes "trusted_new") trusted_new [] m refl refl refl refl,
+    )
+
+-- In the last line a reader finds the digests of all four.
+pub digests_beside_are_read_back : (old new trusted_old trusted_new : ReadFacts) (counts : LineCounts) (status : ℕ)
+    → AreBytes old.digest → AreBytes new.digest → AreBytes trusted_old.digest → AreBytes trusted_new.digest
+    → (digest_under (codes "old") (closing_fields_trusted old new trusted_old trusted_new counts status) ≡ Some old.digest)
+    × (digest_under (codes "new") (closing_fields_trusted old new trusted_old trusted_new counts status) ≡ Some new.digest)
+    × (digest_under (codes "trusted_old") (closing_fields_trusted old new trusted_old trusted_new counts status)
+    ≡ Some trusted_old.digest)
+    × (digest_under (codes "trusted_new") (closing_fields_trusted old new trusted_old trusted_new counts status)
+    ≡ Some trusted_new.digest)
+digests_beside_are_read_back old new trusted_old trusted_new counts status h k l m = (
+  read_in_base_16 old.digest h,
+  read_in_base_16 new.digest k,
+  read_in_base_16 trusted_old.digest l,
+  read_in_base_16 trusted_new.digest m,
+)
+
+-- ---- which lines are complete
+
+-- The lines over four texts are complete.
+pub lines_beside_are_complete : (wish trusted : Asked) (old new trusted_old trusted_new : List ℕ)
+    → AreComplete (fields_beside wish trusted old new trusted_old trusted_new)
+lines_beside_are_complete wish trusted old new trusted_old trusted_new =
+    complete_by (fields_begun wish.options (by_trusted (database_of trusted_old) (database_of trusted_new))
+    (opening_fields_trusted wish.old_path wish.new_path trusted.old_path trusted.new_path)
+    (changes (database_of old) (database_of new))) _ refl
+
+accounted_has_no_end : (options : Options) (all : List Accounted) → AllByRecursion IsNoEnd (all_accounted_fields options all)
+accounted_has_no_end options [] = tt
+accounted_has_no_end options (each ∷ all) =
+    elim (is_in options all_listed each.0) as (λ b. AllByRecursion IsNoEnd
+    ((if b then change_fields options (λ any. each.1) each.0 ∷ [] else []) ++ all_accounted_fields options all)) [
+      | true ↦ (no_change_is_the_end options (λ any. each.1) each.0, accounted_has_no_end options all)
+      | false ↦ accounted_has_no_end options all
+    ]
+
+opening_is_no_end : (old_path new_path trusted_old trusted_new : List ℕ)
+    → IsNoEnd (opening_fields_trusted old_path new_path trusted_old trusted_new)
+opening_is_no_end old_path new_path trusted_old trusted_new =
+    let last = text_field (codes "trusted_new") trusted_new ∷ [] in
+    let third = text_field (codes "trusted_old") trusted_old ∷ last in
+    past_text (codes "end") (codes "old") old_path (text_field (codes "new") new_path ∷ third) refl refl
+    ∙ past_text (codes "end") (codes "new") new_path third refl refl
+    ∙ past_text (codes "end") (codes "trusted_old") trusted_old last refl refl
+    ∙ past_text (codes "end") (codes "trusted_new") trusted_new [] refl refl
+
+-- What goes out before the last line, whatever the four texts are, does not begin with complete lines.
+pub begun_beside_is_never_complete : (wish trusted : Asked) (old new : List ℕ) (accounted : List Accounted)
+    → changes_of accounted ≡ changes_between old new → AreBytes old → AreBytes new → ArePathsOfBytes wish
+    → ArePathsOfBytes trusted
+    → (whole rest : List ℕ) (all : List (List Field)) → AreJsonLines whole all → AreComplete all
+    → opening_beside wish trusted ++ accounted_lines wish.options accounted ≡ whole ++ rest → ⊥
+begun_beside_is_never_complete wish trusted old new accounted same old_bytes new_bytes paths others =
+    let first = opening_fields_trusted wish.old_path wish.new_path trusted.old_path trusted.new_path in
+    never_begins (opening_beside wish trusted ++ accounted_lines wish.options accounted)
+    (first ∷ all_accounted_fields wish.options accounted)
+    (lines_both (opening_beside wish trusted) (accounted_lines wish.options accounted) (first ∷ [])
+    (all_accounted_fields wish.options accounted)
+    (one_line (opening_beside wish trusted) first
+    (opening_line_trusted_is_json wish.old_path wish.new_path trusted.old_path trusted.new_path paths.0 paths.1 others.0 others.1))
+    (all_accounted_are_json wish.options accounted (rw same (begun_bytes old new old_bytes new_bytes))))
+    (opening_is_no_end wish.old_path wish.new_path trusted.old_path trusted.new_path, accounted_has_no_end wish.options accounted)
+
+-- Lines that are cut are not complete: the lines over four sound texts begin with no complete lines but themselves.
+pub cut_beside_is_never_complete : (limits : Limits) (wish trusted : Asked) (old new trusted_old trusted_new : List ℕ)
+    → IsSound limits old → IsSound limits new → AreBytes old → AreBytes new → ArePathsOfBytes wish → ArePathsOfBytes trusted
+    → (whole rest : List ℕ) (all : List (List Field)) → AreJsonLines whole all → AreComplete all
+    → (lines_beside wish trusted old new trusted_old trusted_new).text ≡ whole ++ rest → rest ≡ []
+cut_beside_is_never_complete limits wish trusted old new trusted_old trusted_new old_sound new_sound old_bytes new_bytes paths
+    others =
+    let account = by_trusted (database_of trusted_old) (database_of trusted_new) in
+    let counts = line_counts wish.options account (database_of old) (database_of new) in
+    let all = changes (database_of old) (database_of new) in
+    only_all (lines_beside wish trusted old new trusted_old trusted_new).text
+    (fields_begun wish.options account
+    (opening_fields_trusted wish.old_path wish.new_path trusted.old_path trusted.new_path) all)
+    (closing_fields_trusted (read_of old) (read_of new) (read_of trusted_old) (read_of trusted_new) counts (status_by counts))
+    (lines_beside_are_json limits wish trusted old new trusted_old trusted_new old_sound new_sound old_bytes new_bytes paths others) (
+      opening_is_no_end wish.old_path wish.new_path trusted.old_path trusted.new_path,
+      no_end wish.options account (listed_changes wish.options all),
+    )
+
+-- ---- runs
+
+-- Any fault but a failed write of the lines of four sound texts.
+abbrev pub LeavesUnfinishedBeside : Limits → (old new trusted_old trusted_new : List ℕ) → PairFault → Type 0
+LeavesUnfinishedBeside limits old new trusted_old trusted_new (Compared (Write written)) =
+    AreAllSound limits old new trusted_old trusted_new → ⊥
+LeavesUnfinishedBeside limits old new trusted_old trusted_new _ = ⊤
+
+begun_at : (limits : Limits) (wish trusted : Asked) (old new trusted_old trusted_new : List ℕ)
+    (before after : Option (List ℕ)) (fault : PairFault)
+    → CutsBeside limits wish trusted old new trusted_old trusted_new before after fault
+    → LeavesUnfinishedBeside limits old new trusted_old trusted_new fault
+    → BeginsBeside wish trusted (changes_between old new) (changes_between trusted_old trusted_new) before after
+begun_at limits wish trusted old new trusted_old trusted_new before after (Compared (Write written)) cut left = cut.1 left
+begun_at limits wish trusted old new trusted_old trusted_new before after (Compared (Open side)) cut left = cut
+begun_at limits wish trusted old new trusted_old trusted_new before after (Compared (Database fault)) cut left = cut
+begun_at limits wish trusted old new trusted_old trusted_new before after (Compared (Changed side)) cut left = cut
+begun_at limits wish trusted old new trusted_old trusted_new before after (Trusted fault) cut left = cut
+
+module _ (limits : Limits) (p q : PairSeen) (o s : SinkSeen) (old new trusted_old trusted_new : List ℕ)
+    (gives : Gives p old new) (trusted_gives : Gives q trusted_old trusted_new) where
+  -- After such a fault a run has not sent complete lines.
+  pub no_fault_completes_lines_beside : (fault : PairFault) → IsRunBeside limits p q o s (Err fault)
+      → LeavesUnfinishedBeside limits old new trusted_old trusted_new fault
+      → AreBytes old → AreBytes new → ArePathsOfBytes p.asked → ArePathsOfBytes q.asked
+      → (before whole rest : List ℕ) (all : List (List Field)) → o.delivered ≡ Some before
+      → s.delivered ≡ Some (before ++ (whole ++ rest)) → AreJsonLines whole all → AreComplete all → ⊥
+  no_fault_completes_lines_beside fault run left old_bytes new_bytes paths others before whole rest all was is h complete =
+      let begun =
+      begun_at limits p.asked q.asked old new trusted_old trusted_new o.delivered s.delivered fault
+      (run.cut old new trusted_old trusted_new gives trusted_gives) left
+      in
+      let begins =
+      sent_begins (opening_beside p.asked q.asked ++ accounted_lines p.asked.options begun.accounted) before (whole ++ rest)
+      o.delivered s.delivered begun.part was is
+      in
+      begun_beside_is_never_complete p.asked q.asked old new begun.accounted begun.all old_bytes new_bytes paths others
+      whole (rest ++ begins.0) all h complete (begins.1 ∙ append_assoc whole rest begins.0)
+
+  -- After `Ok` it has sent a last line in which a reader finds the SHA-256 of all four texts.
+  pub digests_are_of_all_texts : (outcome : Outcome) → IsRunBeside limits p q o s (Ok outcome)
+      → EndsWithDigests ((codes "old", old) ∷ (codes "new", new) ∷ (codes "trusted_old", trusted_old)
+      ∷ (codes "trusted_new", trusted_new) ∷ []) o.delivered s.delivered
+  unfolding lines_beside all_lines_beside
+  digests_are_of_all_texts outcome run =
+      let account = by_trusted (database_of trusted_old) (database_of trusted_new) in
+      let counts = line_counts p.asked.options account (database_of old) (database_of new) in
+      let all = changes (database_of old) (database_of new) in
+      let lines = lines_beside p.asked q.asked old new trusted_old trusted_new in
+      let ends =
+      run.over (Some old) (Some new) (Some trusted_old) (Some trusted_new) gives trusted_gives (Ok lines) (record {
+        compared = Ok (report_over p.asked old new);
+        trusted = Ok (report_over q.asked trusted_old trusted_new);
+        compared_runs = (
+          Ok (report_over p.asked old new),
+          (run.sound Old old gives.0, run.sound New new gives.1, refl),
+          refl,
+        );
+        trusted_runs = (
+          Ok (report_over q.asked trusted_old trusted_new),
+          (run.trusted_sound Old trusted_old trusted_gives.0, run.trusted_sound New trusted_new trusted_gives.1, refl),
+          refl,
+        );
+        answer = refl;
+      })
+      in
+      let read =
+      digests_beside_are_read_back (read_of old) (read_of new) (read_of trusted_old) (read_of trusted_new) counts
+      (status_by counts) (sha256_bytes old) (sha256_bytes new) (sha256_bytes trusted_old) (sha256_bytes trusted_new)
+      in
+      record {
+        begun = opening_beside p.asked q.asked ++ change_lines p.asked.options account all;
+        last = closing_beside (facts_of_texts old new trusted_old trusted_new) counts;
+        fields = closing_fields_trusted (read_of old) (read_of new) (read_of trusted_old) (read_of trusted_new) counts
+            (status_by counts);
+        bytes = ends.1;
+        is_line = closing_line_trusted_is_json (read_of old) (read_of new) (read_of trusted_old) (read_of trusted_new) counts
+            (status_by counts) (sha256_bytes old) (sha256_bytes new) (sha256_bytes trusted_old) (sha256_bytes trusted_new);
+        is_last = refl;
+        digests = (read.0, (read.1, (read.2, (read.3, tt))));
+      }

@@ -1,114 +1,133 @@
 -- The first and the last line are objects of JSON, and each is one line.
-use Rattle.std.proofs.Common.{◌≡◌, ℕ, Bool, true, false, List, [], ◌∷◌, ◌++◌, refl, arith}
+use Rattle.std.proofs.Common.{◌≡◌, ℕ, Bool, true, false, List, [], ◌∷◌, ◌++◌, map, refl, arith}
 use Rattle.std.specs.Prelude.{codes}
 use Rattle.std.specs.List.{filter}
-use Rattle.json.specs.Json.{boolean, object}
+use Rattle.json.specs.Json.{array, boolean}
 use Rattle.aide_json.specs.Json.{hex_string}
 use Rattle.aide_json.specs.Member.{member}
 use Rattle.aide_json.specs.Number.{json_count}
 use Rattle.aide_line_text.specs.Ends
-use Rattle.aide_line_text.specs.Ends.{DatabaseFacts, count_member, skipped_array, facts_object, first_line, first_line_beside, last_line}
-use Rattle.aide_line_text.specs.Ends.{is_skipped, numbers}
+use Rattle.aide_line_text.specs.Ends.{count_member, is_skipped, numbers, skipped_array}
+use Rattle.aide_line_text.specs.Frame.{ReadFacts, closing_line, closing_line_trusted, opening_line, opening_line_trusted, read_object}
 use Rattle.aide_line_text.specs.declared.counts.LineCounts.{LineCounts}
 use Rattle.aide_line_laws.specs.ByteValues.{AreBytes}
-use Rattle.aide_line_laws.specs.Field.{count_field, members_of, count_json}
-use Rattle.aide_line_laws.specs.Fields.{facts_fields, first_fields, first_fields_beside, last_fields, object_field}
-use Rattle.aide_line_laws.specs.Fields.{trusted_fields}
+use Rattle.aide_line_laws.specs.Field.{count_field, count_json, items_of}
+use Rattle.aide_line_laws.specs.Fields.{closing_fields, closing_fields_trusted, number_fields, object_field, opening_fields}
+use Rattle.aide_line_laws.specs.Fields.{opening_fields_trusted, read_fields, trusted_fields}
 use Rattle.aide_line_laws.specs.JsonLine.{IsJsonLine}
 use Rattle.aide_line_laws.proofs.Strings.{are_plain}
-use Rattle.aide_line_laws.proofs.Values.{IsValue, IsMember, hex_value, count_value, truth_value, member_of, text_member_of}
-use Rattle.aide_line_laws.proofs.Objects.{AreMembers, deeper, array_of, object_of, line_of}
+use Rattle.aide_line_laws.proofs.Values.{IsMember, hex_value, count_value, truth_value, member_of, text_member_of}
+use Rattle.aide_line_laws.proofs.Objects.{AreMembers, array_of, object_of, line_of}
 use Rattle.aide_line_laws.proofs.Members.{all_mapped, flat_member, count_member_of}
 
-accounts_of : (has_trusted : Bool) (counts : LineCounts) (status : ℕ)
-    → AreMembers 0
+accounts_of : (most : ℕ) (has_trusted : Bool) (counts : LineCounts) (status : ℕ)
+    → AreMembers most
     ((Ends.trusted_members has_trusted counts ++ count_member (codes "others") counts.others ∷ [])
     ++ count_member (codes "status") status ∷ [])
     (trusted_fields has_trusted counts
     ++ count_field (codes "others") counts.others ∷ count_field (codes "status") status ∷ [])
-accounts_of false counts status =
-    (count_member_of 0 (codes "others") counts.others refl, (count_member_of 0 (codes "status") status refl, tt))
-accounts_of true counts status = (
-  count_member_of 0 (codes "same_as_trusted") counts.same_as_trusted refl,
-  (count_member_of 0 (codes "others") counts.others refl, (count_member_of 0 (codes "status") status refl, tt)),
+accounts_of most false counts status =
+    (count_member_of most (codes "others") counts.others refl, (count_member_of most (codes "status") status refl, tt))
+accounts_of most true counts status = (
+  count_member_of most (codes "same_as_trusted") counts.same_as_trusted refl,
+  (count_member_of most (codes "others") counts.others refl, (count_member_of most (codes "status") status refl, tt)),
 )
 
--- The last line is one, for every number.
-pub last_line_is_json : (has_trusted : Bool) (counts : LineCounts) (status : ℕ)
-    → IsJsonLine (last_line has_trusted counts status) (last_fields has_trusted counts status)
-unfolding last_line
-last_line_is_json has_trusted counts status =
-    line_of 0 _ _ (omega arith) (
-      flat_member 0 (codes "end") (codes "true") (boolean true) refl (truth_value true),
+numbers_of : (most : ℕ) (has_trusted : Bool) (counts : LineCounts) (status : ℕ)
+    → AreMembers most
+    (Ends.count_members counts ++ (Ends.account_members has_trusted counts ++ count_member (codes "status") status ∷ []))
+    (number_fields has_trusted counts status)
+numbers_of most has_trusted counts status = (
+  count_member_of most (codes "total") counts.total refl,
+  (
+    count_member_of most (codes "added") counts.added refl,
+    (
+      count_member_of most (codes "removed") counts.removed refl,
       (
-        count_member_of 0 (codes "total") counts.total refl,
+        count_member_of most (codes "changed") counts.changed refl,
+        (count_member_of most (codes "same_as_old") counts.same_as_old refl, accounts_of most has_trusted counts status),
+      ),
+    ),
+  ),
+)
+
+end_of : (most : ℕ) → IsMember most (member (codes "end") (codes "true")) (codes "end", boolean true)
+end_of most = flat_member most (codes "end") (codes "true") (boolean true) refl (truth_value true)
+
+skipped_of : (columns : ℕ) → IsMember 1 (member (codes "skipped") (skipped_array columns))
+    (codes "skipped", array (items_of (map count_json (filter (is_skipped columns) (numbers 1 64)))))
+unfolding skipped_array
+skipped_of columns =
+    member_of 1 (codes "skipped") (skipped_array columns) _ refl
+    (array_of 0 _ _ (all_mapped 0 json_count count_json count_value (filter (is_skipped columns) (numbers 1 64))))
+
+read_member_of : (name : List ℕ) (facts : ReadFacts) → are_plain name ≡ true → AreBytes facts.digest
+    → IsMember 2 (member name (read_object facts)) (object_field name (read_fields facts))
+unfolding read_object
+read_member_of name facts e digest =
+    member_of 2 name (read_object facts) _ e (object_of 1 _ (read_fields facts)
+    (flat_member 1 (codes "sha256") (hex_string facts.digest) _ refl (hex_value facts.digest digest), (skipped_of facts.skipped, tt)))
+
+-- The first line is one, if the paths are of bytes.
+pub opening_line_is_json : (old_path new_path : List ℕ) → AreBytes old_path → AreBytes new_path
+    → IsJsonLine (opening_line old_path new_path) (opening_fields old_path new_path)
+unfolding opening_line
+opening_line_is_json old_path new_path h k =
+    line_of 0 _ _ (omega arith) (
+      count_member_of 0 (codes "format") 4 refl,
+      (text_member_of (codes "old") old_path refl h, (text_member_of (codes "new") new_path refl k, tt)),
+    )
+
+-- The last line is one, for every number, if the digests are of bytes.
+pub closing_line_is_json : (old new : ReadFacts) (has_trusted : Bool) (counts : LineCounts) (status : ℕ)
+    → AreBytes old.digest → AreBytes new.digest
+    → IsJsonLine (closing_line old new has_trusted counts status) (closing_fields old new has_trusted counts status)
+unfolding closing_line
+closing_line_is_json old new has_trusted counts status h k =
+    line_of 2 _ _ (omega arith) (
+      end_of 2,
+      (
+        read_member_of (codes "old") old refl h,
+        (read_member_of (codes "new") new refl k, numbers_of 2 has_trusted counts status),
+      ),
+    )
+
+-- So are those beside a trusted pair.
+pub opening_line_trusted_is_json : (old_path new_path trusted_old trusted_new : List ℕ) → AreBytes old_path
+    → AreBytes new_path → AreBytes trusted_old → AreBytes trusted_new
+    → IsJsonLine (opening_line_trusted old_path new_path trusted_old trusted_new)
+    (opening_fields_trusted old_path new_path trusted_old trusted_new)
+unfolding opening_line_trusted
+opening_line_trusted_is_json old_path new_path trusted_old trusted_new h k l m =
+    line_of 0 _ _ (omega arith) (
+      count_member_of 0 (codes "format") 4 refl,
+      (
+        text_member_of (codes "old") old_path refl h,
         (
-          count_member_of 0 (codes "added") counts.added refl,
+          text_member_of (codes "new") new_path refl k,
           (
-            count_member_of 0 (codes "removed") counts.removed refl,
-            (
-              count_member_of 0 (codes "changed") counts.changed refl,
-              (count_member_of 0 (codes "same_as_old") counts.same_as_old refl, accounts_of has_trusted counts status),
-            ),
+            text_member_of (codes "trusted_old") trusted_old refl l,
+            (text_member_of (codes "trusted_new") trusted_new refl m, tt),
           ),
         ),
       ),
     )
 
-facts_value : (facts : DatabaseFacts) → AreBytes facts.path → AreBytes facts.digest
-    → IsValue 2 (facts_object facts) (object (members_of (facts_fields facts)))
-unfolding facts_object skipped_array
-facts_value facts path digest =
-    object_of 1 _ (facts_fields facts) (
-      deeper 0 1 _ _ (omega arith) (text_member_of (codes "path") facts.path refl path),
-      (
-        flat_member 1 (codes "sha256") (hex_string facts.digest) _ refl (hex_value facts.digest digest),
-        (
-          member_of 1 (codes "skipped") (skipped_array facts.skipped) _ refl
-              (array_of 0 _ _ (all_mapped 0 json_count count_json count_value (filter (is_skipped facts.skipped) (numbers 1 64)))),
-          tt,
-        ),
-      ),
-    )
-
-facts_member_of : (name : List ℕ) (facts : DatabaseFacts) → are_plain name ≡ true → AreBytes facts.path
-    → AreBytes facts.digest → IsMember 2 (member name (facts_object facts)) (object_field name (facts_fields facts))
-facts_member_of name facts e path digest = member_of 2 name (facts_object facts) _ e (facts_value facts path digest)
-
--- what is said of a database is of bytes
-abbrev pub AreFactsOfBytes : DatabaseFacts → Type 0
-AreFactsOfBytes facts = AreBytes facts.path × AreBytes facts.digest
-
--- The first line is one, if the paths and the digests are of bytes.
-pub first_line_is_json : (old_facts new_facts : DatabaseFacts) → AreFactsOfBytes old_facts → AreFactsOfBytes new_facts
-    → IsJsonLine (first_line old_facts new_facts) (first_fields old_facts new_facts)
-unfolding first_line
-first_line_is_json old_facts new_facts h k =
+pub closing_line_trusted_is_json : (old new trusted_old trusted_new : ReadFacts) (counts : LineCounts) (status : ℕ)
+    → AreBytes old.digest → AreBytes new.digest → AreBytes trusted_old.digest → AreBytes trusted_new.digest
+    → IsJsonLine (closing_line_trusted old new trusted_old trusted_new counts status)
+    (closing_fields_trusted old new trusted_old trusted_new counts status)
+unfolding closing_line_trusted
+closing_line_trusted_is_json old new trusted_old trusted_new counts status h k l m =
     line_of 2 _ _ (omega arith) (
-      count_member_of 2 (codes "format") 3 refl,
+      end_of 2,
       (
-        facts_member_of (codes "old") old_facts refl h.0 h.1,
-        (facts_member_of (codes "new") new_facts refl k.0 k.1, tt),
-      ),
-    )
-
--- So is that of a comparison beside a trusted pair.
-pub first_line_beside_is_json : (old_facts new_facts trusted_old_facts trusted_new_facts : DatabaseFacts)
-    → AreFactsOfBytes old_facts → AreFactsOfBytes new_facts
-    → AreFactsOfBytes trusted_old_facts → AreFactsOfBytes trusted_new_facts
-    → IsJsonLine (first_line_beside old_facts new_facts trusted_old_facts trusted_new_facts)
-    (first_fields_beside old_facts new_facts trusted_old_facts trusted_new_facts)
-unfolding first_line_beside
-first_line_beside_is_json old_facts new_facts trusted_old_facts trusted_new_facts h k l m =
-    line_of 2 _ _ (omega arith) (
-      count_member_of 2 (codes "format") 3 refl,
-      (
-        facts_member_of (codes "old") old_facts refl h.0 h.1,
+        read_member_of (codes "old") old refl h,
         (
-          facts_member_of (codes "new") new_facts refl k.0 k.1,
+          read_member_of (codes "new") new refl k,
           (
-            facts_member_of (codes "trusted_old") trusted_old_facts refl l.0 l.1,
-            (facts_member_of (codes "trusted_new") trusted_new_facts refl m.0 m.1, tt),
+            read_member_of (codes "trusted_old") trusted_old refl l,
+            (read_member_of (codes "trusted_new") trusted_new refl m, numbers_of 2 true counts status),
           ),
         ),
       ),

@@ -14,5 +14,7 @@ pub mod Laws
 pub mod ReadingLaws
 pub mod NameLaws
 pub mod TextLaws
+pub mod Cutting
+pub mod CompleteLaws
 pub mod BesideLaws
 pub mod AccountLaws

@@ -24,11 +24,11 @@ use Rattle.aide_line_laws.specs.TextFields.{change_fields}
 use Rattle.aide_line_laws.specs.Reading.{bytes_of, text_of, text_under, value_under}
 use Rattle.aide_line_laws.proofs.Base64.{byte_at}
 
--- behind a path, whatever its text is, the rest is read
-past_path : (name path : List ℕ) (fields : List Field) → bytes_eq (codes "path") name ≡ false
-    → bytes_eq (codes "path_hex") name ≡ false
-    → value_under name (text_field (codes "path") path ∷ fields) ≡ value_under name fields
-past_path name path fields e f = elim (cases_Bool (is_utf8 path)) [
+-- behind a text, whatever it is, the rest is read
+pub past_text : (name own text : List ℕ) (fields : List Field) → bytes_eq own name ≡ false
+    → bytes_eq (own ++ codes "_hex") name ≡ false
+    → value_under name (text_field own text ∷ fields) ≡ value_under name fields
+past_text name own text fields e f = elim (cases_Bool (is_utf8 text)) [
   | inl u ↦ rw (u, e) refl
   | inr u ↦ rw (u, f) refl
 ]
@@ -109,25 +109,42 @@ module _ (account : Option SameAs) (shows : Attr → Bool) (found : Pair) where
 
 -- ---- the laws
 
-read_in_base_16 : (path : List ℕ) → AreBytes path → bytes_of (string (encode_lower path)) ≡ Some path
-read_in_base_16 path h = ap result_ok (decode_of-encode_lower path (λ i. byte_at path i h))
+pub read_in_base_16 : (bytes : List ℕ) → AreBytes bytes → bytes_of (string (encode_lower bytes)) ≡ Some bytes
+read_in_base_16 bytes h = ap result_ok (decode_of-encode_lower bytes (λ i. byte_at bytes i h))
 
 -- the text of a string, or else the bytes of the other one
-abbrev chosen : Option Json → Option Json → Option (List ℕ)
+abbrev pub chosen : Option Json → Option Json → Option (List ℕ)
 chosen text hex = elim text [ Some json ↦ text_of json | None ↦ option_and_then bytes_of hex ]
 
--- What is under "path" is the path of the change, in base 16 if it is not UTF-8.
+own_name : (name own : List ℕ) (json : Json) (fields : List Field) → bytes_eq own name ≡ true
+    → value_under name ((own, json) ∷ fields) ≡ Some json
+own_name name own json fields e = rw e refl
+
+other_name : (name own : List ℕ) (json : Json) (fields : List Field) → bytes_eq own name ≡ false
+    → value_under name ((own, json) ∷ fields) ≡ value_under name fields
+other_name name own json fields e = rw e refl
+
+-- what is under its name is the text, in base 16 if it is not UTF-8
+pub text_is_read : (name text : List ℕ) (fields : List Field) → AreBytes text → bytes_eq name name ≡ true
+    → bytes_eq (name ++ codes "_hex") name ≡ false → bytes_eq (name ++ codes "_hex") (name ++ codes "_hex") ≡ true
+    → value_under name fields ≡ None → text_under name (text_field name text ∷ fields) ≡ Some text
+text_is_read name text fields bytes e f g none =
+    let hex = name ++ codes "_hex" in
+    let digits = string (encode_lower text) in
+    elim (cases_Bool (is_utf8 text)) [
+      | inl u ↦ rw u (λ i. chosen (own_name name name (string text) fields e i)
+          (value_under hex ((name, string text) ∷ fields)))
+      | inr u ↦ rw u ((λ i. chosen ((other_name name hex digits fields f ∙ none) i) (own_name hex hex digits fields g i))
+          ∙ read_in_base_16 text bytes)
+    ]
+
+-- What is under "path" is the path of the change.
 pub path_is_read_back : (options : Options) (account : Accounts) (change : PathChange) → AreBytes change.0
     → text_under (codes "path") (change_fields options account change) ≡ Some change.0
 path_is_read_back options account change bytes =
     let shows = shows_at (widest options) change.1 in
-    elim (cases_Bool (is_utf8 change.0)) [
-      | inl u ↦ rw u refl
-      | inr u ↦
-          rw u (ap (λ o. chosen o (Some (string (encode_lower change.0))))
-          (nothing_in_parts (account change) shows change.1 (codes "path") refl refl refl refl)
-          ∙ read_in_base_16 change.0 bytes)
-    ]
+    text_is_read (codes "path") change.0 (parts (account change) shows change.1) bytes refl refl refl
+    (nothing_in_parts (account change) shows change.1 (codes "path") refl refl refl refl)
 
 -- What is under "kind" is the word for what became of it.
 pub kind_is_read_back : (options : Options) (account : Accounts) (change : PathChange)
@@ -139,7 +156,7 @@ pub summary_is_read_back : (options : Options) (account : Accounts) (change : Pa
     → text_under (codes "summary") (change_fields options account change) ≡ Some (letters_of options.ignore change.1)
 summary_is_read_back options account change =
     ap (λ o. chosen o (value_under (codes "summary_hex") (change_fields options account change)))
-    (past_path (codes "summary") change.0 ((codes "summary", string (letters_of options.ignore change.1))
+    (past_text (codes "summary") (codes "path") change.0 ((codes "summary", string (letters_of options.ignore change.1))
     ∷ parts (account change) (shows_at (widest options) change.1) change.1) refl refl)
 
 -- Under "same_as" is what accounts for it, and nothing if nothing does.
@@ -147,7 +164,7 @@ pub account_is_read_back : (options : Options) (account : Accounts) (change : Pa
     → value_under (codes "same_as") (change_fields options account change)
     ≡ option_map (λ same. string (account_word same)) (account change)
 account_is_read_back options account change =
-    past_path (codes "same_as") change.0 (parts (account change) (shows_at (widest options) change.1) change.1) refl refl
+    past_text (codes "same_as") (codes "path") change.0 (parts (account change) (shows_at (widest options) change.1) change.1) refl refl
     ∙ same_in_parts (account change) (shows_at (widest options) change.1) change.1
 
 -- Under "old" are the attributes of the old entry that pass, and nothing if there is none.
@@ -155,7 +172,7 @@ pub old_is_read_back : (options : Options) (account : Accounts) (change : PathCh
     → value_under (codes "old") (change_fields options account change)
     ≡ option_map (λ entry. object (members_of (entry_fields (shows_at (widest options) change.1) entry))) change.1.0
 old_is_read_back options account change =
-    past_path (codes "old") change.0 (parts (account change) (shows_at (widest options) change.1) change.1) refl refl
+    past_text (codes "old") (codes "path") change.0 (parts (account change) (shows_at (widest options) change.1) change.1) refl refl
     ∙ old_in_parts (account change) (shows_at (widest options) change.1) change.1
 
 -- Under "new" are those of the new entry.
@@ -163,5 +180,13 @@ pub new_is_read_back : (options : Options) (account : Accounts) (change : PathCh
     → value_under (codes "new") (change_fields options account change)
     ≡ option_map (λ entry. object (members_of (entry_fields (shows_at (widest options) change.1) entry))) change.1.1
 new_is_read_back options account change =
-    past_path (codes "new") change.0 (parts (account change) (shows_at (widest options) change.1) change.1) refl refl
+    past_text (codes "new") (codes "path") change.0 (parts (account change) (shows_at (widest options) change.1) change.1) refl refl
     ∙ new_in_parts (account change) (shows_at (widest options) change.1) change.1
+
+-- Nothing is under "end": the line of a change is no last line.
+pub no_change_is_the_end : (options : Options) (account : Accounts) (change : PathChange)
+    → value_under (codes "end") (change_fields options account change) ≡ None
+no_change_is_the_end options account change =
+    let shows = shows_at (widest options) change.1 in
+    past_text (codes "end") (codes "path") change.0 (parts (account change) shows change.1) refl refl
+    ∙ nothing_in_parts (account change) shows change.1 (codes "end") refl refl refl refl

@@ -1,6 +1,6 @@
--- The lines over two sound texts of bytes are lines of JSON.
-use Rattle.std.proofs.Common.{ℕ, zero, suc, ◌/◌, ◌%◌, ◌^◌, ◌<◌, Bool, true, false, if◌then◌else◌, List, [], ◌∷◌, ◌++◌, map, Some, None}
-use Rattle.std.proofs.Common.{slice_index, refl, sym, subst, arith, append_assoc, append-nil}
+-- The lines over two texts of bytes are lines of JSON.
+use Rattle.std.proofs.Common.{ℕ, zero, suc, ◌/◌, ◌%◌, ◌^◌, ◌<◌, true, false, if◌then◌else◌, List, [], ◌∷◌, ◌++◌, map, Some, None}
+use Rattle.std.proofs.Common.{slice_index, ◌∙◌, refl, sym, ap, subst, arith, append_assoc, append-nil}
 use Rattle.std.specs.Prelude.{drop}
 use Rattle.std.specs.declared.cmp.Ordering.TheVariants.{Less, Equal, Greater}
 use Rattle.std.specs.FinMap.{entries}
@@ -10,7 +10,7 @@ use Rattle.sha2.specs.Sha256.{sha256, digest_bytes, final_hash, initial_hash_256
 use Rattle.aide_conf.specs.declared.options.Options.{Options}
 use Rattle.aide_db.specs.Database.{IsSound}
 use Rattle.aide_db.specs.Giving.{before_end, entry_lines, columns_of_text}
-use Rattle.aide_db.specs.Map.{database_of}
+use Rattle.aide_db.specs.Map.{database_of, entries_of}
 use Rattle.aide_db.specs.declared.limits.Limits.{Limits}
 use Rattle.aide_db.proofs.MapLaws.{entries-database_of}
 use Rattle.aide_entry.specs.Attributes.{Entry}
@@ -24,22 +24,19 @@ use Rattle.aide_report.specs.Asked.{Asked}
 use Rattle.aide_report.specs.ChangeLines.{Accounts, by_old, change_line, change_lines}
 use Rattle.aide_report.specs.Compare.{changes}
 use Rattle.aide_report.specs.Entries.{PathChange}
-use Rattle.aide_report.specs.LineRuns.{facts_of, lines_over}
 use Rattle.aide_report.specs.LineCounts.{line_counts, status_by}
-use Rattle.aide_report.specs.Lines.{all_lines}
+use Rattle.aide_report.specs.LinesRead.{framed_lines, lines_begun, lines_read, read_of}
 use Rattle.aide_report.specs.Sections.{all_listed, is_in}
 use Rattle.aide_report.specs.Merged.{merged, weave}
 use Rattle.aide_report.proofs.MergeLemmas.{changes-merged}
-use Rattle.aide_line_text.specs.Ends.{last_line}
-use Rattle.aide_line_text.specs.declared.counts.LineCounts.{LineCounts}
 use Rattle.aide_line_laws.specs.ByteValues.{AreBytes, AreOfForms, AreOfFormsIfAny}
 use Rattle.aide_line_laws.specs.Field.{Field}
-use Rattle.aide_line_laws.specs.Fields.{last_fields}
+use Rattle.aide_line_laws.specs.Fields.{opening_fields}
 use Rattle.aide_line_laws.specs.JsonLine.{IsJsonLine, AreJsonLines}
-use Rattle.aide_line_laws.specs.TextFields.{change_fields, fields_of_lines, fields_over}
+use Rattle.aide_line_laws.specs.TextFields.{change_fields, fields_begun, fields_of_lines, fields_read}
 use Rattle.aide_line_laws.proofs.Base64.{both_bytes}
 use Rattle.aide_line_laws.proofs.Bytes.{AreAllBytes, split_bytes, filter_keeps, path_bytes, forms_of_attributes}
-use Rattle.aide_line_laws.proofs.EndLaws.{first_line_is_json, last_line_is_json}
+use Rattle.aide_line_laws.proofs.EndLaws.{closing_line_is_json, opening_line_is_json}
 use Rattle.aide_line_laws.proofs.Laws.{change_line_is_json}
 
 -- ---- digests
@@ -152,52 +149,84 @@ changes_bytes limits old new old_sound new_sound h k =
     (merged_bytes (entries (database_of old)) (entries (database_of new))
     (database_bytes limits old old_sound h) (database_bytes limits new new_sound k))
 
+-- the changes of the entry lines of any two texts
+pub begun_bytes : (old new : List ℕ) → AreBytes old → AreBytes new
+    → AllByRecursion IsChangeOfBytes (merged path_cmp (entries_of old) (entries_of new))
+begun_bytes old new h k =
+    merged_bytes (entries_of old) (entries_of new)
+    (entries_bytes (columns_of_text old) (entry_lines old) (entry_lines_bytes old h))
+    (entries_bytes (columns_of_text new) (entry_lines new) (entry_lines_bytes new k))
+
 -- ---- lines
 
--- lines of changes, and a last line behind them
-lines_then : (options : Options) (account : Accounts) (all : List PathChange) (last : List ℕ) (told : List Field)
-    → AllByRecursion IsChangeOfBytes all → IsJsonLine last told
-    → AreJsonLines (flat_map (change_line options account) all ++ last)
-    (map (change_fields options account) all ++ told ∷ [])
-lines_then options account [] last told h k =
-    ([], record { line = last; is_line = k; parts = sym (append-nil last) }, refl)
-lines_then options account (change ∷ all) last told h k =
-    let rest = flat_map (change_line options account) all ++ last in (
-      rest,
-      record {
-        line = change_line options account change;
-        is_line = change_line_is_json options account change h.0.0 h.0.1.0 h.0.1.1;
-        parts = append_assoc (change_line options account change) (flat_map (change_line options account) all) last;
-      },
-      lines_then options account all last told h.1 k,
+-- lines, and other lines behind them
+pub lines_both : (text more : List ℕ) (all others : List (List Field)) → AreJsonLines text all → AreJsonLines more others
+    → AreJsonLines (text ++ more) (all ++ others)
+lines_both text more [] others h k = rw h k
+lines_both text more (fields ∷ all) others h k = (
+  h.0 ++ more,
+  record {
+    line = h.1.line;
+    is_line = h.1.is_line;
+    parts = ap (λ t. t ++ more) h.1.parts ∙ append_assoc h.1.line h.0 more;
+  },
+  lines_both h.0 more all others h.2 k,
+)
+
+pub one_line : (line : List ℕ) (fields : List Field) → IsJsonLine line fields → AreJsonLines line (fields ∷ [])
+one_line line fields h = ([], record { line = line; is_line = h; parts = sym (append-nil line) }, refl)
+
+changes_are_json : (options : Options) (account : Accounts) (all : List PathChange) → AllByRecursion IsChangeOfBytes all
+    → AreJsonLines (flat_map (change_line options account) all) (map (change_fields options account) all)
+changes_are_json options account [] h = refl
+changes_are_json options account (change ∷ all) h = (
+  flat_map (change_line options account) all,
+  record {
+    line = change_line options account change;
+    is_line = change_line_is_json options account change h.0.0 h.0.1.0 h.0.1.1;
+    parts = refl;
+  },
+  changes_are_json options account all h.1,
+)
+
+-- a first line, and those of the changes that have one
+pub first_lines_are_json : (options : Options) (account : Accounts) (all : List PathChange) (first : List ℕ)
+    (opened : List Field) → AllByRecursion IsChangeOfBytes all → IsJsonLine first opened
+    → AreJsonLines (first ++ change_lines options account all) (fields_begun options account opened all)
+unfolding change_lines
+first_lines_are_json options account all first opened h k =
+    let listed = filter (is_in options all_listed) all in (
+      flat_map (change_line options account) listed,
+      record { line = first; is_line = k; parts = refl },
+      changes_are_json options account listed (filter_keeps IsChangeOfBytes (is_in options all_listed) all h),
     )
 
 -- a first line, those of the changes that have one, and the last line
-pub all_lines_are_json : (options : Options) (account : Accounts) (all : List PathChange) (first : List ℕ)
-    (told : List Field) (has_trusted : Bool) (counts : LineCounts) (status : ℕ)
-    → AllByRecursion IsChangeOfBytes all → IsJsonLine first told
-    → AreJsonLines (first ++ (change_lines options account all ++ last_line has_trusted counts status))
-    (fields_of_lines options account told (last_fields has_trusted counts status) all)
-unfolding change_lines
-all_lines_are_json options account all first told has_trusted counts status h k =
-    let last = last_line has_trusted counts status in
-    let listed = filter (is_in options all_listed) all in
-    let rest = flat_map (change_line options account) listed ++ last in (
-      rest,
-      record { line = first; is_line = k; parts = refl },
-      lines_then options account listed last (last_fields has_trusted counts status)
-          (filter_keeps IsChangeOfBytes (is_in options all_listed) all h) (last_line_is_json has_trusted counts status),
-    )
+pub all_lines_are_json : (options : Options) (account : Accounts) (all : List PathChange) (first last : List ℕ)
+    (opened closed : List Field) → AllByRecursion IsChangeOfBytes all → IsJsonLine first opened → IsJsonLine last closed
+    → AreJsonLines ((first ++ change_lines options account all) ++ last) (fields_of_lines options account opened closed all)
+all_lines_are_json options account all first last opened closed h k l =
+    lines_both (first ++ change_lines options account all) last (fields_begun options account opened all) (closed ∷ [])
+    (first_lines_are_json options account all first opened h k) (one_line last closed l)
 
 -- The lines over two sound texts of bytes are lines of JSON, whatever is asked: each has the members that belong to the
 -- changes of the two databases, in their order.
-pub lines_over_are_json : (limits : Limits) (wish : Asked) (old new : List ℕ) → IsSound limits old → IsSound limits new
+pub lines_read_are_json : (limits : Limits) (wish : Asked) (old new : List ℕ) → IsSound limits old → IsSound limits new
     → AreBytes old → AreBytes new → AreBytes wish.old_path → AreBytes wish.new_path
-    → AreJsonLines (lines_over wish old new).text (fields_over wish old new)
-unfolding lines_over all_lines
-lines_over_are_json limits wish old new old_sound new_sound old_bytes new_bytes old_path new_path =
+    → AreJsonLines (lines_read wish old new).text (fields_read wish old new)
+unfolding lines_read framed_lines
+lines_read_are_json limits wish old new old_sound new_sound old_bytes new_bytes old_path new_path =
     let found = line_counts wish.options by_old (database_of old) (database_of new) in
-    all_lines_are_json wish.options by_old (changes (database_of old) (database_of new)) _ _ false found (status_by found)
+    all_lines_are_json wish.options by_old (changes (database_of old) (database_of new)) _ _ _ _
     (changes_bytes limits old new old_sound new_sound old_bytes new_bytes)
-    (first_line_is_json (facts_of wish.old_path old) (facts_of wish.new_path new)
-    (old_path, sha256_bytes old) (new_path, sha256_bytes new))
+    (opening_line_is_json wish.old_path wish.new_path old_path new_path)
+    (closing_line_is_json (read_of old) (read_of new) false found (status_by found) (sha256_bytes old) (sha256_bytes new))
+
+-- What goes out before the last line is lines of JSON over any two texts of bytes, sound or not.
+pub lines_begun_are_json : (wish : Asked) (old new : List ℕ) → AreBytes old → AreBytes new → AreBytes wish.old_path
+    → AreBytes wish.new_path
+    → AreJsonLines (lines_begun wish old new) (fields_begun wish.options by_old (opening_fields wish.old_path wish.new_path)
+    (merged path_cmp (entries_of old) (entries_of new)))
+lines_begun_are_json wish old new old_bytes new_bytes old_path new_path =
+    first_lines_are_json wish.options by_old (merged path_cmp (entries_of old) (entries_of new)) _ _
+    (begun_bytes old new old_bytes new_bytes) (opening_line_is_json wish.old_path wish.new_path old_path new_path)

@@ -13,8 +13,9 @@ use Rattle.aide_attr.specs.declared.form.Form.TheVariants.{Kind, Mode, Number, T
 use Rattle.aide_attr.specs.declared.form.Form.TheVariants.{Opaque}
 use Rattle.aide_entry.specs.Attributes.{Attributes, Value, type_in, link_in, number_in, digest_in}
 use Rattle.aide_entry.specs.Attributes.{opaque_in}
-use Rattle.aide_line_text.specs.Ends.{DatabaseFacts, is_skipped, numbers}
+use Rattle.aide_line_text.specs.Ends.{is_skipped, numbers}
 use Rattle.aide_line_text.specs.Entry.{account_word, kind_word, type_at}
+use Rattle.aide_line_text.specs.Frame.{ReadFacts}
 use Rattle.aide_line_text.specs.declared.counts.LineCounts.{LineCounts}
 use Rattle.aide_text.specs.ValueText.{type_text, mode_text}
 use Rattle.aide_line_laws.specs.Field.{Field, members_of, items_of, text_field, integer_json}
@@ -67,44 +68,41 @@ path_fields path letters account shows found =
 
 -- ---- the first and the last line
 
--- what is said of one database: its path, the SHA-256 of its bytes, and the columns that were skipped
-abbrev pub facts_fields : DatabaseFacts → List Field
-facts_fields facts =
-    text_field (codes "path") facts.path
-    ∷ (codes "sha256", string (encode_lower facts.digest))
+-- the members of the first line
+abbrev pub opening_fields : (old_path new_path : List ℕ) → List Field
+opening_fields old_path new_path =
+    count_field (codes "format") 4
+    ∷ text_field (codes "old") old_path
+    ∷ text_field (codes "new") new_path ∷ []
+
+-- the same beside a trusted pair
+abbrev pub opening_fields_trusted : (old_path new_path trusted_old trusted_new : List ℕ)
+    → List Field
+opening_fields_trusted old_path new_path trusted_old trusted_new =
+    count_field (codes "format") 4
+    ∷ text_field (codes "old") old_path
+    ∷ text_field (codes "new") new_path
+    ∷ text_field (codes "trusted_old") trusted_old
+    ∷ text_field (codes "trusted_new") trusted_new ∷ []
+
+-- what is known of one database at its end: the SHA-256 of its bytes, and the columns that were skipped
+abbrev pub read_fields : ReadFacts → List Field
+read_fields facts =
+    (codes "sha256", string (encode_lower facts.digest))
     ∷ (
       codes "skipped",
       array (items_of (map count_json (filter (is_skipped facts.skipped) (numbers 1 64)))),
     ) ∷ []
-
--- the members of the first line
-abbrev pub first_fields : (old_facts new_facts : DatabaseFacts) → List Field
-first_fields old_facts new_facts =
-    count_field (codes "format") 3
-    ∷ object_field (codes "old") (facts_fields old_facts)
-    ∷ object_field (codes "new") (facts_fields new_facts) ∷ []
-
--- the same beside a trusted pair
-abbrev pub first_fields_beside : (old_facts new_facts : DatabaseFacts)
-    → (trusted_old_facts trusted_new_facts : DatabaseFacts)
-    → List Field
-first_fields_beside old_facts new_facts trusted_old_facts trusted_new_facts =
-    count_field (codes "format") 3
-    ∷ object_field (codes "old") (facts_fields old_facts)
-    ∷ object_field (codes "new") (facts_fields new_facts)
-    ∷ object_field (codes "trusted_old") (facts_fields trusted_old_facts)
-    ∷ object_field (codes "trusted_new") (facts_fields trusted_new_facts) ∷ []
 
 -- for how many lines a trusted machine accounts, if there is one
 abbrev pub trusted_fields : (has_trusted : Bool) → LineCounts → List Field
 trusted_fields false counts = []
 trusted_fields true counts = count_field (codes "same_as_trusted") counts.same_as_trusted ∷ []
 
--- the members of the last line
-abbrev pub last_fields : (has_trusted : Bool) → LineCounts → ℕ → List Field
-last_fields has_trusted counts status =
-    (codes "end", boolean true)
-    ∷ count_field (codes "total") counts.total
+-- the numbers of entries and of what accounts for them, and the status
+abbrev pub number_fields : (has_trusted : Bool) → LineCounts → ℕ → List Field
+number_fields has_trusted counts status =
+    count_field (codes "total") counts.total
     ∷ count_field (codes "added") counts.added
     ∷ count_field (codes "removed") counts.removed
     ∷ count_field (codes "changed") counts.changed
@@ -112,3 +110,23 @@ last_fields has_trusted counts status =
     ∷ (trusted_fields has_trusted counts
     ++ count_field (codes "others") counts.others
     ∷ count_field (codes "status") status ∷ [])
+
+-- the members of the last line
+abbrev pub closing_fields : (old new : ReadFacts) → (has_trusted : Bool) → LineCounts → ℕ
+    → List Field
+closing_fields old new has_trusted counts status =
+    (codes "end", boolean true)
+    ∷ object_field (codes "old") (read_fields old)
+    ∷ object_field (codes "new") (read_fields new)
+    ∷ number_fields has_trusted counts status
+
+-- the same beside a trusted pair
+abbrev pub closing_fields_trusted : (old new trusted_old trusted_new : ReadFacts) → LineCounts → ℕ
+    → List Field
+closing_fields_trusted old new trusted_old trusted_new counts status =
+    (codes "end", boolean true)
+    ∷ object_field (codes "old") (read_fields old)
+    ∷ object_field (codes "new") (read_fields new)
+    ∷ object_field (codes "trusted_old") (read_fields trusted_old)
+    ∷ object_field (codes "trusted_new") (read_fields trusted_new)
+    ∷ number_fields true counts status

@@ -5,3 +5,4 @@ pub mod Fields
 pub mod SettingsFields
 pub mod TextFields
 pub mod Reading
+pub mod Complete
