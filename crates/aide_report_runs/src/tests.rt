@@ -2,12 +2,11 @@
 use aide_conf::{Need, Options, Settings, Task};
 use aide_db::{Desk, Limits, Side, Sources};
 use aide_faults::{Pace, PlannedSources, SidePlan};
-use aide_report::{Outcome, RunFault, Sink, WriteSink, run, run_lines};
+use aide_report::{Outcome, RunFault, Sink, WriteSink, run};
 use arrayvec::ArrayVec;
 use std::alloc::{Allocator, Global};
 use std::process::Abort;
 
-mod beside;
 mod growths;
 mod large;
 mod levels;
@@ -109,54 +108,23 @@ fn assert_openings(rt: &impl Abort, sources: &PlannedSources<'_>, old: u64, new:
     assert!(rt; given == [old, new], "{given:?}, not {old} and {new}");
 }
 
-/// The call that is tried: the one that writes a report, or the one that writes lines.
-#[derive(Clone, Copy)]
-enum Call {
-    Run,
-    RunLines,
-}
-
-impl Call {
-    /// How often each side is opened before anything goes out: to be read whole, and for a report to be counted.
-    fn openings_before(self) -> u64 {
-        match self {
-            Call::Run => 2,
-            Call::RunLines => 1,
-        }
-    }
-
-    /// The call over these sources.
-    fn over<S: Sources, W: Sink, A: Allocator + Copy>(
-        self,
-        options: Options,
-        desk: &mut Desk<A>,
-        sources: &mut S,
-        out: &mut W,
-    ) -> Result<Outcome, RunFault> {
-        let task = Task {
-            old_path: "/old",
-            new_path: "/new",
-            options,
-        };
-        let limits = Limits {
-            line: 65_536,
-            bytes: 1_048_576,
-        };
-        match self {
-            Call::Run => run(&task, limits, desk, sources, out),
-            Call::RunLines => run_lines(&task, limits, desk, sources, out),
-        }
-    }
-}
-
-/// A run over these sources that writes a report.
+/// A run over these sources.
 fn run_over<S: Sources, W: Sink, A: Allocator + Copy>(
     options: Options,
     desk: &mut Desk<A>,
     sources: &mut S,
     out: &mut W,
 ) -> Result<Outcome, RunFault> {
-    Call::Run.over(options, desk, sources, out)
+    let task = Task {
+        old_path: "/old",
+        new_path: "/new",
+        options,
+    };
+    let limits = Limits {
+        line: 65_536,
+        bytes: 1_048_576,
+    };
+    run(&task, limits, desk, sources, out)
 }
 
 /// A run over these sources whose report goes into an array. The answer, and what the array has then.

@@ -1,7 +1,8 @@
 //! Runs in which each allocation fails in turn.
 use super::refused::whole_trial;
+use super::reported::SILENT_OPENINGS;
 use super::trial::{Trial, assert_serves, database, line_at};
-use super::{Call, SAME, assert_answer, assert_well, options_of, pair};
+use super::{SAME, assert_answer, assert_well, options_of, pair};
 use aide_db::{DbFaultKind, Desk, Side};
 use aide_faults::{Journal, NotedSources, Pace, PlannedSources, Refusing, SidePlan};
 use aide_report::{MemorySink, Outcome, RunFault};
@@ -57,13 +58,13 @@ fn refuse_one(rt: &impl Abort, alloc: Global, trial: &Trial<'_>, growth: u64) ->
     let wanted = fault_at(trial, &journal);
     assert_answer(rt, answer, Err(wanted));
     assert!(rt; wanted.status() == 22 && trial.report.starts_with(out.bytes()));
-    assert!(rt; openings > trial.call.openings_before() || out.bytes().is_empty());
+    assert!(rt; openings > SILENT_OPENINGS || out.bytes().is_empty());
     assert_serves(rt, alloc, trial, &mut desk);
     Some(openings)
 }
 
 /// Refuses each allocation of a run in turn. There are some.
-pub(super) fn refuse_all(rt: &impl Abort, alloc: Global, trial: &Trial<'_>) {
+fn refuse_all(rt: &impl Abort, alloc: Global, trial: &Trial<'_>) {
     let refusals = refuse_each(rt, alloc, trial);
     assert!(rt; refusals.all > 3 && refusals.all < 1000, "{refusals:?}");
 }
@@ -92,7 +93,6 @@ fn each_growth_refused_in_turn(rt: HostRuntime) {
 /// Refuses each allocation of a run with the options of a row in turn.
 fn refuse_all_at(rt: &impl Abort, alloc: Global, row: &pair::LevelRow, report: &[u8]) {
     let trial = Trial {
-        call: Call::Run,
         options: options_of(rt, alloc, row.options),
         old: pair::OLD,
         new: pair::NEW,
@@ -124,7 +124,6 @@ fn short_and_long(alloc: Global) -> Result<Vec<u8>, AllocError> {
 fn growths_of_the_counting_pass(rt: HostRuntime) -> Result<(), Fail> {
     let text = short_and_long(rt.alloc())?;
     let trial = Trial {
-        call: Call::Run,
         options: options_of(&rt, rt.alloc(), b"report_level=minimal"),
         old: &text,
         new: &text,
@@ -162,7 +161,7 @@ fn refuse_sink(
 }
 
 /// Refuses each allocation of the sink in turn. There are some.
-pub(super) fn refuse_each_of_the_sink(rt: &impl Abort, alloc: Global, trial: &Trial<'_>) {
+fn refuse_each_of_the_sink(rt: &impl Abort, alloc: Global, trial: &Trial<'_>) {
     let mut desk = Desk::new(alloc);
     let mut refusals = 0u64;
     for growth in 0..1000 {

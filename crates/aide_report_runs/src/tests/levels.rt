@@ -3,7 +3,7 @@ use super::paces::assert_written;
 use super::refused::{break_readings, cut_and_damage, refuse_openings};
 use super::trial::Trial;
 use super::written::{cut_once, cut_report};
-use super::{Call, options_of, pair};
+use super::{options_of, pair};
 use std::alloc::Global;
 use std::process::Abort;
 use std::test::Fail;
@@ -25,7 +25,6 @@ fn assert_levels(rt: &impl Abort, alloc: Global, attempt: Attempt) -> Result<(),
     for row in &pair::LEVELS {
         let report = row.report(alloc)?;
         let trial = Trial {
-            call: Call::Run,
             options: options_of(rt, alloc, row.options),
             old: pair::OLD,
             new: pair::NEW,

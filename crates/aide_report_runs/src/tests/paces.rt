@@ -10,7 +10,7 @@ use std::process::Abort;
 
 /// Takes bytes at a pace and keeps them. Counts its flushes, and notes after how many bytes they came.
 #[derive(Drop)]
-struct CountingWriter<A: Allocator + Copy> {
+pub(super) struct CountingWriter<A: Allocator + Copy> {
     pace: Pace,
     bytes: Vec<u8, A>,
     flushes: u64,
@@ -18,7 +18,7 @@ struct CountingWriter<A: Allocator + Copy> {
 }
 
 impl<A: Allocator + Copy> CountingWriter<A> {
-    fn new(alloc: A, pace: Pace) -> CountingWriter<A> {
+    pub(super) fn new(alloc: A, pace: Pace) -> CountingWriter<A> {
         CountingWriter {
             pace,
             bytes: Vec::new(alloc),
@@ -28,7 +28,7 @@ impl<A: Allocator + Copy> CountingWriter<A> {
     }
 
     /// Whether the writer has exactly these bytes, and was flushed once, after the last of them.
-    fn is_done_with(&self, bytes: &[u8]) -> bool {
+    pub(super) fn is_done_with(&self, bytes: &[u8]) -> bool {
         self.bytes.as_slice() == bytes && self.flushes == 1 && self.flushed == bytes.len()
     }
 }

@@ -1,6 +1,6 @@
 //! Databases that are unsound, cannot be opened or read, or change between two openings.
 use super::trial::{Trial, Wrong, assert_stops, database, line_at};
-use super::{Call, DIFFERENT, NEW, OLD, REPORT, SAME, options_of};
+use super::{DIFFERENT, NEW, OLD, REPORT, SAME, options_of};
 use aide_db::{DbFaultKind as Kind, Side};
 use aide_faults::{Broken, Change, SidePlan};
 use aide_report::RunFault;
@@ -47,7 +47,6 @@ const UNSOUND: [Unsound; 3] = [
 #[test]
 fn unsound_databases(rt: HostRuntime) {
     let trial = Trial {
-        call: Call::Run,
         options: options_of(&rt, rt.alloc(), b"report_level=minimal"),
         old: OLD,
         new: NEW,
@@ -191,7 +190,7 @@ const OTHERS: [Other; 6] = [
 ];
 
 /// Replaces a database by each of the others, from each opening after the first one on.
-pub(super) fn replace_databases(rt: &impl Abort, alloc: Global, trial: &Trial<'_>) {
+fn replace_databases(rt: &impl Abort, alloc: Global, trial: &Trial<'_>) {
     for other in &OTHERS {
         change_side(rt, alloc, trial, other.side, other.bytes);
     }
@@ -200,7 +199,6 @@ pub(super) fn replace_databases(rt: &impl Abort, alloc: Global, trial: &Trial<'_
 /// The two databases of all tests, at the default level.
 pub(super) fn whole_trial(rt: &impl Abort, alloc: Global) -> Trial<'static> {
     Trial {
-        call: Call::Run,
         options: options_of(rt, alloc, b""),
         old: OLD,
         new: NEW,
@@ -212,7 +210,6 @@ pub(super) fn whole_trial(rt: &impl Abort, alloc: Global) -> Trial<'static> {
 /// The same database on both sides.
 fn same_trial(rt: &impl Abort, alloc: Global) -> Trial<'static> {
     Trial {
-        call: Call::Run,
         options: options_of(rt, alloc, b"report_level=minimal"),
         old: OLD,
         new: OLD,

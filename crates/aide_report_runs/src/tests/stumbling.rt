@@ -12,17 +12,17 @@ use std::process::Abort;
 
 /// What a write does in place of taking bytes.
 #[derive(Clone, Copy, Debug, PartialEq, Eq)]
-enum Stumble {
+pub(super) enum Stumble {
     Fails,
     TakesNothing,
 }
 
-const STUMBLES: [Stumble; 2] = [Stumble::Fails, Stumble::TakesNothing];
+pub(super) const STUMBLES: [Stumble; 2] = [Stumble::Fails, Stumble::TakesNothing];
 
 /// Takes bytes at a pace and keeps them. After `sound` bytes one write stumbles, or a flush fails if it comes first.
 /// Counts the calls after that.
 #[derive(Drop)]
-struct StumblingWriter<A: Allocator + Copy> {
+pub(super) struct StumblingWriter<A: Allocator + Copy> {
     pace: Pace,
     sound: u64,
     stumble: Stumble,
@@ -32,7 +32,7 @@ struct StumblingWriter<A: Allocator + Copy> {
 }
 
 impl<A: Allocator + Copy> StumblingWriter<A> {
-    fn new(alloc: A, pace: Pace, sound: u64, stumble: Stumble) -> StumblingWriter<A> {
+    pub(super) fn new(alloc: A, pace: Pace, sound: u64, stumble: Stumble) -> StumblingWriter<A> {
         StumblingWriter {
             pace,
             sound,
@@ -41,6 +41,11 @@ impl<A: Allocator + Copy> StumblingWriter<A> {
             stumbled: false,
             later: 0,
         }
+    }
+
+    /// Whether the writer has exactly these bytes, and was not called after it stumbled.
+    pub(super) fn has_only(&self, bytes: &[u8]) -> bool {
+        self.bytes.as_slice() == bytes && self.later == 0
     }
 
     /// Notes a call. Returns whether it is to stumble.
@@ -103,14 +108,13 @@ fn assert_last<A: Allocator + Copy>(
     let written = front.len() as u64;
     assert_answer(rt, answer, Err(RunFault::Write { written }));
     assert!(rt; out.flushes() == 0);
-    let writer = out.into_inner();
-    assert!(rt; writer.bytes.as_slice() == front && writer.later == 0);
+    assert!(rt; out.into_inner().has_only(front));
     assert_openings(rt, &sources, openings, openings);
 }
 
 /// Lets the writer stumble in each way, at each byte of what a run writes and at the flush.
-pub(super) fn stumble_at_each_byte(rt: &impl Abort, alloc: Global, trial: &Trial<'_>) {
-    let titles = Titles::of(trial.call, trial.report);
+fn stumble_at_each_byte(rt: &impl Abort, alloc: Global, trial: &Trial<'_>) {
+    let titles = Titles::of(trial.report);
     for sound in 0..trial.report.len().saturating_add(1) {
         let (front, _) = trial.report.split_at(sound.min(trial.report.len()));
         let openings = titles.openings_at(sound);

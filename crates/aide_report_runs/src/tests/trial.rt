@@ -1,6 +1,6 @@
 //! A run over two databases in which something fails or changes, and then a good run over the same desk.
-use super::reported::overview_of;
-use super::{Call, assert_answer, assert_openings, assert_well};
+use super::reported::{SILENT_OPENINGS, overview_of};
+use super::{assert_answer, assert_openings, assert_well, run_over};
 use aide_conf::Options;
 use aide_db::{DbFault, DbFaultKind, Desk, Side, Sources};
 use aide_faults::{Pace, PlannedSink, PlannedSources, SidePlan};
@@ -8,10 +8,9 @@ use aide_report::{MemorySink, Outcome, RunFault, Sink};
 use std::alloc::{Allocator, Global};
 use std::process::Abort;
 
-/// A call, two sound databases, the options of a run over them, its report or lines, and how often it opens each side.
+/// Two sound databases, the options of a run over them, its report, and how often it opens each side.
 #[derive(Clone, Copy)]
 pub(super) struct Trial<'a> {
-    pub(super) call: Call,
     pub(super) options: Options,
     pub(super) old: &'a [u8],
     pub(super) new: &'a [u8],
@@ -37,7 +36,7 @@ impl<'a> Trial<'a> {
         sources: &mut S,
         out: &mut W,
     ) -> Result<Outcome, RunFault> {
-        self.call.over(self.options, desk, sources, out)
+        run_over(self.options, desk, sources, out)
     }
 
     /// The fault of a side in an opening. The plans of both sides are still without a failure.
@@ -62,12 +61,12 @@ impl<'a> Trial<'a> {
         }
     }
 
-    /// Whether these bytes may have gone out before a run ended with this fault. They are a front of the report or the
-    /// lines. If a database has changed since something was written, they begin with what is said first.
+    /// Whether these bytes may have gone out before a run ended with this fault. They are a front of the report. If a
+    /// database has changed since something was written, they begin with what is said first.
     fn may_have_sent(self, bytes: &[u8], fault: RunFault, openings: u64) -> bool {
         match fault {
-            RunFault::Changed(_) if openings > self.call.openings_before() => {
-                bytes.starts_with(overview_of(self.call, self.report))
+            RunFault::Changed(_) if openings > SILENT_OPENINGS => {
+                bytes.starts_with(overview_of(self.report))
             }
             _ => self.report.starts_with(bytes),
         }
@@ -104,13 +103,13 @@ fn failures_of(fault: RunFault) -> u64 {
     }
 }
 
-/// Checks the fault, the openings, the failures and the bytes that went out. Before the call writes no bytes go out: the
+/// Checks the fault, the openings, the failures and the bytes that went out. Before the run writes no bytes go out: the
 /// sink takes none and must not fail.
 pub(super) fn assert_stops(rt: &impl Abort, alloc: Global, trial: &Trial<'_>, wrong: &Wrong<'_>) {
     let mut desk = Desk::new(alloc);
     let pace = Pace::new(4096);
     let mut sources = PlannedSources::new(wrong.old, wrong.new, pace);
-    let writes = wrong.old_openings > trial.call.openings_before();
+    let writes = wrong.old_openings > SILENT_OPENINGS;
     let space = if writes { u64::MAX } else { 0 };
     let mut out = PlannedSink::new(MemorySink::new(alloc), pace, space, space > 0);
     let answer = trial.run(&mut desk, &mut sources, &mut out);

@@ -2,7 +2,7 @@
 use super::refused::whole_trial;
 use super::reported::Titles;
 use super::trial::Trial;
-use super::{Call, NEW, OLD, REPORT, assert_answer, assert_openings, options_of, run_into};
+use super::{NEW, OLD, REPORT, assert_answer, assert_openings, options_of, run_into};
 use aide_db::Desk;
 use aide_faults::{PACES, Pace, PlannedSink, PlannedSources, SidePlan};
 use aide_report::{MemorySink, RunFault};
@@ -35,7 +35,7 @@ fn assert_cut(
 /// Cuts the report at each byte, and after the last byte by a flush that fails. The sink takes bytes at each pace, and
 /// fails for good.
 pub(super) fn cut_report(rt: &impl Abort, alloc: Global, trial: &Trial<'_>) {
-    let titles = Titles::of(trial.call, trial.report);
+    let titles = Titles::of(trial.report);
     for space in 0..trial.report.len().saturating_add(1) {
         let (front, _) = trial.report.split_at(space.min(trial.report.len()));
         let openings = titles.openings_at(space);
@@ -49,7 +49,7 @@ pub(super) fn cut_report(rt: &impl Abort, alloc: Global, trial: &Trial<'_>) {
 
 /// Cuts the report at each byte and at its flush by one failure. Nothing is tried again: that would succeed.
 pub(super) fn cut_once(rt: &impl Abort, alloc: Global, trial: &Trial<'_>) {
-    let titles = Titles::of(trial.call, trial.report);
+    let titles = Titles::of(trial.report);
     for space in 0..trial.report.len().saturating_add(1) {
         let (front, _) = trial.report.split_at(space.min(trial.report.len()));
         let openings = titles.openings_at(space);
@@ -71,7 +71,6 @@ fn a_sink_that_fails_once(rt: HostRuntime) {
 #[test]
 fn a_quiet_run_is_flushed_too(rt: HostRuntime) {
     let trial = Trial {
-        call: Call::Run,
         options: options_of(&rt, rt.alloc(), b"report_quiet=yes"),
         old: OLD,
         new: OLD,

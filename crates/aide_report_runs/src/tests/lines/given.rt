@@ -1,0 +1,202 @@
+//! Databases, and the lines of their changes.
+use super::super::OLD;
+use super::super::reported::bytes_before;
+use aide_db::Side;
+use aide_report::RunFault;
+use aide_trusted::PairFault;
+
+/// A database, in the order in which their faults count.
+#[derive(Clone, Copy, Debug, PartialEq, Eq)]
+pub(super) enum Place {
+    Old,
+    New,
+    TrustedOld,
+    TrustedNew,
+}
+
+impl Place {
+    /// Whether it belongs to the trusted pair.
+    pub(super) fn is_trusted(self) -> bool {
+        match self {
+            Place::Old => false,
+            Place::New => false,
+            Place::TrustedOld => true,
+            Place::TrustedNew => true,
+        }
+    }
+
+    /// The side that it is in its pair.
+    pub(super) fn side(self) -> Side {
+        match self {
+            Place::Old => Side::Old,
+            Place::New => Side::New,
+            Place::TrustedOld => Side::Old,
+            Place::TrustedNew => Side::New,
+        }
+    }
+
+    /// A fault of the pair that it belongs to.
+    pub(super) fn fault(self, fault: RunFault) -> PairFault {
+        if self.is_trusted() {
+            PairFault::Trusted(fault)
+        } else {
+            PairFault::Compared(fault)
+        }
+    }
+}
+
+/// How often something has happened that happens at most once.
+pub(super) fn once(has_happened: bool) -> u64 {
+    if has_happened { 1 } else { 0 }
+}
+
+/// Two databases, a trusted pair if it is among the places, the most bytes that a desk may hold of the two, which is
+/// three lines as long as their longest one, and what is written of their changes.
+#[derive(Clone, Copy)]
+pub(super) struct Given<'a> {
+    pub(super) places: &'a [Place],
+    old: &'a [u8],
+    new: &'a [u8],
+    trusted_old: &'a [u8],
+    trusted_new: &'a [u8],
+    pub(super) most_held: u64,
+    pub(super) lines: &'a [u8],
+}
+
+impl<'a> Given<'a> {
+    /// The database at a place.
+    pub(super) fn text(self, place: Place) -> &'a [u8] {
+        match place {
+            Place::Old => self.old,
+            Place::New => self.new,
+            Place::TrustedOld => self.trusted_old,
+            Place::TrustedNew => self.trusted_new,
+        }
+    }
+
+    /// Whether there is a trusted pair.
+    pub(super) fn has_trusted(self) -> bool {
+        self.places.len() > 2
+    }
+
+    /// How often each database is opened in a run that opens this many.
+    pub(super) fn openings(self, opened: usize) -> [u64; 4] {
+        let opened = opened.min(self.places.len());
+        [
+            once(opened > 0),
+            once(opened > 1),
+            once(opened > 2),
+            once(opened > 3),
+        ]
+    }
+
+    /// What comes before the last line.
+    pub(super) fn begun(self) -> &'a [u8] {
+        let bytes = bytes_before(self.lines, b"{\"end\":true");
+        self.lines.split_at(bytes.min(self.lines.len())).0
+    }
+}
+
+/// The places of two databases, and of two beside a trusted pair.
+const TWO: &[Place] = &[Place::Old, Place::New];
+
+const FOUR: &[Place] = &[Place::Old, Place::New, Place::TrustedOld, Place::TrustedNew];
+
+/// Two databases that differ, one of them with a column that is skipped; the same database twice; and two beside a
+/// trusted pair, of which the same changes are known but one.
+pub(super) const GIVEN: [Given<'static>; 3] = [
+    Given {
+        places: TWO,
+        old: OLD,
+        new: SKIPPING,
+        trusted_old: b"",
+        trusted_new: b"",
+        most_held: 3 * 36,
+        lines: DIFFERENT,
+    },
+    Given {
+        places: TWO,
+        old: SKIPPING,
+        new: SKIPPING,
+        trusted_old: b"",
+        trusted_new: b"",
+        most_held: 3 * 36,
+        lines: SAME,
+    },
+    Given {
+        places: FOUR,
+        old: BEFORE,
+        new: AFTER,
+        trusted_old: TRUSTED_BEFORE,
+        trusted_new: TRUSTED_AFTER,
+        most_held: 3 * 69,
+        lines: BESIDE,
+    },
+];
+
+const SKIPPING: &[u8] = b"@@begin_db\n@@db_spec name attr colour perm size\n/a 36 7 100644 5\n\
+/c 36 8 100600 7\n@@end_db\n";
+
+const DIFFERENT: &[u8] = b"{\"format\":4,\"old\":\"/old\",\"new\":\"/new\"}\n\
+{\"kind\":\"added\",\"path\":\"/a\",\"summary\":\"f+++++++++++++++++\",\"type\":\"File\",\
+\"new\":{\"Type\":\"File\",\"Size\":5,\"Perm\":\"0644\"}}\n\
+{\"kind\":\"removed\",\"path\":\"/b\",\"summary\":\"d-----------------\",\"type\":\"Directory\",\
+\"old\":{\"Type\":\"Directory\",\"Size\":4096,\"Perm\":\"0755\"}}\n\
+{\"kind\":\"changed\",\"path\":\"/c\",\"summary\":\"f < p             \",\"type\":\"File\",\
+\"old\":{\"Size\":10,\"Perm\":\"0644\"},\"new\":{\"Size\":7,\"Perm\":\"0600\"}}\n\
+{\"end\":true,\
+\"old\":{\"sha256\":\"5ea4e71e671697833f0b9a6b84c4526743005267a819625fb728b7dc6377adc4\",\
+\"skipped\":[]},\
+\"new\":{\"sha256\":\"e026a9336ec97af4ec9e3f6e7881370ec8f0a6651b44c58e76a28b11d68f8625\",\
+\"skipped\":[3]},\
+\"total\":2,\"added\":1,\"removed\":1,\"changed\":1,\"same_as_old\":0,\"others\":3,\"status\":7}\n";
+
+const SAME: &[u8] = b"{\"format\":4,\"old\":\"/old\",\"new\":\"/new\"}\n\
+{\"end\":true,\
+\"old\":{\"sha256\":\"e026a9336ec97af4ec9e3f6e7881370ec8f0a6651b44c58e76a28b11d68f8625\",\
+\"skipped\":[3]},\
+\"new\":{\"sha256\":\"e026a9336ec97af4ec9e3f6e7881370ec8f0a6651b44c58e76a28b11d68f8625\",\
+\"skipped\":[3]},\
+\"total\":2,\"added\":0,\"removed\":0,\"changed\":0,\"same_as_old\":0,\"others\":0,\"status\":0}\n";
+
+const BEFORE: &[u8] = b"@@begin_db\n@@db_spec name attr perm size sha256\n\
+/a 536870956 100644 5 dpLDrTVAu4A8Ags67mbNiIcSMjTqDG5xQ8Ct1z/0Me0=\n\
+/gone 536870956 100644 1 dpLDrTVAu4A8Ags67mbNiIcSMjTqDG5xQ8Ct1z/0Me0=\n@@end_db\n";
+
+const AFTER: &[u8] = b"@@begin_db\n@@db_spec name attr perm size sha256\n\
+/a 536870956 100644 6 P8TM/nRYcOLA2Z9x8w/wZWyN7dQcwdfT03aw2+aF4vM=\n\
+/new 536870956 100644 7 P8TM/nRYcOLA2Z9x8w/wZWyN7dQcwdfT03aw2+aF4vM=\n@@end_db\n";
+
+const TRUSTED_BEFORE: &[u8] = b"@@begin_db\n@@db_spec name attr perm size sha256\n\
+/a 536870956 100644 5 dpLDrTVAu4A8Ags67mbNiIcSMjTqDG5xQ8Ct1z/0Me0=\n\
+/b 536870956 100644 9 dpLDrTVAu4A8Ags67mbNiIcSMjTqDG5xQ8Ct1z/0Me0=\n\
+/gone 536870956 100644 1 dpLDrTVAu4A8Ags67mbNiIcSMjTqDG5xQ8Ct1z/0Me0=\n@@end_db\n";
+
+const TRUSTED_AFTER: &[u8] = b"@@begin_db\n@@db_spec name attr perm size sha256\n\
+/a 536870956 100644 6 P8TM/nRYcOLA2Z9x8w/wZWyN7dQcwdfT03aw2+aF4vM=\n\
+/b 536870956 100644 8 P8TM/nRYcOLA2Z9x8w/wZWyN7dQcwdfT03aw2+aF4vM=\n@@end_db\n";
+
+const BESIDE: &[u8] = b"{\"format\":4,\"old\":\"/old\",\"new\":\"/new\",\
+\"trusted_old\":\"/trusted_old\",\"trusted_new\":\"/trusted_new\"}\n\
+{\"kind\":\"changed\",\"path\":\"/a\",\"summary\":\"f > .       H     \",\"same_as\":\"trusted\",\
+\"type\":\"File\",\"old\":{\"Size\":5,\
+\"SHA256\":\"7692c3ad3540bb803c020b3aee66cd8887123234ea0c6e7143c0add73ff431ed\"},\
+\"new\":{\"Size\":6,\
+\"SHA256\":\"3fc4ccfe745870e2c0d99f71f30ff0656c8dedd41cc1d7d3d376b0dbe685e2f3\"}}\n\
+{\"kind\":\"removed\",\"path\":\"/gone\",\"summary\":\"f-----------------\",\
+\"same_as\":\"trusted\",\"type\":\"File\",\"old\":{\"Type\":\"File\",\"Size\":1,\"Perm\":\"0644\",\
+\"SHA256\":\"7692c3ad3540bb803c020b3aee66cd8887123234ea0c6e7143c0add73ff431ed\"}}\n\
+{\"kind\":\"added\",\"path\":\"/new\",\"summary\":\"f+++++++++++++++++\",\"type\":\"File\",\
+\"new\":{\"Type\":\"File\",\"Size\":7,\"Perm\":\"0644\",\
+\"SHA256\":\"3fc4ccfe745870e2c0d99f71f30ff0656c8dedd41cc1d7d3d376b0dbe685e2f3\"}}\n\
+{\"end\":true,\
+\"old\":{\"sha256\":\"bdd1fcf1167b0c477d34d46720cfb56307042da1ef419e6f4d3312729c08a69f\",\
+\"skipped\":[]},\
+\"new\":{\"sha256\":\"e35637e89204948d28f1cf6cea8f905f6ac46e77ec3d7099a16cff3a7bab48b6\",\
+\"skipped\":[]},\
+\"trusted_old\":{\"sha256\":\"c24c3f52aec9b8c003434de74d32b69692533d2ba59600370e60a273426dd773\",\
+\"skipped\":[]},\
+\"trusted_new\":{\"sha256\":\"61aad8136ce217a3f8272b4403367cac8b8ddae2c9d1b1d83c6470f03c106629\",\
+\"skipped\":[]},\
+\"total\":2,\"added\":1,\"removed\":1,\"changed\":1,\"same_as_old\":0,\
+\"same_as_trusted\":2,\"others\":1,\"status\":7}\n";

@@ -1,0 +1,139 @@
+//! One run over databases that are given by plans.
+use super::given::{Given, Place};
+use aide_conf::{Options, Task};
+use aide_db::{Desk, Limits, Side, Sources};
+use aide_faults::{Pace, PlannedSources, SidePlan};
+use aide_report::{Outcome, Sink, run_lines};
+use aide_trusted::{PairFault, TrustedPair, run_lines_beside};
+use std::alloc::Allocator;
+
+/// How each database is given.
+#[derive(Clone, Copy)]
+pub(super) struct Plans<'a> {
+    old: SidePlan<'a>,
+    new: SidePlan<'a>,
+    trusted_old: SidePlan<'a>,
+    trusted_new: SidePlan<'a>,
+}
+
+impl<'a> Plans<'a> {
+    /// All databases as they are.
+    pub(super) fn plain(given: Given<'a>) -> Plans<'a> {
+        Plans {
+            old: SidePlan::plain(given.text(Place::Old)),
+            new: SidePlan::plain(given.text(Place::New)),
+            trusted_old: SidePlan::plain(given.text(Place::TrustedOld)),
+            trusted_new: SidePlan::plain(given.text(Place::TrustedNew)),
+        }
+    }
+
+    /// These, with another plan for a place.
+    pub(super) fn with(self, place: Place, plan: SidePlan<'a>) -> Plans<'a> {
+        match place {
+            Place::Old => Plans { old: plan, ..self },
+            Place::New => Plans { new: plan, ..self },
+            Place::TrustedOld => Plans {
+                trusted_old: plan,
+                ..self
+            },
+            Place::TrustedNew => Plans {
+                trusted_new: plan,
+                ..self
+            },
+        }
+    }
+
+    /// These, with another plan for each of these places.
+    pub(super) fn with_all(self, places: &[Place], plan: SidePlan<'a>) -> Plans<'a> {
+        let mut plans = self;
+        for place in places {
+            plans = plans.with(*place, plan);
+        }
+        plans
+    }
+
+    /// Sources of both pairs.
+    pub(super) fn sources(self, pace: Pace) -> Both<PlannedSources<'a>> {
+        Both {
+            compared: PlannedSources::new(self.old, self.new, pace),
+            trusted: PlannedSources::new(self.trusted_old, self.trusted_new, pace),
+        }
+    }
+}
+
+/// What belongs to the compared databases, and what to the trusted ones.
+#[derive(Drop)]
+pub(super) struct Both<X> {
+    pub(super) compared: X,
+    pub(super) trusted: X,
+}
+
+/// How often each database was opened.
+pub(super) fn openings_of(sources: &Both<PlannedSources<'_>>) -> [u64; 4] {
+    [
+        sources.compared.openings(Side::Old),
+        sources.compared.openings(Side::New),
+        sources.trusted.openings(Side::Old),
+        sources.trusted.openings(Side::New),
+    ]
+}
+
+const LIMITS: Limits = Limits {
+    line: 65_536,
+    bytes: 1_048_576,
+};
+
+/// The task that names these paths.
+fn task_of<'a>(old_path: &'a str, new_path: &'a str) -> Task<'a> {
+    Task {
+        old_path,
+        new_path,
+        options: Options::plain(),
+    }
+}
+
+/// A trusted pair of these.
+fn pair_of<'a, S: Sources, A: Allocator + Copy>(
+    task: &'a Task<'a>,
+    desk: &'a mut Desk<A>,
+    sources: &'a mut S,
+) -> TrustedPair<'a, S, A> {
+    TrustedPair {
+        task,
+        desk,
+        sources,
+    }
+}
+
+/// The run over these sources.
+pub(super) fn run_over<S: Sources, W: Sink, A: Allocator + Copy>(
+    given: &Given<'_>,
+    desks: &mut Both<Desk<A>>,
+    sources: &mut Both<S>,
+    out: &mut W,
+) -> Result<Outcome, PairFault> {
+    let task = task_of("/old", "/new");
+    if given.has_trusted() {
+        let trusted_task = task_of("/trusted_old", "/trusted_new");
+        let mut pair = pair_of(&trusted_task, &mut desks.trusted, &mut sources.trusted);
+        return run_lines_beside(
+            &task,
+            LIMITS,
+            &mut desks.compared,
+            &mut sources.compared,
+            &mut pair,
+            out,
+        );
+    }
+    let answer = run_lines(
+        &task,
+        LIMITS,
+        &mut desks.compared,
+        &mut sources.compared,
+        out,
+    );
+    match answer {
+        Ok(outcome) => Ok(outcome),
+        Err(fault) => Err(PairFault::Compared(fault)),
+    }
+}
