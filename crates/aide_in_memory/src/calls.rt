@@ -148,11 +148,37 @@ impl Ended {
         self.status == 22 && self.output.is_empty() && self.errors.as_slice() == STARVED
     }
 
+    /// Whether the output has a last line of lines.
+    fn has_last_line(&self) -> bool {
+        let output = self.output.as_slice();
+        for index in 0..output.len() {
+            if output[index..].starts_with(b"{\"end\":true") {
+                return true;
+            }
+        }
+        false
+    }
+
     /// Prints the output, the error lines and the status.
     fn print(&self, rt: &HostRuntime) {
         let _ = rt.stdout().write_all(self.output.as_slice());
+        self.print_end(rt);
+    }
+
+    /// Prints the error lines and the status.
+    fn print_end(&self, rt: &HostRuntime) {
         let _ = rt.stdout().write_all(self.errors.as_slice());
         let _ = println!(rt; "status {}", self.status);
+    }
+
+    /// Prints the lines, the error lines and the status. How many lines go out before a fault is not promised, so that
+    /// lines without a last one are not printed.
+    fn print_lines(&self, rt: &HostRuntime) {
+        if self.has_last_line() {
+            self.print(rt);
+        } else {
+            self.print_end(rt);
+        }
     }
 }
 
@@ -229,6 +255,6 @@ pub(crate) fn run_lines<'a>(
             return Err(Memory);
         }
     }
-    ended.print(rt);
+    ended.print_lines(rt);
     Ok(())
 }

@@ -10,14 +10,15 @@ pub(super) const MODE_644: &[u8] = b"@@begin_db\n@@db_spec name perm\n/file 1006
 
 pub(super) const MODE_600: &[u8] = b"@@begin_db\n@@db_spec name perm\n/file 100600\n@@end_db\n";
 
-pub(super) const LINES: &[u8] = b"{\"format\":3,\"old\":{\"path\":\"/old\",\
-\"sha256\":\"dd01a417f12d32fdcd8f7452cb192f8283d2ff2d0d20269043c2976e0ff555a8\",\
-\"skipped\":[]},\"new\":{\"path\":\"/new\",\
-\"sha256\":\"c94f679cdc7a81ed7b29b6ab1aea8b83403038b685cc0c54e9686b6615c88ade\",\
-\"skipped\":[]}}\n\
+pub(super) const LINES: &[u8] = b"{\"format\":4,\"old\":\"/old\",\"new\":\"/new\"}\n\
 {\"kind\":\"changed\",\"path\":\"/file\",\"summary\":\"f   p             \",\
 \"type\":\"File\",\"old\":{\"Perm\":\"0644\"},\"new\":{\"Perm\":\"0600\"}}\n\
-{\"end\":true,\"total\":1,\"added\":0,\"removed\":0,\"changed\":1,\
+{\"end\":true,\
+\"old\":{\"sha256\":\"dd01a417f12d32fdcd8f7452cb192f8283d2ff2d0d20269043c2976e0ff555a8\",\
+\"skipped\":[]},\
+\"new\":{\"sha256\":\"c94f679cdc7a81ed7b29b6ab1aea8b83403038b685cc0c54e9686b6615c88ade\",\
+\"skipped\":[]},\
+\"total\":1,\"added\":0,\"removed\":0,\"changed\":1,\
 \"same_as_old\":0,\"others\":1,\"status\":4}\n";
 
 const SETTINGS: &[u8] = b"{\"format\":3,\"database_in\":\"/old\",\"database_new\":\"/new\",\
@@ -25,6 +26,16 @@ const SETTINGS: &[u8] = b"{\"format\":3,\"database_in\":\"/old\",\"database_new\
 \"report_summarize_changes\":true,\"report_base16\":false,\"report_quiet\":false,\
 \"report_ignore_added_attrs\":[],\"report_ignore_removed_attrs\":[],\
 \"report_ignore_changed_attrs\":[],\"report_force_attrs\":[]}\n";
+
+/// Whether the last line is missing.
+pub(super) fn are_cut(lines: &[u8]) -> bool {
+    for index in 0..lines.len() {
+        if lines[index..].starts_with(b"{\"end\":true") {
+            return false;
+        }
+    }
+    true
+}
 
 /// Runs a session with a desk of its own. It has no contract, so that the many facts about `lines_session` are no part
 /// of the proofs of its callers.

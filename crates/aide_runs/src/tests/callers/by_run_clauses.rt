@@ -9,7 +9,9 @@ ghost use Rattle.aide_report.specs.Agreement.{IsOfOutcome, OpensByOutcome};
 ghost use Rattle.aide_report.specs.Asked.{asked};
 ghost use Rattle.aide_report.specs.Bound.{three_lines};
 ghost use Rattle.aide_report.specs.Failures.{CountsFlush, Rose};
-ghost use Rattle.aide_report.specs.LineRuns.{AreLinesOf, line_openings, lines_over};
+ghost use Rattle.aide_report.specs.LinesRead.{lines_read};
+ghost use Rattle.aide_report.specs.LinesRun.{AreLinesRead, ComesOf, CutsLines, EndsBy};
+ghost use Rattle.aide_report.specs.LinesRun.{KeepsUnopened};
 ghost use Rattle.aide_report.specs.Missing.{EndsOver, IsHindered, IsOfReliable, RunsOver};
 ghost use Rattle.aide_report.specs.Missing.{RunsOverBy, TellsSide};
 ghost use Rattle.aide_report.specs.Openings.{IsNotGiven, IsRefusedThere, OpensAtMost, OpensExactly};
@@ -163,27 +165,30 @@ pub(super) fn run_lines_for_its_answer<S: Sources, W: Sink, A: Allocator + Copy>
     ensures over { (old new : Option (List ℕ))
         → TellsSide (S.bytes_of sources.old Side.Old) (S.is_missing sources.old Side.Old) old
         → TellsSide (S.bytes_of sources.old Side.New) (S.is_missing sources.old Side.New) new
-        → (r : Result Report RunFault) → RunsOverBy limits (lines_over (asked task.now)) old new r
-        → EndsOver r (IsHindered old new (Rose (S.failures sources.old) (S.failures sources.new))
+        → (r : Result Report RunFault) → RunsOverBy limits (lines_read (asked task.now)) old new r
+        → EndsBy r (IsHindered old new (Rose (S.failures sources.old) (S.failures sources.new))
         (Rose (W.failures out.old) (W.failures out.new)))
         result (W.delivered out.old) (W.delivered out.new) }
-    ensures consistent { IfOk result (λ outcome.
-        AreLinesOf (asked task.now) outcome (W.delivered out.old) (W.delivered out.new)) }
-    ensures unsent { IfErr result (HasSentNothing 1
-        (S.openings sources.old Side.Old) (S.openings sources.new Side.Old)
+    ensures cut { (old new : List ℕ) → S.bytes_of sources.old Side.Old ≡ Some old
+        → S.bytes_of sources.old Side.New ≡ Some new
+        → IfErr result (CutsLines limits (asked task.now) old new
         (W.delivered out.old) (W.delivered out.new)) }
-    ensures cause { IfErr result (λ fault. HasCause fault
+    ensures unopened { IfErr result (KeepsUnopened
+        (W.delivered out.old) (W.delivered out.new)) }
+    ensures missing { (side : Side) → S.is_missing sources.old side ≡ true
+        → Appends (W.delivered out.old) (W.delivered out.new) [] }
+    ensures consistent { IfOk result (λ outcome.
+        AreLinesRead (asked task.now) outcome (W.delivered out.old) (W.delivered out.new)) }
+    ensures cause { IfErr result (λ fault. ComesOf fault
         (Rose (S.failures sources.old) (S.failures sources.new))
         (Rose (W.failures out.old) (W.failures out.new))
         (λ first. (old new : List ℕ) → S.bytes_of sources.old Side.Old ≡ Some old
         → S.bytes_of sources.old Side.New ≡ Some new
-        → (r : Result Report DbFault) → RunsBy limits (lines_over (asked task.now)) old new r
-        → r ≡ Err first)
-        (λ side. (text : List ℕ) → S.bytes_of sources.old side ≡ Some text → ⊥)) }
+        → (r : Result Report DbFault) → RunsBy limits (lines_read (asked task.now)) old new r
+        → r ≡ Err first)) }
     ensures opens { OnOk result (OpensExactly
-        (S.openings sources.old) (S.openings sources.new) line_openings) }
-    ensures opens_some { OpensAtMost (S.openings sources.old) (S.openings sources.new)
-        line_openings }
+        (S.openings sources.old) (S.openings sources.new) 1) }
+    ensures opens_some { OpensAtMost (S.openings sources.old) (S.openings sources.new) 1 }
 {
     run_lines(task, limits, desk, sources, out)
 }
