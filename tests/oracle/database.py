@@ -8,6 +8,7 @@ from .fields import Meaningless, decoded, number_of, values_of
 from .texts import fields_of, lines_of
 
 LINE_LIMIT, BYTE_LIMIT, COLUMN_LIMIT = 1048576, 2**40, 64
+WITHOUT_ENTRIES = b"@@begin_db\n@@db_spec name\n@@end_db\n"
 KNOWN = [b"name", b"attr"] + [attribute.column.encode() for attribute in ATTRIBUTES]
 
 Fault = namedtuple("Fault", "line kind column")
@@ -133,6 +134,15 @@ def first_fault(text, line_limit=LINE_LIMIT, byte_limit=BYTE_LIMIT):
     if parts.end:
         return None
     return Fault(len(lines) + 1, "NoEnd" if parts.begin else "NoBegin", None)
+
+
+def front_of(text):
+    """A sound text that has the entries of a text before its first fault."""
+    fault = first_fault(text)
+    if fault is None:
+        return text
+    front = b"\n".join([*text.split(b"\n")[: fault.line - 1], b"@@end_db", b""])
+    return WITHOUT_ENTRIES if first_fault(front) else front
 
 
 def entry_of(columns, fields):

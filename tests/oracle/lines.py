@@ -11,12 +11,13 @@ from .agreement import same_as
 from .attributes import ATTRIBUTES, NAMES
 from .comparison import compared, kind_of, shown, summary_of, type_of
 from .configuration import BOOL_OPTIONS, SET_OPTIONS
-from .database import database_of
+from .database import WITHOUT_ENTRIES, database_of, front_of
 from .fields import FILE_TYPES
 from .report import KINDS, counts_of, status_of
-from .session import answer_of, job_beside
+from .session import Beginning, Form, Unread, answer_of, job_beside
 
-FORMAT = 3
+FORMAT, FORMAT_OF_SETTINGS = 4, 3
+SIDES = ("old", "new", "trusted_old", "trusted_new")
 # Many readers keep 53 bits of a number, so a greater one is a string of its digits (RFC 7493
 # section 2.2).
 EXACT = 2**53
@@ -120,19 +121,34 @@ def change_line(change, account, settings):
     )
 
 
-def origin_of(path, text, skipped):
-    """One database: its path, its digest and the places of the columns that are not compared."""
-    digest = hashlib.sha256(text).hexdigest()
-    places = array([number(place) for place in skipped])
-    return object_of([text_member("path", path), ("sha256", string(digest)), ("skipped", places)])
-
-
 class Source(typing.NamedTuple):
     """A database, its path and its text."""
 
     path: bytes
     text: bytes
     database: typing.Any
+
+
+def read_of(source):
+    """What is known of a database at its end: its digest and the places of the columns that are not
+    compared."""
+    digest = hashlib.sha256(source.text).hexdigest()
+    places = array([number(place) for place in source.database.skipped])
+    return object_of([("sha256", string(digest)), ("skipped", places)])
+
+
+def first_line(sources):
+    """The number of the format and the paths."""
+    return line(
+        [("format", number(FORMAT))]
+        + [text_member(side, source.path) for side, source in zip(SIDES, sources)]
+    )
+
+
+def change_lines(changes, accounts, settings):
+    return b"".join(
+        change_line(change, account, settings) for change, account in zip(changes, accounts)
+    )
 
 
 def numbers_of(new, counts, accounts, has_trusted):
@@ -147,9 +163,20 @@ def numbers_of(new, counts, accounts, has_trusted):
     return [(name, number(value)) for name, value in numbers]
 
 
-def lines_over(old, new, trusted, settings):
+class Parts(typing.NamedTuple):
+    """The lines over the databases: the first one, those of the changes and the last one; and the
+    status."""
+
+    first: bytes
+    changes: bytes
+    last: bytes
+    status: int
+
+
+def parts_over(sources, settings):
     """The lines over two databases and, if they are there, the old and the new one of a trusted
-    pair, and the status."""
+    pair."""
+    old, new, *trusted = sources
     changes = compared(old.database.entries, new.database.entries)
     counts = counts_of(changes, settings)
     status = status_of(counts)
@@ -159,30 +186,42 @@ def lines_over(old, new, trusted, settings):
         same_as(change.old, change.new, *(entries.get(change.path) for entries in maps))
         for change in listed
     ]
-    head = [("format", number(FORMAT))]
-    for side, source in zip(("old", "new", "trusted_old", "trusted_new"), (old, new, *trusted)):
-        head.append((side, origin_of(source.path, source.text, source.database.skipped)))
-    entries = [change_line(change, account, settings) for change, account in zip(listed, accounts)]
-    numbers = numbers_of(new.database, counts, accounts, bool(trusted))
-    end = [("end", truth(True))] + numbers + [("status", number(status))]
-    return line(head) + b"".join(entries) + line(end), status
+    end = [("end", truth(True))]
+    end += [(side, read_of(source)) for side, source in zip(SIDES, sources)]
+    end += numbers_of(new.database, counts, accounts, bool(trusted))
+    end.append(("status", number(status)))
+    changed = change_lines(listed, accounts, settings)
+    return Parts(first_line(sources), changed, line(end), status)
+
+
+def paths_of(settings):
+    return [settings["database_in"], settings["database_new"], *settings.get("trusted", ())]
 
 
 def lines_of(old, new, texts, settings):
     """The lines over two databases and the texts of all that are named, and the status of their
     report."""
-    old_source = Source(settings["database_in"], texts[0], old)
-    new_source = Source(settings["database_new"], texts[1], new)
-    trusted = [
-        Source(path, text, database_of(text))
-        for path, text in zip(settings.get("trusted", ()), texts[2:])
-    ]
-    return lines_over(old_source, new_source, trusted, settings)
+    databases = [old, new, *map(database_of, texts[2:])]
+    sources = list(map(Source, paths_of(settings), texts, databases))
+    parts = parts_over(sources, settings)
+    return parts.first + parts.changes + parts.last, parts.status
+
+
+def begun_lines(given, settings):
+    """What may have gone out before a fault: a beginning of the first line and the lines of the
+    entries before the first fault of each text, and no last line. Nothing goes out if a database is
+    missing."""
+    if None in given:
+        return b""
+    fronts = [WITHOUT_ENTRIES if text is Unread else front_of(text) for text in given]
+    sources = list(map(Source, paths_of(settings), fronts, map(database_of, fronts)))
+    parts = parts_over(sources, settings)
+    return Beginning(parts.first + parts.changes)
 
 
 def settings_line(settings):
     """What a configuration says, as one object with the names of its options."""
-    members = [("format", number(FORMAT))]
+    members = [("format", number(FORMAT_OF_SETTINGS))]
     for name in ("database_in", "database_new"):
         path = settings[name]
         members.append((name, b"null") if path is None else text_member(name, path))
@@ -195,6 +234,9 @@ def settings_line(settings):
     return line(members)
 
 
+LINES = Form(lines_of, begun_lines, settings_line, job_beside)
+
+
 def lines_answer_of(words, files):
     """The answer of the program that writes lines in place of the report."""
-    return answer_of(words, files, lines_of, settings_line, job_beside)
+    return answer_of(words, files, LINES)

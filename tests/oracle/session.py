@@ -51,6 +51,19 @@ TRUSTED = ["trusted-old", "trusted-new"]
 Answer = namedtuple("Answer", "output errors status")
 
 
+class Beginning:
+    """In place of an output: whatever is a beginning of a text."""
+
+    def __init__(self, text):
+        self.text = text
+
+    def __eq__(self, output):
+        return isinstance(output, bytes) and self.text.startswith(output)
+
+    def __repr__(self):
+        return "a beginning of %d bytes, %.600r" % (len(self.text), self.text)
+
+
 class Unread:
     """In place of the bytes of a file that opens and cannot be read, as a folder."""
 
@@ -122,36 +135,34 @@ def refused(line, status):
     return Answer(b"", b"aide: " + line + b"\n", status)
 
 
-def read_database(name, path, files):
-    """The text of a database by its name, or the answer to its first fault."""
-    text = files(path)
+def refusal_of(name, path, text):
+    """The answer to the first fault of a database by its name, None for a sound one."""
     if text is None:
         return refused(b"cannot open the %s database %s" % (name, printed(path)), BAD_DEVICE)
     if text is Unread:
         return refused(b"%s database:1: read failed" % name, BAD_DEVICE)
     fault = first_fault(text)
     if fault is None:
-        return text
+        return None
     words = DATABASE_WORDS[fault.kind] + (" %d" % fault.column if fault.column else "")
     return refused(b"%s database:%d: %s" % (name, fault.line, words.encode()), BAD_DATABASE)
 
 
-def compare(settings, files, written):
-    """The answer of a comparison under good settings: `written` gives what goes out, and the
-    status.
+def compare(settings, files, form):
+    """The answer of a comparison under good settings: a form gives what goes out, and the status.
 
     The first fault counts, of the old database, then of the new one, and then of a trusted pair if
     one is named.
     """
     paths = [(b"old", settings["database_in"]), (b"new", settings["database_new"])]
     paths += zip((b"trusted old", b"trusted new"), settings["trusted"])
-    texts = []
-    for name, path in paths:
-        texts.append(read_database(name, path, files))
-        if isinstance(texts[-1], Answer):
-            return texts[-1]
+    texts = [files(path) for _, path in paths]
+    refusals = [refusal_of(name, path, text) for (name, path), text in zip(paths, texts)]
+    first = next(filter(None, refusals), None)
+    if first is not None:
+        return first._replace(output=form.begun(texts, settings))
     old, new = (database_of(text) for text in texts[:2])
-    output, status = written(old, new, texts, settings)
+    output, status = form.written(old, new, texts, settings)
     errors = b"".join(
         b"aide: %s database: column %d skipped\n" % (side, column)
         for side, database in ((b"old", old), (b"new", new))
@@ -160,23 +171,37 @@ def compare(settings, files, written):
     return Answer(output, errors, status)
 
 
-def says_nothing(settings):
+class Form:
+    """What a program writes: `written` gives the output of a comparison and its status, `begun` what
+    may have gone out before a fault of the given texts, and `checked` the output of a check of the
+    configuration. `read` reads the words."""
+
+    def __init__(self, written, begun, checked, read):
+        self.written = written
+        self.begun = begun
+        self.checked = checked
+        self.read = read
+
+
+def writes_nothing(*_):
     return b""
 
 
-def answer_of(words, files, written=report_of, checked=says_nothing, read=job_of):
+REPORT = Form(report_of, writes_nothing, writes_nothing, job_of)
+
+
+def answer_of(words, files, form=REPORT):
     """The answer to the words of a command line, the program's name aside.
 
     `files` gives the bytes of a path, None for a file that is not there, and `Unread` for one that
-    cannot be read. A comparison puts out what `written` gives, and a check of the configuration
-    what `checked` gives. `read` reads the words.
+    cannot be read.
     """
     try:
         for word in words:
             word.decode("utf-8")
     except UnicodeDecodeError:
         return refused(b"out of memory", NO_MEMORY)
-    job = read(words)
+    job = form.read(words)
     if job is None:
         return Answer(b"", USAGE_LINE + b"\n", USAGE)
     text = files(job["config"])
@@ -196,6 +221,6 @@ def answer_of(words, files, written=report_of, checked=says_nothing, read=job_of
             BAD_CONFIGURATION,
         )
     if "compare" not in job:
-        return Answer(checked(settings), b"", 0)
+        return Answer(form.checked(settings), b"", 0)
     trusted = [job[name] for name in TRUSTED if name in job]
-    return compare({**settings, "trusted": trusted}, files, written)
+    return compare({**settings, "trusted": trusted}, files, form)

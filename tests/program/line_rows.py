@@ -80,41 +80,54 @@ MEMBERS = [
 OLD = b"@@begin_db\n@@db_spec name attr perm size foo\n/b 36 40755 4096 x\n/c 36 100644 10 x\n/d 36 100644 1 x\n@@end_db\n"
 NEW = b"@@begin_db\n@@db_spec name attr perm size\n/a%ff%0a 36 100644 5\n/c 36 100600 10\n/d 36 100644 1\n@@end_db\n"
 
-# What the first line has of each: the digests are those that sha256sum prints.
-OLD_SIDE = '{"path":"/old","sha256":"778a3c0ead5bd47d48806a4f3704e648a040fda5c18fd7e333ea1ba49e5263de","skipped":[5]}'
-NEW_SIDE = '{"path":"/new","sha256":"6d0a7163b4a20a5124a21c33ba7b01ba466b7f4962a56bc840fd6739df3ef395","skipped":[]}'
+# What the last line has of each: the digests are those that sha256sum prints.
+OLD_READ = (
+    '{"sha256":"778a3c0ead5bd47d48806a4f3704e648a040fda5c18fd7e333ea1ba49e5263de","skipped":[5]}'
+)
+NEW_READ = (
+    '{"sha256":"6d0a7163b4a20a5124a21c33ba7b01ba466b7f4962a56bc840fd6739df3ef395","skipped":[]}'
+)
 
 # The options of a configuration for these two databases, the output and the status.
 WHOLE = [
     (
         b"report_force_attrs=s\n",
-        '{"format":3,'
-        '"old":' + OLD_SIDE + ',"new":' + NEW_SIDE + "}\n"
+        '{"format":4,"old":"/old","new":"/new"}\n'
         '{"kind":"added","path_hex":"2f61ff0a","summary":"f+++++++++++++++++","type":"File",'
         '"new":{"Type":"File","Size":5,"Perm":"0644"}}\n'
         '{"kind":"removed","path":"/b","summary":"d-----------------","type":"Directory",'
         '"old":{"Type":"Directory","Size":4096,"Perm":"0755"}}\n'
         '{"kind":"changed","path":"/c","summary":"f = p             ","type":"File",'
         '"old":{"Size":10,"Perm":"0644"},"new":{"Size":10,"Perm":"0600"}}\n'
-        '{"end":true,"total":3,"added":1,"removed":1,"changed":1,"same_as_old":0,"others":3,"status":7}\n',
+        '{"end":true,"old":'
+        + OLD_READ
+        + ',"new":'
+        + NEW_READ
+        + ',"total":3,"added":1,"removed":1,"changed":1,"same_as_old":0,"others":3,"status":7}\n',
         7,
     ),
     (
         b"report_ignore_changed_attrs=p\nreport_quiet=yes\n",
-        '{"format":3,'
-        '"old":' + OLD_SIDE + ',"new":' + NEW_SIDE + "}\n"
+        '{"format":4,"old":"/old","new":"/new"}\n'
         '{"kind":"added","path_hex":"2f61ff0a","summary":"f+++++++++++++++++","type":"File",'
         '"new":{"Type":"File","Size":5,"Perm":"0644"}}\n'
         '{"kind":"removed","path":"/b","summary":"d-----------------","type":"Directory",'
         '"old":{"Type":"Directory","Size":4096,"Perm":"0755"}}\n'
-        '{"end":true,"total":3,"added":1,"removed":1,"changed":0,"same_as_old":0,"others":2,"status":3}\n',
+        '{"end":true,"old":'
+        + OLD_READ
+        + ',"new":'
+        + NEW_READ
+        + ',"total":3,"added":1,"removed":1,"changed":0,"same_as_old":0,"others":2,"status":3}\n',
         3,
     ),
     (
         b"database_new=file:/old\nreport_quiet=yes\n",
-        '{"format":3,'
-        '"old":' + OLD_SIDE + ',"new":' + OLD_SIDE + "}\n"
-        '{"end":true,"total":3,"added":0,"removed":0,"changed":0,"same_as_old":0,"others":0,"status":0}\n',
+        '{"format":4,"old":"/old","new":"/old"}\n'
+        '{"end":true,"old":'
+        + OLD_READ
+        + ',"new":'
+        + OLD_READ
+        + ',"total":3,"added":0,"removed":0,"changed":0,"same_as_old":0,"others":0,"status":0}\n',
         0,
     ),
 ]

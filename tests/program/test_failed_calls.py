@@ -16,7 +16,7 @@ import struct
 from collections import Counter, namedtuple
 
 from tests.lib.program_test import slow
-from tests.oracle.session import BAD_DEVICE, Answer, refused
+from tests.oracle.session import BAD_CONFIGURATION, BAD_DATABASE, BAD_DEVICE, USAGE, Answer, refused
 from tests.lib.preload import PreloadTest, run_with
 from tests.program.real_files.folder import NEW, OLD, SKIPPING, Folder, names
 from tests.lib.tally import difference, side_by_side, wanted, wanted_lines
@@ -40,21 +40,29 @@ LONG, SHOWN = 6000, 3
 # its files.
 Session = namedtuple("Session", "words whole calls files")
 Call = namedtuple("Call", "kind descriptor result")
-# How often the sides are opened where the words ask for a comparison, and both texts are sound.
+# How often a report opens each side where the words ask for a comparison, and both texts are sound.
+# Lines open it once.
 OPENINGS = {
     "a report of all parts": 6,
     "a report of several pages": 3,
     "columns that are skipped": 2,
-    "lines beside a trusted pair": 2,
-    "lines of several pages beside a trusted pair": 2,
-    "no change beside a trusted pair": 2,
 }
-# Lines are written in one pass, behind one that reads.
-MOST_OPENINGS, MOST_OF_LINES = 6, 2
 # The databases by the names of their files, in the order in which they are opened, and what a fault
 # calls them.
 FILES = ["old", "new", "trusted_old", "trusted_new"]
 NAMES = [b"old", b"new", b"trusted old", b"trusted new"]
+
+
+def openings_of_report(label, words, answer):
+    """How often a report opens each database; None if nothing is known of it."""
+    return OPENINGS.get(label)
+
+
+def openings_of_lines(label, words, answer):
+    """How often lines open each database: once where the words ask for a comparison."""
+    if answer.status == USAGE:
+        return None
+    return int(b"-E" in words and answer.status != BAD_CONFIGURATION)
 
 
 def sessions(folder):
@@ -144,17 +152,28 @@ def unread(session, file, taken):
     return refused(b"%s database:%d: read failed" % (NAMES[file - 1], line), BAD_DEVICE)
 
 
+def first_fault(session, file, answer):
+    """The answer where a call on a file fails: the fault of a database before it comes first."""
+    whole = session.whole
+    for name in NAMES[: max(file - 1, 0)]:
+        if whole.status == BAD_DATABASE and whole.errors.startswith(b"aide: %s database:" % name):
+            return whole
+    return answer
+
+
 def answer_where(session, kind, number, way):
     """What is wanted where the call of a kind with a number goes wrong in a way."""
     calls, whole = session.calls, session.whole
     index = [index for index, call in enumerate(calls) if call.kind == kind][number - 1]
     front = whole.output[: written_before(calls, index, OUTPUT)]
-    if kind == OPEN:
-        return unopened(session, opened_as(session, number))._replace(output=front)
     if kind == CLOSE or way == IS_SHORT:
         return whole
+    if kind == OPEN:
+        file = opened_as(session, number)
+        return first_fault(session, file, unopened(session, file))._replace(output=front)
     if kind == READ:
-        return unread(session, *file_of(session, index))._replace(output=front)
+        file, taken = file_of(session, index)
+        return first_fault(session, file, unread(session, file, taken))._replace(output=front)
     if calls[index].descriptor == OUTPUT:
         return Answer(front, NOT_WRITTEN, BAD_DEVICE)
     lost = written_before(calls, index, ERRORS)
@@ -172,12 +191,12 @@ def openings_of(calls):
 
 
 class Stumbler:
-    """A program, its sessions and what is wanted of them, and the library that lets its calls go
-    wrong."""
+    """A program, its sessions, what is wanted of them, and how often they open each database; and
+    the library that lets its calls go wrong."""
 
     def __init__(self, program, library, tried):
         self.program, self.library = program, library
-        self.wanted, self.most_openings, self.sessions = tried
+        self.wanted, self.openings, self.sessions = tried
 
     def run(self, words, kind=0, number=0, way=0):
         answer, notes = run_with(
@@ -201,13 +220,12 @@ def try_one(stumbler, session, kind, number, way):
 
 def try_session(stumbler, label, words, files, jobs, tally):
     """Lets each call of a session go wrong in each way. How many calls of which kind there are."""
-    whole = stumbler.wanted(words)
-    answer, calls = stumbler.run(words)
-    tally.check(label, answer, whole)
+    whole, calls = stumbler.run(words)
+    tally.check(label, whole, stumbler.wanted(words))
     openings, most, left = openings_of(calls)
     sides = len(files) - 1
-    known = 1 + sides * min(OPENINGS.get(label, 0), stumbler.most_openings)
-    is_right = most <= sides and left == 0 and (label not in OPENINGS or openings == known)
+    known = stumbler.openings(label, words, whole)
+    is_right = most <= sides and left == 0 and (known is None or openings == 1 + sides * known)
     counted = "%d, %d at a time, %d left" % (openings, most, left)
     tally.holds(label + ", openings", is_right, counted)
     session, counts = Session(words, whole, calls, files), Counter(call.kind for call in calls)
@@ -238,12 +256,12 @@ class FailedCallsTest(PreloadTest):
 
     def test_report(self) -> None:
         try_calls(
-            Stumbler(self.program, self.library, (wanted, MOST_OPENINGS, sessions)),
+            Stumbler(self.program, self.library, (wanted, openings_of_report, sessions)),
             self.directory,
             2,
             self,
         )
 
     def test_lines(self) -> None:
-        how = (wanted_lines, MOST_OF_LINES, sessions_of_lines)
+        how = (wanted_lines, openings_of_lines, sessions_of_lines)
         try_calls(Stumbler(self.lines_program, self.library, how), self.directory, 2, self)

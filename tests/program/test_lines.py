@@ -39,17 +39,24 @@ OTHER_VALUES = {
 FRONTS = [b"", b"x", b"\xc3", b"\xe2\x80", b"\xf0\x9f\x98"]
 
 
-def faults_of_lines(output):
-    """What Python's `json` has against an output: each line is one object, in which no name stands
-    twice."""
-    faults = []
-    for number, line in enumerate(output.split(b"\n")[:-1], 1):
+def faults_of_lines(answer):
+    """What Python's `json` has against an answer: each line is one object, in which no name stands
+    twice. Only a complete answer has a last line: after a fault the output may end anywhere."""
+    faults, ends = [], 0
+    for number, line in enumerate(answer.output.split(b"\n")[:-1], 1):
         try:
-            if not isinstance(json.loads(line.decode("utf-8"), object_pairs_hook=pairs), dict):
+            fields = json.loads(line.decode("utf-8"), object_pairs_hook=pairs)
+            if not isinstance(fields, dict):
                 faults.append("line %d is no object" % number)
+            ends += "end" in fields
         except ValueError as error:
             faults.append("line %d: %s" % (number, error))
-    return faults + (["the last line has no end"] if output and not output.endswith(b"\n") else [])
+    if answer.status > 7:
+        return faults + (["a last line behind a fault"] if b'"end"' in answer.output else [])
+    is_whole = ends == (b'"format":4' in answer.output)
+    if answer.output.endswith(b"\n") and is_whole:
+        return faults
+    return faults + ["the last line is not there, or has no end"]
 
 
 def coded(text):
@@ -78,7 +85,7 @@ class LinesProgramTest(ProgramTest):
     def beside(self, words):
         """The status that is wanted, and what is not as wanted."""
         want, answer = wanted_lines(words), run(self.lines_program, words)
-        faults = difference(answer, want) + faults_of_lines(answer.output)
+        faults = difference(answer, want) + faults_of_lines(answer)
         report = run(self.program, words)
         if (answer.errors, answer.status) != (report.errors, report.status):
             faults.append(f"the report: {shown(report.errors)}, {report.status}")
@@ -111,7 +118,7 @@ class LinesTest(LinesProgramTest):
             answer = run(self.lines_program, words)
             self.check(label, answer, wanted_lines(words))
             ends = stored._replace(output=answer.output)
-            faults = difference(answer, ends) + faults_of_lines(answer.output)
+            faults = difference(answer, ends) + faults_of_lines(answer)
             self.add(label + ", its end", faults)
 
     def test_refused(self) -> None:

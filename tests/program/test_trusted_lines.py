@@ -2,8 +2,7 @@
 pair beside it.
 
 Each answer has to be that of tests/oracle/lines.py, byte by byte: stored cases, each way of naming
-the pair, damages of each of the four, databases that change while they are read, long lines,
-outputs that fail, and random sessions.
+the pair, damages of each of the four, long lines, outputs that fail, and random sessions.
 """
 from __future__ import annotations
 
@@ -22,9 +21,7 @@ from tests.program.test_failed_calls import FILES, NAMES
 from tests.program.random_sessions import make_session_beside, try_sessions
 from tests.program.real_files.test_damage import WAYS
 from tests.program.real_files.test_devices import check_outputs
-from tests.program.real_files.test_fifos import fed
-from tests.program.real_files.folder import EMPTY, Folder, database, names
-from tests.program.real_files.test_replaced import ENTRIES, replace, resize, Turning
+from tests.program.real_files.folder import EMPTY, Folder, database
 from tests.program.test_lines import LinesProgramTest, faults_of_lines
 
 CASES = os.path.join(os.path.dirname(cases.FOLDER), cases.LINES, "*.case")
@@ -40,76 +37,12 @@ FOUR = [
     HEAD + b"/c 100644 4 %s\n@@end_db\n" % DIGESTS[1],
 ]
 REFUSED = Answer(b"", USAGE_LINE + b"\n", 15)
-RUNS = 60
 VALIDATOR = Validator(schema_of_lines())
 
 
 def folder_of(folder, four):
     folder.pair(*four[:2])
     folder.trusted(*four[2:])
-
-
-def fed_four(test, folder, texts):
-    """The answer, and how often each database was opened; `texts` has a list of texts for each."""
-    by_path = {folder.at(name): each for name, each in zip(FILES, texts)}
-    return fed(test.lines_program, folder.words_beside(), by_path)
-
-
-def many(name, digest):
-    """Regular files with one digest."""
-    return b"".join(b"/%s%05d 100644 1 %s\n" % (name, number, digest) for number in range(ENTRIES))
-
-
-def sound(*entries):
-    """A database of these entries."""
-    return HEAD + b"".join(entries) + b"@@end_db\n"
-
-
-def replacing():
-    """Two databases, and two texts for each of a trusted pair: the first accounts for changes, the
-    other for none.
-
-    So lines for which one text was read first, and then the other, are those of neither.
-    """
-    gone = many(b"gone", DIGESTS[0])
-    kept = many(b"kept", DIGESTS[0])
-    changed = many(b"kept", DIGESTS[1])
-    trusted = {
-        "trusted_old": (sound(gone, kept), sound(kept)),
-        "trusted_new": (sound(changed), sound(kept)),
-    }
-    return [sound(gone, kept), sound(changed)], trusted
-
-
-def is_cut(output, answers):
-    """Whether the first line of one answer went out, then lines of the same or of another, and no
-    last line."""
-    for first in answers:
-        for rest in answers:
-            whole = first.output.partition(b"\n")[0] + b"\n" + rest.output.partition(b"\n")[2]
-            if whole.startswith(output) and b'{"end":' not in output:
-                return True
-    return False
-
-
-def check_replaced(test, folder, way, name, texts):
-    """Runs while a trusted database turns from one text into another: the lines of a whole one, or
-    a fault. What went out before the fault may be about the other text, but it is cut."""
-    label = f"{way.__name__}, {name}"
-    answers = []
-    told = 0
-    for text in texts:
-        folder.write(name, text)
-        answers.append(wanted_lines(folder.words_beside()))
-    line = b"aide: the %s database changed while it was read\n" % NAMES[FILES.index(name)]
-    with Turning([lambda text=text: way(folder, name, text) for text in texts]):
-        given = [run(test.lines_program, folder.words_beside()) for _ in range(RUNS)]
-    for answer in given:
-        is_told = (answer.errors, answer.status) == (line, 18)
-        is_right = answer in answers or is_told and is_cut(answer.output, answers)
-        test.holds(label, is_right, answer)
-        told += is_told
-    test.holds(f"{label}, told at all", told)
 
 
 class TrustedTest(LinesProgramTest):
@@ -123,8 +56,8 @@ class TrustedTest(LinesProgramTest):
         """The status that is wanted, and what is not as wanted."""
         want, answer = wanted_lines(words), run(self.lines_program, words)
         for account in (b'"same_as":"old"', b'"same_as":"trusted"', b'"kind":'):
-            self.accounts[account] += want.output.count(account)
-        return want.status, difference(answer, want) + faults_of_lines(answer.output)
+            self.accounts[account] += answer.output.count(account)
+        return want.status, difference(answer, want) + faults_of_lines(answer)
 
     def test_stored(self) -> None:
         """The stored cases, of which the program and the definitions give the answers."""
@@ -245,57 +178,12 @@ class TrustedTest(LinesProgramTest):
                 place = NAMES[first], four[first].count(b"\n") + 1
                 want = Answer(b"", b"aide: %s database:%d: no @@end_db\n" % place, 24)
                 answer = run(self.lines_program, folder.words_beside())
-                self.check("faults %s" % bin(faulty), answer, want)
+                self.check("faults %s" % bin(faulty), answer._replace(output=b""), want)
                 self.ends("faults %s, by the definitions" % bin(faulty), folder.words_beside(), 24)
                 for at in range(4):
                     if faulty >> at & 1:
                         os.unlink(folder.at(FILES[at]))
                 self.ends("missing %s" % bin(faulty), folder.words_beside(), 18)
-
-    def test_changes(self) -> None:
-        """Each database is opened twice. One that is another one at its second opening is named, and
-        the lines are cut."""
-        with Folder() as folder:
-            for label, four in (
-                ("small databases", FOUR),
-                ("long databases", [FOUR[0], names(6000), FOUR[2], names(6000)]),
-            ):
-                folder_of(folder, four)
-                whole = wanted_lines(folder.words_beside())
-                answer, openings = fed_four(self, folder, [[text] for text in four])
-                self.check(label + " through FIFOs", answer, whole)
-                self.holds(label + ", openings", openings == [2, 2, 2, 2], openings)
-                for at, name in enumerate(NAMES):
-                    text = four[at]
-                    for other in (
-                        text[:-9],
-                        text[:40],
-                        b"",
-                        text + b"#",
-                        text.replace(b"/", b"/x", 1),
-                        text.replace(b"1", b"2", 1),
-                    ):
-                        texts = [[each] for each in four]
-                        texts[at] = [text, other]
-                        answer, _ = fed_four(self, folder, texts)
-                        line = b"aide: the %s database changed while it was read\n" % name
-                        is_told = (answer.errors, answer.status) == (line, 18)
-                        is_short = len(answer.output) < len(whole.output)
-                        is_cut = is_short and whole.output.startswith(answer.output)
-                        is_right = is_told and is_cut if other != text else answer == whole
-                        what = "%s, the %s one changes" % (label, name.decode())
-                        self.holds(what, is_right, answer)
-
-    @slow
-    def test_replaced(self) -> None:
-        """A trusted database that is replaced, or grows and shrinks, while it is read."""
-        compared, accounting = replacing()
-        for way in (replace, resize):
-            for name, (first, other) in accounting.items():
-                with Folder() as folder:
-                    folder_of(folder, compared + [text for text, _ in accounting.values()])
-                    second = first + b"more\n" if way is resize else other
-                    check_replaced(self, folder, way, name, (first, second))
 
     @slow
     def test_long_lines(self) -> None:

@@ -1,0 +1,237 @@
+"""The program of lines opens and reads each database once: through FIFOs, broken databases, and
+databases that are replaced while they are read.
+
+After a fault the output is a beginning of the lines, and has no last line.
+"""
+from __future__ import annotations
+
+import os
+import random
+import subprocess
+import time
+
+from tests.lib.program_test import new_seed, slow
+from tests.lib.tally import difference, run, side_by_side, wanted_lines
+from tests.oracle.session import Answer
+from tests.program.real_files.folder import EMPTY, NEW, OLD, SKIPPING, Folder, names
+from tests.program.real_files.test_fifos import fed
+from tests.program.real_files.test_replaced import ENTRIES, Turning, replace, resize
+from tests.program.test_failed_calls import FILES
+from tests.program.test_lines import LinesProgramTest, faults_of_lines
+
+HEAD = b"@@begin_db\n@@db_spec name perm lname mtime\n"
+END = b"@@end_db"
+LONG = b"x" * 300  # So that some lines go out before most faults.
+COUNT = 120
+REPEATED = 4  # So often two ways to break a pair are tried.
+FOURS = 80
+RUNS = 60
+# So many bytes are in a pipe that nobody reads.
+PIPE = 1 << 16
+
+
+def text_of(pick, later):
+    """The lines of a database of links: some came, some went, and of some the target changed."""
+    lines = [HEAD[:-1]]
+    for number in range(COUNT):
+        target = pick.choice((b"", b"a")) if later else b""
+        if pick.random() < 0.9:
+            lines.append(b"/%04d 120777 %s%s %d" % (number, LONG, target, later))
+    return [*lines, END, b""]
+
+
+def cut_line(lines, at):
+    lines[at] = lines[at][: len(lines[at]) // 2]
+
+
+def make_nonsense(lines, at):
+    lines[at] = b"x y z"
+
+
+def exchange(lines, at):
+    lines[at - 1 : at + 1] = reversed(lines[at - 1 : at + 1])
+
+
+def cut(lines, at):
+    del lines[at:]
+
+
+def end_early(lines, at):
+    lines[at] = END
+
+
+def add_field(lines, at):
+    lines[at] += b" more"
+
+
+WAYS = [cut_line, make_nonsense, exchange, cut, end_early, add_field]
+
+
+def broken(pick, lines, way):
+    """A text whose lines were broken in a way, if there is one."""
+    lines = list(lines)
+    if way is not None:
+        way(lines, pick.randrange(1, len(lines) - 1))
+    return b"\n".join(lines)
+
+
+def put(folder, texts):
+    """Writes the databases of a comparison, with a trusted pair if there are four. None of a
+    database leaves it out. Gives the words."""
+    folder.pair()
+    folder.trusted()
+    for name, text in zip(FILES, texts):
+        if text is None:
+            os.unlink(folder.at(name))
+        else:
+            folder.write(name, text)
+    return folder.words_beside() if len(texts) > 2 else folder.words()
+
+
+def ways_of_pairs():
+    """Each two ways to break both sides, some times, and each way to leave out a side."""
+    for old_way in [None, *WAYS]:
+        for new_way in [None, *WAYS]:
+            for number in range(REPEATED):
+                yield number, (old_way, new_way)
+
+
+def read_slowly(program, words, at_first):
+    """The answer of a program whose output is read slowly, and whose files change when its first
+    bytes have come."""
+    process = subprocess.Popen(
+        [program, *words],
+        stdin=subprocess.DEVNULL,
+        stdout=subprocess.PIPE,
+        stderr=subprocess.PIPE,
+        bufsize=0,
+    )
+    assert process.stdout and process.stderr
+    output = process.stdout.read(1)
+    at_first()
+    while block := process.stdout.read(5000):
+        output += block
+        time.sleep(0.001)
+    errors = process.stderr.read()
+    process.stdout.close()
+    process.stderr.close()
+    return Answer(output, errors, process.wait())
+
+
+class OneReadingTest(LinesProgramTest):
+    def faults_of(self, texts):
+        """The answer over these texts, and what is not as wanted of it: the report of two databases
+        ends alike."""
+        with Folder() as folder:
+            words = put(folder, texts)
+            answer = run(self.lines_program, words)
+            faults = difference(answer, wanted_lines(words)) + faults_of_lines(answer)
+            if len(texts) == 2:
+                report = run(self.program, words)
+                faults += difference(answer._replace(output=b""), report._replace(output=b""))
+        return answer, faults
+
+    def tried(self, label, texts):
+        """The answers over many databases."""
+        answers = []
+        for answer, faults in side_by_side(2, self.faults_of, texts):
+            self.add(f"{label}, trial {len(answers)}", faults)
+            answers.append(answer)
+        return answers
+
+    @slow
+    def test_broken_pairs(self) -> None:
+        """Pairs of which either or both sides are broken in one of six ways, or are missing."""
+        seed, texts = new_seed(), []
+        for number, ways in ways_of_pairs():
+            pick = random.Random(f"{seed} {number} {ways}")
+            lines = [text_of(pick, later) for later in range(2)]
+            texts.append([broken(pick, side, way) for side, way in zip(lines, ways)])
+        whole, fault = b"\n".join(text_of(random.Random(1), 0)), HEAD + b"x y z\n"
+        texts += [[None, whole], [whole, None], [None, None], [fault, None]]
+        answers = self.tried(f"seed {seed}", texts)
+        self.holds("no output", all(not answer.output for answer in answers[-4:]), answers[-4:])
+        begun = [answer for answer in answers if answer.status > 7 and answer.output]
+        self.holds("lines before a fault", len(begun) > 20, len(begun))
+        self.holds("sound pairs", sum(answer.status < 8 for answer in answers) >= REPEATED)
+
+    @slow
+    def test_broken_fours(self) -> None:
+        """The same with a trusted pair: any of four databases may be broken or missing."""
+        seed, texts = new_seed(), []
+        for number in range(FOURS):
+            pick = random.Random(f"{seed} {number}")
+            four = []
+            for at in range(4):
+                way = pick.choice(WAYS) if pick.random() < 0.3 else None
+                four.append(broken(pick, text_of(pick, at % 2), way))
+            if pick.random() < 0.1:
+                four[pick.randrange(4)] = None
+            texts.append(four)
+        answers = self.tried(f"seed {seed}", texts)
+        for name in FILES:
+            words = b"aide: %s database" % name.replace("_", " ").encode()
+            count = sum(answer.errors.startswith(words) for answer in answers)
+            self.holds("faults of " + name, count, count)
+
+    def test_openings(self) -> None:
+        """Through FIFOs that can be opened once. Another text at a second opening is never read."""
+        other = EMPTY + b"other\n"
+        with Folder() as folder:
+            for label, texts in (
+                ("two databases", [OLD, NEW]),
+                ("two long databases", [names(6000), SKIPPING]),
+                ("two databases with a fault", [OLD, NEW[:-9]]),
+                ("four databases", [OLD, NEW, SKIPPING, NEW]),
+                ("four long databases", [OLD, names(6000), SKIPPING, names(6000)]),
+                ("four databases with a fault", [names(6000), NEW, OLD, OLD[:-9]]),
+            ):
+                words = put(folder, texts)
+                want = wanted_lines(words)
+                by_path = {
+                    folder.at(name): [text, other] for name, text in zip(FILES, texts) if text
+                }
+                answer, openings = fed(self.lines_program, words, by_path)
+                self.check(label, answer, want)
+                self.holds(label + ", openings", openings == [1] * len(texts), openings)
+
+    def test_slow_reader(self) -> None:
+        """A reader that is slow gets the lines of what was opened, also if the names belong to other
+        files meanwhile."""
+        for texts in ([OLD, names(9000)], [names(9000), SKIPPING, OLD, names(9000)]):
+            with Folder() as folder:
+                words = put(folder, texts)
+                want = wanted_lines(words)
+
+                def replace_all():
+                    for name in FILES[: len(texts)]:
+                        replace(folder, name, EMPTY)
+
+                answer = read_slowly(self.lines_program, words, replace_all)
+                self.check(f"{len(texts)} databases", answer, want)
+                self.holds("a full pipe", len(answer.output) > 3 * PIPE, len(answer.output))
+
+    def check_turning(self, way, name, texts):
+        """Runs while a database turns from one text into another: each gives the lines of a whole
+        one, with its digest."""
+        label = f"{way.__name__}, {name}"
+        with Folder() as folder:
+            gone = names(ENTRIES)
+            words = put(folder, [gone, EMPTY, gone, EMPTY])
+            answers = []
+            for text in texts:
+                folder.write(name, text)
+                answers.append(wanted_lines(words))
+            with Turning([lambda text=text: way(folder, name, text) for text in texts]):
+                for _ in range(RUNS):
+                    answer = run(self.lines_program, words)
+                    self.holds(label, answer in answers, answer)
+        self.holds(f"{label}, two answers", answers[0] != answers[1])
+
+    @slow
+    def test_replaced(self) -> None:
+        """A database that is replaced, or grows and shrinks, while it is read."""
+        for name in FILES:
+            text = names(ENTRIES)
+            self.check_turning(replace, name, (text, EMPTY))
+            self.check_turning(resize, name, (text, text + b"more\n"))
