@@ -43,10 +43,13 @@ class ColumnsTest(CommandTest):
         state = self.state()
         self.assertEqual((state["skipped_old"], state["skipped_new"]), ("fstype", "fstype"))
         lines = self.call("aide-compare json", "o.db", "same.db").output
-        first = json.loads(lines.split(b"\n")[0])
-        self.assertEqual(first["skipped"], {"old": ["fstype"], "new": ["fstype"]})
-        page = self.call("aide-compare page", "-", text=lines).output
-        self.assertIn(b"The column fstype is not compared", page)
+        first, last = (json.loads(line) for line in lines.splitlines())
+        self.assertEqual(last["skipped"], {"old": ["fstype"], "new": ["fstype"]})
+        self.assertEqual([last[side]["skipped"] for side in ("old", "new")], [[4], [4]])
+        self.assertNotIn("skipped", first)
+        for words, text in ((("-",), lines), (("o.db", "same.db"), b"")):
+            page = self.call("aide-compare page", *words, text=text).output
+            self.assertIn(b"The column fstype is not compared", page)
         told = b"the column new of the new database is not compared"
         self.answered(0, None, [NOTE, told], TOOL, "o.db", "more.db")
         self.call(TOOL, *STATE, "old.db", "new.db")

@@ -82,8 +82,9 @@ class TrustedTest(mail.MailTest):
         self.assertEqual({path: found.get(path) for path in WANTED}, WANTED)
         self.assertEqual(self.leftovers(), [])
         for side, name in zip(("trusted_old", "trusted_new"), PAIR[1:]):
-            wanted = {"path": name, "sha256": sha256(self.read(name)), "skipped": []}
-            self.assertEqual(objects[0].get(side), wanted, f"the first line has {side}")
+            wanted = {"sha256": sha256(self.read(name)), "skipped": []}
+            self.assertEqual(objects[0].get(side), name, f"the first line has {side}")
+            self.assertEqual(objects[-1].get(side), wanted, f"the last line has {side}")
         found = standings_of(host.ask(self)[1])
         opened = {path for path in WANTED if found[path].startswith("open")}
         self.assertEqual(opened, WANTED.keys() - {b"/usr/bin/same"}, "without the pair")

@@ -95,7 +95,7 @@ class ViewersTest(ProgramTest):
                 [*JSON, "-"],
                 b'{"record":"summary","format":1}\n',
                 REFUSED,
-                b"line 1: the first line is the summary, of format 3",
+                b"line 1: the first line is the summary, of format 4",
             ),
             (
                 [*JSON, "-"],
@@ -104,6 +104,9 @@ class ViewersTest(ProgramTest):
                 b"line %d: this is not a line" % proved.count(b"\n"),
             ),
             ([*JSON, "-"], early, REFUSED, b"this ends too early: the last line is missing"),
+            ([*JSON, "--full", "-"], lines, 0, b""),
+            ([*JSON, "--full", "-"], early, REFUSED, b"this ends too early: the last line is"),
+            ([*JSON, "--full", "-"], proved[:-1], REFUSED, b"this is not a line"),
             ([*HTML, "-"], lines, 0, b""),
             ([*HTML, "-"], b"", REFUSED, b"page: nothing was given: "),
             ([*HTML, "-"], b"@@begin_db\n", REFUSED, b"line 1: "),

@@ -20,8 +20,7 @@ PATTERNS = (
     *(b"/**", b"/a", b"/*", b"/a/**", b"/**/a", b"/**/.ssh/**", b"/a/*.so", b"/a/b*", b"/*/b"),
     *(b"/a/**/**/b", b"/**/*-*/?.so", b"/a/[ab]", b"/a/x*y", b"/**/a/**/b", b"/a*/**"),
 )
-SUMMARY = b'{"format":3,"old":{"path":"o","sha256":"%s","skipped":[]},"new":{"path":"n",%s}}\n'
-HEAD = SUMMARY % (b"0" * 64, b'"sha256":"' + b"1" * 64 + b'","skipped":[]')
+HEAD = b'{"format":4,"old":"o","new":"n"}\n'
 # What looks like members in a path.
 ODD_PATHS = ("/a", '/a"Ctime":5', '/"new":{"Ctime":1}', "/\u00e4", '/","same_as":"old', "/\\")
 VALUES: Dict[str, List[Any]] = {

@@ -104,14 +104,15 @@ def long_lines(count: int, letters: int) -> bytes:
     """Lines of entries with long names and with values that cannot be packed."""
     pick = random.Random(count)
     counts = {"total": count, "added": 0, "removed": 0, "changed": count}
-    database = {"path": "/a", "sha256": "00" * 32, "skipped": []}
-    objects: list[dict[str, object]] = [{"format": 3, "old": database, "new": database}]
+    read = {"sha256": "00" * 32, "skipped": []}
+    objects: list[dict[str, object]] = [{"format": 4, "old": "/a", "new": "/a"}]
     for number in range(count):
         values = ["%0*x" % (letters, pick.getrandbits(4 * letters)) for _ in range(2)]
         path, summary = f"/{number:06}-{'n' * letters}", "f                 "
         sides = {"old": {"XAttrs": values[0]}, "new": {"XAttrs": values[1]}}
         objects.append({"kind": "changed", "path": path, "summary": summary, **sides})
-    objects.append({"end": True, **counts, "same_as_old": 0, "others": count, "status": 4})
+    end = {"end": True, "old": read, "new": read, **counts}
+    objects.append({**end, "same_as_old": 0, "others": count, "status": 4})
     return lines.lines_of(objects)
 
 

@@ -55,10 +55,11 @@ def write_lines(path: str, count: int) -> None:
     entries = [entry_of(pick, number, path) for number, path in enumerate(paths)]
     kinds = [fields["kind"] for fields in entries]
     counts = {kind: kinds.count(kind) for kind in ("added", "removed", "changed")}
-    database = {"path": "/a", "sha256": "00" * 32, "skipped": []}
-    end = {"end": True, "total": count, **counts, "same_as_old": 0, "others": count, "status": 7}
+    read = {"sha256": "00" * 32, "skipped": []}
+    end = {"end": True, "old": read, "new": read, "total": count, **counts}
+    end.update({"same_as_old": 0, "others": count, "status": 7})
     with open(path, "w") as file:
-        for fields in [{"format": 3, "old": database, "new": database}, *entries, end]:
+        for fields in [{"format": 4, "old": "/a", "new": "/a"}, *entries, end]:
             file.write(json.dumps(fields) + "\n")
 
 

@@ -63,7 +63,7 @@ def exchanged(text: bytes) -> bytes:
     return b"\n".join([head, other, one, rest])
 
 
-DATABASE = {"path": "/a", "sha256": "00" * 32, "skipped": []}
+READ: dict[str, Any] = {"sha256": "00" * 32, "skipped": []}
 LINE_EDITS: dict[str, Edit] = {
     "no summary": lambda text: text[text.index(b"\n") + 1 :],
     "two summaries": lambda text: text[: text.index(b"\n") + 1] + text,
@@ -86,9 +86,19 @@ LINE_EDITS: dict[str, Edit] = {
     "a standing that is none": changed_line(1, standing="<b>"),
     "a severity that is none": changed_line(1, severity="<b>"),
     "a package that is a number": changed_line(1, package=5),
-    "a digest of a database that is none": changed_line(0, old={**DATABASE, "sha256": "<b>"}),
-    "a database without a path": changed_line(0, new={"sha256": "00" * 32, "skipped": []}),
-    "columns in words": changed_line(0, new={**DATABASE, "skipped": "<b>"}),
+    "a database without a name": changed_line(0, new=...),
+    "a name that is an object": changed_line(0, new={"path": "/a", **READ}),
+    "a name in a wrong base": changed_line(0, new_hex="2f6"),
+    "half a trusted pair": changed_line(0, trusted_new="/a"),
+    "a trusted pair without an end": changed_line(0, trusted_old="/a", trusted_new="/b"),
+    "an end of a trusted pair": changed_line(-2, trusted_old=READ, trusted_new=READ),
+    "an end without a database": changed_line(-2, old=...),
+    "a digest of a database that is none": changed_line(-2, old={**READ, "sha256": "<b>"}),
+    "a short digest of a database": changed_line(-2, old={**READ, "sha256": "00"}),
+    "a database without a digest": changed_line(-2, new={"skipped": []}),
+    "columns in words": changed_line(-2, new={**READ, "skipped": "<b>"}),
+    "a column in words": changed_line(-2, new={**READ, "skipped": ["<b>"]}),
+    "a column that is not there": changed_line(-2, new={**READ, "skipped": [65]}),
     "no kind": changed_line(1, kind=...),
     "another kind": changed_line(1, kind="<b>"),
     "a path without a slash": changed_line(1, path="etc"),

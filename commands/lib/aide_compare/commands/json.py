@@ -33,9 +33,10 @@ MAX_MEMBERS = 64
 MAX_VALUE = 4096
 # The members that lines have themselves.
 OWN_MEMBERS = frozenset(
-    "format total added removed changed same_as_old same_as_trusted others old new trusted_old"
-    " trusted_new kind path path_hex summary same_as type old_text new_text standing standings"
-    " severity package left_out skipped end status".split()
+    "format total added removed changed same_as_old same_as_trusted others old old_hex new new_hex"
+    " trusted_old trusted_old_hex trusted_new trusted_new_hex kind path path_hex summary same_as"
+    " type old_text new_text standing standings severity package left_out skipped end"
+    " status".split()
 )
 
 
@@ -73,11 +74,13 @@ class JsonForm(NamedTuple):
         self, reader: Reader, comparison: Optional[Comparison], judged: Optional[Judged]
     ) -> Iterator[bytes]:
         """The lines of changes with all that is added."""
-        from aide_compare.show.added import added_lines, full_members
+        from aide_compare.show.added import added_lines, full_members, full_members_of_lines
 
         each: Fields = {}
-        if self.is_full:
-            each.update(full_members(reader.summary, comparison))
+        if self.is_full and comparison:
+            each.update(full_members(comparison))
+        elif self.is_full:
+            each.update(full_members_of_lines(reader))
         each.update(self.members)
         return added_lines(reader, comparison, each, self.has_names, judged)
 

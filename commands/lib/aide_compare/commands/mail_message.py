@@ -146,9 +146,9 @@ def page_of(comparison: Comparison, judged: Optional[Judged], max_mail: int) -> 
 
 
 def page_parts(comparison: Comparison, judged: Judged) -> Iterable[bytes]:
-    from aide_compare.show.added import full_summary
+    from aide_compare.show.added import add_comparison
     from aide_compare.show.page import page
 
     reader = reader_over(comparison.known_lines().fd)
-    reader.summary = full_summary(reader.summary, comparison)
+    add_comparison(reader, comparison)
     return page(reader, f"File changes on {host_name()}", True, judged)

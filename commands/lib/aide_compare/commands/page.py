@@ -36,11 +36,11 @@ class PageForm(NamedTuple):
         self, reader: Reader, comparison: Optional[Comparison], judged: Optional[Judged]
     ) -> Iterator[bytes]:
         """The page of changes."""
-        from aide_compare.show.added import full_summary
+        from aide_compare.show.added import add_comparison
         from aide_compare.show.page import page
 
         if comparison:
-            reader.summary = full_summary(reader.summary, comparison)
+            add_comparison(reader, comparison)
         return page(reader, self.title, self.is_plain, judged)
 
 

@@ -114,13 +114,23 @@ def open_lines(path: str) -> BinaryIO:
     return open(descriptor, "rb", buffering=BLOCK, closefd=False)
 
 
+def kept_lines(path: str) -> BinaryIO:
+    """The input in a private file, whose last line can be asked before the others."""
+    file = private_file()
+    with open_lines(path) as source:
+        while block := source.read(BLOCK):
+            file.write(block)
+    file.seek(0)
+    return file
+
+
 def write_of_lines(path: str, writer: Writer) -> int:
     """Writes what is made of lines when all of it is known: nothing of what is refused, which is a
     status of its own."""
     file = private_file()
     try:
-        with failing("cannot read or write"), open_lines(path) as source:
-            for part in writer(Reader(source), None, None):
+        with failing("cannot read or write"):
+            for part in writer(Reader(kept_lines(path)), None, None):
                 file.write(part)
             file.seek(0)
             while block := file.read(BLOCK):

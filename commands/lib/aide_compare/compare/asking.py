@@ -15,9 +15,9 @@ from aide_compare.base.program import CONFIGURATION, DATABASES, DESCRIPTORS, LIN
 from aide_compare.base.program import find_installed, run_program
 from aide_compare.base.words import TRUSTED_SIDES
 from aide_compare.compare.configuration import NONE, Settings, Texts
-from aide_compare.lines.reader import FORMAT
 
 MAX_SETTINGS = 1 << 16
+FORMAT = 3  # Of the line that says what a configuration means.
 LINE_BEFORE = rb"aide: before:(\d+):"
 
 

@@ -14,7 +14,7 @@ from aide_compare.base.words import TRUSTED_SIDES
 from aide_compare.compare.configuration import DEFAULTS, NONE, Texts
 from aide_compare.compare.state import State
 from aide_compare.compare.unpack import Copy
-from aide_compare.lines.change import Counts, Fields
+from aide_compare.lines.change import Counts
 from aide_compare.lines.reader import EndCounts
 
 if TYPE_CHECKING:
@@ -24,6 +24,8 @@ MAX_ERROR = 5000
 MAX_NAME = 4000
 
 NO_COPIES: Mapping[str, Copy] = MappingProxyType({})
+# By side, the SHA-256 of what the program has read, in base 16.
+Digests = Mapping[str, str]
 
 
 class Request(NamedTuple):
@@ -62,14 +64,14 @@ class Refusal(Fault):
 
 
 class Lines:
-    """The lines of the program, in a private file, and what the first and the last of them say."""
+    """The lines of the program, in a private file, and what the last of them says."""
 
-    def __init__(self, fd: int, size: int, is_cut: bool, summary: Fields, end: EndCounts) -> None:
+    def __init__(self, fd: int, size: int, is_cut: bool, end: EndCounts, digests: Digests) -> None:
         self.fd = fd
         self.size = size  # Of all lines; the file has no more than a request allows.
         self.is_cut = is_cut
-        self.summary = summary
         self.end = end
+        self.digests = digests
 
 
 class Comparison(NamedTuple):

@@ -2,7 +2,6 @@
 checked."""
 from __future__ import annotations
 
-import io
 import json
 import os
 import time
@@ -15,22 +14,20 @@ from aide_compare.base.files import nameless
 from aide_compare.base.program import LINES, Answer, Drain, Tail, find_installed
 from aide_compare.base.words import SIDES, TRUSTED_SIDES, age_in_words, counted, words_of_side
 from aide_compare.compare.asking import Question, ask_for_changes, defines_group, odd_answer
-from aide_compare.compare.comparison import Comparison, Lines, Refusal, Request
+from aide_compare.compare.comparison import Comparison, Digests, Lines, Refusal, Request
 from aide_compare.compare.configuration import ADVICE, Databases, Settings, Texts, databases_of
 from aide_compare.compare.configuration import without_includes
 from aide_compare.compare.hints import column_notes, hints_of, order_notes, skipped_in
 from aide_compare.compare.report import write_report
 from aide_compare.compare.unpack import Copy, Opened, copy_opened, open_database
-from aide_compare.lines.change import Fields
-from aide_compare.lines.reader import ODD, Reader, Refused, end_of
+from aide_compare.lines.reader import ODD, end_of
 
 if TYPE_CHECKING:
     from aide_compare.compare.exclusions import Exclusions, LeftOut
 
 MAX_CLOCKS_DIFFER = 600
-HEAD_BYTES = 1 << 16
 MIN_LINES = 1 << 12
-END_BYTES = 1 << 12  # The last line has nothing but names of counts and numbers.
+END_BYTES = 1 << 12  # The last line has nothing but digests, columns and counts.
 
 
 # What ends a comparison.
@@ -209,20 +206,21 @@ class Work:
         if answer.status > 7:
             raise self._refusal()
         try:
-            summary = Reader(io.BytesIO(os.pread(target, HEAD_BYTES, 0))).summary
-            end = end_of(json.loads(tail.last_line()))
-        except (Refused, *ODD):
+            fields = json.loads(tail.last_line())
+            end = end_of(fields)
+            digests = {side: str(fields[side]["sha256"]) for side in self.copies}
+        except ODD:
             raise odd_answer(program, answer) from None
         if end.status != answer.status:
             raise odd_answer(program, answer)
-        self._keep_digests(summary)
-        return Lines(target, drain.size, drain.is_cut, summary, end)
+        self._keep_digests(digests)
+        return Lines(target, drain.size, drain.is_cut, end, digests)
 
-    def _keep_digests(self, summary: Fields) -> None:
+    def _keep_digests(self, digests: Digests) -> None:
         """The program has read what it has compared, so it knows the digests of whole databases."""
         for side, copy in self.copies.items():
             if side not in self.left_out:
-                self.copies[side] = copy.with_digest(summary[side]["sha256"])
+                self.copies[side] = copy.with_digest(digests[side])
 
     def _report(self) -> int:
         report = write_report(self.texts, _pair(self.compared), self.request.max_report)

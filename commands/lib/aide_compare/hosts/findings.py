@@ -17,7 +17,7 @@ from aide_compare.base.ending import Fault, Status, write_blocks
 from aide_compare.base.escapes import shown
 from aide_compare.base.files import BLOCK
 from aide_compare.base.paths import key_of_path
-from aide_compare.base.words import SEVERITIES
+from aide_compare.base.words import SEVERITIES, SIDES
 from aide_compare.changes.entries import owner_of
 from aide_compare.changes.importance import Importance, importance_of
 from aide_compare.changes.ordered import OrderedDatabase
@@ -25,7 +25,7 @@ from aide_compare.changes.severity import Severity
 from aide_compare.compare.comparison import Comparison
 from aide_compare.lines.change import Change, Counts, Fields, Standing, change_of
 from aide_compare.lines.reader import ENCODE, LINE_LIMIT, ODD, with_members
-from aide_compare.lines.reader import Reader, Refused, reader_over
+from aide_compare.lines.reader import Refused, reader_over
 
 FORMAT = 2
 # What a line gets beside what aide_lines has written: its severity, the group of its owner, and its
@@ -94,8 +94,10 @@ def judge(comparison: Comparison) -> Judgement:
 
 def kept_lines(comparison: Comparison, judgement: Judgement, limit: int) -> Iterator[bytes]:
     """Yields the lines that are kept, which have at most about `limit` bytes."""
-    reader = reader_over(comparison.known_lines().fd)
-    yield ENCODE({"format": FORMAT, **databases_of(reader)}).encode() + b"\n"
+    lines = comparison.known_lines()
+    reader = reader_over(lines.fd)
+    databases = {side: {"sha256": lines.digests[side]} for side in SIDES}
+    yield ENCODE({"format": FORMAT, **databases}).encode() + b"\n"
     rooms = rooms_of(judgement.sizes, limit)
     listed = 0
     for level, rank, (line, _) in zip(judgement.levels, judgement.ranks, reader):
@@ -111,10 +113,6 @@ def kept_lines(comparison: Comparison, judgement: Judgement, limit: int) -> Iter
         else:
             rooms[level] = 0
     yield end_line(judgement.counts, listed)
-
-
-def databases_of(reader: Reader) -> Fields:
-    return {side: {"sha256": reader.summary[side]["sha256"]} for side in ("old", "new")}
 
 
 def rooms_of(sizes: list[int], limit: int) -> list[int]:

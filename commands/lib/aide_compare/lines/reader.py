@@ -1,6 +1,6 @@
-"""Reads the lines of aide_lines, which are also those of aide-compare json: the two databases, a
-line for each change in the order of paths, and an end that says all counts, so that a stream that
-was cut shows."""
+"""Reads the lines of aide_lines, which are also those of aide-compare json: the names of the
+databases, a line for each change in the order of paths, and an end that says what was read of each
+database, and all counts. Lines without their end were cut, and are not believed."""
 from __future__ import annotations
 
 import json
@@ -11,15 +11,20 @@ from typing import Any, BinaryIO, Dict, Iterator, NamedTuple, Optional, Tuple
 
 from aide_compare.base.files import BLOCK
 from aide_compare.base.paths import key_of_path
-from aide_compare.base.words import KINDS, SIDES, status_of_counts
+from aide_compare.base.words import KINDS, SIDES, TRUSTED_SIDES, status_of_counts
 from aide_compare.lines.change import BY_PROOF, Change, Fields, Standing, bytes_of, change_of
 from aide_compare.lines.change import silent_by
 
-FORMAT = 3
+FORMAT = 4
 # An entry has at most the bytes of two lines of databases, and six times as many in JSON, some of
 # them in base 16 too.
 LINE_LIMIT = 1 << 25
 DIGEST_BYTES = 32
+MAX_COLUMN = 64
+HEX = "_hex"  # At the end of the name of a text in base 16.
+# So many bytes are read first for the last line. Only members of --with make it longer.
+TAIL = 1 << 12
+NO_END = "this ends too early: the last line is missing"
 # What a member of another type, or one that is missing, raises.
 ODD = (ValueError, KeyError, TypeError, AttributeError)
 ENCODE = json.JSONEncoder(separators=(",", ":")).encode
@@ -84,6 +89,9 @@ NOTHING_COUNTED = EndCounts(0, 0, 0, 0, 0, 0, 0)
 
 def end_of(fields: Fields) -> EndCounts:
     """The counts of the object of a last line; one of ODD if it is none."""
+    for side in sides_of(fields):
+        if not _is_read(fields[side]):
+            raise ValueError("a database that was not read")
     numbers = {name: fields[name] for name in EndCounts._fields if name != "same_as_trusted"}
     numbers["same_as_trusted"] = fields.get("same_as_trusted", 0)
     if not all(type(number) is int and number >= 0 for number in numbers.values()):
@@ -95,29 +103,55 @@ def end_of(fields: Fields) -> EndCounts:
     return end
 
 
-def _is_database(fields: Fields) -> bool:
-    """Whether this is what the first line says of a database."""
-    bytes_of(fields, "path")
-    has_digest = len(bytes.fromhex(fields["sha256"])) == DIGEST_BYTES
-    return has_digest and isinstance(fields["skipped"], list)
+def sides_of(fields: Fields) -> Tuple[str, ...]:
+    """The databases that the object of a first or a last line has to name: a trusted pair if it has
+    one of it."""
+    if any(name in fields for side in TRUSTED_SIDES for name in (side, side + HEX)):
+        return (*SIDES, *TRUSTED_SIDES)
+    return tuple(SIDES)
+
+
+def _is_read(fields: Fields) -> bool:
+    """Whether this is what the last line says of a database."""
+    columns = fields["skipped"]
+    has_columns = isinstance(columns, list) and all(
+        type(column) is int and 0 < column <= MAX_COLUMN for column in columns
+    )
+    return has_columns and len(bytes.fromhex(fields["sha256"])) == DIGEST_BYTES
 
 
 def _is_summary(fields: Fields) -> bool:
     """Whether an object can be the first one."""
     try:
-        return all(_is_database(fields[side]) for side in SIDES)
+        return all(isinstance(bytes_of(fields, side), bytes) for side in sides_of(fields))
     except ODD:
         return False
 
 
+def last_line_of(file: BinaryIO) -> bytes:
+    """The last line of a file; of one that is longer than a line may be, the end."""
+    end = file.seek(0, os.SEEK_END)
+    size = TAIL
+    while True:
+        start = max(end - size, 0)
+        file.seek(start)
+        text = file.read(end - start)
+        line = text[text[:-1].rfind(b"\n") + 1 :]
+        if len(line) < len(text) or start == 0 or size >= LINE_LIMIT:
+            return line
+        size = min(2 * size, LINE_LIMIT)
+
+
 class Reader:
     """The lines of a file: the `summary` of the first one; by iteration each change as its line and
-    its value, once; then what the last line says, as `end_line` and `counts`."""
+    its value, once; then what the last line says, as `end_line`, `end` and `counts`. `end` is its
+    object with what was there before."""
 
     def __init__(self, file: BinaryIO) -> None:
         self.file = file
         self.number = 0
         self.end_line = b""
+        self.end: Fields = {}
         self.counts = NOTHING_COUNTED
         # By the kind, and by what a proof accounts for the change with.
         self._counts: Dict[Tuple[str, Optional[str]], int] = {}
@@ -164,6 +198,19 @@ class Reader:
             self._count(kind, proof)
             yield Outline(kind, path, silent_by(proof, path), last, line)
 
+    def end_before(self) -> Fields:
+        """The object of the last line, before the others are read; the file has to be one on disk.
+        Only by iteration the counts are compared with the lines."""
+        here = self.file.tell()
+        try:
+            fields: Fields = json.loads(last_line_of(self.file))
+            end_of(fields)
+        except (*ODD, RecursionError):
+            raise Refused(0, NO_END) from None
+        finally:
+            self.file.seek(here)
+        return fields
+
     def _count(self, kind: str, proof: Optional[str]) -> None:
         self._counts[kind, proof] = self._counts.get((kind, proof), 0) + 1
 
@@ -171,6 +218,8 @@ class Reader:
         """Takes the last line, of which all counts are those of the lines before it."""
         try:
             self.counts = end_of(fields)
+            if sides_of(fields) != sides_of(self.summary):
+                raise ValueError
             for names, place in ((KINDS, 0), (BY_PROOF, 1)):
                 for name in names:
                     count = sum(n for key, n in self._counts.items() if key[place] == name)
@@ -182,8 +231,9 @@ class Reader:
         if self.file.read(1):
             raise Refused(self.number + 1, "this is after the end")
         self.end_line = line
+        self.end = {**fields, **self.end}
 
-    def _line(self, missing: str = "this ends too early: the last line is missing") -> bytes:
+    def _line(self, missing: str = NO_END) -> bytes:
         line = self.file.readline(LINE_LIMIT)
         if not line:
             raise Refused(self.number, missing)

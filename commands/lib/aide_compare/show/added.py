@@ -6,12 +6,12 @@ import json
 import os
 import re
 import time
-from typing import TYPE_CHECKING, Dict, Iterator, Optional, Tuple
+from typing import TYPE_CHECKING, Dict, Iterator, Mapping, Optional, Tuple
 
 from aide_compare.base.words import SIDES, date_of
 from aide_compare.lines.change import Change, Fields, Standing, change_of
 from aide_compare.lines.decoded import SideTexts, texts_of, texts_of_line, time_text
-from aide_compare.lines.reader import ENCODE, Reader, with_members
+from aide_compare.lines.reader import ENCODE, HEX, Reader, with_members
 
 if TYPE_CHECKING:
     from aide_compare.changes.importance import Importance
@@ -29,29 +29,34 @@ TIME = re.compile(rb'"([ACM]time)":(-?[0-9]+)')
 MarkedLine = Tuple[bytes, Fields]
 
 
-def name_members(path: bytes) -> Fields:
+def name_member(side: str, path: bytes) -> Fields:
     """The name of a database as a member, in base 16 where it is not UTF-8."""
     try:
-        return {"path": path.decode("utf-8")}
+        return {side: path.decode("utf-8")}
     except UnicodeDecodeError:
-        return {"path_hex": path.hex()}
+        return {side + HEX: path.hex()}
 
 
 def summary_of(summary: Fields, comparison: Optional[Comparison]) -> Fields:
-    """The first line, with the names of both databases, what was left out and was not compared, if
-    a Comparison knows that."""
+    """The first line, with the names of the databases and with what was left out before they were
+    compared, if a Comparison knows that."""
     if comparison is None:
         return summary
-    members = dict(summary)
+    members: Fields = {"format": summary["format"]}
     for side, copy in comparison.copies.items():
-        others = {key: summary[side][key] for key in summary[side] if not key.startswith("path")}
-        members[side] = {**name_members(os.fsencode(copy.name)), **others}
+        members.update(name_member(side, os.fsencode(copy.name)))
     left_out = {side: comparison.left_out[side].total for side in comparison.left_out}
     if left_out:
         members["left_out"] = left_out
-    if comparison.skipped:
-        members["skipped"] = comparison.skipped
     return members
+
+
+def end_members(comparison: Optional[Comparison]) -> Fields:
+    """What the last line gets: the names of the columns that were not compared, if there are
+    any."""
+    if comparison is None or not comparison.skipped:
+        return {}
+    return {"skipped": comparison.skipped}
 
 
 def time_of(copy: Copy) -> Optional[str]:
@@ -61,25 +66,34 @@ def time_of(copy: Copy) -> Optional[str]:
     return date_of(int(copy.written))
 
 
-def full_members(summary: Fields, comparison: Optional[Comparison]) -> Fields:
-    """What --full adds to each line."""
-    ended = comparison.time if comparison else int(time.time())
+def full_members(comparison: Comparison) -> Fields:
+    """What --full adds to each line of two databases."""
+    times = {side: time_of(comparison.copies[side]) for side in SIDES}
+    digests = {side: comparison.copies[side].sha256 for side in SIDES}
+    return _full_members(comparison.time, times, digests)
+
+
+def full_members_of_lines(reader: Reader) -> Fields:
+    """What --full adds to each line where only lines are known: the last one is asked first."""
+    end = reader.end_before()
+    digests = {side: str(end[side]["sha256"]) for side in SIDES}
+    return _full_members(int(time.time()), dict.fromkeys(SIDES), digests)
+
+
+def _full_members(
+    ended: int, times: Mapping[str, Optional[str]], digests: Mapping[str, str]
+) -> Fields:
     members: Fields = {"host": os.uname().nodename, "@timestamp": date_of(ended)}
     for side in SIDES:
-        written = None
-        digest: str = summary[side]["sha256"]
-        if comparison and side in comparison.copies:
-            copy = comparison.copies[side]
-            written = time_of(copy)
-            digest = copy.sha256
-        members[f"{side}_time"] = written
-        members[f"{side}_digest"] = digest[:DIGITS]
+        members[f"{side}_time"] = times[side]
+        members[f"{side}_digest"] = digests[side][:DIGITS]
     return members
 
 
-def full_summary(summary: Fields, comparison: Comparison) -> Fields:
-    """The first line as --full has it."""
-    return {**full_members(summary, comparison), **summary_of(summary, comparison)}
+def add_comparison(reader: Reader, comparison: Comparison) -> None:
+    """Lets a Reader say what a Comparison knows beside its lines, as --full has it."""
+    reader.summary = {**full_members(comparison), **summary_of(reader.summary, comparison)}
+    reader.end = end_members(comparison)
 
 
 def judged_changes(
@@ -166,14 +180,14 @@ def added_lines(
     the names of users and groups of this host."""
     each = {name: value for name, value in each.items() if name not in reader.summary}
     yield ENCODE({**summary_of(reader.summary, comparison), **each}).encode() + b"\n"
-    standings: Fields = {}
+    last = end_members(comparison)
     if judged is not None:
         yield from by_judgement(judged, reader, each, has_names)
-        standings["standings"] = judged.counts._asdict()
+        last["standings"] = judged.counts._asdict()
     else:
         for line, members in marked_by_lines(reader, has_names):
             yield with_members(line, {**members, **each})
-    yield with_members(reader.end_line, {**standings, **each})
+    yield with_members(reader.end_line, {**last, **each})
 
 
 def text_members(texts: SideTexts) -> Fields:

@@ -18,8 +18,8 @@ HERE = os.path.dirname(os.path.abspath(__file__))
 POLICY = "default-src 'none'; base-uri 'none'; form-action 'none'; style-src 'sha256-{}'"
 # Members of the summary that have a place of their own.
 KNOWN = frozenset(
-    "format old new trusted_old trusted_new left_out skipped host @timestamp old_time new_time"
-    " old_digest new_digest".split()
+    "format old old_hex new new_hex trusted_old trusted_old_hex trusted_new trusted_new_hex"
+    " left_out host @timestamp old_time new_time old_digest new_digest".split()
 )
 DATE = re.compile("[0-9]{4}-[0-9]{2}-[0-9]{2}T[0-9]{2}:[0-9]{2}:[0-9]{2}Z")
 SKIP = '<a class="skip" href="#content">Skip to the entries</a>\n'
@@ -131,22 +131,22 @@ def facts_of(summary: Fields, title: str) -> str:
     return f'<dl class="facts">{text}</dl>\n'
 
 
-def database_text(summary: Fields, side: str) -> str:
+def database_text(summary: Fields, end: Fields, side: str) -> str:
     """A database by its name, its time and its digest."""
-    name = shown_value(bytes_of(summary[side], "path")[:MAX_LETTERS])
+    name = shown_value(bytes_of(summary, side)[:MAX_LETTERS])
     time = member(summary, f"{side}_time")
     text = f"<dt>{side.capitalize()}</dt><dd><code>{escape(name)}</code>"
     if time:
         text += f" <span>of {escape(time)}</span>"
-    return f"{text}<small>SHA-256 <code>{summary[side]['sha256']}</code></small></dd>"
+    return f"{text}<small>SHA-256 <code>{end[side]['sha256']}</code></small></dd>"
 
 
-def about_of(summary: Fields, end: EndCounts) -> str:
+def about_of(reader: Reader) -> str:
     """The databases with the time of each, how many entries there are, and what the words mean.
     Without a change that is all that there is to see, and no word needs a meaning."""
-    lines = "".join(database_text(summary, side) for side in SIDES)
-    text = f"<dl>{lines}</dl>\n<p>{entries(end.total)} in the new database.</p>\n"
-    if not end.changes:
+    lines = "".join(database_text(reader.summary, reader.end, side) for side in SIDES)
+    text = f"<dl>{lines}</dl>\n<p>{entries(reader.counts.total)} in the new database.</p>\n"
+    if not reader.counts.changes:
         return f'<div class="about">{text}</div>\n'
     text += f'<p class="hint">{escape(HINT)}</p>'
     title = "<summary>Databases, and what the words mean</summary>"
@@ -178,9 +178,9 @@ def left_out_remark(summary: Fields) -> Iterator[str]:
         yield f"The comparison left out {' and '.join(parts)}, by the rules of --exclude-from."
 
 
-def column_remarks(summary: Fields) -> Iterator[str]:
+def column_remarks(end: Fields) -> Iterator[str]:
     """The columns that were not compared."""
-    value = summary.get("skipped")
+    value = end.get("skipped")
     if not isinstance(value, dict):
         return
     names = [str(name) for side_names in value.values() for name in side_names]
@@ -199,12 +199,12 @@ def title_of(summary: Fields, title: bytes) -> str:
 
 
 def head(reader: Reader, counts: Counts, title: bytes, script: str, left_out: List[str]) -> bytes:
-    """The beginning of the page of a report. `counts` are the Counts of its changes, and
-    `left_out` says what is missing."""
+    """The beginning of the page of a report, all of whose lines were read. `counts` are the Counts
+    of its changes, and `left_out` says what is missing."""
     summary = reader.summary
     text = title_of(summary, title)
     kinds = ", ".join(f"{number(count)} {kind}" for kind, count in zip(KINDS, reader.counts.kinds))
-    remarks = [*left_out_remark(summary), *column_remarks(summary), *left_out]
+    remarks = [*left_out_remark(summary), *column_remarks(reader.end), *left_out]
     outcome = '<p class="outcome">No differences between the two databases</p>\n'
     numbers = ""
     skip = ""
@@ -218,7 +218,7 @@ def head(reader: Reader, counts: Counts, title: bytes, script: str, left_out: Li
         outcome=outcome,
         facts=facts_of(summary, text),
         counts=numbers,
-        about=about_of(summary, reader.counts),
+        about=about_of(reader),
         remarks="".join(f'<p class="remark">{escape(remark)}</p>\n' for remark in remarks),
         script=script,
         skip=skip,
