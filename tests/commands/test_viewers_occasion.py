@@ -61,8 +61,7 @@ class OccasionTest(CommandTest):
         self.assertLessEqual(set(levels), {"high", "medium", "low"})
         self.assertEqual((given[-1].pop("standings")["open"], len(levels)), (7, 7))
         self.assertIn("_text", json.dumps(wanted))
-        wanted[0]["old"]["path"] = OLD
-        wanted[0]["new"]["path"] = NEW
+        wanted[0].update(old=OLD, new=NEW)
         self.assertEqual(given, wanted)
 
     def test_page(self) -> None:
@@ -102,17 +101,31 @@ class OccasionTest(CommandTest):
         first = objects_of(answer)[0]
         self.assertIsNone(first["old_time"])
         self.assertRegex(first["new_time"], DATE)
+        digest = sha256(text)[:16]
         for fields in self.added_to(self.lines_over(), "--full", "--with", "host=www"):
             self.assertEqual((fields["host"], fields["old_time"]), ("www", None))
+            self.assertEqual(fields["old_digest"], digest)
             self.assertRegex(fields["@timestamp"], DATE)
+
+    def test_full_of_many(self) -> None:
+        """The digests of lines are known before the others are read, also if the last line is long
+        and if there is no other."""
+        lines = [b'{"format":4,"old":"o","new":"n"}', self.lines_over(OLD, OLD).splitlines()[-1]]
+        more = [word for number in range(60) for word in ("--with", f"a{number}={'x' * 4000}")]
+        text = b"\n".join(lines) + b"\n"
+        for words in (more, []):
+            first, last = self.added_to(text, "--full", *words)
+            self.assertEqual(first["old_digest"], last["old"]["sha256"][:16])
+            text = json.dumps(first).encode() + b"\n" + json.dumps(last).encode() + b"\n"
+        self.assertGreater(len(text), 400000)
 
     def test_names_of_databases(self) -> None:
         """A name that is not UTF-8 is there in hexadecimal digits."""
         name = os.fsencode(self.path("")) + b"\xff"
         os.symlink(os.fsencode(NEW), name)
         first = objects_of(self.call("aide-compare json", OLD, os.fsdecode(name)))[0]
-        self.assertEqual(first["old"]["path"], OLD)
-        self.assertEqual((first["new"]["path_hex"], "path" in first["new"]), (name.hex(), False))
+        self.assertEqual(first["old"], OLD)
+        self.assertEqual((first["new_hex"], "new" in first), (name.hex(), False))
 
     def test_names_of_users(self) -> None:
         pair = self.put_pair("uid gid size", "/a 0 0 0", "/a 4000000000 1 0")
@@ -168,13 +181,76 @@ class OccasionTest(CommandTest):
         recorded = changed(entry, standing="recorded", severity="high", package="openssl 3.0.15")
         for fields in [*objects, recorded, changed(summary, left_out={"old": 1})]:
             self.assertEqual(validator.faults(fields), [])
-        database: Fields = {"path": "/a", "sha256": "00" * 32, "skipped": []}
+        read: Fields = {"sha256": "00" * 32, "skipped": []}
+        pair: Fields = {"trusted_old": read, "trusted_new": read, "same_as_trusted": 0}
+        sides = {kind: {side: entry[side]} for kind, side in (("removed", "old"), ("added", "new"))}
+        lone = changed(entry, old=..., new=..., old_text=..., new_text=...)
+        good: list[object] = [
+            changed(summary, old=..., old_hex="2fff"),
+            changed(summary, trusted_old="a", trusted_new_hex="ff"),
+            changed(lone, kind="added", **sides["added"]),
+            changed(lone, kind="removed", **sides["removed"]),
+            changed(entry, path=..., path_hex="2fff"),
+            changed(entry, same_as="old", standing="same", severity=...),
+            changed(entry, same_as="trusted", standing="trusted", severity=...),
+            changed(entry, same_as="trusted", standing="open"),
+            changed(entry, standing=..., severity=...),
+            changed(end, **pair),
+            changed(end, new={**read, "skipped": [1, 64]}),
+            changed(end, skipped={"new": ["fstype"]}),
+        ]
+        for value in good:
+            with self.subTest(value=value):
+                self.assertEqual(validator.faults(value), [])
         bad: list[object] = [
+            {},
             changed(summary, format=1),
+            changed(summary, format=3),
+            changed(summary, format=...),
             changed(summary, old=...),
-            changed(summary, new={**database, "sha256": "00"}),
-            changed(summary, new={**database, "skipped": ["fstype"]}),
+            changed(summary, old=read),
+            changed(summary, old_hex="2f"),
+            changed(summary, old=..., old_hex="2"),
+            changed(summary, trusted_old="/a"),
+            changed(summary, trusted_new_hex="2f"),
+            changed(summary, trusted_old="/a", trusted_new="/b", trusted_new_hex="2f"),
+            changed(summary, trusted_old="/a", trusted_old_hex="2f", trusted_new="/b"),
+            changed(summary, skipped={"old": ["fstype"]}),
             changed(summary, left_out={"old": -1}),
+            changed(entry, **summary),
+            changed(entry, **end),
+            changed(entry, old=..., old_text=...),
+            changed(entry, new=..., new_text=...),
+            changed(entry, kind="added"),
+            changed(entry, kind="removed"),
+            changed(entry, kind="added", old=..., old_text={"Perm": "-rw-------"}),
+            changed(lone, kind="added"),
+            changed(lone, kind="added", **sides["removed"]),
+            changed(lone, kind="removed", **sides["added"]),
+            changed(entry, path=..., path_hex="61"),
+            changed(entry, same_as="old"),
+            changed(entry, same_as="old", standing="same"),
+            changed(entry, standing="same", severity=...),
+            changed(entry, standing="trusted", severity=...),
+            changed(entry, same_as="old", standing="trusted", severity=...),
+            changed(entry, standing="recorded"),
+            changed(entry, package="openssl 3.0.15"),
+            changed(entry, left_out={"old": 1}),
+            changed(end, old=...),
+            changed(end, new=...),
+            changed(end, old="/a"),
+            changed(end, old={**read, "path": "/a"}),
+            changed(end, new={**read, "sha256": "00"}),
+            changed(end, new={"skipped": []}),
+            changed(end, new={"sha256": "00" * 32}),
+            changed(end, new={**read, "skipped": ["fstype"]}),
+            changed(end, new={**read, "skipped": [0]}),
+            changed(end, new={**read, "skipped": [65]}),
+            changed(end, new={**read, "skipped": [2, 2]}),
+            changed(end, **{**pair, "trusted_new": ...}),
+            changed(end, **{**pair, "same_as_trusted": ...}),
+            changed(end, same_as_trusted=0),
+            changed(end, skipped=["fstype"]),
             changed(entry, kind="other"),
             changed(entry, path="a"),
             changed(entry, path=...),

@@ -18,6 +18,7 @@ KINDS: dict[str, type] = {
     "boolean": bool,
 }
 SAID = ("$schema", "$defs", "title", "description")
+BRANCHES = ("then", "else")
 Schema = dict[str, Any]
 
 
@@ -51,6 +52,9 @@ PLAIN: dict[str, Callable[[Any, Any], bool]] = {
     "minimum": lambda value, rule: not is_of(value, "integer") or value >= rule,
     "maximum": lambda value, rule: not is_of(value, "integer") or value <= rule,
     "minItems": lambda value, rule: not isinstance(value, list) or len(value) >= rule,
+    "maxItems": lambda value, rule: not isinstance(value, list) or len(value) <= rule,
+    "uniqueItems": lambda value, rule: not isinstance(value, list)
+    or len(set(map(json.dumps, value))) == len(value),
     "required": lambda value, rule: not isinstance(value, dict) or set(rule) <= set(value),
     "dependentRequired": lambda value, rule: not isinstance(value, dict)
     or all(set(rule.get(name, ())) <= set(value) for name in value),
@@ -79,9 +83,14 @@ class Validator:
                 found += self.faults(value, self.root["$defs"][rule.rpartition("/")[2]], place)
             elif keyword == "oneOf":
                 found += self.faults_of_one(value, rule, place)
+            elif keyword == "allOf":
+                found += [fault for each in rule for fault in self.faults(value, each, place)]
+            elif keyword == "if":
+                branch = "else" if self.faults(value, rule, place) else "then"
+                found += self.faults(value, schema.get(branch, True), place)
             elif keyword in ("properties", "additionalProperties", "items"):
                 found += self.faults_of_members(value, keyword, schema, place)
-            elif keyword not in SAID:
+            elif keyword not in SAID and not (keyword in BRANCHES and "if" in schema):
                 found.append(f"the schema has the keyword {keyword}, which is not known")
         return found
 
