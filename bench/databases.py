@@ -63,7 +63,7 @@ class Pair(NamedTuple):
 
     def openings(self, level: str) -> int:
         """How often a run opens each database."""
-        return 2 if level in ("minimal", "lines") else 2 + self.sections
+        return {"lines": 1, "minimal": 2}.get(level, 2 + self.sections)
 
     def has(self, number: int, is_new: bool) -> bool:
         if is_one_of(self.removed if is_new else self.added, number):

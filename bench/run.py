@@ -2,8 +2,8 @@
 """Counts the instructions of the programs, compared with `sha256sum` and, if it is installed, AIDE.
 
 It makes pairs of databases that differ in one way each and prints one table in Markdown, the worst
-row first. An opening is one reading of both databases: the report at `minimal` and the lines of
-JSON take two, and every other report one more for each list of entries and one for the details.
+row first. An opening is one reading of both databases: the lines of JSON take one, the report at
+`minimal` two, and every other report one more for each list of entries and one for the details.
 `sha256sum` reads both databases as often as the program opens them.
 
 valgrind's cachegrind counts instructions, which are the same in every run, so other work on the
