@@ -7,7 +7,7 @@ from .sandbox import CommandTest, END, HEAD, NEW
 
 TOOL = "aide-compare compare --report"
 NAME = "hints é\n.db"
-SHOWN = "the new database is hints é\\012.db\n".encode()
+SHOWN = "the new database is hints é\\012.db".encode()
 
 
 class HintsTest(CommandTest):
@@ -46,9 +46,10 @@ class HintsTest(CommandTest):
         self.hinted(b"", b"no @@begin_db\n", b"it is empty: does AIDE run now?")
         self.hinted(b"\xef\xbb\xbf" + NEW, b"byte order mark")
         self.hinted(NEW.decode().encode("utf-16"), b"UTF-16")
+        self.hinted(NEW.replace(b"\n", b"\r\n"), b"lines end with a carriage return")
 
     def test_packed(self) -> None:
-        """The cause is told first, and nothing is quoted."""
+        """The cause is told with the name of the file, and nothing is quoted."""
         for hint, text in (
             (b"compressed by xz", b"\xfd7zXZ\0" + NEW),
             (b"compressed by zstd", b"\x28\xb5\x2f\xfd" + NEW),
@@ -56,7 +57,7 @@ class HintsTest(CommandTest):
             (b"compressed twice", gzip.compress(gzip.compress(NEW))),
         ):
             told = self.hinted(text)
-            self.assertIn(hint, told.splitlines()[1])
+            self.assertIn(SHOWN + b"; it is " + hint, told.splitlines()[1])
             self.assertNotIn(b"line 1:", told)
 
     def test_misspelt(self) -> None:

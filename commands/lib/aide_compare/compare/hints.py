@@ -43,7 +43,7 @@ BEGINNINGS = (
     (b"\xff\xfe", "it is UTF-16, which AIDE does not write"),
     (b"\xfe\xff", "it is UTF-16, which AIDE does not write"),
 )
-UNKNOWN_BEGINNING = "this is not an AIDE database, or its beginning is missing"
+UNKNOWN_BEGINNING = "it is not an AIDE database, or its beginning is missing"
 # What the words of a refusal mean, where they say too little.
 CAUSES = {
     b"no @@end_db": ("it ends too early: was the disk full, or is AIDE still writing it?",),
@@ -109,9 +109,10 @@ def _field_hints(words: bytes, line: bytes, layout: Layout) -> Iterator[str]:
 
 
 def _database_hints(side: str, number: int, words: bytes, copy: Copy) -> Iterator[str]:
+    name = f"the {side} is {shown(copy.name)}"
     if words == b"no @@begin_db" and copy.size:
-        yield _beginning_hint(os.pread(copy.fd, 8, 0))
-    yield f"the {side} is {shown(copy.name)}"
+        name += f"; {_beginning_hint(os.pread(copy.fd, 16, 0))}"
+    yield name
     if not copy.size:
         yield "it is empty: does AIDE run now? It fills its new database at its end"
     layout = Layout()
@@ -234,6 +235,13 @@ def column_notes(skipped: Mapping[str, list[str]]) -> Iterator[str]:
         if len(sides) == 1:
             column += f" of the {sides[0]} database"
         yield f"{column} is not compared: the program does not know it"
+
+
+def equal_notes(copies: Mapping[str, Copy]) -> Iterator[str]:
+    """A line if both databases are the same bytes. AIDE dates each that it writes."""
+    old, new = copies["old"], copies["new"]
+    if old.size == new.size and old.sha256 == new.sha256:
+        yield "both databases are equal, byte for byte: has AIDE written a new one?"
 
 
 def order_notes(copies: Mapping[str, Copy]) -> Iterator[str]:

@@ -17,7 +17,7 @@ from aide_compare.compare.asking import Question, ask_for_changes, defines_group
 from aide_compare.compare.comparison import Comparison, Digests, Lines, Refusal, Request
 from aide_compare.compare.configuration import ADVICE, Databases, Settings, Texts, databases_of
 from aide_compare.compare.configuration import without_includes
-from aide_compare.compare.hints import column_notes, hints_of, order_notes, skipped_in
+from aide_compare.compare.hints import column_notes, equal_notes, hints_of, order_notes, skipped_in
 from aide_compare.compare.report import write_report
 from aide_compare.compare.unpack import Copy, Opened, copy_opened, open_database
 from aide_compare.lines.reader import ODD, end_of
@@ -126,6 +126,7 @@ class Work:
         skipped = skipped_in(self.answer.errors, self.compared)
         self.notes += self.texts.misspelt(self.path, lambda name: defines_group(self.texts, name))
         self.notes += [*column_notes(skipped), *order_notes(self.copies)]
+        self.notes += equal_notes(self.copies)
         if any(self.texts) and self._is_silent(lines):
             self.notes += ignored_notes(Question(self.texts).settings)
         return self._comparison(lines, report)._replace(skipped=skipped)
