@@ -73,6 +73,17 @@ class ShowTest(CommandTest):
         self.assertNotIn(b"\x1b", answer.output)
         self.assertNotIn(b"\n* Size", answer.output)
 
+    def test_escaped(self) -> None:
+        """A path is also taken as the brief prints it, and then it is no other one."""
+        entries = b"/new%0aline 36 100644 1\n/new\\012line 36 100644 2\n"
+        self.write("odd.db", HEAD + entries + END)
+        for path in ("/new\nline", "/new\\012line", "/new\\134012line"):
+            answer = self.call(TOOL, path, "odd.db", "old.db")
+            size = "2" if "134" in path else "1"
+            self.assertIn(f"  Size         {size}", lines_of(answer), answer)
+        answer = self.call(TOOL, "/new\\line", "odd.db", "old.db")
+        self.expect("no escape", answer, 18, b"", b"neither database has /new\\134line")
+
     def test_unseen(self) -> None:
         """Characters that nobody sees: people get none of them, and JSON has those that the manual
         names by their numbers."""

@@ -87,6 +87,11 @@ def shown(text: str | bytes, limit: int = 5000) -> str:
     return line
 
 
+def unshown(text: bytes) -> bytes:
+    """The bytes that `shown` has escaped in a text."""
+    return re.sub(rb"\\([0-3][0-7]{2})", lambda match: bytes([int(match.group(1), 8)]), text)
+
+
 def guarded(text: str) -> str:
     """A line of ours in which names are `shown` already: all else that is escaped, but not the
     backslash."""

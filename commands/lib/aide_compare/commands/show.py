@@ -7,7 +7,7 @@ from collections.abc import Sequence
 from typing import NamedTuple, Optional
 
 from aide_compare.base.ending import Fault, Status, failing, tell, write_all
-from aide_compare.base.escapes import guarded, shown
+from aide_compare.base.escapes import guarded, shown, unshown
 from aide_compare.base.files import nameless
 from aide_compare.base.options import MAX_SIZE, TRUSTED, USER
 from aide_compare.base.parser import Parser
@@ -177,14 +177,14 @@ def request_of(arguments: Sequence[str]) -> ShowRequest:
     none."""
     usage = "%(prog)s [OPTIONS] PATH [OLD NEW]"
     parser = Parser(NAME, DESCRIPTION, epilog=EPILOG, usage=usage)
-    parser.add_operand("path", "PATH", "the path, as /etc/passwd")
+    parser.add_operand("path", "PATH", "the path, as /etc/passwd, or as it is printed, as /a\\012b")
     files = (
         "the databases, plain or compressed by gzip; without them AIDE's configuration names both"
     )
     parser.add_operand("databases", "OLD NEW", files, nargs="*")
     parser.add(TRUSTED._replace(help="print its entry in this pair too"), MAX_SIZE, USER)
     args = parser.parse(arguments)
-    path = os.fsencode(args.path)
+    path = unshown(os.fsencode(args.path))
     if not path.startswith(b"/"):
         raise Fault(Status.USAGE, f"a path begins with /: {shown(path, 200)}")
     if len(args.databases) not in (0, 2):
