@@ -68,10 +68,12 @@ class OutputsTest(PlacesTest):
         self.fails(18, "has not opened it", put, f"/dev/fd/{writing}", b"x")
 
     def test_files(self) -> None:
-        """A file for others may have a directory of its own, and a private one may not."""
-        self.gives(None, put, self.path("made/it"), b"text", 0o644)
-        self.assertEqual(self.read("made/it"), b"text")
-        self.fails(18, "No such file", put, self.path("none/it"), b"x")
+        """A file is made, and no directory for it."""
+        for mode in (0o600, 0o644):
+            self.gives(None, put, self.path("it"), b"text", mode)
+            self.assertEqual(self.read("it"), b"text")
+            self.fails(18, "No such file", put, self.path("none/it"), b"x", mode)
+        self.assertFalse(os.path.exists(self.path("none")))
 
     def test_states(self) -> None:
         """What a child hands over is a whole state of the status with which it has ended."""

@@ -53,9 +53,7 @@ class FileOutput(Output):
     """A file, which is replaced in one step."""
 
     def __init__(self, path: str, what: str, mode: int) -> None:
-        # A file for others may have a directory of its own.
-        makes_directory = mode != PRIVATE
-        self.file = Replacement(path, mode, what, makes_directory).begin()
+        self.file = Replacement(path, mode, what, makes_directory=False).begin()
 
     def commit(self, data: bytes) -> None:
         self.file.commit(data)
