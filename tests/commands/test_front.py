@@ -54,6 +54,7 @@ class FrontTest(CommandTest):
             usage = b"[compare] " if word == "compare" else word.encode() + b" "
             parts = [b"usage: aide-compare " + usage, *COMMON]
             given = self.answered(0, parts, b"", TOOL, *word.split(), "--help")
+            self.assertIn(b" [OPTIONS]", given.output.splitlines()[0])
             self.answered(0, given.output, b"", TOOL, "help", *word.split())
             self.refused(15, b"'odd'", TOOL, *word.split(), "--color", "odd")
         for words in (["hosts"], ["hosts", "-h"], ["help", "hosts"]):

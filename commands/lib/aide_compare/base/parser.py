@@ -133,7 +133,7 @@ class Parser(argparse.ArgumentParser):
         super().__init__(
             prog=name,
             description=description,
-            usage=usage,
+            usage=usage or f"{name} [OPTIONS]",
             epilog=epilog,
             allow_abbrev=False,
             formatter_class=Formatter,

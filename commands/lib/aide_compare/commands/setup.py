@@ -304,7 +304,7 @@ def tell_missing(machine: Machine) -> int:
 
 def request_of(arguments: Sequence[str]) -> SetupRequest:
     quiet = "print nothing but why a step failed"
-    parser = Parser(NAME, DESCRIPTION, quiet, epilog=EPILOG, usage=f"{NAME} [OPTIONS]")
+    parser = Parser(NAME, DESCRIPTION, quiet, epilog=EPILOG)
     parser.add(
         Option("--dry-run", "print the steps, and change nothing"),
         Option("--check", "print what is missing, compare once, and change nothing"),
