@@ -167,6 +167,21 @@ class HostsAddTest(CommandTest):
         asked = add(self, "www", "YES\n")
         self.assertEqual((asked.status, files(self)["etc-hosts"]), (0, "www\n"), asked)
 
+    def test_several(self) -> None:
+        """Each host has a question of its own, and what ends one ends no other one."""
+        for host in ("www", "db1", "db2"):
+            self.fleet.put(host, OLD, None)
+        options = ("--store", self.path("store"), "--hosts-file", self.path("etc-hosts"))
+        hosts = ("www", "denied", "db1", "db2")
+        terminal = self.terminal("aide-compare hosts add", *options, *hosts)
+        for host, answer in ((b"www", b"yes\n"), (b"db1", b"no\n"), (b"db2", b"yes\n")):
+            terminal.read(b"Then %s is watched from now on. %s" % (host, PROMPT))
+            terminal.type(answer)
+        status, text = terminal.end()
+        self.assertEqual((status, files(self)["etc-hosts"]), (24, "www\ndb2\n"), text)
+        self.assertIn(b"Permission denied", text)
+        self.assertEqual(text.count(PROMPT), 3, text)
+
     def test_known(self) -> None:
         """A host whose key is known is added to a file whose last line has no end."""
         self.write("known_hosts", f"www {KEY}\n")

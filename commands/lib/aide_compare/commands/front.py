@@ -51,7 +51,7 @@ and reads them as AIDE does: man aide-compare-program. The manual:
 man aide-compare
 """
 HOSTS_USAGE = """\
-usage: aide-compare hosts add [OPTIONS] HOST            a new host: asks first
+usage: aide-compare hosts add [OPTIONS] HOST ...        new hosts: asks first
        aide-compare hosts list [OPTIONS] [FILE]         all and their results
        aide-compare hosts remove [OPTIONS] HOST         a host that is gone
        aide-compare hosts fetch [OPTIONS] HOST          its new database, by ssh

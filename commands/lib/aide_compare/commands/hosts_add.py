@@ -4,9 +4,10 @@ from __future__ import annotations
 
 import os
 from contextlib import closing
+from functools import partial
 from typing import NamedTuple, Sequence
 
-from aide_compare.base.ending import Fault, Status, tell
+from aide_compare.base.ending import Fault, Status, status_of, tell
 from aide_compare.base.replacement import NewFile
 from aide_compare.base.options import HOST_STORE, HOST_TIME, Option
 from aide_compare.base.parser import Parser
@@ -23,17 +24,18 @@ from aide_compare.hosts.store import (
 
 NAME = "aide-compare hosts add"
 DESCRIPTION = """\
-Fetches the first database of HOST by ssh, shows the key of HOST and the SHA-256 of the database,
-and asks. After yes the key is in known_hosts, the database is the baseline, and HOST is in the
-file of hosts."""
-EPILOG = """Status: 0 HOST is watched; 15 bad arguments, or no terminal; 18 nothing was fetched;
-24 the answer was no, there is a baseline of HOST already, or it sent no sound database."""
+Fetches the first database of each HOST by ssh, shows the key of HOST and the SHA-256 of the
+database, and asks. After yes the key is in known_hosts, the database is the baseline, and HOST is
+in the file of hosts."""
+EPILOG = """Status, the highest of all hosts: 0 HOST is watched; 15 bad arguments, or no terminal; 18
+nothing was fetched; 24 the answer was no, there is a baseline of HOST already, or it sent no sound
+database."""
 
 
 class AddRequest(NamedTuple):
     """What the options ask for."""
 
-    host: str
+    hosts: Sequence[str]
     store: str
     seconds: int
     hosts_file: str
@@ -41,13 +43,13 @@ class AddRequest(NamedTuple):
 
 
 def request_of(arguments: Sequence[str]) -> AddRequest:
-    parser = Parser(NAME, DESCRIPTION, epilog=EPILOG, usage=f"{NAME} [OPTIONS] HOST")
+    parser = Parser(NAME, DESCRIPTION, epilog=EPILOG, usage=f"{NAME} [OPTIONS] HOST ...")
     parser.add(HOST_STORE, HOST_TIME)
-    text = f"the file that gets the name of HOST ({HOSTS_FILE})"
+    text = f"the file that gets the names ({HOSTS_FILE})"
     parser.add(Option("--hosts-file", text, metavar="FILE", default=HOSTS_FILE))
-    parser.add_operand("host", "HOST", "its name for ssh")
+    parser.add_operand("hosts", "HOST", "its name for ssh", nargs="+")
     args = parser.parse(arguments)
-    return AddRequest(args.host, args.store, args.time, args.hosts_file, args.quiet)
+    return AddRequest(args.hosts, args.store, args.time, args.hosts_file, args.quiet)
 
 
 def tell_offer(host: str, offer: adding.Offer) -> None:
@@ -76,13 +78,9 @@ def way_in(fault: Fault, settings: adding.SshSettings) -> list[str]:
     return ["put the line above into /root/.ssh/authorized_keys there, and run this again"]
 
 
-def main(arguments: Sequence[str]) -> int:
-    request = request_of(arguments)
-    if not os.isatty(0):
-        how = "without one: aide-compare hosts fetch, then aide-compare hosts accept --first"
-        raise Fault(Status.USAGE, "it asks a question, so it needs a terminal", how)
-    limit_memory(MAX_MEMORY)
-    directory = HostDirectory(request.store, request.host, request.seconds)
+def add(request: AddRequest, host: str) -> int:
+    """Offers a host, asks, and keeps it after yes."""
+    directory = HostDirectory(request.store, host, request.seconds)
     if directory.has(BASELINE):
         raise directory.fault("has a baseline already; nothing was added", Status.DATABASE)
     settings = adding.ssh_settings(directory.host)
@@ -99,3 +97,12 @@ def main(arguments: Sequence[str]) -> int:
     if not request.is_quiet:
         tell(f"{directory.host} is watched. Compare all hosts: aide-compare hosts compare")
     return Status.OK
+
+
+def main(arguments: Sequence[str]) -> int:
+    request = request_of(arguments)
+    if not os.isatty(0):
+        how = "without one: aide-compare hosts fetch, then aide-compare hosts accept --first"
+        raise Fault(Status.USAGE, "it asks a question, so it needs a terminal", how)
+    limit_memory(MAX_MEMORY)
+    return max([status_of(partial(add, request, host)) for host in request.hosts])
