@@ -14,7 +14,7 @@ from typing import Any, NamedTuple
 
 from tests.lib.waiting import is_alive, until
 
-from .sandbox import CommandTest, END, NEW, OLD, sha256
+from .sandbox import CommandTest, END, HEAD, NEW, OLD, sha256
 
 COMPARE = "aide-compare hosts compare"
 ROOM = 40 << 20
@@ -294,6 +294,15 @@ class FleetTest(CommandTest):
             said = self.fleet.call(accept, "--max-size", "50", *words)
             self.assertEqual((said.status, said.output), (18, ""), (words, said))
             self.assertIn("has more than 50 bytes", said.errors)
+
+    def test_one(self) -> None:
+        """The changes of a single host, the most severe first, each with its severity."""
+        new = b"/a 36 100644 5\n/etc/passwd 36 100644 5\n/usr/bin/x 36 104755 5\n"
+        self.fleet.put("good1", HEAD + new + END, HEAD + END)
+        said = self.fleet.compare_one("good1")
+        found = re.findall("(?m)^(high|medium|low) added File: (.*)$", said.output)
+        wanted = [("high", "/usr/bin/x"), ("high", "/etc/passwd"), ("medium", "/a")]
+        self.assertEqual(found, wanted, said)
 
     def test_shared(self) -> None:
         """A store in which another user can write is refused, also by a link."""

@@ -65,6 +65,17 @@ class HostsPageTest(CommandTest):
         self.assertEqual(len(files), 2, page)
         self.assertIn("on 1 of 5 hosts", files[-1])
 
+    def test_groups(self) -> None:
+        """Of one severity, the changes of the same hosts stand together, the fewest first."""
+        hosts = Hosts(self)
+        many = [line(b"/usr/bin/%d" % number) for number in range(4)]
+        texts = {"good1": many, "good2": many, "good3": [line(b"/usr/bin/2x")]}
+        hosts.compared({name: (database(), database(*lines)) for name, lines in texts.items()})
+        items = items_of(hosts.report("--format=page", "--order", "common").output)
+        paths = [re.search("<code>(.*?)</code>", each) for each in items]
+        found = [path.group(1).rpartition("/")[2] for path in paths if path]
+        self.assertEqual(found, ["2x", "0", "1", "2", "3"])
+
     def test_removed(self) -> None:
         """Of a file that went and was not the same on all hosts, its line says one word for all
         that."""

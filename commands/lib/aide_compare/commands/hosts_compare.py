@@ -1,6 +1,7 @@
 """aide-compare hosts compare: the databases of many hosts fetched and compared, some at a time."""
 from __future__ import annotations
 
+import json
 from contextlib import suppress
 from functools import partial
 from typing import Iterator, NamedTuple, Sequence
@@ -9,6 +10,7 @@ from aide_compare.base.ending import Fault, Status, fault_of, say, tell, write_a
 from aide_compare.base.escapes import guarded
 from aide_compare.base.files import copy_file, open_regular
 from aide_compare.base.directories import closed_after
+from aide_compare.base.line_sorter import LineSorter
 from aide_compare.base.kinds import duration, matching
 from aide_compare.base.options import (
     CONFIG,
@@ -31,6 +33,7 @@ from aide_compare.hosts.host_comparison import MAX_JUDGED, MAX_KEPT, Settings, c
 from aide_compare.hosts.hosts_read import hosts_of, read_host
 from aide_compare.hosts.hosts_text import WHY, not_listed
 from aide_compare.hosts.reported import HostCounts
+from aide_compare.hosts.shares import rank_of
 from aide_compare.hosts.store import (
     ERRORS,
     HOSTS_FILE,
@@ -40,6 +43,7 @@ from aide_compare.hosts.store import (
 )
 from aide_compare.hosts.workers import PAUSE, HostResult, Work, results, without_name
 from aide_compare.lines.change import Fields, change_of
+from aide_compare.lines.reader import ENCODE
 from aide_compare.show.changes import change_lines
 
 NAME = "aide-compare hosts compare"
@@ -154,14 +158,21 @@ def compare_all(request: HostsCompareRequest, hosts: Sequence[str]) -> int:
 
 
 def print_changes(name: str, store: str, seconds: int) -> None:
-    """What the comparison of a single host has noted, its changes for people, and how to accept
-    them."""
+    """What the comparison of a single host has noted, its changes for people, the most severe
+    first, and how to accept them."""
+    sorter = LineSorter()
 
-    def show(fields: Fields) -> None:
-        text = "\n" + "".join(change_lines(change_of(fields)))
+    def keep(fields: Fields) -> None:
+        level = rank_of(fields["severity"])
+        is_added = fields["kind"] == "added"
+        key = b"%d%d%05d%d" % (level, fields["owners"], fields["rank"], is_added)
+        sorter.put(b"%s\t%s\n" % (key, ENCODE(fields).encode()))
+
+    host = read_host(name, store, seconds, 0, keep)
+    for line in sorter.lines():
+        fields = json.loads(line.partition(b"\t")[2])
+        text = f"\n{fields['severity']} " + "".join(change_lines(change_of(fields)))
         write_all(1, text.encode("utf-8", "backslashreplace"))
-
-    host = read_host(name, store, seconds, 0, show)
     with closed_after(open_regular(f"{store}/hosts/{name}/{ERRORS}")) as errors:
         copy_file(errors, 2)
     if host.differs:

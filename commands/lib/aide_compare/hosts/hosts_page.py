@@ -2,6 +2,7 @@
 the hosts that have it."""
 from __future__ import annotations
 
+from array import array
 from html import escape
 from typing import Iterator, Sequence
 
@@ -9,7 +10,7 @@ from aide_compare.base.escapes import shown_note
 from aide_compare.base.files import private_file
 from aide_compare.hosts.hosts_text import ORDERS, Report, canary_lines, headline, host_lists
 from aide_compare.hosts.reported import SharedChange
-from aide_compare.hosts.shares import Selection
+from aide_compare.hosts.shares import Selection, rank_of
 from aide_compare.show.page_heading import MAX_PAGE, RESERVE, Beginning, CountRow
 from aide_compare.show.page_heading import counts_line, number
 from aide_compare.show.page_items import encoded, entry_of, head_of, item, table
@@ -17,6 +18,7 @@ from aide_compare.show.page_items import encoded, entry_of, head_of, item, table
 MAX_LIST = 1500000  # Of each list of hosts.
 MAX_CAUSE = 1000
 MAX_COMMAND = 4000
+SEVERITY_BITS = 60
 
 
 def host_list(title: str, lines: Sequence[str]) -> str:
@@ -80,22 +82,41 @@ def item_of(shared: SharedChange, hosts: int) -> bytes:
     return item(encoded(head_of(entry, where)), encoded(inner))
 
 
+def group_of(shared: SharedChange) -> int:
+    """A number for the severity and the hosts of a change."""
+    hosts = hash((shared.hosts, *shared.names)) & (1 << SEVERITY_BITS) - 1
+    return rank_of(shared.severity) << SEVERITY_BITS | hosts
+
+
+def grouped(places: Sequence[int], groups: Sequence[int]) -> Iterator[int]:
+    """The places of one group together. Of one severity the smallest group comes first, so that
+    nothing that some hosts have many of stands before what others have."""
+    rows: dict[int, list[int]] = {}
+    for place in places:
+        rows.setdefault(groups[place], []).append(place)
+    for _, row in sorted(rows.items(), key=lambda item: (item[0] >> SEVERITY_BITS, len(item[1]))):
+        yield from row
+
+
 def page(report: Report, limit: int = 0) -> Iterator[bytes]:
-    """Yields the page, of at most so many bytes. The most severe changes have room first."""
+    """Yields the page, of at most so many bytes. The most severe changes have room first; of one
+    severity those of the same hosts come together."""
     count = report.summary.changes
     limit = limit or MAX_PAGE
     room = max(limit - len(head(report, count, count)) - RESERVE, 0)
     selection = Selection(room, report.summary.counts.differ)
     items = private_file()
     ends = [0]
+    groups = array("Q")  # Of each change its severity, and a number for its hosts.
     for shared in report.changes():
+        groups.append(group_of(shared))
         text = item_of(shared, report.summary.counts.hosts)
         selection.offer(shared.severity, shared.payers, len(text))
         items.write(text)
         ends.append(ends[-1] + len(text))
     yield head(report, sum(selection.left_out.values()), selection.left_out["high"])
     yield b'<div id="content" tabindex="-1">\n<ul>\n'
-    for place in selection.in_order():
+    for place in grouped(selection.in_order(), groups):
         items.seek(ends[place])
         yield items.read(ends[place + 1] - ends[place])
     yield b"</ul>\n</div>\n</main>\n</body>\n</html>\n"
