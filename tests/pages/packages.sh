@@ -191,7 +191,7 @@ try_ssh() {
     printf 'www\ndown\n' > /etc/aide-compare/hosts
     check 'aide-compare hosts compare by ssh' ends_with 18 aide-compare hosts compare /etc/aide-compare/hosts
     aide-compare hosts compare --quiet /etc/aide-compare/hosts > "$folder/lines"
-    check 'the line of a host' grep -qx 'www 7 added 1, removed 1, changed 1' "$folder/lines"
+    check 'the line of a host' grep -q '^www 7 added 1, removed 1, changed 1: 3 open ' "$folder/lines"
     check 'the line of a host that is down' grep -q '^down 18 .*Connection refused' "$folder/lines"
 }
 
