@@ -17,6 +17,7 @@ from tests.commands.sandbox import Answer, CommandTest
 from tests.oracle.agreement import same_as
 from tests.oracle.database import database_of
 
+PROGRAMS = ("gpg", "gpgv", "dpkg-deb")
 INFO = b"/var/lib/dpkg/info/"
 SUITE = "mirror/dists/stable"
 TOOL, LIBRARY = b"/usr/bin/tool", b"/usr/lib/multi/lib.so"
@@ -58,6 +59,7 @@ class Built:
         self.architecture = architecture
         self.files: Dict[bytes, Tuple[bytes, int]] = {}
         self.links: Dict[bytes, bytes] = {}
+        self.scripts: Dict[str, bytes] = {}
         self.fields = ""
         self.more = 0  # Bytes of a last part, which dpkg passes over.
 
@@ -69,6 +71,11 @@ class Built:
         self.links[path] = target
         return self
 
+    def script(self, name: str, text: bytes) -> Built:
+        """A script that dpkg runs."""
+        self.scripts[name] = text
+        return self
+
     def build(self, sandbox: CommandTest) -> None:
         """Makes its file in the mirror, and what an index says of it."""
         tree = sandbox.path("tree")
@@ -78,6 +85,8 @@ class Built:
         control += f"Architecture: {self.architecture}\nMaintainer: T <t@example.org>\n"
         sandbox.write("tree/DEBIAN/control", (control + "Description: trial\n").encode())
         sandbox.write("tree/DEBIAN/md5sums", sums_of(self.version))
+        for name, text in self.scripts.items():
+            os.chmod(sandbox.write(f"tree/DEBIAN/{name}", text), 0o755)
         if CONFIGURATION in self.files:
             sandbox.write("tree/DEBIAN/conffiles", CONFIGURATION + b"\n")
         for path, (content, mode) in self.files.items():
@@ -246,3 +255,16 @@ def keep_indexes(sandbox: CommandTest, before: str) -> None:
     for name in INDEXES:
         source = sandbox.path(f"{SUITE}/{name.replace('_', '/')}")
         shutil.copy(source, sandbox.path(before + name))
+
+
+class ArchiveCase(CommandTest):
+    """A test over a machine that was upgraded from a signed archive."""
+
+    def setUp(self) -> None:
+        super().setUp()
+        missing = [name for name in PROGRAMS if shutil.which(name) is None]
+        if missing:
+            self.skipTest("not installed: " + " ".join(missing))
+        make_keys(self)
+        self.addCleanup(stop_agents, self)
+        self.place = upgraded(self)

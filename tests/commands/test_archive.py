@@ -8,7 +8,7 @@ import shutil
 from typing import Any, Dict, List
 
 from tests.commands.made_up import Package, write_records
-from tests.commands.sandbox import NOBODY, Answer, CommandTest
+from tests.commands.sandbox import NOBODY, Answer
 from tests.commands.signed_archive import (
     APTS_LISTS,
     ARCHIVE,
@@ -23,30 +23,18 @@ from tests.commands.signed_archive import (
     SUITE,
     TOOL,
     TWO,
+    ArchiveCase,
     Built,
     keep_as_apt,
     keep_indexes,
-    make_keys,
-    stop_agents,
-    upgraded,
 )
 from tests.oracle.database import database_of, first_fault
 
-PROGRAMS = ("gpg", "gpgv", "dpkg-deb")
 APPLIED = b"applied: 21 files\n"
 MISSING = b"tool: the file of 2, the newest"
 
 
-class ArchiveTest(CommandTest):
-    def setUp(self) -> None:
-        super().setUp()
-        missing = [name for name in PROGRAMS if shutil.which(name) is None]
-        if missing:
-            self.skipTest("not installed: " + " ".join(missing))
-        make_keys(self)
-        self.addCleanup(stop_agents, self)
-        self.place = upgraded(self)
-
+class ArchiveTest(ArchiveCase):
     def applied(self, *words: str, told: bytes = APPLIED, **more: Any) -> Answer:
         """What the command makes of the packages."""
         answer = self.place.ask(*words, **more)

@@ -8,18 +8,20 @@ import base64
 import hashlib
 import io
 import os
+import re
 import tarfile
 from collections import Counter
-from collections.abc import Iterator, Sequence
+from collections.abc import Iterator, Mapping, Sequence
 from heapq import merge
 from itertools import groupby
-from typing import IO
+from typing import IO, NamedTuple
 
 from aide_compare.base.database import ABSENT, SET_ID
 from aide_compare.base.ending import Fault, Status
 from aide_compare.base.escapes import shown
 from aide_compare.base.files import BLOCK, nameless
 from aide_compare.base.paths import escaped, key_of_path, path_of
+from aide_compare.changes.certificates import links_to_new
 from aide_compare.changes.entries import Entry, number_of
 from aide_compare.changes.ordered import OrderedDatabase, usr_of
 from aide_compare.changes.signed import Signed, file_name, open_package, tar_of
@@ -32,11 +34,36 @@ SLASH = key_of_path(b"/")
 INFO = "/var/lib/dpkg/info/"
 KEPT = "/var/cache/apt/archives/"  # Where apt keeps the files of packages.
 STRONG = ("sha256", "sha512")
+# Texts of packages that say which links are made: init scripts, and what dpkg runs at the end.
+SCRIPT = re.compile(rb"/etc/init\.d/[^/]+|/postinst")
+MAX_SCRIPT = 1 << 16
+ASKS = rb"\bupdate-rc\.d %s defaults(?![-\w])"
+LEVELS = rb"(?m)^# Default-(Start|Stop):([ \t0-6S]*)$"
+RUN_LEVELS = frozenset(b"0 1 2 3 4 5 6 S".split())
 # The digits of a mode before the last four of them, by the type of a member.
 TYPES = {tarfile.REGTYPE: b"10", tarfile.DIRTYPE: b"4", tarfile.SYMTYPE: b"12"}
+LINK = {"perm": b"120777", "uid": b"0", "gid": b"0"}  # Of a link that root makes.
 
 # The fields of an entry by the names of their columns.
 FieldsByColumn = dict[str, bytes]
+
+
+def target_fields(target: bytes) -> FieldsByColumn:
+    """The fields that say where a symbolic link points to."""
+    return {"lname": escaped(target), "size": b"%d" % len(target)}
+
+
+def run_level_links(path: bytes, text: bytes, script: bytes) -> dict[bytes, bytes]:
+    """The links of run levels to an init script with this text, with their targets, as the script
+    of its package asks update-rc.d for them. The numbers are those without insserv."""
+    name = path.rpartition(b"/")[2]
+    links: dict[bytes, bytes] = {}
+    if re.search(ASKS % re.escape(name), script):
+        for kind, levels in re.findall(LEVELS, text):
+            letter = b"S" if kind == b"Start" else b"K"
+            for level in set(levels.split()) & RUN_LEVELS:
+                links[b"/etc/rc%s.d/%s01%s" % (level, letter, name)] = b"../init.d/" + name
+    return links
 
 
 def content_of(file: IO[bytes]) -> FieldsByColumn:
@@ -49,8 +76,16 @@ def content_of(file: IO[bytes]) -> FieldsByColumn:
     return {**digests, "size": b"%d" % file.tell()}
 
 
-def members_of(file: IO[bytes]) -> Iterator[tuple[bytes, FieldsByColumn]]:
-    """The path of each member of a tar file with its fields; none for a device."""
+class Member(NamedTuple):
+    """A member of a tar file: its path, its fields, none for a device, and the text of a script."""
+
+    path: bytes
+    fields: FieldsByColumn
+    text: bytes
+
+
+def members_of(file: IO[bytes]) -> Iterator[Member]:
+    """The members of a tar file."""
     with tarfile.open(fileobj=file, mode="r:", encoding="utf-8") as tar:
         seen: dict[str, FieldsByColumn] = {}
         while member := tar.next():
@@ -61,14 +96,18 @@ def members_of(file: IO[bytes]) -> Iterator[tuple[bytes, FieldsByColumn]]:
             if member.type in TYPES:
                 mode = TYPES[member.type] + b"%04o" % (member.mode & 0o7777)
                 fields = dict(perm=mode, uid=b"%d" % member.uid, gid=b"%d" % member.gid)
+            path = os.fsencode(member.name).removeprefix(b".")
             content = tar.extractfile(member) if member.isreg() else None
+            text = b""
             if content:
                 fields.update(content_of(content))
                 seen[member.name] = fields
+                if SCRIPT.fullmatch(path):
+                    content.seek(0)
+                    text = content.read(MAX_SCRIPT)
             if member.issym():
-                target = os.fsencode(member.linkname)
-                fields.update(lname=escaped(target), size=b"%d" % len(target))
-            yield os.fsencode(member.name).removeprefix(b"."), fields
+                fields.update(target_fields(os.fsencode(member.linkname)))
+            yield Member(path, fields, text)
 
 
 class Upgrades:
@@ -94,10 +133,14 @@ class Upgrades:
         control, files = (tar_of(package, part) for part in ("ctrl", "fsys"))
         os.close(package)
         start = os.fsencode(f"{INFO}{own}.")
-        kept = {start + path[1:]: fields for path, fields in members_of(control)}
+        kept: dict[bytes, FieldsByColumn] = {}
+        script = b""
+        for member in members_of(control):
+            kept[start + member.path[1:]] = member.fields
+            script += member.text
         if not fits(sums, kept.get(start + b"md5sums", {})):
             return f"it is not {version}, the newest one of the archive"
-        listed = self._take_files(files, is_new)
+        listed = self._take_files(files, is_new, script)
         if not is_new:
             kept[start + b"list"] = listed
         for path in kept.keys() - {start, start + b"control"}:
@@ -110,15 +153,23 @@ class Upgrades:
         fields = dict(perm=b"100644", uid=b"0", gid=b"0", size=os.fsencode(signed["Size"]))
         self._put(os.fsencode(KEPT + file_name(signed)), {**fields, "sha256": digest}, False)
 
-    def _take_files(self, files: IO[bytes], is_new: bool) -> FieldsByColumn:
-        """Takes the files of a package. Returns what its list is then."""
+    def _take_files(self, files: IO[bytes], is_new: bool, script: bytes) -> FieldsByColumn:
+        """Takes the files of a package, and of a new one the links that its script makes. Returns
+        what its list is then."""
         listed = io.BytesIO()
-        for path, fields in members_of(files):
+        for path, fields, text in members_of(files):
             listed.write((path or b"/.") + b"\n")
             if path and (is_new or not path.startswith(CONFIGURATION)):
                 self._put(self.moved(path), fields, is_new)
+            if is_new and text:
+                self.link(run_level_links(path, text, script))
         listed.seek(0)
         return {"perm": b"100644", "uid": ABSENT, "gid": ABSENT, **content_of(listed)}
+
+    def link(self, targets: Mapping[bytes, bytes]) -> None:
+        """Takes links that root makes, by their paths, where nothing was before."""
+        for path, target in targets.items():
+            self._put(path, {**LINK, **target_fields(target)}, True)
 
     def _put(self, path: bytes, fields: FieldsByColumn, is_new: bool) -> None:
         """Two packages that have a path in two forms leave it as it is."""
@@ -231,6 +282,7 @@ def rises_of(old: Copy, new: Copy, upgrades: Upgrades) -> Counter[bytes]:
 
 def upgraded(old: Copy, new: Copy, upgrades: Upgrades) -> int:
     """A private file with the database that the old one would be after these upgrades."""
+    upgrades.link(links_to_new(old, new, upgrades.files))
     rises = rises_of(old, new, upgrades)
     target = nameless()
     file = open(os.dup(target), "wb", BLOCK)
