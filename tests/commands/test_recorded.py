@@ -130,7 +130,7 @@ class RecordedTest(CommandTest):
             self.check(f"a link to {target!r}", host, wanted)
 
     def test_made(self) -> None:
-        """What scripts of packages make is open, and has one line for a directory; what a package
+        """What scripts of packages make is open, and has one line for a package; what a package
         has with another content has a line of its own, and so has a compiled file whose source did
         not change.
         """
@@ -140,7 +140,8 @@ class RecordedTest(CommandTest):
             source, compiled = LIB + b"python3/%s.py" % name, cache + b"%s.cpython-311.pyc" % name
             host.old.file(source, ONE).file(compiled, ONE)
             host.new.file(source, TWO).file(compiled, TWO)
-            host.packages.append(Package(f"python-{name.decode()}", "2", {source: TWO}))
+        sources = {LIB + b"python3/%s.py" % name: TWO for name in (b"one", b"two")}
+        host.packages.append(Package("python", "2", sources))
         # Of three.py, which did not change, and of foreign.py, which no package has.
         compiled_files = [cache + name + b".cpython-311.pyc" for name in (b"three", b"foreign")]
         for name in (*compiled_files, LIB + b"python3/foreign.py", LIB + b"python3/evil.py"):
@@ -149,12 +150,32 @@ class RecordedTest(CommandTest):
         files = {LIB + b"python3/evil.py": TWO, LIB + b"python3/three.py": TWO}
         host.packages.append(Package("tool", "2", files))
         text = host.brief(self)
-        made = "  medium  made     /usr/lib/python3/__pycache__: 2 files, by packages\n"
-        self.assertEqual(text.count(made), 1, ("one line for a directory", text))
+        made = "  medium  made     python 2: 2 files, by its scripts\n"
+        self.assertEqual(text.count(made), 1, ("one line for a package", text))
         for name in (*compiled_files, LIB + b"python3/evil.py"):
             line = f"  medium  changed  {name.decode()}: content"
             self.assertEqual(text.count(line), 1, (f"a line of its own: {name!r}", text))
         self.holds("compiled files are open", text.startswith("6 open, 2 recorded of 8"), text)
+
+    def test_made_beside_pair(self) -> None:
+        """The same of a compiled file whose source is as in a trusted pair."""
+        host = Host()
+        source = LIB + b"python3/one.py"
+        host.old.file(source, ONE)
+        host.new.file(source, TWO)
+        host.packages.append(Package("python", "2", {source: TWO}))
+        self.write("trusted-old.db", host.old.database())
+        self.write("trusted-new.db", host.new.database())
+        for name in (b"one", b"evil"):
+            compiled = LIB + b"python3/__pycache__/%s.cpython-311.pyc" % name
+            host.old.file(compiled, ONE)
+            host.new.file(compiled, EVIL)
+        host.write(self)
+        words = ("--trusted", "trusted-old.db", "trusted-new.db", "host-old.db", "host-new.db")
+        text = self.call("aide-compare", *words).output.decode()
+        self.assertIn("  medium  made     python 2: 1 file, by its scripts\n", text)
+        self.assertIn("  medium  changed  /usr/lib/python3/__pycache__/evil.cpython-311.pyc", text)
+        self.assertEqual(text.count("one.cpython"), 0, text)
 
     def test_named(self) -> None:
         """Packages that came, went or fell to an older version are named before all else."""

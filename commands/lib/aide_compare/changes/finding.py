@@ -73,8 +73,8 @@ class Finding(NamedTuple):
     standing: Standing
     severity: str
     rank: int  # Within its severity: a smaller one is read first.
-    package: str  # The name and the version of a recorded one's package.
-    is_made: bool  # Open, and made by a package's scripts at a path of its own: told by directory.
+    package: str  # The name and the version of the package of one that is recorded or made.
+    is_made: bool  # Open, and made by a package's scripts at a path of its own: told by package.
     old_at: int
     new_at: int
     is_file: bool

@@ -14,7 +14,7 @@ from aide_compare.changes.finding import Finding, Findings
 from aide_compare.changes.importance import Importance
 from aide_compare.changes.ordered import usr_of
 from aide_compare.changes.packages import INFO_DIRECTORY, Dpkg, Named
-from aide_compare.changes.recorded import Matcher
+from aide_compare.changes.recorded import Matcher, Sieve
 from aide_compare.changes.rpm import Rpm
 from aide_compare.changes.sides import BothDatabases
 from aide_compare.lines.change import BY_PROOF, Counts, Standing
@@ -48,11 +48,12 @@ class Judged:
         self.has_pair = TRUSTED_SIDES[1] in reader.summary
         # Of dpkg's records: what is as in the trusted pair.
         self.trusted: Set[bytes] = set()
+        self.sources = Sieve()  # Of compiled files, as they are there.
         for kind, path, silent, key, _ in reader.outlines():
             if silent is not None:
                 self.silent[silent.value] += 1
-                if silent is Standing.TRUSTED and path.startswith(INFO_DIRECTORY):
-                    self.trusted.add(path)
+                if silent is Standing.TRUSTED:
+                    self._note_trusted(path)
             else:
                 self.findings.add(self.databases.weighed(kind, path, key))
             if len(self.findings) > MAX_FINDINGS:
@@ -61,9 +62,15 @@ class Judged:
         if not self.counts.fits(reader.counts.changes):
             raise Fault(Status.DEVICE, "the counts of the standings are not those of the changes")
 
+    def _note_trusted(self, path: bytes) -> None:
+        if path.startswith(INFO_DIRECTORY):
+            self.trusted.add(path)
+        elif path.endswith(b".py"):
+            self.sources.add([path])
+
     def group_by(self, records: Dpkg | Rpm) -> None:
         """Finds out which changes are as the packages' records of this machine have them."""
-        matcher = Matcher(records, usr_of(self.databases.new), self.read)
+        matcher = Matcher(records, usr_of(self.databases.new), self.read, self.sources)
         try:
             matcher.match(self.findings)
             trusted = self.trusted if self.has_pair else None
@@ -89,10 +96,13 @@ class Judged:
                 yield JudgedLine(outline.line, outline.silent.value, "", "", None)
                 continue
             record = next(waiting)
+            package = ""
+            if record.standing is Standing.RECORDED:
+                package = self.findings.packages[record.package]
             yield JudgedLine(
                 outline.line,
                 record.standing.value,
                 SEVERITIES[record.level],
-                self.findings.packages[record.package],
+                package,
                 record.importance,
             )

@@ -99,21 +99,24 @@ class Sieve:
     """Which paths may be among many, in a megabyte: of a hundred others it takes two for one of
     them if these are as many as a machine has files of packages."""
 
-    def __init__(self, batches: Iterable[Iterable[bytes]]) -> None:
+    def __init__(self, batches: Iterable[Iterable[bytes]] = ()) -> None:
         self.bits = bytearray(SIEVE_BYTES)
         for batch in batches:
-            for mark in map(hash, batch):
-                self.bits[mark >> 3 & SIEVE_BYTES - 1] |= 1 << (mark & 7)
+            self.add(batch)
 
-    def _has(self, path: bytes) -> int:
+    def add(self, paths: Iterable[bytes]) -> None:
+        for mark in map(hash, paths):
+            self.bits[mark >> 3 & SIEVE_BYTES - 1] |= 1 << (mark & 7)
+
+    def has(self, path: bytes) -> bool:
         mark = hash(path)
-        return self.bits[mark >> 3 & SIEVE_BYTES - 1] >> (mark & 7) & 1
+        return bool(self.bits[mark >> 3 & SIEVE_BYTES - 1] >> (mark & 7) & 1)
 
     def may_have(self, path: bytes) -> bool:
         """Whether records may have a path, which they may write without /usr."""
-        if self._has(path) or source_of(path) is not None:
+        if self.has(path) or source_of(path) is not None:
             return True
-        return path.startswith(b"/usr/") and bool(self._has(path[len(b"/usr") :]))
+        return path.startswith(b"/usr/") and self.has(path[len(b"/usr") :])
 
 
 def _asked(findings: Findings, may_have: Optional[Callable[[bytes], bool]]) -> Iterator[Asked]:
@@ -135,12 +138,20 @@ def _asked(findings: Findings, may_have: Optional[Callable[[bytes], bool]]) -> I
 
 class Matcher:
     """Finds out which changes are as records have them: some thousand at once, so that what records
-    have of them is in memory only for these. `usr` gives a path as the database has it."""
+    have of them is in memory only for these. `usr` gives a path as the database has it, and
+    `accounted` has the sources of compiled files that are as in the trusted pair."""
 
-    def __init__(self, records: Dpkg | Rpm, usr: Callable[[bytes], bytes], read: Read) -> None:
+    def __init__(
+        self,
+        records: Dpkg | Rpm,
+        usr: Callable[[bytes], bytes],
+        read: Read,
+        accounted: Optional[Sieve] = None,
+    ) -> None:
         self.records = records
         self.usr = usr
         self.read = read
+        self.accounted = accounted or Sieve()
         self.contents = Contents()
         self.members: Members = {}
         self.changed: Set[bytes] = set()
@@ -176,11 +187,11 @@ class Matcher:
 
     def _note(self, findings: Findings, place: int, finding: Finding) -> None:
         findings.note(place, finding)
-        if finding.package:
+        if finding.standing is Standing.RECORDED:
             self.kinds.setdefault(finding.package, set()).add(finding.kind)
 
     def _matched(self, finding: Finding) -> Finding:
-        """The same finding with its package if it is recorded, or as one that was made."""
+        """The same finding with its package if it is recorded, or was made by that."""
         sides = self.read(finding)
         new = sides.new
         if new is None:
@@ -189,15 +200,20 @@ class Matcher:
         for member in members:
             if self._has(finding.path, sides.old, new, member):
                 return finding._replace(standing=Standing.RECORDED, package=member.package)
-        return finding._replace(is_made=new.is_file and self._is_made(finding.path, members))
+        package = ""
+        if new.is_file:
+            package = self._maker(finding.path, members)
+        return finding._replace(is_made=bool(package), package=package)
 
-    def _is_made(self, path: bytes, members: List[Member]) -> bool:
-        """Whether scripts of packages make a file: records know its path and no content, or its
-        source, which is another one now too."""
+    def _maker(self, path: bytes, members: List[Member]) -> str:
+        """The package whose scripts make a file, if one does: records know its path and no content,
+        or its source, which is another one now too."""
         source = source_of(path)
-        if source in self.changed and self.usr(source or b"") in self.members:
-            return True
-        return bool(members) and not any(member.digest for member in members)
+        if source and (source in self.changed or self.accounted.has(source)):
+            members = self.members.get(self.usr(source)) or members
+        elif any(member.digest for member in members):
+            return ""
+        return members[0].package if members else ""
 
     def _has(self, path: bytes, old: Optional[Entry], new: Entry, member: Member) -> bool:
         """Whether a member of a package is this new entry. dpkg does not know where a link points

@@ -2,6 +2,7 @@
 have of the changes."""
 from __future__ import annotations
 
+from array import array
 from collections.abc import Iterator, Sequence
 
 from aide_compare.base.escapes import guarded
@@ -67,17 +68,17 @@ def files_of(count: int, high: int) -> str:
 
 
 def made_lines(listing: Listing) -> Iterator[str]:
-    """A line for each directory in which scripts of packages made files."""
-    counts = listing.counts(1)
+    """A line for each package whose scripts made files."""
+    packages = listing.findings.packages
+    counts = array("I", bytes(4 * len(packages)))
     for place, count in enumerate(listing.made):
         counts[place // len(SEVERITIES)] += count
-    most = most_of(counts, 1, MAX_MADE, listing.findings.directory)
+    most = most_of(counts, 1, MAX_MADE, packages.__getitem__)
     for number, count in most.first:
-        end = f": {counted(count, 'file', ',')} made by packages"
-        directory = listing.findings.directory(number)
-        yield "  " + shortened_path(directory, WIDTH - len(end) - 2) + end
+        files = counted(count, "file", ",")
+        yield f"  {guarded(packages[number])[:40]}: {files} made by its scripts"
     if most.others:
-        yield f"  and {counted(most.total, 'file', ',')} made by packages elsewhere"
+        yield f"  and {counted(most.total, 'file', ',')} made by scripts of other packages"
 
 
 def group_lines(judged: Judged, listing: Listing) -> list[str]:

@@ -203,25 +203,24 @@ def _group_lines(
 
 def open_lines(listing: Listing, read: Read) -> Iterator[str]:
     """The lines for open findings, by severity and by the groups of owners. What scripts of
-    packages make has a line for each directory, unless its severity is high."""
+    packages make has a line for each package, unless its severity is high."""
     for level, severity in enumerate(SEVERITIES):
         shares = Shares()
         for group in range(len(ROOMS)):
             for line in _group_lines(listing, level, group, read, shares):
                 yield f"  {severity:<6}  {line}"
 
-    def name(place: int) -> Tuple[str, bytes]:
-        directory = listing.findings.directory(place // len(SEVERITIES))
-        return SEVERITIES[place % len(SEVERITIES)], directory
+    def name(place: int) -> Tuple[str, str]:
+        package = listing.findings.packages[place // len(SEVERITIES)]
+        return SEVERITIES[place % len(SEVERITIES)], package
 
     most = most_of(listing.made, len(SEVERITIES), MAX_GROUPS, name)
     for place, count in most.first:
-        severity, directory = name(place)
-        files = counted(count, "file")
-        yield f"  {severity:<6}  made     {shown(directory, MAX_PATHS[1])}: {files}, by packages"
+        severity, package = name(place)
+        yield f"  {severity:<6}  made     {guarded(package)}: {counted(count, 'file')}, by its scripts"
     if most.others:
         files = counted(most.total, "file")
-        yield f"  and {files} made by packages in {most.others} more directories"
+        yield f"  and {files} made by more packages"
 
 
 def _high_words(count: int) -> str:

@@ -70,7 +70,7 @@ class Recorded(NamedTuple):
 
 class Listing:
     """The open findings by their severity and their owners, and the counts of those that are
-    recorded, by package, and of those that were made, by severity and directory."""
+    recorded, by package, and of those that were made, by package and severity."""
 
     def __init__(self, findings: Findings) -> None:
         self.findings = findings
@@ -80,7 +80,7 @@ class Listing:
         self.recorded = array("I", bytes(4 * len(findings.packages)))
         self.recorded_high = array("I", bytes(4 * len(findings.packages)))
         self.first_high = array("I", bytes(4 * FIRST_RECORDED * len(findings.packages)))
-        self.made = self.counts(len(SEVERITIES))
+        self.made = array("I", bytes(4 * len(SEVERITIES) * len(findings.packages)))
         for place, record in enumerate(findings.rows()):
             self.directories.append(record.directory)
             self.codes.append(_code(record))
@@ -102,7 +102,7 @@ class Listing:
                 self.recorded_high[record.package] += 1
             return True
         if record.bits & IS_MADE and record.level != HIGH:
-            self.made[record.directory * len(SEVERITIES) + record.level] += 1
+            self.made[record.package * len(SEVERITIES) + record.level] += 1
             return True
         return False
 
@@ -116,8 +116,8 @@ class Listing:
         """How many there are of a severity and a group of owners."""
         return sum(1 for _ in self.places(level, group))
 
-    def in_order(self, level: int, group: int) -> Iterator[int]:
-        """The same, and first the first few of each directory."""
+    def in_order(self, level: int, group: int, only_few: bool = False) -> Iterator[int]:
+        """The same, and first the first few of each directory; or no others."""
         before = bytearray(self.findings.directories.count)
         later = array("I")
         for place in self.places(level, group):
@@ -125,7 +125,7 @@ class Listing:
             if before[directory] < FIRST_FEW:
                 before[directory] += 1
                 yield place
-            else:
+            elif not only_few:
                 later.append(place)
         yield from later
 
