@@ -74,6 +74,17 @@ class SizesTest(MailTest):
         self.assertIn(b"60,000 added", text)
         self.assertIn(b"--max-report allows more", text, "why it was not judged")
 
+    def test_low(self) -> None:
+        """Of severity low a few are listed of each directory, and the others are counted."""
+        names = [b"/usr/share/doc/a", *(b"/usr/share/doc/b/%d" % number for number in range(8))]
+        lines = b"".join(name + b" 36 100644 1\n" for name in names)
+        self.write("low.db", HEAD + lines + END)
+        text = body(self.mail("empty.db", "low.db", status=1))
+        self.assertEqual(text.count(b"  added    /usr/share/doc/"), 6, text)
+        self.assertIn(
+            b"/b/4: -rw-r--r-- root:root 1 bytes\n  and 3 more in /usr/share/doc/b\n", text
+        )
+
     def test_shares(self) -> None:
         """Whoever is not root pushes none of root's changes out of sight, and what has no line is
         counted by severity."""

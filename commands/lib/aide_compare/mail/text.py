@@ -107,14 +107,16 @@ def rest_line(listing: Listing, part: Part, listed: Sequence[int]) -> str:
 
 
 def part_lines(listing: Listing, part: Part, room: int, read: Read) -> Iterator[str]:
-    """So many lines for a part; the last one counts what is not listed."""
+    """So many lines for a part, of low severity a few for each directory; the last one counts what
+    is not listed."""
     limit = room
     if part.size > room:
         limit = room - 1
-    listed = list(islice(listing.in_order(part.level, part.owners), limit))
+    order = listing.in_order(part.level, part.owners, part.severity == SEVERITIES[-1])
+    listed = list(islice(order, limit))
     for place in listed:
         yield finding_line(listing.findings.finding(place), read)
-    if part.size > room:
+    if part.size > len(listed):
         yield rest_line(listing, part, listed)
 
 
