@@ -10,6 +10,9 @@ INIT = b"""#!/bin/sh
 ### END INIT INFO
 """
 ASKS = b"#!/bin/sh\nupdate-rc.d came defaults >/dev/null || exit 1\n"
+ASKS_SYSTEMD = b"deb-systemd-helper enable '%s.service' >/dev/null || true\n"
+ENABLED = b"/etc/systemd/system/"
+STATES = b"/var/lib/systemd/deb-systemd-helper-enabled/"
 
 
 class MadeTest(ArchiveCase):
@@ -42,6 +45,41 @@ class MadeTest(ArchiveCase):
         place.listed("came", "2")
         place.old.file(b"/etc/init.d/came", INIT, 0o100755)
         place.expect(place.ask(), "open", *right)
+
+    def test_units(self) -> None:
+        """The same of units, with what deb-systemd-helper writes of them."""
+        place = self.place
+        units = b"/lib/systemd/system/"
+        unit = b"[Install]\nWantedBy=multi-user.target x.target\nRequiredBy = y.service\n"
+        texts = {b"came": unit, b"other": unit + b"Alias=z.service\n", b"quiet": unit}
+        came = Built("came", "2").script(
+            "postinst", b"".join(ASKS_SYSTEMD % name for name in (b"came", b"other"))
+        )
+        for night in (place.old, place.new):  # As which new entries are measured.
+            night.link(b"/bin", b"usr/bin").file(b"/a", TWO)
+        links = [b"multi-user.target.wants/%s", b"x.target.wants/%s", b"y.service.requires/%s"]
+        made = []
+        for name, text in texts.items():
+            path = units + name + b".service"
+            came.file(path, text)
+            place.new.file(b"/usr" + path, text)
+            paths = [link % (name + b".service") for link in links]
+            for link in paths:
+                place.new.link(ENABLED + link, path, size=len(path)).file(STATES + link)
+                made += [ENABLED + link, STATES + link]
+            also = b"".join(ENABLED + link + b"\n" for link in paths)
+            made.append(STATES + name + b".service.dsh-also")
+            place.new.file(made[-1], also)
+        place.package(came)
+        place.came("came", "2")
+        place.sign()
+        answer = place.ask()
+        right = [path for path in made if b"came.service" in path]
+        place.expect(answer, "trusted", *right)
+        place.expect(answer, "open", *(path for path in made if path not in right))
+        place.new.link(right[0], b"/lib/systemd/system/debug-shell.service", size=39)
+        place.new.file(right[-1], b"/etc/evil\n")
+        place.expect(answer, "open", right[0], right[-1])
 
     def test_certificates(self) -> None:
         """The links to a certificate that is new, by its name and by any digest, and none to one

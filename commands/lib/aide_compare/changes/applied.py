@@ -8,7 +8,6 @@ import base64
 import hashlib
 import io
 import os
-import re
 import tarfile
 from collections import Counter
 from collections.abc import Iterator, Mapping, Sequence
@@ -22,6 +21,7 @@ from aide_compare.base.escapes import shown
 from aide_compare.base.files import BLOCK, nameless
 from aide_compare.base.paths import escaped, key_of_path, path_of
 from aide_compare.changes.certificates import links_to_new
+from aide_compare.changes.enabled import SCRIPT, enabled_by
 from aide_compare.changes.entries import Entry, number_of
 from aide_compare.changes.ordered import OrderedDatabase, usr_of
 from aide_compare.changes.signed import Signed, file_name, open_package, tar_of
@@ -34,15 +34,12 @@ SLASH = key_of_path(b"/")
 INFO = "/var/lib/dpkg/info/"
 KEPT = "/var/cache/apt/archives/"  # Where apt keeps the files of packages.
 STRONG = ("sha256", "sha512")
-# Texts of packages that say which links are made: init scripts, and what dpkg runs at the end.
-SCRIPT = re.compile(rb"/etc/init\.d/[^/]+|/postinst")
 MAX_SCRIPT = 1 << 16
-ASKS = rb"\bupdate-rc\.d %s defaults(?![-\w])"
-LEVELS = rb"(?m)^# Default-(Start|Stop):([ \t0-6S]*)$"
-RUN_LEVELS = frozenset(b"0 1 2 3 4 5 6 S".split())
 # The digits of a mode before the last four of them, by the type of a member.
 TYPES = {tarfile.REGTYPE: b"10", tarfile.DIRTYPE: b"4", tarfile.SYMTYPE: b"12"}
-LINK = {"perm": b"120777", "uid": b"0", "gid": b"0"}  # Of a link that root makes.
+# What root makes.
+LINK = {"perm": b"120777", "uid": b"0", "gid": b"0"}
+FILE = {"perm": b"100644", "uid": b"0", "gid": b"0"}
 
 # The fields of an entry by the names of their columns.
 FieldsByColumn = dict[str, bytes]
@@ -51,19 +48,6 @@ FieldsByColumn = dict[str, bytes]
 def target_fields(target: bytes) -> FieldsByColumn:
     """The fields that say where a symbolic link points to."""
     return {"lname": escaped(target), "size": b"%d" % len(target)}
-
-
-def run_level_links(path: bytes, text: bytes, script: bytes) -> dict[bytes, bytes]:
-    """The links of run levels to an init script with this text, with their targets, as the script
-    of its package asks update-rc.d for them. The numbers are those without insserv."""
-    name = path.rpartition(b"/")[2]
-    links: dict[bytes, bytes] = {}
-    if re.search(ASKS % re.escape(name), script):
-        for kind, levels in re.findall(LEVELS, text):
-            letter = b"S" if kind == b"Start" else b"K"
-            for level in set(levels.split()) & RUN_LEVELS:
-                links[b"/etc/rc%s.d/%s01%s" % (level, letter, name)] = b"../init.d/" + name
-    return links
 
 
 def content_of(file: IO[bytes]) -> FieldsByColumn:
@@ -162,7 +146,10 @@ class Upgrades:
             if path and (is_new or not path.startswith(CONFIGURATION)):
                 self._put(self.moved(path), fields, is_new)
             if is_new and text:
-                self.link(run_level_links(path, text, script))
+                enabled = enabled_by(path, text, script)
+                self.link(enabled.links)
+                for name, content in enabled.files.items():
+                    self._put(name, {**FILE, **content_of(io.BytesIO(content))}, True)
         listed.seek(0)
         return {"perm": b"100644", "uid": ABSENT, "gid": ABSENT, **content_of(listed)}
 
