@@ -147,7 +147,7 @@ class CanaryTest(CommandTest):
 
     def test_whole(self) -> None:
         """Whatever floods the canary, each of its changes is listed, or it is not used."""
-        for name, limit, is_used in (("MAX_KEPT", 600, True), ("MAX_JUDGED", 1000, False)):
+        for name, limit, is_used in (("MAX_KEPT", 600, True), ("MAX_JUDGED", 1400, False)):
             hosts = self.fleet("www1", "www2")
             hosts.set_limit("host_comparison", name, limit)
             lines = self.compared(hosts, "--canary", "www1")

@@ -16,10 +16,10 @@ from .test_without import list_database
 UNNAMED = 12345  # A user that the system has no name for.
 CHANGES = b"""
 Open, severity medium:
-  removed  /b: drwxr-xr-x root:root
+  removed  /b: drwxr-xr-x
   changed  /c: mode -rw-r--r-- -> -rw-------, size 10 -> 7
   changed  /d: size 1 -> 2
-  added    /a: -rw-r--r-- root:root 5 bytes
+  added    /a: -rw-r--r-- 5 bytes
 
 All changes with their values, as a page:
 """

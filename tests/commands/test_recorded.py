@@ -105,9 +105,9 @@ class RecordedTest(CommandTest):
     def test_names(self) -> None:
         """Diversions are followed, and so are directories that are links to those in /usr."""
         host = upgraded(TWO, Package("tool", "2", {b"/bin/tool": TWO}))
-        self.check("one that is not merged", host, {BIN + b"tool": OPEN})
-        host.both(lambda night: night.link(b"/bin", b"usr/bin"))
-        self.check("a merged directory", host, {BIN + b"tool": RECORDED})
+        for links, want in (({}, OPEN), ({b"/bin": b"usr/bin"}, RECORDED), ({b"/bin": b"x"}, OPEN)):
+            self.after_import("changes.usr", f"link_here\nlink_here = {links!r}.get\n")
+            self.check(f"links of this machine: {links}", host, {BIN + b"tool": want})
         host = upgraded(TWO, Package("tool", "2", {BIN + b"there": TWO}))
         host.diversions = BIN + b"there\n" + BIN + b"tool\nother\n"
         self.check("a diversion", host, {BIN + b"tool": RECORDED})

@@ -237,7 +237,7 @@ class StandingsTest(mail.MailTest):
         standings, and every change is an alarm."""
         host = silent()
         host.write(self)
-        name = "lib/aide_compare/changes/sides.py"
+        name = "lib/aide_compare/changes/weighing.py"
         text = self.read(name)
         line = b"        self.severity = Severity()\n"
         for fault, said in (

@@ -12,6 +12,8 @@ from tests.commands.sandbox import HERE, Answer, CommandTest, sha256
 from tests.commands.viewers.lines import proved_lines
 from tests.commands.viewers.schema import Validator, schema_of_lines
 
+from aide_compare.lines.rights import RIGHTS
+
 DATE = re.compile("[0-9]{4}-[0-9]{2}-[0-9]{2}T[0-9]{2}:[0-9]{2}:[0-9]{2}Z")
 USAGE, CONFIGURATION, DEVICE = 15, 17, 18
 # Databases of AIDE 0.18.3 with access control lists, extended attributes, flags and capabilities.
@@ -56,7 +58,8 @@ class OccasionTest(CommandTest):
     def test_two(self) -> None:
         """The lines are those of the proved program, with the names of both, the severity of each
         change, and the counts of standings."""
-        given, wanted = self.compared(), self.added_to(self.lines_over())
+        rights = f"report_force_attrs={'+'.join(RIGHTS)}"
+        given, wanted = self.compared(), self.added_to(self.lines_over(more=rights))
         levels = [change.pop("severity") for change in given[1:-1]]
         self.assertLessEqual(set(levels), {"high", "medium", "low"})
         self.assertEqual((given[-1].pop("standings")["open"], len(levels)), (7, 7))

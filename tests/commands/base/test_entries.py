@@ -1,17 +1,12 @@
-"""Entries of a database in path order, found by their paths, beside a plain walk of all lines."""
+"""Entries of packages and of databases: what no entry is made of, and what is left out."""
 from __future__ import annotations
 
 import io
-import os
-import random
 import tarfile
 
 from tests.commands.base.calls import ModuleTest
 
-from aide_compare.base.files import in_memory
-from aide_compare.base.paths import key_of_path
 from aide_compare.changes.applied import members_of
-from aide_compare.changes.ordered import OrderedDatabase
 from aide_compare.compare.exclusions import (
     Exclusions,
     LeftOut,
@@ -21,46 +16,9 @@ from aide_compare.compare.exclusions import (
 
 HEAD = b"# made\n@@begin_db\n\n@@db_spec name perm lname\n"
 END = b"  @@end_db \n"
-# What looks like an end in an entry, and what follows the end.
-ODD = (b"@@end_db", b"0%0A@@end_db", b"x" * 5000)
-AFTER = b"".join(b"/q%07d 100777 0\n" % number for number in range(3000)) + b"@@end_db\n"
-
-
-def database(draw: random.Random, count: int) -> tuple[bytes, dict[bytes, int]]:
-    """A database with entries of some lengths between blank lines and comments, and the place of
-    each path. Some paths in between are not there."""
-    text = bytearray(HEAD)
-    places = {}
-    for number in range(count):
-        path = b"/p%07d" % (2 * number)
-        text += b"\n" * draw.choice((0, 0, 0, 1, 3, 5000))
-        text += draw.choice((b"", b"", b"# /q 1 1\n", b" \t\n"))
-        places[path] = len(text)
-        text += path + b" 100644 " + draw.choice((b"0", b"/a", *ODD)) + b"\n"
-    return bytes(text) + END + AFTER, places
 
 
 class EntriesTest(ModuleTest):
-    def test_found(self) -> None:
-        """All paths, few of them, and those that are not there, in their order."""
-        draw = random.Random(20261128)
-        for count in (0, 1, 2, 17, 400):
-            text, places = database(draw, count)
-            descriptor = in_memory(text)
-            self.addCleanup(os.close, descriptor)
-            every = [b"/p%07d" % number for number in range(2 * count + 2)]
-            every += [b"/q%07d" % number for number in range(0, 3000, 100)]
-            for part in (1, 3, 40, 200):
-                asked = sorted(draw.sample(every, max(1, len(every) // part)))
-                ordered = OrderedDatabase(descriptor, "new")
-                got = {path: ordered.find(key_of_path(path)) for path in asked}
-                want = {path: places.get(path) for path in asked}
-                self.expect(f"{count} entries, {len(asked)} of {len(every)} paths", got, want)
-                for path in set(asked) & places.keys():
-                    entry = ordered.entry_at(got[path])
-                    self.assertIsNotNone(entry, path)
-                    self.expect("an entry", entry and entry.field("name"), path)
-
     def test_members(self) -> None:
         """A member of a package that is read without end is refused."""
         for kind, size in ((tarfile.GNUTYPE_SPARSE, 0), (tarfile.REGTYPE, -1)):

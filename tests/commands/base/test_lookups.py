@@ -8,6 +8,7 @@ import random
 from typing import Any, Dict, List
 
 from tests.commands.base.calls import ModuleTest
+from tests.commands.viewers.expected import RIGHTS, SLOTS
 
 from aide_compare.base.paths import Pattern, key_of_path, path_of
 from aide_compare.changes.finding import Directories, directory_of
@@ -38,15 +39,28 @@ def random_path(draw: random.Random) -> bytes:
     return b"/a/" + b"/".join(draw.choice(PIECES) for _ in range(draw.randint(1, 5)))
 
 
+def letters_of(old: Dict[str, Any], new: Dict[str, Any]) -> str:
+    """A summary string that says which rights differ."""
+    letters = ["f"]
+    for slot in SLOTS[1:]:
+        label = RIGHTS.get(slot, "")
+        differs = any(old.get(name) != new.get(name) for name in (label, label + "_hex"))
+        letters.append(slot if differs else ".")
+    if old.get("Type") != new.get("Type"):
+        letters[0] = "!"
+    return "".join(letters)
+
+
 def random_line(draw: random.Random, path: str) -> bytes:
     """A line of a change as aide_lines writes it."""
-    fields: Dict[str, Any] = {"kind": "changed", "path": path, "summary": "f  ...C..."}
+    fields: Dict[str, Any] = {"kind": "changed", "path": path, "summary": ""}
     if draw.random() < 0.3:
         fields["same_as"] = draw.choice(("old", "trusted"))
     fields["type"] = "File"
     labels = draw.sample(sorted(VALUES), draw.randint(1, 4))
     for side in ("old", "new"):
         fields[side] = {label: draw.choice(VALUES[label]) for label in labels}
+    fields["summary"] = letters_of(fields["old"], fields["new"])
     return ENCODE(fields).encode() + b"\n"
 
 

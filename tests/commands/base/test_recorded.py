@@ -10,7 +10,6 @@ from unittest import mock
 from tests.commands.base.calls import ModuleTest
 
 from aide_compare.changes import recorded
-from aide_compare.changes.entries import Entry
 from aide_compare.changes.finding import IS_CONTENT, IS_LINK
 from aide_compare.changes.packages import Member
 from aide_compare.changes.recorded import (
@@ -23,10 +22,6 @@ from aide_compare.changes.recorded import (
 )
 
 COMPILED = b"/a/__pycache__/b.cpython-311%s.pyc"
-
-
-def entry(**fields: bytes) -> Entry:
-    return Entry(list(fields.values()), {name: place for place, name in enumerate(fields)})
 
 
 def found(*rows: tuple[bytes, int]) -> Any:
@@ -44,9 +39,9 @@ class RecordedTest(ModuleTest):
             (b"/a/b.cpython-311.pyc", None),
         ):
             self.gives(source, source_of, path)
-        for link, target in ((b"c", b"/a/c"), (b"../../c", b"/c"), (b"//c/.", b"/c"), (b"0", None)):
-            self.gives(target, target_of, b"/a/b", entry(perm=b"120777", lname=link))
-        self.gives(None, target_of, b"/a/b", None)
+        for link, target in (("c", b"/a/c"), (b"../../c", b"/c"), ("//c/.", b"/c"), (None, None)):
+            self.gives(target, target_of, b"/a/b", {"Lname": link})
+        self.gives(None, target_of, b"/a/b", {})
 
     def test_sieve(self) -> None:
         """No path of the records is lost; of the others, few come through."""
@@ -102,20 +97,22 @@ class RecordedTest(ModuleTest):
         text = b"x" * 10
         path = self.write("file", text).encode()
         kinds = ("md5", "sha1", "sha256", "sha512")
-        fields = {name: hashlib.new(name, text).hexdigest().encode() for name in kinds}
+        digests = {name: hashlib.new(name, text).digest() for name in kinds}
         member = Member("p", "md5", hashlib.md5(text).digest())
-        strong = entry(sha256=fields["sha256"], sha512=fields["sha512"])
-        for label, of, other, room, fits in (
-            ("the same digest", entry(md5=fields["md5"]), member, 0, True),
-            ("another one", entry(md5=fields["md5"]), member._replace(digest=b"x" * 16), 11, False),
+        weak = {"md5": digests["md5"]}
+        strong = {"sha256": digests["sha256"], "sha512": digests["sha512"]}
+        rows: list[tuple[str, dict[str, bytes], Member, int, bool]] = [
+            ("the same digest", weak, member, 0, True),
+            ("another one", weak, member._replace(digest=b"x" * 16), 11, False),
             ("read", strong, member, 11, True),
             ("read, another one", strong, member._replace(digest=b"x" * 16), 11, False),
             ("no room", strong, member, 10, False),
             ("of another kind", strong, member._replace(column="whirlpool"), 11, False),
-            ("no digest", entry(size=b"10"), member, 11, False),
-            ("a weak digest", entry(sha1=fields["sha1"]), member, 11, False),
-            ("another content", entry(sha256=fields["sha256"][::-1]), member, 11, False),
-        ):
+            ("no digest", {}, member, 11, False),
+            ("a weak digest", {"sha1": digests["sha1"]}, member, 11, False),
+            ("another content", {"sha256": digests["sha256"][::-1]}, member, 11, False),
+        ]
+        for label, of, other, room, fits in rows:
             contents = Contents()
             self.expect("the room", contents.remaining, 2 << 30)
             contents.remaining = room

@@ -3,19 +3,29 @@ from __future__ import annotations
 
 import base64
 import os
+from collections.abc import Iterator
+from typing import Any
 from unittest import mock
 
 from tests.commands.base.calls import ModuleTest
 
+from aide_compare.base.words import SEVERITIES
 from aide_compare.changes import severity
 from aide_compare.changes.severity import Severity
-from aide_compare.changes.entries import Entry, owner_of
+from aide_compare.lines.rights import Rights, Side, owner_of
 
-COLUMNS = ("attr", "perm", "uid", "gid", "acl", "capabilities", "e2fsattrs")
-PLACES = {column: place for place, column in enumerate(COLUMNS)}
-HAS_OWNERS = 1 << 3 | 1 << 4
+TYPES = {
+    0o10: "File",
+    0o4: "Directory",
+    0o12: "Link",
+    0o2: "Character device",
+    0o6: "Block device",
+    0o1: "FIFO",
+}
 ANNA = 1000
-SETUID = b"cap_setuid=ep"
+SETUID = base64.b64encode(b"cap_setuid=ep")
+# The same as an extended attribute, among others.
+CAPABILITY = b"2,user.a,AAAA,security.capability,AQAAAgAgAAA="
 # What AIDE writes of an entry without a list: the mode again, and nothing for new files.
 OF_MODE = b"user::rw-\ngroup::r--\nother::r--\n"
 TO_ANNA = b"user::rwx\nuser:anna:rwx\ngroup::r-x\nmask::rwx\nother::r-x\n"
@@ -33,22 +43,13 @@ def acl_field(access: bytes, default: bytes = b"") -> bytes:
 def entry(
     mode: int,
     uid: int | None = 0,
-    gid: int = 0,
-    acl: bytes = b"0",
-    capabilities: bytes = b"",
-    flags: bytes = b"524288",
-) -> Entry:
-    """An entry with these rights. Without an owner its rule did not ask for one."""
-    fields = [
-        b"%d" % (HAS_OWNERS if uid is not None else 0),
-        b"%o" % mode,
-        b"%d" % (uid or 0),
-        b"%d" % gid,
-        acl,
-        base64.b64encode(capabilities) or b"0",
-        flags,
-    ]
-    return Entry(fields, PLACES)
+    gid: int | None = 0,
+    acl: bytes | None = None,
+    capabilities: bytes | None = None,
+    xattrs: bytes | None = None,
+) -> Rights:
+    """An entry with these rights, None for those that its line does not say."""
+    return Rights(TYPES[mode >> 12], mode & 0o7777, uid, gid, acl, xattrs, None, capabilities)
 
 
 CAPABLE = entry(PROGRAM, capabilities=SETUID)
@@ -56,8 +57,10 @@ LISTS_ANNA = entry(FILE, acl=acl_field(TO_ANNA))
 LISTS_READER = entry(FILE, acl=acl_field(ANNA_READS))
 LISTS_MASKED = entry(FILE, acl=acl_field(MASKED))
 OF_ANNA = entry(FILE, uid=ANNA)
+UNKNOWN = entry(FILE)._replace(permissions=None)
+OWNERLESS = entry(DIRECTORY, uid=None)
 # A change of rights wherever it is: the entry before, the entry now, and the level below /srv.
-RIGHTS: list[tuple[str, Entry | None, Entry | None, str]] = [
+RIGHTS: list[tuple[str, Side, Side, str]] = [
     ("a new file", None, entry(FILE), "medium"),
     ("a file that went", entry(FILE), None, "medium"),
     ("a set-user-ID file that came", None, entry(0o104755), "high"),
@@ -71,6 +74,8 @@ RIGHTS: list[tuple[str, Entry | None, Entry | None, str]] = [
     ("capabilities", entry(PROGRAM), CAPABLE, "high"),
     ("a file that came with capabilities", None, entry(FILE, capabilities=SETUID), "high"),
     ("the same capabilities", CAPABLE, CAPABLE, "high"),
+    ("capabilities as an attribute", entry(PROGRAM), entry(PROGRAM, xattrs=CAPABILITY), "high"),
+    ("another attribute", entry(FILE), entry(FILE, xattrs=b"1,user.a,AAAA"), "medium"),
     ("a link to a file with capabilities", None, entry(0o120777, capabilities=SETUID), "medium"),
     ("a list for anna", entry(FILE), LISTS_ANNA, "high"),
     ("more in a list", LISTS_READER, LISTS_ANNA, "high"),
@@ -100,11 +105,16 @@ RIGHTS: list[tuple[str, Entry | None, Entry | None, str]] = [
     ("root's file for the same group", entry(0o100664, gid=5), entry(0o100660, gid=5), "medium"),
     ("what anna does with her file", OF_ANNA, entry(0o100664, uid=ANNA, gid=5), "medium"),
     ("a file whose owner is not known", entry(FILE, uid=None), OF_ANNA, "medium"),
+    ("root's file whose owner is not known now", entry(FILE), entry(FILE, uid=None), "high"),
+    ("a mode that is not known", UNKNOWN, UNKNOWN, "high"),
+    ("a mode that is not known now", entry(FILE), UNKNOWN, "high"),
+    ("a mode that was not known", UNKNOWN, entry(FILE), "high"),
+    ("a set-user-ID file whose mode was not known", UNKNOWN, entry(0o104755), "high"),
+    ("a directory whose owner is not known", OWNERLESS, OWNERLESS, "medium"),
     ("another type", entry(FILE), entry(0o120777), "high"),
     ("a device of another user's that came", None, entry(0o20000, uid=ANNA), "high"),
     ("a device of root's that came", None, entry(0o20000), "medium"),
     ("names in a directory", entry(DIRECTORY), entry(DIRECTORY), "low"),
-    ("a flag of a directory that grew", entry(DIRECTORY), entry(DIRECTORY, flags=b"528384"), "low"),
     ("the group of a directory", entry(DIRECTORY), entry(DIRECTORY, gid=ANNA), "medium"),
     ("the mode of a directory", entry(DIRECTORY), entry(0o40700), "medium"),
 ]
@@ -163,6 +173,22 @@ CERTIFICATES = (
 TABLE = b"low added,link /opt/*\nhigh any /opt/*\n"
 
 
+def without(side: Side, names: tuple[str, ...]) -> Iterator[tuple[str, Side]]:
+    """A side without each of these rights, with the name of what it lacks."""
+    if side is not None:
+        for name in names:
+            values: dict[str, Any] = {name: "" if name == "type" else None}
+            yield name, side._replace(**values)
+
+
+def lacking(old: Side, new: Side) -> Iterator[tuple[str, Side, Side]]:
+    """Both sides, of which one lacks a right that a line has only if a rule asked for it."""
+    for name, side in without(old, ("type", "permissions", "group")):
+        yield f"the old {name}", side, new
+    for name, side in without(new, ("type", "permissions", "user", "group")):
+        yield f"the new {name}", old, side
+
+
 class SeverityTest(ModuleTest):
     def test_rights(self) -> None:
         """What is given to whom decides, wherever it is; and each line of such rights is seen by
@@ -173,6 +199,17 @@ class SeverityTest(ModuleTest):
             if wanted == "high":
                 found = table.of(b"/usr/share/doc/x", old, new).level
                 self.expect(f"severity of {label} among texts", found, "high")
+
+    def test_unknown(self) -> None:
+        """What a side does not say makes no change less severe, but for the owner of the old one:
+        whoever began to ask for owners sees them come."""
+        table = Severity()
+        for label, old, new, _ in RIGHTS:
+            for path in (b"/srv/x", b"/usr/bin/x", b"/usr/lib/x/x"):
+                level = SEVERITIES.index(table.of(path, old, new).level)
+                for lacked, *sides in lacking(old, new):
+                    found = SEVERITIES.index(table.of(path, *sides).level)
+                    self.holds(f"{label} at {path!r}, without {lacked}", found <= level, found)
 
     def test_directories(self) -> None:
         table = Severity()

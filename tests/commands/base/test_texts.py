@@ -17,7 +17,7 @@ from aide_compare.base import ending, escapes, kinds, words
 from aide_compare.base.parser import Parser
 from aide_compare.compare import configuration, state
 from aide_compare.lines import attributes, reader
-from aide_compare.changes import entries
+from aide_compare.lines.change import Change, Values, change_of
 from aide_compare.show import brief
 
 ESCAPED: tuple[tuple[str | bytes, str], ...] = (
@@ -45,6 +45,18 @@ import os
 def main(arguments):
     %s
 os._exit(command("name", main))"""
+
+
+def change_between(old: Values | None, new: Values | None) -> Change:
+    """The change of a file with these values, of which those that are the same are no change."""
+    sides = {name: side for name, side in (("old", old), ("new", new)) if side is not None}
+    kind = "changed"
+    if old is not None and new is not None:
+        same = old.items() & new.items()
+        sides = {name: dict(side.items() - same) for name, side in sides.items()}
+    else:
+        kind = "added" if old is None else "removed"
+    return change_of({"kind": kind, "path": "/a", "type": "File", **sides})
 
 
 class TextsTest(ModuleTest):
@@ -95,28 +107,27 @@ class TextsTest(ModuleTest):
     def test_words(self) -> None:
         """When an entry came or changed: the time of its inode, then its own, if it is another one
         than before."""
-        columns = ("perm", "uid", "gid", "size", "mtime", "ctime", "bcount")
-        places = {name: place for place, name in enumerate(columns)}
-        old, kept, back, gone, moved = (
-            entries.Entry([b"100644", b"0", b"0", *fields], places)
-            for fields in (
-                (b"5", b"1795600000", b"1795600000", b"8"),
-                (b"6", b"1795600000", b"1795600000", b"8"),
-                (b"6", b"1795600000", b"1795602777", b"8"),
-                (b"6", b"1795602777", b"0", b"8"),
-                (b"6", b"1795600000", b"1795600000", b"16"),
-            )
-        )
+        rights: Values = {"Perm": "0644", "UID": 0, "GID": 0}
+        kept: Values = {**rights, "Size": 6, "Mtime": 1795600000, "Ctime": 1795600000}
+        old: Values = {**kept, "Size": 5}
+        back: Values = {**kept, "Ctime": 1795602777}
+        gone: Values = {**rights, "Size": 6, "Mtime": 1795602777}
+        moved: Values = {**kept, "Bcount": 16}
         dated = "size 5 -> 6, 2026-11-25 10:32 UTC"
-        for label, pair, want in (
-            ("came", (None, back), "-rw-r--r-- root:root 6 bytes, 2026-11-25 10:32 UTC"),
-            ("went", (back, None), "-rw-r--r-- root:root 6 bytes"),
+        whole = "-rw-r--r-- root:root 6 bytes"
+        rows: list[tuple[str, tuple[Values | None, Values | None], str]] = [
+            ("came", (None, back), f"{whole}, 2026-11-25 10:32 UTC"),
+            ("went", (back, None), whole),
             ("changed, its time set back", (old, back), dated),
             ("changed, without the time of its inode", (old, gone), dated),
             ("changed with the times of before", (old, kept), "size 5 -> 6"),
-            ("has other blocks", (moved, kept), "blocks"),
-        ):
-            self.expect("what %s, and when" % label, brief.entry_words(*pair), want)
+            ("has other blocks", (moved, {**kept, "Bcount": 8}), "blocks"),
+            ("came, with a rule that asks for little", (None, {"Size": 6}), "6 bytes"),
+            ("came, without its group", (None, {"UID": 7}), "7:?"),
+            ("changed in its time alone", ({"Mtime": 0}, {}), "mtime 1970-01-01T00:00:00Z -> none"),
+        ]
+        for label, pair, want in rows:
+            self.expect("what %s, and when" % label, brief.entry_words(change_between(*pair)), want)
 
     def test_options(self) -> None:
         parser = Parser("name", "What it does.")

@@ -6,6 +6,7 @@ from collections import Counter, defaultdict
 from html import unescape
 from html.parser import HTMLParser
 
+from tests.commands.viewers.expected import without_same_rights
 from tests.oracle.attributes import ATTRIBUTES as KNOWN
 
 TAGS = set(
@@ -131,6 +132,7 @@ def bytes_of(fields, key="path"):
 
 def values_of(fields):
     """The values of a change by the names of their attributes: of each both sides, as bytes."""
+    fields = without_same_rights(fields)
     found = {}
     for place, side in enumerate(("old", "new")):
         for name, value in fields.get(side, {}).items():

@@ -13,6 +13,8 @@ from collections.abc import Iterator
 from typing import Any
 from unittest import mock
 
+from tests.commands.viewers.expected import without_same_rights
+
 from aide_compare.lines.change import Value
 from aide_compare.lines.decoded import decoded, time_text
 
@@ -243,6 +245,7 @@ def text_faults(objects: list[dict[str, Any]]) -> list[str]:
 
 def faults_of_entry(entry: dict[str, Any]) -> list[str]:
     faults = []
+    entry = without_same_rights(entry)
     kind = entry.get("type") if entry.get("summary", "!")[0] != "!" else None
     sides = [entry.get(side, {}) for side in ("old", "new")]
     texts = [entry.get(side + "_text", {}) for side in ("old", "new")]

@@ -10,7 +10,7 @@ import io
 import os
 import tarfile
 from collections import Counter
-from collections.abc import Iterator, Mapping, Sequence
+from collections.abc import Collection, Iterator, Mapping, Sequence
 from heapq import merge
 from itertools import groupby
 from typing import IO, NamedTuple
@@ -19,15 +19,15 @@ from aide_compare.base.database import ABSENT, SET_ID
 from aide_compare.base.ending import Fault, Status
 from aide_compare.base.escapes import shown
 from aide_compare.base.files import BLOCK, nameless
-from aide_compare.base.paths import escaped, key_of_path, path_of
+from aide_compare.base.paths import escaped, key_of_path, path_of, unescaped
 from aide_compare.changes.certificates import links_to_new
 from aide_compare.changes.enabled import SCRIPT, enabled_by
-from aide_compare.changes.entries import Entry, number_of
-from aide_compare.changes.ordered import OrderedDatabase, usr_of
 from aide_compare.changes.signed import Signed, file_name, open_package, tar_of
+from aide_compare.changes.usr import MERGED, usr_of
 from aide_compare.compare.kept_open import NEW, OLD, EntryReader, SidedEntry, key_of_entry
 from aide_compare.compare.unpack import Copy
 from aide_compare.lines.attributes import DIGEST_COLUMNS
+from aide_compare.lines.rights import is_access_list
 
 CONFIGURATION = b"/etc/"
 SLASH = key_of_path(b"/")
@@ -94,12 +94,33 @@ def members_of(file: IO[bytes]) -> Iterator[Member]:
             yield Member(path, fields, text)
 
 
+def number_of(field: bytes) -> int:
+    """The number that a field is; 0 if it is none."""
+    return int(field) if field.isdigit() else 0
+
+
+def links_of(copy: Copy, paths: Collection[bytes]) -> dict[bytes, bytes]:
+    """Where those of these paths point to that are links in a database."""
+    reader = EntryReader(copy)
+    keys = {key_of_path(path): path for path in paths}
+    last = max(keys)
+    found = {}
+    for key, _, line in reader.entries(OLD):
+        if key > last:
+            break
+        if key in keys:
+            fields = reader.fields(line)
+            if type_digits(fields) == TYPES[tarfile.SYMTYPE]:
+                found[keys[key]] = unescaped(fields.get("lname", ABSENT))
+    return found
+
+
 class Upgrades:
     """The files of signed packages on a machine, by the keys of their paths. Of `replaced` the old
     entries get another content, and those of `gone` are no longer there."""
 
     def __init__(self, old: Copy, directories: Sequence[str]) -> None:
-        self.moved = usr_of(OrderedDatabase(old.fd, "old"))
+        self.moved = usr_of(links_of(old, MERGED).get)
         self.directories = directories
         self.files: dict[bytes, FieldsByColumn] = {}
         self.replaced: set[bytes] = set()
@@ -183,8 +204,9 @@ def is_directory(fields: FieldsByColumn) -> bool:
 
 def has_access_list(entry: FieldsByColumn) -> bool:
     """Whether an access list gives a right beyond the mode."""
-    columns = {"perm": 0, "acl": 1}
-    return Entry([entry.get(name, ABSENT) for name in columns], columns).has_access_list
+    field = entry.get("acl", ABSENT)
+    is_link = type_digits(entry) == TYPES[tarfile.SYMTYPE]
+    return field != ABSENT and not is_link and is_access_list(field)
 
 
 def with_content(entry: FieldsByColumn, new: FieldsByColumn) -> FieldsByColumn:
@@ -201,7 +223,7 @@ def with_content(entry: FieldsByColumn, new: FieldsByColumn) -> FieldsByColumn:
 def with_links(entry: FieldsByColumn, rise: int) -> FieldsByColumn:
     """A directory with another number of subdirectories. A file system that does not count them has
     one link for each."""
-    count = number_of(entry.get("lcount", ABSENT)) or 0
+    count = number_of(entry.get("lcount", ABSENT))
     if count < 2:
         return entry
     return {**entry, "lcount": b"%d" % (count + rise)}
@@ -214,7 +236,7 @@ def new_entry(
     that."""
     more = dict(name=escaped(path), capabilities=ABSENT, xattrs=ABSENT)
     more.update(uid=new["uid"], gid=new["gid"])
-    count = number_of(likely.get("lcount", ABSENT)) or 0
+    count = number_of(likely.get("lcount", ABSENT))
     if count > 1:
         more["lcount"] = b"%d" % (2 + rise if is_directory(new) else 1)
     return {name: more.get(name, field) for name, field in with_content(likely, new).items()}

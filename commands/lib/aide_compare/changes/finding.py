@@ -12,7 +12,7 @@ from aide_compare.base.paths import key_of_path, path_of
 from aide_compare.base.words import KINDS, SEVERITIES
 from aide_compare.changes.importance import Importance, importance_of
 from aide_compare.changes.severity import Weight
-from aide_compare.changes.sides import NOWHERE, Weighed
+from aide_compare.changes.weighing import Weighed
 from aide_compare.lines.change import Counts, Standing
 
 BLOCK = 1 << 16
@@ -23,8 +23,7 @@ class Record(NamedTuple):
     """What is kept of a finding beside its path, as numbers."""
 
     path_at: int  # In its block, behind the records of this.
-    old_at: int  # NOWHERE if there is no entry.
-    new_at: int
+    line_at: int  # In the file of the lines.
     owner: int
     directory: int
     package: int  # 0 for none.
@@ -51,7 +50,8 @@ class Record(NamedTuple):
         return importance_of(weight, self.known_owner, KINDS[self.kind])
 
 
-FORM = struct.Struct("=QQQQIIHBBH")
+FORM = struct.Struct("=QQQIIHBBH")
+MAX_OWNER = (1 << 64) - 1
 # The bits of a record.
 IS_RECORDED = 1 << 0
 IS_MADE = 1 << 1
@@ -64,9 +64,8 @@ PLACES = {word: place for words in (KINDS, SEVERITIES) for place, word in enumer
 
 
 class Finding(NamedTuple):
-    """A change that is not silent, as the databases have it. A place is NOWHERE if there is no
-    entry. `owner` is the number of its user: root if root's entry is among the two, None if it was
-    not measured."""
+    """A change that is not silent. `owner` is the number of its user: root if root's entry is among
+    the two, None if it was not measured."""
 
     path: bytes
     kind: str
@@ -75,8 +74,7 @@ class Finding(NamedTuple):
     rank: int  # Within its severity: a smaller one is read first.
     package: str  # The name and the version of the package of one that is recorded or made.
     is_made: bool  # Open, and made by a package's scripts at a path of its own: told by package.
-    old_at: int
-    new_at: int
+    line_at: int  # Where its line begins.
     is_file: bool
     is_link: bool
     owner: Optional[int]
@@ -144,7 +142,7 @@ class Findings:
         return self.count
 
     def add(self, weighed: Weighed) -> None:
-        kind, key, old_at, new_at, weight, known, is_content = weighed
+        kind, key, line_at, weight, known, is_content = weighed
         directory = self.directories.number_of(key)
         if directory == len(self.samples):
             self.samples.append(self.count)
@@ -153,9 +151,8 @@ class Findings:
             bits |= HAS_OWNER
         self.new_records += FORM.pack(
             len(self.new_keys),
-            old_at,
-            new_at,
-            min(known.owner or 0, NOWHERE),
+            line_at,
+            max(0, min(known.owner or 0, MAX_OWNER)),
             directory,
             0,
             weight.rank,
@@ -246,8 +243,7 @@ class Findings:
             rank=record.rank,
             package=self.packages[record.package],
             is_made=bool(record.bits & IS_MADE),
-            old_at=record.old_at,
-            new_at=record.new_at,
+            line_at=record.line_at,
             is_file=bool(record.bits & IS_FILE),
             is_link=bool(record.bits & IS_LINK),
             owner=record.known_owner,

@@ -5,8 +5,8 @@ from __future__ import annotations
 from typing import NamedTuple, Optional
 
 from aide_compare.base.words import SEVERITIES
-from aide_compare.changes.entries import ROOT
 from aide_compare.changes.severity import Weight
+from aide_compare.lines.rights import ROOT
 
 FIRST_USER = 1000  # The first number of a user who is no service, as in login.defs(5).
 

@@ -5,19 +5,19 @@ package's records on this host have is grouped by the package, and the rest is o
 """
 from __future__ import annotations
 
+import json
 from typing import Iterator, NamedTuple, Optional, Set
 
 from aide_compare.base.ending import Fault, Status
 from aide_compare.base.words import SEVERITIES, TRUSTED_SIDES
-from aide_compare.changes.entries import Sides
 from aide_compare.changes.finding import Finding, Findings
 from aide_compare.changes.importance import Importance
-from aide_compare.changes.ordered import usr_of
 from aide_compare.changes.packages import INFO_DIRECTORY, Dpkg, Named
 from aide_compare.changes.recorded import Matcher, Sieve
 from aide_compare.changes.rpm import Rpm
-from aide_compare.changes.sides import BothDatabases
-from aide_compare.lines.change import BY_PROOF, Counts, Standing
+from aide_compare.changes.usr import link_here, usr_of
+from aide_compare.changes.weighing import Scales
+from aide_compare.lines.change import BY_PROOF, Change, Counts, Standing, change_of
 from aide_compare.lines.reader import Reader, Refused
 
 # Each takes some 20 bytes of memory, and its record and its path are in a private file. Of more
@@ -37,10 +37,11 @@ class JudgedLine(NamedTuple):
 
 class Judged:
     """The changes of a comparison: the `findings`, which are not silent, in the order of paths, the
-    `counts` of all, and the packages that are `named`, with whose records say so in `by`."""
+    `counts` of all, and the packages that are `named`, with whose records say so in `by`. `reader`
+    has not given any line before; its file is read again for the values of a finding."""
 
-    def __init__(self, reader: Reader, old_fd: int, new_fd: int) -> None:
-        self.databases = BothDatabases(old_fd, new_fd)
+    def __init__(self, reader: Reader) -> None:
+        self.file = reader.file
         self.named = Named()
         self.by = ""
         self.silent = dict.fromkeys((each.value for each in BY_PROOF.values()), 0)
@@ -49,13 +50,16 @@ class Judged:
         # Of dpkg's records: what is as in the trusted pair.
         self.trusted: Set[bytes] = set()
         self.sources = Sieve()  # Of compiled files, as they are there.
-        for kind, path, silent, key, _ in reader.outlines():
-            if silent is not None:
-                self.silent[silent.value] += 1
-                if silent is Standing.TRUSTED:
-                    self._note_trusted(path)
+        scales = Scales()
+        line_at = self.file.tell()
+        for outline in reader.outlines():
+            if outline.silent is not None:
+                self.silent[outline.silent.value] += 1
+                if outline.silent is Standing.TRUSTED:
+                    self._note_trusted(outline.path)
             else:
-                self.findings.add(self.databases.weighed(kind, path, key))
+                self.findings.add(scales.weighed(outline, line_at))
+            line_at += len(outline.line)
             if len(self.findings) > MAX_FINDINGS:
                 raise Refused(0, f"there are more than {MAX_FINDINGS} changes that are not silent")
         self.findings.end()
@@ -70,7 +74,7 @@ class Judged:
 
     def group_by(self, records: Dpkg | Rpm) -> None:
         """Finds out which changes are as the packages' records of this machine have them."""
-        matcher = Matcher(records, usr_of(self.databases.new), self.read, self.sources)
+        matcher = Matcher(records, usr_of(link_here), self.read, self.sources)
         try:
             matcher.match(self.findings)
             trusted = self.trusted if self.has_pair else None
@@ -80,9 +84,10 @@ class Judged:
             raise
         self.by = records.by
 
-    def read(self, finding: Finding) -> Sides:
-        """What both databases say of a finding, None where there is no entry."""
-        return self.databases.read(finding.old_at, finding.new_at)
+    def read(self, finding: Finding) -> Change:
+        """The values of a finding, as its line has them."""
+        self.file.seek(finding.line_at)
+        return change_of(json.loads(self.file.readline()))
 
     @property
     def counts(self) -> Counts:

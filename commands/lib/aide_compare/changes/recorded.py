@@ -10,12 +10,12 @@ from typing import Callable, Dict, Iterable, Iterator, List, NamedTuple, Optiona
 from aide_compare.base.ending import Fault
 from aide_compare.base.files import BLOCK, open_regular
 from aide_compare.base.paths import path_of
-from aide_compare.changes.entries import Entry, Sides, has_strong
 from aide_compare.changes.finding import IS_CONTENT, IS_LINK, Finding, Findings
 from aide_compare.changes.packages import Dpkg, Member, Members
 from aide_compare.changes.rpm import Rpm
-from aide_compare.lines.attributes import DIGEST_COLUMNS
-from aide_compare.lines.change import Standing
+from aide_compare.lines.attributes import COLUMNS_OF_DIGESTS, DIGEST_COLUMNS
+from aide_compare.lines.change import Change, Standing, Values
+from aide_compare.lines.decoded import exact_bytes
 
 MAX_CONTENT = 2 << 30
 # So many findings, and so many bytes of their paths, are asked for at once.
@@ -24,8 +24,12 @@ MAX_BYTES = 1 << 21
 SIEVE_BYTES = 1 << 20
 COMPILED = re.compile(rb"(/.*)/__pycache__/([^/]+)\.cpython-[0-9]+(?:\.opt-[12])?\.pyc")
 
-# What gives both entries of a finding.
-Read = Callable[[Finding], Sides]
+# Two files with one digest of less than 256 bits may be made on purpose, so that it does not say
+# what a content is.
+STRONG_BYTES = 32
+
+# What gives the values of a finding.
+Read = Callable[[Finding], Change]
 
 
 class AskedPlace(NamedTuple):
@@ -39,16 +43,37 @@ class AskedPlace(NamedTuple):
 Asked = Dict[bytes, AskedPlace]
 
 
+def digests_of(values: Values) -> Dict[str, bytes]:
+    """The digests of a side, by their columns."""
+    return {
+        column: bytes.fromhex(str(values[label]))
+        for label, column in COLUMNS_OF_DIGESTS.items()
+        if label in values
+    }
+
+
+def has_strong(digests: Dict[str, bytes]) -> bool:
+    """Whether one of these digests says what a content is."""
+    return any(len(digest) >= STRONG_BYTES for digest in digests.values())
+
+
+def link_of(values: Values) -> Optional[bytes]:
+    """Where a symbolic link points to; None if that is not known."""
+    link = values.get("Lname")
+    if link is None or isinstance(link, int):
+        return None
+    return exact_bytes(link)
+
+
 class Contents:
     """Reads files of this machine, at most so many bytes of all together."""
 
     def __init__(self) -> None:
         self.remaining = MAX_CONTENT
 
-    def fits(self, path: bytes, entry: Entry, member: Member) -> bool:
-        """Whether an entry has the digest of a member. Without a digest of this kind, the file on
-        this machine has to have both that and those of the entry."""
-        known = entry.digests()
+    def fits(self, path: bytes, known: Dict[str, bytes], member: Member) -> bool:
+        """Whether these digests of an entry are those of a member. Without a digest of this kind,
+        the file on this machine has to have both that and those of the entry."""
         if member.column in known:
             return known[member.column] == member.digest
         import hashlib
@@ -84,11 +109,9 @@ def source_of(path: bytes) -> Optional[bytes]:
     return b"%s/%s.py" % match.groups()
 
 
-def target_of(path: bytes, entry: Optional[Entry]) -> Optional[bytes]:
+def target_of(path: bytes, values: Values) -> Optional[bytes]:
     """The path to which a symbolic link points, as it is written, without following others."""
-    if entry is None:
-        return None
-    link = entry.link()
+    link = link_of(values)
     if not link:
         return None
     joined = os.path.normpath(os.path.join(os.path.dirname(path), link))
@@ -192,16 +215,15 @@ class Matcher:
 
     def _matched(self, finding: Finding) -> Finding:
         """The same finding with its package if it is recorded, or was made by that."""
-        sides = self.read(finding)
-        new = sides.new
-        if new is None:
+        change = self.read(finding)
+        if change.kind == "removed":
             return finding
         members = self.members.get(finding.path, [])
         for member in members:
-            if self._has(finding.path, sides.old, new, member):
+            if self._has(change, member):
                 return finding._replace(standing=Standing.RECORDED, package=member.package)
         package = ""
-        if new.is_file:
+        if finding.is_file:
             package = self._maker(finding.path, members)
         return finding._replace(is_made=bool(package), package=package)
 
@@ -215,14 +237,15 @@ class Matcher:
             return ""
         return members[0].package if members else ""
 
-    def _has(self, path: bytes, old: Optional[Entry], new: Entry, member: Member) -> bool:
-        """Whether a member of a package is this new entry. dpkg does not know where a link points
+    def _has(self, change: Change, member: Member) -> bool:
+        """Whether a member of a package is the new entry. dpkg does not know where a link points
         to: it has to be a path of the same package."""
-        if new.is_file and member.digest:
-            return self.contents.fits(path, new, member)
-        if new.is_link and member.link is not None:
-            return new.link() == member.link
-        if new.is_link:
-            target = self.usr(target_of(path, new) or b"/")
+        new = change.new
+        if change.type == "File" and member.digest:
+            return self.contents.fits(change.path, digests_of(new), member)
+        if change.type == "Link" and member.link is not None:
+            return link_of(new) == member.link
+        if change.type == "Link":
+            target = self.usr(target_of(change.path, new) or b"/")
             return any(other.package == member.package for other in self.members.get(target, ()))
-        return new.is_directory and old is None
+        return change.type == "Directory" and change.kind == "added"

@@ -6,20 +6,18 @@ import binascii
 import os
 import stat
 from collections.abc import Callable, Iterator
-from typing import NamedTuple, Optional, Tuple
+from typing import NamedTuple, Tuple
 
-from aide_compare.base.database import ABSENT, RUN_BITS, SET_ID
+from aide_compare.base.database import RUN_BITS, SET_ID
 from aide_compare.base.ending import Fault, Status
 from aide_compare.base.escapes import shown
 from aide_compare.base.files import lines_of
 from aide_compare.base.paths import MAX_PATH, Pattern, Table, pattern_of
 from aide_compare.base.words import SEVERITIES
-from aide_compare.changes.entries import HAS_GROUP, HAS_USER, ROOT, Entry
+from aide_compare.lines.rights import ROOT, Rights, Side
 
 ALL_WRITE = 0o002
 GROUP_WRITE = 0o020
-# Columns that say who may do what with an entry. Flags do not: a directory that grows gets one.
-RIGHTS = ("perm", "uid", "gid", "acl", "xattrs", "selinux", "capabilities")
 HERE = os.path.dirname(os.path.abspath(__file__))
 # In the repository, and where packaging/install puts it.
 SHIPPED = (
@@ -28,70 +26,49 @@ SHIPPED = (
 )
 OTHERWISE = "medium"
 RANKS = 1000  # Of each severity.
-MAX_REMEMBERED = 1 << 12
 # Stands for a program in a directory of which the rights changed.
-PROGRAM = Entry([b"100755"], {"perm": 0})
-
-# An entry of one night; None if there is none.
-Side = Optional[Entry]
+PROGRAM = Rights("File", 0o755, ROOT, ROOT, None, None, None, None)
 
 
-def set_id_bits(entry: Side) -> int:
-    """The set-ID bits of an entry. On a directory one of them only says whose group new files
+def set_id_bits(rights: Side, mode: int) -> int:
+    """The set-ID bits of a mode. On a directory one of them only says whose group new files
     have."""
-    if entry is None or stat.S_ISDIR(entry.mode):
+    if rights is None or rights.is_directory:
         return 0
-    return entry.mode & SET_ID
+    return mode & SET_ID
 
 
-def all_can_write(entry: Side) -> bool:
-    """Whether everybody can write an entry. The mode of a link means nothing."""
-    return entry is not None and not entry.is_link and bool(entry.mode & ALL_WRITE)
-
-
-def is_sticky_directory(entry: Entry) -> bool:
-    """Whether names in a directory belong to the owners of the files."""
-    return stat.S_ISDIR(entry.mode) and bool(entry.mode & stat.S_ISVTX)
-
-
-def user_of(entry: Entry) -> int | None:
-    """The number of the owner; None if the rule of the entry did not ask for it."""
-    if not entry.bits & HAS_USER:
-        return None
-    return entry.number("uid")
-
-
-def group_of(entry: Entry) -> int | None:
-    if not entry.bits & HAS_GROUP:
-        return None
-    return entry.number("gid")
+def may_have_set_id(rights: Side) -> bool:
+    return rights is not None and bool(set_id_bits(rights, rights.most))
 
 
 def has_other_type(old: Side, new: Side) -> bool:
-    return old is not None and new is not None and stat.S_IFMT(old.mode) != stat.S_IFMT(new.mode)
+    return old is not None and new is not None and old.type != new.type
 
 
 def has_same_rights(old: Side, new: Side) -> bool:
-    """Whether both nights have the entry, and nobody can do more or less with it."""
-    if old is None or new is None or has_other_type(old, new):
-        return False
-    return all(old.field(column) == new.field(column) for column in RIGHTS)
+    """Whether both nights have the entry, and nobody can do more or less with it. Flags do not
+    count: a directory that grows gets one."""
+    return old is not None and old.is_known and old == new
 
 
 def gains_set_id(old: Side, new: Side) -> bool:
-    """Whether a set-ID bit is there now that was not there before."""
-    return bool(set_id_bits(new) & ~set_id_bits(old))
+    """Whether a set-ID bit may be there now that may not have been there before."""
+    if new is None:
+        return False
+    before = 0 if old is None else old.least
+    return bool(set_id_bits(new, new.most) & ~set_id_bits(old, before))
 
 
-def has_capabilities(entry: Side) -> bool:
-    return entry is not None and entry.has_capabilities
+def has_capabilities(rights: Side) -> bool:
+    return rights is not None and rights.has_capabilities
 
 
 def gains_capabilities(old: Side, new: Side) -> bool:
     """Whether a file has capabilities now, and not the same ones before."""
-    if new is None or not has_capabilities(new):
+    if new is None or not new.has_capabilities:
         return False
-    return old is None or old.field("capabilities") != new.field("capabilities")
+    return old is None or old.capability_sets != new.capability_sets
 
 
 def rights_in(text: bytes, prefix: bytes) -> dict[bytes, bytes]:
@@ -115,69 +92,77 @@ def list_in(part: bytes) -> bytes:
     return base64.b64decode(part, validate=True)
 
 
-def listed_rights(entry: Side) -> dict[bytes, bytes]:
+def listed_rights(rights: Side) -> dict[bytes, bytes]:
     """Whom the access lists of an entry give rights, and which ones; without those that its mode
     has too."""
-    if entry is None or entry.is_link or entry.field("acl") == ABSENT:
+    if rights is None or rights.is_link or rights.acl is None:
         return {}
-    field = entry.field("acl")
+    field = rights.acl
     try:
         _, own, inherited = field.split(b",")
-        rights = rights_in(list_in(own), b"")
+        listed = rights_in(list_in(own), b"")
         inherited_rights = rights_in(list_in(inherited), b"default:")
     except (ValueError, binascii.Error):
         return {field: b"rwx"}  # An unknown form is one that was not there before.
     for whom in (b"user:", b"group:", b"other:"):
-        rights.pop(whom, None)
-    rights.update(inherited_rights)
-    rights.pop(b"default:user:", None)
-    return rights
+        listed.pop(whom, None)
+    listed.update(inherited_rights)
+    listed.pop(b"default:user:", None)
+    return listed
 
 
 def gains_acl(old: Side, new: Side) -> bool:
     """Whether an access list gives somebody a right that it did not give before."""
-    if old is not None and new is not None and old.field("acl") == new.field("acl"):
+    if old is not None and new is not None and old.acl == new.acl:
         return False
     before = listed_rights(old)
     return any(set(bits) - set(before.get(whom, b"")) for whom, bits in listed_rights(new).items())
 
 
-def is_device_of_another(entry: Entry) -> bool:
-    """Whether a device is another user's than root's, who can give himself all rights on it."""
-    return entry.is_device and user_of(entry) not in (None, ROOT)
+def may_be_device_of_another(rights: Rights) -> bool:
+    """Whether a device may be another user's than root's, who can give himself all rights on it."""
+    return (rights.is_device or not rights.type) and rights.user != ROOT
+
+
+def comes_open(new: Rights) -> bool:
+    """Whether an entry that was not there gives more than its owner a right. In a sticky directory
+    names belong to the owners of the files."""
+    is_sticky = new.is_directory and bool(new.least & stat.S_ISVTX)
+    return bool(new.most & ALL_WRITE) and not is_sticky
 
 
 def gains_writers(old: Side, new: Side) -> bool:
-    """Whether somebody can write now who could not before: everybody, or another user or group than
-    root's.
+    """Whether somebody may write now who could not before: everybody, or another user or group than
+    root's. The mode of a link means nothing.
 
     What other users than root do with their own files counts only if everybody can write there.
     """
     if new is None or new.is_link:
         return False
     if old is None or has_other_type(old, new):
-        is_open = all_can_write(new) and not is_sticky_directory(new)
-        return is_open or is_device_of_another(new)
-    if all_can_write(new) and not all_can_write(old):
+        return comes_open(new) or may_be_device_of_another(new)
+    if new.most & ALL_WRITE and not old.least & ALL_WRITE:
         return True
-    if user_of(old) not in (None, ROOT):
+    if old.user not in (None, ROOT):
         return False
-    if user_of(old) == ROOT and user_of(new) not in (None, ROOT):
+    if old.user == ROOT and new.user != ROOT:
         return True
-    had_group = bool(old.mode & GROUP_WRITE) and group_of(old) == group_of(new)
-    return bool(new.mode & GROUP_WRITE) and group_of(new) != ROOT and not had_group
+    had_group = bool(old.least & GROUP_WRITE) and old.group == new.group
+    return bool(new.most & GROUP_WRITE) and new.group != ROOT and not had_group
 
 
-def is_executable(entry: Side) -> bool:
-    return entry is not None and stat.S_ISREG(entry.mode) and bool(entry.mode & RUN_BITS)
+def may_be_executable(rights: Side) -> bool:
+    if rights is None:
+        return False
+    return (rights.is_file or not rights.type) and bool(rights.most & RUN_BITS)
 
 
-def type_of(old: Side, new: Side) -> int:
+def type_of(old: Side, new: Side) -> str:
     """The type of the entry as it is now, or as it was if it is gone."""
-    entry = new or old
-    if entry is None:
-        return 0
-    return stat.S_IFMT(entry.mode)
+    rights = new or old
+    if rights is None:
+        return ""
+    return rights.type
 
 
 # What each word of a line tests.
@@ -188,24 +173,17 @@ TESTS: dict[str, Callable[[Side, Side], bool]] = {
     "changed": lambda old, new: old is not None and new is not None,
     "type": has_other_type,
     "same-rights": has_same_rights,
-    "set-id": lambda old, new: bool(set_id_bits(old) | set_id_bits(new)),
+    "set-id": lambda old, new: may_have_set_id(old) or may_have_set_id(new),
     "new-set-id": gains_set_id,
     "capabilities": lambda old, new: has_capabilities(old) or has_capabilities(new),
     "new-capabilities": gains_capabilities,
     "new-acl": gains_acl,
     "new-writers": gains_writers,
-    "executable": lambda old, new: is_executable(old) or is_executable(new),
-    "file": lambda old, new: type_of(old, new) == stat.S_IFREG,
-    "directory": lambda old, new: type_of(old, new) == stat.S_IFDIR,
-    "link": lambda old, new: type_of(old, new) == stat.S_IFLNK,
+    "executable": lambda old, new: may_be_executable(old) or may_be_executable(new),
+    "file": lambda old, new: type_of(old, new) == "File",
+    "directory": lambda old, new: type_of(old, new) == "Directory",
+    "link": lambda old, new: type_of(old, new) == "Link",
 }
-
-
-def fields_of_tests(entry: Side) -> tuple[bytes, ...]:
-    """All that a test looks at."""
-    if entry is None:
-        return ()
-    return tuple([entry.field(column) for column in TESTED])
 
 
 class Weight(NamedTuple):
@@ -215,13 +193,20 @@ class Weight(NamedTuple):
     rank: int
 
 
-class Rights:
+class Held(NamedTuple):
     """What the rights of an entry on both sides mean: the bits of the tests that hold, and whether
     somebody has other rights on the programs in it, a directory."""
 
-    def __init__(self, held: int, opens_programs: bool) -> None:
-        self.held = held
-        self.opens_programs = opens_programs
+    tests: int
+    opens_programs: bool
+
+
+def held_by(old: Side, new: Side) -> Held:
+    """What the rights of an entry on both sides mean."""
+    held = sum(BITS[word] for word, test in TESTS.items() if test(old, new))
+    is_kept = old is not None and new is not None
+    opens_programs = is_kept and type_of(old, new) == "Directory"
+    return Held(held, opens_programs and not has_same_rights(old, new))
 
 
 # A weight, and a test of the names in a directory that have it.
@@ -230,7 +215,6 @@ Names = Tuple[Weight, Callable[[bytes], object]]
 
 # The bit of each test in a number that says which hold.
 BITS = {word: 1 << place for place, word in enumerate(TESTS)}
-TESTED = ("attr", *RIGHTS)
 MAX_DIRECTORIES = 1 << 8
 OTHER_WEIGHT = Weight(OTHERWISE, SEVERITIES.index(OTHERWISE) * RANKS)
 
@@ -256,8 +240,7 @@ class Severity:
         lines = lines_of(path, "the table of severities")
         rows = [self._rows(number, *line) for number, line in enumerate(lines)]
         self.table = Table([row for each in rows for row in each])
-        # What is known of entries with these rights, and of names in these directories.
-        self.known: dict[object, Rights] = {}
+        # What is known of names in these directories.
         self.names: dict[tuple[bytes, int], list[Names]] = {}
 
     @staticmethod
@@ -278,32 +261,18 @@ class Severity:
 
     def of(self, path: bytes, old: Side, new: Side) -> Weight:
         """How much a change of the entry with this path matters."""
-        return self.weight(path, self.rights(old, new))
+        return self.weight(path, held_by(old, new))
 
-    def rights(self, old: Side, new: Side) -> Rights:
-        """What the rights of an entry on both sides mean for its severity. Most entries have those
-        of many others."""
-        fields = (fields_of_tests(old), fields_of_tests(new))
-        rights = self.known.get(fields)
-        if rights is None:
-            held = sum(BITS[word] for word, test in TESTS.items() if test(old, new))
-            is_directory = type_of(old, new) == stat.S_IFDIR
-            opens = is_directory and old is not None and new is not None
-            rights = Rights(held, opens and not has_same_rights(old, new))
-            if len(self.known) < MAX_REMEMBERED:
-                self.known[fields] = rights
-        return rights
-
-    def weight(self, path: bytes, rights: Rights) -> Weight:
+    def weight(self, path: bytes, held: Held) -> Weight:
         """The same by what the rights mean.
 
         Who has other rights on a directory than before has them on the programs in it, so the
         greater of both counts.
         """
-        weight = self._first(path, rights.held)
-        if not rights.opens_programs:
+        weight = self._first(path, held.tests)
+        if not held.opens_programs:
             return weight
-        inside = self._first(path + b"/*", self.rights(PROGRAM, PROGRAM).held)
+        inside = self._first(path + b"/*", held_by(PROGRAM, PROGRAM).tests)
         return min(weight, inside, key=lambda each: each.rank)
 
     def _first(self, path: bytes, held: int) -> Weight:

@@ -4,7 +4,7 @@ from __future__ import annotations
 import json
 import os
 import re
-from collections.abc import Iterator, Mapping
+from collections.abc import Collection, Iterator, Mapping
 from contextlib import contextmanager, suppress
 
 from aide_compare.base.ending import Fault, Status
@@ -15,9 +15,12 @@ from aide_compare.base.program import CONFIGURATION, DATABASES, DESCRIPTORS, LIN
 from aide_compare.base.program import find_installed, run_program
 from aide_compare.base.words import TRUSTED_SIDES
 from aide_compare.compare.configuration import NONE, Settings, Texts
+from aide_compare.lines.rights import RIGHTS
 
 MAX_SETTINGS = 1 << 16
 FORMAT = 3  # Of the line that says what a configuration means.
+FORCE_NAME = b"report_force_attrs"
+FORCE = FORCE_NAME + b"="
 LINE_BEFORE = rb"aide: before:(\d+):"
 
 
@@ -45,19 +48,26 @@ def _configuration_places(text: bytes) -> Iterator[dict[int, int]]:
 
 
 def _ask(
-    program: str, words: list[bytes], texts: Texts, places: Mapping[int, int], take: Taker
+    program: str,
+    words: list[bytes],
+    texts: Texts,
+    places: Mapping[int, int],
+    take: Taker,
+    first: bytes = b"",
 ) -> Answer:
-    """Runs a program over texts, by these words and those that name the texts."""
+    """Runs a program over texts, by these words and those that name the texts. `first`: lines before
+    all of them."""
     defined = texts.defining_host()
-    if defined.texts.before:
-        words = [*words, b"--before=" + defined.texts.before]
+    before = first + defined.texts.before
+    if before:
+        words = [*words, b"--before=" + before]
     with _configuration_places(defined.texts.config) as configuration:
         name = NONE
         if configuration:
             name = f"/proc/self/fd/{CONFIGURATION}"
         descriptors = {**places, **configuration}
         answer = run_program(program, [*words, b"-c", name.encode()], descriptors, take)
-    return Answer(answer.status, _moved_back(answer.errors, defined.moved))
+    return Answer(answer.status, _moved_back(answer.errors, defined.moved + first.count(b"\n")))
 
 
 def _moved_back(errors: bytes, moved: int) -> bytes:
@@ -69,17 +79,37 @@ def _moved_back(errors: bytes, moved: int) -> bytes:
 
 
 def ask_for_changes(
-    program: str, texts: Texts, databases: Mapping[str, int], take: Taker
+    program: str,
+    texts: Texts,
+    databases: Mapping[str, int],
+    take: Taker,
+    forced: Collection[str] = (),
 ) -> Answer:
     """Compares databases, by their descriptors for each side: what the program writes goes to
-    `take`."""
+    `take`, with the `forced` attributes of each changed entry."""
     places = {DESCRIPTORS[side]: descriptor for side, descriptor in databases.items()}
-    words = [b"-E", b"--after=" + texts.after + b"\n" + DATABASES.encode()]
+    first = b""
+    last = DATABASES.encode()
+    if forced:
+        line = FORCE + "+".join(forced).encode() + b"\n"
+        # Those after `report_url=stdout` do not count, and of the others the last one does.
+        first = line
+        last = line + last
+    words = [b"-E", b"--after=" + texts.after + b"\n" + last]
     for side in TRUSTED_SIDES:
         if side in databases:
             option = "--" + side.replace("_", "-")
             words.append(f"{option}=/proc/self/fd/{DESCRIPTORS[side]}".encode())
-    return _ask(program, words, texts, places, take)
+    return _ask(program, words, texts, places, take, first)
+
+
+def ask_for_lines(texts: Texts, databases: Mapping[str, int], take: Taker) -> Answer:
+    """Asks for the lines of the changes. Each has the rights of both sides, and the attributes that
+    the texts force themselves."""
+    forced = set(RIGHTS)
+    if any(FORCE_NAME in text for text in texts):
+        forced.update((Question(texts).settings or {}).get(FORCE_NAME.decode(), ()))
+    return ask_for_changes(find_installed(LINES), texts, databases, take, sorted(forced))
 
 
 def ask_for_settings(texts: Texts, take: Taker) -> Answer:

@@ -13,7 +13,7 @@ from aide_compare.base.escapes import shown
 from aide_compare.base.files import nameless
 from aide_compare.base.program import LINES, Answer, Drain, Tail, find_installed
 from aide_compare.base.words import SIDES, TRUSTED_SIDES, age_in_words, counted, words_of_side
-from aide_compare.compare.asking import Question, ask_for_changes, defines_group, odd_answer
+from aide_compare.compare.asking import Question, ask_for_lines, defines_group, odd_answer
 from aide_compare.compare.comparison import Comparison, Digests, Lines, Refusal, Request
 from aide_compare.compare.configuration import ADVICE, Databases, Settings, Texts, databases_of
 from aide_compare.compare.configuration import without_includes
@@ -202,7 +202,7 @@ class Work:
             drain.take(block)
             tail.take(block)
 
-        answer = ask_for_changes(program, self.texts, self.compared, take)
+        answer = ask_for_lines(self.texts, self.compared, take)
         self._note_answer(answer, self.texts)
         if answer.status > 7:
             raise self._refusal()

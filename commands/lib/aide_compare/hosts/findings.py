@@ -14,18 +14,14 @@ from array import array
 from typing import BinaryIO, Iterator, NamedTuple
 
 from aide_compare.base.ending import Fault, Status, write_blocks
-from aide_compare.base.escapes import shown
 from aide_compare.base.files import BLOCK
-from aide_compare.base.paths import key_of_path
 from aide_compare.base.words import SEVERITIES, SIDES
-from aide_compare.changes.entries import owner_of
-from aide_compare.changes.importance import Importance, importance_of
-from aide_compare.changes.ordered import OrderedDatabase
-from aide_compare.changes.severity import Severity
+from aide_compare.changes.weighing import Scales
 from aide_compare.compare.comparison import Comparison
-from aide_compare.lines.change import Change, Counts, Fields, Standing, change_of
+from aide_compare.lines.change import Counts, Fields, Standing, change_of
 from aide_compare.lines.reader import ENCODE, LINE_LIMIT, ODD, with_members
 from aide_compare.lines.reader import Refused, reader_over
+from aide_compare.lines.rights import differing
 
 FORMAT = 2
 # What a line gets beside what aide_lines has written: its severity, the group of its owner, and its
@@ -47,46 +43,27 @@ class Judgement(NamedTuple):
     sizes: list[int]
 
 
-class Databases:
-    """The entries of both databases, which are asked for in the order of paths."""
-
-    def __init__(self, old: int, new: int) -> None:
-        self.old = OrderedDatabase(old, "old")
-        self.new = OrderedDatabase(new, "new")
-        self.severity = Severity()
-
-    def importance(self, change: Change) -> Importance:
-        """The place of a change among others."""
-        key = key_of_path(change.path)
-        old = self.old.entry_at(self.old.find(key))
-        new = self.new.entry_at(self.new.find(key))
-        if (old is not None, new is not None) != (change.kind != "added", change.kind != "removed"):
-            text = f"the lines are not of these databases: {shown(change.path, 300)}"
-            raise Fault(Status.DATABASE, text)
-        weight = self.severity.of(change.path, old, new)
-        return importance_of(weight, owner_of(old, new), change.kind)
-
-
 def judge(comparison: Comparison) -> Judgement:
     """Judges the changes of a comparison, in little memory however many there are."""
-    databases = Databases(comparison.compared["old"], comparison.compared["new"])
+    scales = Scales()
     numbers = dict.fromkeys(Counts._fields, 0)
     levels = array("B")
     ranks = array("H")
     sizes = [0] * SILENT
     try:
-        for line, change in reader_over(comparison.known_lines().fd):
-            numbers[change.standing.value] += 1
-            if change.standing.is_silent:
+        for outline in reader_over(comparison.known_lines().fd).outlines():
+            if outline.silent is not None:
+                numbers[outline.silent.value] += 1
                 levels.append(SILENT)
                 ranks.append(0)
                 continue
-            importance = databases.importance(change)
+            importance = scales.weighed(outline, 0).importance
             level = importance.level * GROUPS + importance.owners
             ranks.append(importance.rank)
-            numbers[f"{Standing.OPEN.value}_{SEVERITIES[level // GROUPS]}"] += 1
+            numbers[Standing.OPEN.value] += 1
+            numbers[f"{Standing.OPEN.value}_{SEVERITIES[importance.level]}"] += 1
             levels.append(level)
-            sizes[level] += len(line) + BESIDE
+            sizes[level] += len(outline.line) + BESIDE
     except Refused as refused:
         raise Fault(Status.DEVICE, f"the lines of aide_lines are not understood: {refused}")
     return Judgement(Counts(**numbers), levels, ranks, sizes)
@@ -100,9 +77,10 @@ def kept_lines(comparison: Comparison, judgement: Judgement, limit: int) -> Iter
     yield ENCODE({"format": FORMAT, **databases}).encode() + b"\n"
     rooms = rooms_of(judgement.sizes, limit)
     listed = 0
-    for level, rank, (line, _) in zip(judgement.levels, judgement.ranks, reader):
+    for level, rank, outline in zip(judgement.levels, judgement.ranks, reader.outlines()):
         if level == SILENT:
             continue
+        line = outline.line
         size = len(line) + BESIDE
         if size <= rooms[level]:
             rooms[level] -= size
@@ -166,7 +144,7 @@ class Findings:
             if fields.get("rank") not in range(1 << 16):
                 raise Refused(0, "a change of an unknown rank")
             self.listed += 1
-            yield fields
+            yield differing(fields)
         self._take_end(fields)
 
     def _take_end(self, fields: Fields) -> None:

@@ -11,6 +11,7 @@ from typing import Any, Dict, NamedTuple, Optional, Tuple, Union
 
 from aide_compare.base.words import KINDS, SEVERITIES, counted
 from aide_compare.lines.attributes import NUMBERS
+from aide_compare.lines.rights import differing
 
 Value = Union[int, str, bytes, None]
 VALUE_TYPES = frozenset((int, str, type(None)))  # As a line has them.
@@ -80,7 +81,8 @@ def texts_in(fields: Fields, key: str) -> Texts:
 
 
 class Change(NamedTuple):
-    """An entry that came, went or changed."""
+    """An entry that came, went or changed. Of a changed one there are only values that people asked
+    for: a line also has rights that did not differ."""
 
     path: bytes
     kind: str  # One of KINDS.
@@ -136,6 +138,8 @@ def _text_of(fields: Fields, key: str, default: str) -> str:
 def change_of(fields: Fields) -> Change:
     """The change that the object of a line says; a ValueError, KeyError, TypeError or
     AttributeError if it says none."""
+    letters = _text_of(fields, "summary", "")
+    fields = differing(fields)
     path = bytes_of(fields, "path")
     severity = _text_of(fields, "severity", "")
     if fields["kind"] not in KINDS or not path.startswith(b"/"):
@@ -146,7 +150,7 @@ def change_of(fields: Fields) -> Change:
         path=path,
         kind=fields["kind"],
         type=_text_of(fields, "type", "Entry"),
-        letters=_text_of(fields, "summary", ""),
+        letters=letters,
         old=values_of(fields, "old"),
         new=values_of(fields, "new"),
         standing=standing_of(fields, path),

@@ -21,6 +21,7 @@ from aide_compare.base.paths import unescaped
 from aide_compare.base.words import SIDES
 from aide_compare.lines.capabilities import file_capabilities
 from aide_compare.lines.change import Change, Fields, Texts, Value, Values, values_of
+from aide_compare.lines.rights import differing
 
 # A text for people has at most so many characters; a longer one is cut, and ends with "...".
 MAX_TEXT = 4000
@@ -300,6 +301,7 @@ def texts_of(change: Change, has_names: bool = False) -> SideTexts:
 def texts_of_line(fields: Fields, has_names: bool = False) -> SideTexts:
     """The same of the object of a line of aide_lines, in which only the values that may have texts
     are looked at."""
+    fields = differing(fields)
     kind = None if fields["summary"].startswith("!") else fields.get("type", "Entry")
     sides = []
     texts: List[Texts] = []

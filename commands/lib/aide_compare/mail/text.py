@@ -82,7 +82,7 @@ def finding_line(finding: Finding, read: Read) -> str:
     line = f"  {finding.kind:<7}  "
     line += shortened_path(finding.path, WIDTH - len(line))
     separator = ": "
-    for word in entry_words(*read(finding)).split(", "):
+    for word in entry_words(read(finding)).split(", "):
         if not word or len(line) + len(separator) + len(word) > WIDTH:
             break
         line += separator + word

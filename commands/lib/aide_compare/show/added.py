@@ -21,10 +21,10 @@ if TYPE_CHECKING:
 
 DIGITS = 16
 MAX_KNOWN = 1 << 12
-# Values that may have a text and are no times, or times that are no plain numbers.
-OTHER_TEXTS = re.compile(
-    rb'"(?:Type|Perm|ACL|XAttrs|SELinux|E2FSAttrs|Caps)(?:_hex)?":|"[ACM]time":(?!-?[0-9]+[,}])'
-)
+# The summary string of a change of no right. Values that may have a text and are neither rights nor
+# times, and times that are no plain numbers.
+NO_RIGHT = re.compile(rb'"kind":"changed",.*?"summary":"[^!].{3}[.: ].{8}[.: ]{5}"')
+OTHER_TEXTS = re.compile(rb'"E2FSAttrs(?:_hex)?":|"[ACM]time":(?!-?[0-9]+[,}])')
 TIME = re.compile(rb'"([ACM]time)":(-?[0-9]+)')
 MarkedLine = Tuple[bytes, Fields]
 
@@ -152,7 +152,7 @@ def time_texts(line: bytes) -> Optional[bytes]:
     """The texts of a line of which only times have some, as their members in the object; None if
     other values may have one too. A quote in a text has a backslash before it, so that none looks
     like the name of a member."""
-    if OTHER_TEXTS.search(line):
+    if not NO_RIGHT.search(line) or OTHER_TEXTS.search(line):
         return None
     before, _, after = line.partition(b'"new":{')
     old = {label: time_text(int(seconds)) for label, seconds in TIME.findall(before)}

@@ -15,13 +15,14 @@ from typing import Iterator, List, Optional, Tuple
 from aide_compare.base.escapes import guarded, shown
 from aide_compare.base.files import file_kind
 from aide_compare.base.words import KINDS, SEVERITIES, counted, date_of, minute_of
-from aide_compare.changes.entries import ROOT, Entry, differences
 from aide_compare.changes.finding import Finding
 from aide_compare.changes.importance import group_of_owner
 from aide_compare.changes.judged import Judged
 from aide_compare.changes.recorded import Read
-from aide_compare.lines.attributes import DIGEST_COLUMNS
-from aide_compare.lines.change import Counts, Standing
+from aide_compare.lines.attributes import STRENGTH
+from aide_compare.lines.change import Change, Counts, Standing, Values
+from aide_compare.lines.decoded import TYPES, kinds_of
+from aide_compare.lines.rights import ROOT
 from aide_compare.show.limits import Limits, Shares
 from aide_compare.show.listing import FORMS, HIGH, Listing, most_of
 
@@ -37,108 +38,118 @@ MAX_NAMED = 1000
 WORDS = ("more entry", "more file")
 WIDTH = 100
 
-TIMES_IN_ORDER = ("mtime", "ctime", "atime")
+TIMES_IN_ORDER = ("Mtime", "Ctime", "Atime")
 # What is named of an entry with its value of before and of now.
 PAIRS = {
-    "type": "",
-    "perm": "mode ",
-    "uid": "owner ",
-    "gid": "group ",
-    "size": "size ",
-    "lcount": "links ",
+    "Type": "",
+    "Perm": "mode ",
+    "UID": "owner ",
+    "GID": "group ",
+    "Size": "size ",
+    "Linkcount": "links ",
 }
 OTHERS = {
-    "lname": "target",
-    "acl": "ACL",
-    "xattrs": "extended attributes",
-    "selinux": "SELinux",
-    "e2fsattrs": "flags",
-    "capabilities": "capabilities",
+    "Lname": "target",
+    "ACL": "ACL",
+    "XAttrs": "extended attributes",
+    "SELinux": "SELinux",
+    "E2FSAttrs": "flags",
+    "Caps": "capabilities",
 }
 # What is named only if nothing else has changed.
-ALONE = {"inode": "another inode", "bcount": "blocks"}
+ALONE = {"Inode": "another inode", "Bcount": "blocks"}
 
 
-def _value(entry: Entry, column: str) -> str:
-    """A value as people read it: the mode as ls(1) prints it, such as "-rwsr-xr-x"."""
-    if column == "type":
-        return _type_word(entry)
-    if column == "perm":
-        return stat.filemode(entry.mode)
-    number = entry.number(column)
-    if number is None:
-        return "?"
-    if number == ROOT and column in ("uid", "gid"):
-        return "root"
-    return str(number)
-
-
-def _type_word(entry: Entry) -> str:
+def _type_word(kind: Optional[str]) -> str:
     """As in "directory"; "entry" if the type is not known."""
-    if not entry.mode:
+    if kind not in TYPES:
         return "entry"
-    return file_kind(entry.mode).partition(" ")[2]
+    return file_kind(TYPES[kind]).partition(" ")[2]
 
 
-def _when(old: Optional[Entry], new: Entry) -> List[str]:
+def _value(values: Values, label: str, kind: Optional[str]) -> str:
+    """A value of an entry of this type as people read it: the mode as ls(1) prints it, such as
+    "-rwsr-xr-x"."""
+    if label == "Type":
+        return _type_word(kind)
+    value = values.get(label)
+    if value is None:
+        return "?"
+    if label == "Perm":
+        return stat.filemode(TYPES.get(kind or "", 0) | int(str(value), 8))
+    if value == ROOT and label in ("UID", "GID"):
+        return "root"
+    return str(value)
+
+
+def _seconds(values: Values, label: str) -> Optional[int]:
+    """A time of an entry; None if it has none."""
+    seconds = values.get(label)
+    return seconds if isinstance(seconds, int) else None
+
+
+def _when(old: Values, new: Values) -> List[str]:
     """When an entry came or changed. The time of its inode comes first, since anybody can set the
     other one back."""
-    for column in ("ctime", "mtime"):
-        seconds = new.time(column)
-        if seconds is not None and (old is None or old.time(column) != seconds):
+    for label in ("Ctime", "Mtime"):
+        seconds = _seconds(new, label)
+        if seconds is not None and _seconds(old, label) != seconds:
             return [minute_of(seconds)]
     return []
 
 
-def _one_side(entry: Entry) -> str:
-    """As in "-rwsr-xr-x root:root 1265648 bytes"; "" without a mode."""
-    if not entry.mode:
-        return ""
-    text = f"{_value(entry, 'perm')} {_value(entry, 'uid')}:{_value(entry, 'gid')}"
-    if entry.is_file:
-        text += f" {_value(entry, 'size')} bytes"
-    return text
+def _one_side(values: Values, kind: Optional[str]) -> str:
+    """As in "-rwsr-xr-x root:root 1265648 bytes", without what was not measured."""
+    words = []
+    if "Perm" in values:
+        words.append(_value(values, "Perm", kind))
+    if "UID" in values or "GID" in values:
+        words.append(f"{_value(values, 'UID', kind)}:{_value(values, 'GID', kind)}")
+    if kind == "File" and "Size" in values:
+        words.append(f"{_value(values, 'Size', kind)} bytes")
+    return " ".join(words)
 
 
-def _time_words(old: Entry, new: Entry, column: str) -> str:
+def _time_words(old: Values, new: Values, label: str) -> str:
     """As in "mtime 2026-11-24T06:00:00Z -> 2026-11-25T06:00:00Z"."""
     dates = []
-    for entry in (old, new):
-        seconds = entry.time(column)
+    for values in (old, new):
+        seconds = _seconds(values, label)
         dates.append("none" if seconds is None else date_of(seconds))
-    return f"{column} {dates[0]} -> {dates[1]}"
+    return f"{label.lower()} {dates[0]} -> {dates[1]}"
 
 
-def _changed_words(old: Entry, new: Entry) -> str:
+def _changed_words(change: Change) -> str:
     """As in "content, mode -rwxr-xr-x -> -rwsr-xr-x, 2026-11-25 06:00 UTC"."""
-    differ = differences(old, new)
+    old, new = change.sides
+    old_kind, new_kind = kinds_of(change)
+    differ = {*old, *new}
     words = []
-    if differ & DIGEST_COLUMNS:
+    if not differ.isdisjoint(STRENGTH):
         words.append("content")
-    for column, word in PAIRS.items():
-        if column in differ:
-            words.append(f"{word}{_value(old, column)} -> {_value(new, column)}")
-    words += [word for column, word in OTHERS.items() if column in differ]
+    for label, word in PAIRS.items():
+        if label in differ:
+            before = _value(old, label, old_kind)
+            words.append(f"{word}{before} -> {_value(new, label, new_kind)}")
+    words += [word for label, word in OTHERS.items() if label in differ]
     if not words:
-        words = [word for column, word in ALONE.items() if column in differ][:1]
+        words = [word for label, word in ALONE.items() if label in differ][:1]
     if words:
         return ", ".join(words + _when(old, new))
-    for column in TIMES_IN_ORDER:  # Only the first one that differs.
-        if column in differ:
-            return _time_words(old, new, column)
+    for label in TIMES_IN_ORDER:  # Only the first one that differs.
+        if label in differ:
+            return _time_words(old, new, label)
     return ""
 
 
-def entry_words(old: Optional[Entry], new: Optional[Entry]) -> str:
-    """The words for an entry. One that came or went is None in the other database."""
-    if old and new:
-        return _changed_words(old, new)
-    if new:
-        words = [_one_side(new), *_when(None, new)]
-        return ", ".join(word for word in words if word)
-    if old:
-        return _one_side(old)
-    return ""
+def entry_words(change: Change) -> str:
+    """The words for an entry, by its line."""
+    if change.kind == "changed":
+        return _changed_words(change)
+    if change.kind == "removed":
+        return _one_side(change.old, change.type)
+    words = [_one_side(change.new, change.type), *_when({}, change.new)]
+    return ", ".join(word for word in words if word)
 
 
 def limits_of(finding: Finding) -> Limits:
@@ -157,7 +168,7 @@ def limits_of(finding: Finding) -> Limits:
 def _finding_line(finding: Finding, read: Read) -> str:
     """As in "changed  /usr/bin/ls: content, mode -rwxr-xr-x -> -rwsr-xr-x"."""
     line = f"{finding.kind:<7}  {shown(finding.path, MAX_PATHS[group_of_owner(finding.owner)])}"
-    words = entry_words(*read(finding))
+    words = entry_words(read(finding))
     if words:
         line += f": {words}"
     return line

@@ -43,8 +43,7 @@ def _judged(comparison: Comparison) -> Judged:
     if lines.is_cut:
         limit = comparison.request.max_report
         raise Refused(0, f"its lines have more than {limit} bytes; --max-report allows more")
-    compared = comparison.compared
-    return Judged(reader_over(lines.fd), compared["old"], compared["new"])
+    return Judged(reader_over(lines.fd))
 
 
 def _grouped(judged: Judged, comparison: Comparison) -> Comparison:

@@ -7,9 +7,9 @@ from heapq import nlargest, nsmallest
 from typing import Any, Callable, Dict, Iterator, List, NamedTuple, Sequence, Tuple
 
 from aide_compare.base.words import KINDS, SEVERITIES
-from aide_compare.changes.entries import ROOT
 from aide_compare.changes.finding import IS_FILE, IS_MADE, IS_RECORDED, Findings, Record
 from aide_compare.changes.importance import Importance
+from aide_compare.lines.rights import ROOT
 
 # Of each directory so many come before what all directories have more.
 FIRST_FEW = 5

@@ -1,0 +1,31 @@
+"""Paths through the directories that may be links to the same name in /usr, such as /bin."""
+from __future__ import annotations
+
+import os
+import re
+from collections.abc import Callable
+from contextlib import suppress
+from typing import Optional
+
+MERGED = (b"/bin", b"/lib", b"/lib32", b"/lib64", b"/libx32", b"/sbin")
+IN_MERGED = re.compile(rb"\A(?:%s)(?=/|\Z)" % b"|".join(MERGED))
+
+
+def link_here(path: bytes) -> Optional[bytes]:
+    """Where a link on this machine points to, None if the path is none."""
+    with suppress(OSError):
+        return os.readlink(path)
+    return None
+
+
+def usr_of(link: Callable[[bytes], Optional[bytes]]) -> Callable[[bytes], bytes]:
+    """A function that gives a path with these directories followed where they are such links.
+    `link` gives where a path points to."""
+    merged = {
+        path: b"/usr" + path for path in MERGED if link(path) in (b"usr" + path, b"/usr" + path)
+    }
+
+    def followed(path: bytes) -> bytes:
+        return IN_MERGED.sub(lambda match: merged.get(match.group(), match.group()), path)
+
+    return followed

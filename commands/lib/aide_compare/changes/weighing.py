@@ -1,0 +1,122 @@
+"""How much a change matters, by its line alone, and whether packages' records could say something
+of it."""
+from __future__ import annotations
+
+import json
+import re
+from typing import Dict, NamedTuple, Optional
+
+from aide_compare.base.database import SET_ID
+from aide_compare.changes.importance import Importance, importance_of
+from aide_compare.changes.severity import Held, Severity, Weight, has_same_rights, held_by
+from aide_compare.lines.change import Fields
+from aide_compare.lines.reader import Outline
+from aide_compare.lines.rights import Side, owner_of, rights_of
+
+MAX_REMEMBERED = 1 << 10
+# The rights of longer lines are looked at each time, so that what is remembered has a bound.
+MAX_LINE = 1 << 11
+NOTHING: Fields = {}
+# json.loads would look for the encoding of each line first.
+DECODE = json.JSONDecoder().decode
+# The members of a side that say its rights.
+RIGHTS = ("Type", "Perm", "UID", "GID")
+MORE = ("ACL", "XAttrs", "SELinux", "Caps")
+MEMBERS = (*RIGHTS, *MORE, *(f"{name}_hex" for name in MORE))
+# The summary strings of a change of a content, or of where a link points: of those with a letter
+# of no difference in all slots but these.
+CONTENT = re.compile(r"[^!][. ]..[. ]{3}....[. ].[. ]{5}")
+TARGET = re.compile(r"[^!]...[. ]{3}....[. ]{7}")
+
+
+class Known(NamedTuple):
+    """What is the same of all changes of entries with the same rights on both sides."""
+
+    held: Held
+    owner: Optional[int]  # See owner_of.
+    is_file: bool  # The new entry, or the one that went.
+    is_link: bool
+    has_content: bool  # Whether records could say something, by the rights alone.
+
+
+class Weighed(NamedTuple):
+    """What a line says of a change: where it is in its file, and how much the change matters."""
+
+    kind: str
+    key: bytes
+    line_at: int
+    weight: Weight
+    known: Known
+    is_content: bool  # Whether nothing but a content came or changed.
+
+    @property
+    def importance(self) -> Importance:
+        return importance_of(self.weight, self.known.owner, self.kind)
+
+
+def may_be_content(old: Side, new: Side) -> bool:
+    """Whether records could say something of an entry with these rights: a new one is root's alone,
+    and gives nobody a right; all others have the rights that they had."""
+    if new is None:
+        return False
+    if old is None:
+        return new.is_plain and (new.is_directory or not new.most & SET_ID)
+    return has_same_rights(old, new)
+
+
+def known_of(old: Side, new: Side) -> Known:
+    rights = new or old
+    return Known(
+        held=held_by(old, new),
+        owner=owner_of(old, new),
+        is_file=rights is not None and rights.is_file,
+        is_link=rights is not None and rights.is_link,
+        has_content=may_be_content(old, new),
+    )
+
+
+def is_content(fields: Fields, is_link: bool) -> bool:
+    """Whether only a content differs, or the target of a link, and nothing is on one side alone. Of
+    an entry that came that is all."""
+    if fields["kind"] != "changed":
+        return True
+    form = CONTENT
+    if is_link:
+        form = TARGET
+    is_one = form.fullmatch(fields["summary"]) is not None
+    return is_one and fields["old"].keys() == fields["new"].keys()
+
+
+class Scales:
+    """Weighs the changes of lines. Most entries have the rights of many others."""
+
+    def __init__(self) -> None:
+        self.severity = Severity()
+        self.known: Dict[object, Known] = {}
+
+    def weighed(self, outline: Outline, line_at: int) -> Weighed:
+        """A change by its line, which begins there."""
+        fields = DECODE(outline.line.decode())
+        known = self._known(fields, len(outline.line))
+        return Weighed(
+            outline.kind,
+            outline.key,
+            line_at,
+            self.severity.weight(outline.path, known.held),
+            known,
+            known.has_content and is_content(fields, known.is_link),
+        )
+
+    def _known(self, fields: Fields, size: int) -> Known:
+        if size > MAX_LINE:
+            return known_of(*rights_of(fields))
+        old = fields.get("old", NOTHING)
+        new = fields.get("new", NOTHING)
+        kind = (fields["kind"], fields["summary"][0])
+        key = (kind, *map(old.get, MEMBERS), *map(new.get, MEMBERS))
+        known = self.known.get(key)
+        if known is None:
+            known = known_of(*rights_of(fields))
+            if len(self.known) < MAX_REMEMBERED:
+                self.known[key] = known
+        return known

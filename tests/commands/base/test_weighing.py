@@ -1,0 +1,121 @@
+"""What a line alone says of a change: the rights of both sides, and which attributes differ."""
+from __future__ import annotations
+
+import json
+from typing import Any, Dict
+
+from tests.commands.base.calls import ModuleTest
+
+from aide_compare.base.paths import key_of_path
+from aide_compare.changes.weighing import MAX_LINE, Scales, Weighed, is_content
+from aide_compare.lines.change import change_of
+from aide_compare.lines.reader import Outline
+from aide_compare.lines.rights import differing, rights_of
+
+SAME = "f...........H....."
+PATH = "/srv/x"
+OLD: Dict[str, Any] = {
+    **{"Type": "File", "Perm": "0755", "UID": 0, "GID": 5, "SHA256": "00", "ACL": "POSIX,0,0"},
+    **{"XAttrs_hex": "ff", "SELinux": "c2U=", "Caps": "Y2Fw"},
+}
+NEW = {**OLD, "SHA256": "11"}
+
+
+def fields_of(letters: str = SAME, **sides: Dict[str, Any]) -> Dict[str, Any]:
+    """The object of a line of an entry that changed, or that only one side has."""
+    kind = {1: "changed", 0: "added"}[int("old" in sides)]
+    if "new" not in sides:
+        kind = "removed"
+    return {"kind": kind, "path": PATH, "summary": letters, **sides}
+
+
+def weighed(scales: Scales, fields: Dict[str, Any]) -> Weighed:
+    line = json.dumps(fields).encode()
+    path = PATH.encode()
+    return scales.weighed(Outline(fields["kind"], path, None, key_of_path(path), line), 7)
+
+
+class WeighingTest(ModuleTest):
+    def test_sides(self) -> None:
+        """Each right is that of its side, and what a side does not have is not known."""
+        old, new = rights_of(fields_of(old={"Perm": "4755", "UID": 7}, new=NEW))
+        assert old is not None and new is not None
+        self.assertEqual(old, ("", 0o4755, 7, None, None, None, None, None))
+        self.assertEqual(new[:5], ("File", 0o755, 0, 5, b"POSIX,0,0"))
+        self.assertEqual(new[5:], (b"\xff", b"c2U=", b"Y2Fw"))
+        great = rights_of(fields_of(new={"UID": "18446744073709551615", "GID": -5}))[1]
+        assert great is not None
+        self.assertEqual((great.user, great.group), ((1 << 64) - 1, -5))
+        self.assertIsNone(rights_of(fields_of(old=OLD))[1])
+        one, other = rights_of(
+            fields_of("!" + SAME[1:], old={"Type": "Other"}, new={"Type": "Other"})
+        )
+        self.assertNotEqual(one, other, "two types that have one word")
+
+    def test_order_of_sides(self) -> None:
+        """A right that came weighs more than one that went."""
+        scales = Scales()
+        set_id = {**NEW, "Perm": "4755"}
+        letters = SAME[:4] + "p" + SAME[5:]
+        came = weighed(scales, fields_of(letters, old=OLD, new=set_id))
+        went = weighed(scales, fields_of(letters, old={**OLD, "Perm": "4755"}, new=NEW))
+        self.assertLess(came.weight.rank, went.weight.rank)
+        for side in (OLD, {**OLD, "Pad": "x" * MAX_LINE}):
+            again = weighed(scales, fields_of(letters, old=side, new=set_id))
+            self.assertEqual(again[:5], came[:5], "known, or too long to be kept")
+        self.assertEqual((came.line_at, came.known.owner, came.known.is_file), (7, 0, True))
+
+    def test_differing(self) -> None:
+        """A right whose letter says no difference is no value of the change; all others stay."""
+        change = change_of(fields_of(old=OLD, new=NEW))
+        self.assertEqual((change.old, change.new), ({"SHA256": "00"}, {"SHA256": "11"}))
+        for letters, label in (
+            (SAME[:4] + "p" + SAME[5:], "Perm"),
+            (SAME[:5] + "u" + SAME[6:], "UID"),
+            (SAME[:6] + "g" + SAME[7:], "GID"),
+            (SAME[:13] + "A" + SAME[14:], "ACL"),
+            (SAME[:14] + "X" + SAME[15:], "XAttrs"),
+            (SAME[:15] + "S" + SAME[16:], "SELinux"),
+            (SAME[:17] + "C", "Caps"),
+            ("!" + SAME[1:], "Type"),
+        ):
+            change = change_of(fields_of(letters, old=OLD, new=NEW))
+            self.assertEqual(change.new.keys(), {"SHA256", label})
+            self.assertEqual(change.old.keys(), {"SHA256", label})
+        ignored = change_of(
+            fields_of(SAME[:4] + ":" + SAME[5:], old=OLD, new={**NEW, "Perm": "0700"})
+        )
+        self.assertEqual(ignored.new, {"SHA256": "11"}, "a difference that is passed over")
+        came = change_of(fields_of("f" + 17 * "+", new=NEW))
+        self.assertEqual(came.new.keys(), {*NEW} - {"XAttrs_hex"} | {"XAttrs"})
+        one = change_of(fields_of(old={"SHA256": "00"}, new={**NEW, "Type": "File"}))
+        self.assertIn("Type", one.new, "a type that only one side has")
+        for odd in ({**fields_of(old=OLD, new=NEW), "summary": "f"}, {"kind": "changed"}):
+            self.assertEqual(differing(odd), odd)
+
+    def test_content(self) -> None:
+        """Nothing but a content, or the target of a link, by the letters of what differs."""
+        for label, letters, is_link, is_it in (
+            ("a content", "f.>b....mci.H.....", False, True),
+            ("a content of a file without flags", "f>>b....mci.H    .", False, False),
+            ("where a link points", "ll>b....mci..     ", True, True),
+            ("the digest of a link", "l..........  H    ", True, False),
+            ("a link that is a file now", "!.>b....mci.H.....", False, False),
+            ("links", "f.>.....mci nH....", False, False),
+            ("an access list", "f.>.....mci.HA....", False, False),
+            ("flags", "f.>.....mci.H...E.", False, False),
+            ("flags that are passed over", "f.>.....mci.H...:.", False, False),
+        ):
+            self.expect(label, is_content(fields_of(letters, old=OLD, new=NEW), is_link), is_it)
+        more = fields_of(old=OLD, new={**NEW, "MD5": "00"})
+        self.expect("a digest on one side alone", is_content(more, False), False)
+        self.expect("an entry that came", is_content(fields_of("f", new=NEW), False), True)
+        unknown = {name: value for name, value in NEW.items() if name != "Perm"}
+        scales = Scales()
+        old = {**unknown, "SHA256": "00"}
+        for label, fields, is_it in (
+            ("the same rights", fields_of(old=OLD, new=NEW), True),
+            ("a mode that is not known", fields_of(old=old, new=unknown), False),
+            ("another owner", fields_of(old=OLD, new={**NEW, "UID": 1}), False),
+        ):
+            self.expect(label, weighed(scales, fields).is_content, is_it)
