@@ -30,7 +30,7 @@ TYPES = {
 DECODED = ("ACL", "XAttrs", "SELinux", "E2FSAttrs", "Caps")
 
 # What AIDE 0.18.3 kept of files on ext4 (Debian 12, 2026-11-25), and what these printed of the same
-# files: getfacl 2.3.1, getfattr 2.5.1, getcap of libcap 2.66, lsattr of e2fsprogs 1.47.0, ls -Z's
+# files: getfacl 2.3.1, getfattr 2.5.1, lsattr of e2fsprogs 1.47.0, ls -Z's
 # label as it was set.
 TABLE: list[tuple[str, Value, str | None]] = [
     (
@@ -109,27 +109,10 @@ TABLE: list[tuple[str, Value, str | None]] = [
         'security.selinux: "x; user.b: \\042x\\042"',
     ),
     ("XAttrs", b"1,user.a,G1sybQ==", "user.a: 0sG1sybQ=="),
+    ("XAttrs", b"1,security.capability,AQAAAgAg", "security.capability: 0sAQAAAgAg"),
     ("XAttrs", b"1,user.a,4oCu", 'user.a: "\\342\\200\\256"'),
     ("SELinux", b"4oCuG1sybQ==", "\\342\\200\\256\\033[2m"),
     ("ACL", b"POSIX,dXNlcjr/OnJ3LQo=,0", "user:\\377:rw-"),
-]
-# Capabilities of files, as their extended attribute has them.
-CAPABILITIES = [
-    (b"AQAAAgAgAAAAAAAAAAAAAAAAAAA=", "cap_net_raw=ep"),
-    (b"AAAAAgAgAAAAAAAAAAAAAAAAAAA=", "cap_net_raw=p"),
-    (b"AQAAAv////8AAAAA/wEAgAAAAAA=", "=ep 63+ep"),
-    (
-        b"AQAAAwEAAAAGAAAAAAEAAAAAAADoAwAA",
-        "cap_dac_override,cap_dac_read_search=ei cap_chown,cap_checkpoint_restore+ep [rootid=1000]",
-    ),
-    (b"AQAAAgAwAAABAAAAAAAAAAAAAAA=", "cap_chown=ei cap_net_admin,cap_net_raw+ep"),
-    (b"AQAAAv//3/8AAAAA/wEAAAAAAAA=", "=ep cap_sys_admin-ep"),
-    (b"AAAAAgAAAAAAAAAAAAAAAAAAAAA=", "="),
-    (b"AQAAAgAAAAAAAAAAACAAAAAAAAA=", "= 45+ep"),
-]
-TABLE += [
-    ("XAttrs", b"1,security.capability," + value, "security.capability: " + text)
-    for value, text in CAPABILITIES
 ]
 # Values that would take long or be large if something were not bounded, and the most characters
 # that a text has.

@@ -19,7 +19,6 @@ from typing import Dict, Iterator, List, NamedTuple, Optional, Sequence, Tuple
 from aide_compare.base.escapes import shown
 from aide_compare.base.paths import unescaped
 from aide_compare.base.words import SIDES
-from aide_compare.lines.capabilities import file_capabilities
 from aide_compare.lines.change import Change, Fields, Texts, Value, Values, values_of
 from aide_compare.lines.rights import differing
 
@@ -146,10 +145,6 @@ def _extended_attributes(value: bytes) -> Optional[List[Tuple[bytes, bytes]]]:
 def _attribute_text(name: bytes, data: bytes) -> str:
     """The value of an attribute: what its name says that it is, else a text in quotes, else 0s and
     base 64 as getfattr has it."""
-    if name == b"security.capability":
-        capabilities = file_capabilities(data)
-        if capabilities is not None:
-            return capabilities
     if name == b"security.selinux" and re.fullmatch(LABEL, data):
         return shown(data.removesuffix(b"\0"), MAX_TEXT)
     with suppress(UnicodeDecodeError):
