@@ -242,8 +242,13 @@ class HostsReportTest(CommandTest):
         hosts = Hosts(self)
         hosts.list_hosts("good1")
         wrong = ("--max-hosts 0", "--order x", "--only-path x", "--max-age 31d", "--to -x", "x")
-        without_mail = ("--attach-page", "--smtp mail.example", "--mail-time 9s")
-        for words in (*wrong, *without_mail, "--format=json --to root", "--smtp m:0 --to root"):
+        without_mail = ("--attach-page", "--mail-time 9s")
+        for words in (
+            *wrong,
+            *without_mail,
+            "--format=json --to root",
+            "--smtp mail.example --to root",
+        ):
             said = hosts.report(*words.split())
             self.assertEqual((said.status, said.output), (15, ""), words)
             self.assertTrue(said.errors, words)

@@ -3,6 +3,8 @@ told."""
 from __future__ import annotations
 
 import os
+import subprocess
+import sys
 import time
 
 from tests.lib.scratch import read
@@ -31,6 +33,19 @@ DAILY = (
     "OnFailure=aide-compare-failed.service",
 )
 
+NO_PROCESS = """import os, sys
+sys.path.insert(0, sys.argv[1])
+from aide_compare.mail import sending
+sending.LOG = sys.argv[2]
+def refused():
+    raise OSError(24, "Too many open files")
+os.pipe = os.fork = refused
+try:
+    sending.deliver(sending.way_out(5), b"To: root\\nSubject: x\\n\\nbody\\n")
+except sending.Fault as fault:
+    print(fault.text)
+"""
+
 
 class QueueTest(MailTest):
     def test_refusals(self) -> None:
@@ -53,6 +68,16 @@ class QueueTest(MailTest):
             said = [b"cannot find sendmail", b"ended with status " + status.encode()]
             self.expect("no mailer, " + new, answer, 18, b"", said)
             self.assertEqual(self.state()["status"], status, "the state without a mailer")
+
+    def test_no_process(self) -> None:
+        """A machine that has no process left for the mail: the system log has a line all the
+        same."""
+        words = [sys.executable, "-c", NO_PROCESS, self.path("lib"), self.path("log")]
+        with logging(self) as lines:
+            done = subprocess.run(words, capture_output=True, env=self.environment())
+        said = b"nothing can be started to send it: Too many open files"
+        self.assertIn(said + b"; the system log has a line", done.stdout, done)
+        self.assertTrue(lines[0].startswith(b"<33>aide-compare mail: no mail could be sent"), lines)
 
     def test_journal(self) -> None:
         """Without any mail, a line at priority alert goes to the system log, or to systemd's

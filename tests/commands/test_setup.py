@@ -294,8 +294,6 @@ class SetupTest(CommandTest):
         environment = {"PATH": self.path("stubs") + ":/usr/bin:/bin"}
         missing = b"missing: cannot find sendmail"
         self.answered(18, missing, b"", TOOL, "--check", environment=environment)
-        self.write(DEFAULTS, self.read(DEFAULTS) + b"--smtp localhost\n")
-        self.answered(0, b"nothing is missing", b"", TOOL, "--check", environment=environment)
 
     def test_killed(self) -> None:
         """A step that was killed before its directory got its mode is not taken for done."""

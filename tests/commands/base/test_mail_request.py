@@ -9,7 +9,6 @@ from tests.commands.base.calls import ModuleTest
 
 from aide_compare.base import parser, progress
 from aide_compare.base.ending import Fault
-from aide_compare.base.kinds import Server
 from aide_compare.base.options import COMPARISON_DEFAULTS
 from aide_compare.base.parser import defaults_for
 from aide_compare.commands import mail_request
@@ -34,7 +33,7 @@ class MailRequestTest(ModuleTest):
         rows: dict[str, dict[str, Any]] = {
             "o n": {"address": "root", "default_fault": ""},
             "--to a@b --max-mail 2M": {"address": "a@b", "max_mail": 2 << 20},
-            "--smtp there:26 --mail-time 9s": {"smtp": Server("there", 26), "seconds": 9},
+            "--mail-time 9s": {"seconds": 9},
             "--attach-page --alarm any": {"has_page": True, "alarm": "any"},
             "--queue q --alarm-sent-is-success": {"queue": "q", "sent_is_success": True},
             "--test": {"is_test": True},

@@ -2,15 +2,12 @@
 from __future__ import annotations
 
 import os
-import resource
 import socket
 from unittest import mock
 
 from tests.commands.base.calls import OTHER, ModuleTest
 
-from aide_compare.base import processes
 from aide_compare.base.directories import open_directory
-from aide_compare.base.kinds import Server
 from aide_compare.mail import sending
 
 
@@ -73,32 +70,3 @@ class SendingTest(ModuleTest):
                 os.chown(self.path("a.mail"), OTHER, OTHER)
                 self.fails(18, "is no mail", sending.waiting_mail, directory, "a.mail")
         self.gives(None, sending.send_all, self.path("none"), None)  # Nothing has waited yet.
-
-    def test_memory(self) -> None:
-        """The exchange may take ten times the message, and what a server may answer."""
-        message = bytes(50_000_000)
-        with mock.patch.object(processes, "bound_of") as bound:
-            sending._bound_memory(message)
-        with open("/proc/self/statm", encoding="ascii") as file:
-            used = int(file.read().split()[0]) * resource.getpagesize()
-        kind, limit = bound.call_args[0]
-        self.assertEqual(kind, resource.RLIMIT_AS)
-        wanted = used + 10 * len(message) + (64 << 20)
-        self.assertLess(abs(limit - wanted), 5_000_000)
-
-    def test_exchange(self) -> None:
-        """A server has its time; with the mail, five seconds or half of the rest for its end."""
-        refused = {"a@b": (550, b"nobody " * 99)}
-        server, domain = Server("there", 25), sending.own_domain()
-        for seconds, quit_seconds, addresses, why in (
-            (60, 5, {}, ""),
-            (4, 2, refused, f" for {('a@b: 550 ' + 'nobody ' * 99)[:300]}..."),
-        ):
-            with mock.patch("smtplib.SMTP") as taking, mock.patch.object(
-                sending, "_end_by_alarm"
-            ) as alarm:
-                taking.return_value.send_message.return_value = addresses
-                self.gives(why, sending._exchange, server, seconds, b"To: a@b\n\n")
-            taking.assert_called_once_with("there", 25, local_hostname=domain, timeout=seconds)
-            taking.return_value.quit.assert_called_once_with()
-            self.assertAlmostEqual(alarm.call_args[0][0], quit_seconds, 1)

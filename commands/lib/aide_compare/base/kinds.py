@@ -6,7 +6,7 @@ import argparse
 import os
 import re
 from collections.abc import Callable
-from typing import TYPE_CHECKING, NamedTuple, TypeVar
+from typing import TYPE_CHECKING, TypeVar
 
 from aide_compare.base.escapes import shown
 from aide_compare.base.words import SEVERITIES
@@ -101,36 +101,6 @@ def digest_digits(text: str) -> str:
         needs = "give 16 to 64 hexadecimal digits, or all 44 characters of base64"
         raise argparse.ArgumentTypeError(f"not a SHA-256: {name}; {needs}")
     return joined.lower()
-
-
-class Server(NamedTuple):
-    """A mail server by its name or address, and its port."""
-
-    host: str
-    port: int
-
-    def __str__(self) -> str:
-        host = shown(self.host, 100)
-        if ":" in self.host:
-            return f"[{host}]:{self.port}"
-        return f"{host}:{self.port}"
-
-
-def _is_port(text: str) -> bool:
-    return text.isascii() and text.isdigit() and len(text) <= 5 and 0 < int(text) < 65536
-
-
-def server(text: str) -> Server:
-    """HOST or HOST:PORT. An address of IPv6, which has colons itself, is in brackets before a
-    port."""
-    name, colon, port = text.rpartition(":")
-    if not colon or (":" in name and not name.endswith("]")):
-        name = text
-        port = "25"
-    name = name.strip("[]")
-    if not name or not _is_port(port):
-        raise refusal("a host, or a host and a port from 1 to 65535", text)
-    return Server(name, int(port))
 
 
 class AlarmLimit:

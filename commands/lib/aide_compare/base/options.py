@@ -15,7 +15,6 @@ from aide_compare.base.kinds import (
     duration,
     matching,
     pattern,
-    server,
     size,
     some_text,
 )
@@ -163,12 +162,6 @@ MAX_MAIL = Option(
     kind=size,
     default=1 << 20,
 )
-SMTP = Option(
-    "--smtp",
-    "send by SMTP to this server instead of sendmail",
-    metavar="HOST[:PORT]",
-    kind=server,
-)
 MAIL_TIME = Option(
     "--mail-time",
     "how long sending may take (60s)",
@@ -225,5 +218,5 @@ NO_DEFAULTS = Option("--no-defaults", "do not read the defaults in /etc/aide-com
 # databases of this machine only, those of a mail, and those of a check.
 COMPARISON_DEFAULTS = (CONFIG, MAX_SIZE, MAX_REPORT, MAX_AGE, EXCLUDE_FROM, EXCLUDE, TRUSTED, STATE)
 MACHINES_DEFAULTS = (TRUSTED, STATE)
-MAIL_DEFAULTS = (TO, MAX_MAIL, SMTP, MAIL_TIME, ATTACH_PAGE, WEEKLY, ALARM)
+MAIL_DEFAULTS = (TO, MAX_MAIL, MAIL_TIME, ATTACH_PAGE, WEEKLY, ALARM)
 CHECK_DEFAULTS = (WARNING, CRITICAL, ALARM, STATE)

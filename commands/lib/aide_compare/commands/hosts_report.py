@@ -11,14 +11,13 @@ from aide_compare.base import progress
 from aide_compare.base.ending import Fault, Status, write_blocks
 from aide_compare.base.files import private_file
 from aide_compare.base.line_sorter import LineSorter
-from aide_compare.base.kinds import Server, matching, pattern
+from aide_compare.base.kinds import matching, pattern
 from aide_compare.base.options import (
     ATTACH_PAGE,
     HOST_STORE,
     HOST_TIME,
     MAIL_TIME,
     RESULT_AGE,
-    SMTP,
     STORE,
     TO,
     WEEKLY,
@@ -70,7 +69,6 @@ class ReportRequest(NamedTuple):
     format: str
     address: str  # "" without a mail.
     has_page: bool  # The mail has the page too.
-    smtp: Optional[Server]
     mail_seconds: int
     weekly: Optional[str]  # The day of the heartbeat.
     is_quiet: bool
@@ -218,7 +216,7 @@ class HostsReport:
     def send(self, request: ReportRequest) -> None:
         """Sends one mail about all hosts, and none if there is nothing to say."""
         try:
-            way = way_out(request.smtp, request.mail_seconds)
+            way = way_out(request.mail_seconds)
         except Fault as fault:
             alert(f"{fault.text}; {headline(self.summary)}")
             raise
@@ -284,7 +282,7 @@ def own_parser() -> Parser:
     add_option(form, Option("--format", formats, choices=("text", "brief", "json", "page")))
     to = "mail the brief text, if a host differs or was not compared"
     add_option(form, TO._replace(help=to))
-    parser.add(ATTACH_PAGE._replace(help="with --to: attach the page to the text"), SMTP, MAIL_TIME)
+    parser.add(ATTACH_PAGE._replace(help="with --to: attach the page to the text"), MAIL_TIME)
     week = "with --to: send a heartbeat on one day of the week (Mon) if there is nothing to report"
     parser.add(WEEKLY._replace(help=week))
     text = f"a name a line; - is standard input ({HOSTS_FILE})"
@@ -298,8 +296,8 @@ def request_of(arguments: Sequence[str]) -> ReportRequest:
         raise Fault(Status.USAGE, "--attach-page goes with --to", f"try: {NAME} --help")
     if args.weekly and not args.to:
         raise Fault(Status.USAGE, "--weekly goes with --to", f"try: {NAME} --help")
-    if (args.smtp or args.mail_time != MAIL_TIME.default) and not args.to:
-        raise Fault(Status.USAGE, "--smtp and --mail-time go with --to", f"try: {NAME} --help")
+    if args.mail_time != MAIL_TIME.default and not args.to:
+        raise Fault(Status.USAGE, "--mail-time goes with --to", f"try: {NAME} --help")
     usual_order = "path" if args.format == "json" else "rare"
     return ReportRequest(
         hosts_file=args.file,
@@ -312,7 +310,6 @@ def request_of(arguments: Sequence[str]) -> ReportRequest:
         format=args.format or "text",
         address=args.to or "",
         has_page=args.attach_page,
-        smtp=args.smtp,
         mail_seconds=args.mail_time,
         weekly=args.weekly,
         is_quiet=args.quiet,

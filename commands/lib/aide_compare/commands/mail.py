@@ -37,7 +37,7 @@ def way_of(request: MailRequest) -> Way:
     """The way of a mail; none leaves before that is there."""
     if request.queue:
         return way_in(request.queue)
-    return way_out(request.smtp, request.seconds)
+    return way_out(request.seconds)
 
 
 def short_mail(request: MailRequest, subject: str, text: str) -> bytes:

@@ -9,7 +9,7 @@ from typing import NamedTuple, Optional, Union
 from aide_compare.base import progress
 from aide_compare.base.ending import Fault, Status, say
 from aide_compare.base.escapes import shown
-from aide_compare.base.kinds import Server, unit_name
+from aide_compare.base.kinds import unit_name
 from aide_compare.base.options import (
     ALARM,
     DAYS,
@@ -17,7 +17,6 @@ from aide_compare.base.options import (
     MAIL_DEFAULTS,
     MAIL_TIME,
     MAX_MAIL,
-    SMTP,
     STATE,
     TO,
     USER,
@@ -50,7 +49,6 @@ class MailRequest(NamedTuple):
     default_fault: str  # What is wrong with the defaults; "" if nothing is.
     address: str
     max_mail: int
-    smtp: Optional[Server]
     seconds: int
     has_page: bool
     alarm: str
@@ -68,7 +66,7 @@ def own_parser() -> Parser:
     usage = "%(prog)s [OPTIONS] [ARGUMENTS of aide-compare]"
     parser = Parser(NAME, DESCRIPTION, epilog=EPILOG, usage=usage)
     parser.add(TO._replace(default="root", help="where the mail goes (root)"))
-    parser.add(MAX_MAIL, SMTP, MAIL_TIME, ATTACH_PAGE)
+    parser.add(MAX_MAIL, MAIL_TIME, ATTACH_PAGE)
     parser.add(ALARM._replace(help="which changes are mailed: not-silent (the default), or any"))
     queue = "keep the mail in this directory; --send-queue sends it"
     send = "compare nothing, and send the mails of this directory"
@@ -123,7 +121,6 @@ def parsed(
         default_fault="",
         address=args.to,
         max_mail=args.max_mail,
-        smtp=args.smtp,
         seconds=args.mail_time,
         has_page=args.attach_page,
         alarm=args.alarm,

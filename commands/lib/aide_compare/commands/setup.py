@@ -265,7 +265,7 @@ class Machine:
     def troubles(self) -> Iterator[str]:
         """What keeps mails from their reader."""
         queue = os.path.join(PATHS.own_directory, DAILY, "mail")
-        return troubles(queue, "--smtp" not in options_there())
+        return troubles(queue)
 
 
 def take_steps(machine: Machine) -> None:

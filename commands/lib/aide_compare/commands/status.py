@@ -11,7 +11,7 @@ from aide_compare.base.ending import Fault, Status, tell, write_all
 from aide_compare.base.escapes import guarded, shown
 from aide_compare.base.files import given_descriptor
 from aide_compare.base.replacement import replace
-from aide_compare.base.options import RESULT_AGE, SMTP, STATE, STORE, Option
+from aide_compare.base.options import RESULT_AGE, STATE, STORE, Option
 from aide_compare.base.parser import Parser, defaults_for
 from aide_compare.base.words import SEVERITIES, date_of, minute_of
 from aide_compare.compare.state import DAILY, KEYS, NUMBER, State, not_compared, read_state
@@ -63,7 +63,6 @@ class StatusRequest:
         is_quiet: bool,
         color: str,
         is_daily: bool,
-        needs_sendmail: bool,
     ) -> None:
         self.state = state
         self.max_age = max_age
@@ -72,7 +71,6 @@ class StatusRequest:
         self.is_quiet = is_quiet
         self.color = color
         self.is_daily = is_daily  # The state is that of the job of each day.
-        self.needs_sendmail = needs_sendmail
 
 
 class Metric:
@@ -179,7 +177,7 @@ def mail_lines(request: StatusRequest) -> list[str]:
     from aide_compare.mail.waiting import troubles
 
     queue = os.path.join(os.path.dirname(request.state), "mail")
-    found = list(troubles(queue, request.needs_sendmail))
+    found = list(troubles(queue))
     return ["", *(f"Mails: {line}" for line in found)] if found else []
 
 
@@ -260,8 +258,7 @@ def request_of(arguments: Sequence[str]) -> StatusRequest:
     parser.add_operand("output", "OUTPUT", output, nargs="?", default=STDOUT)
     state = f"the state file that aide-compare wrote ({DAILY})"
     parser.add(STATE._replace(default=DAILY, help=state), RESULT_AGE)
-    defaults = defaults_for((STATE, SMTP), arguments)
-    parser.set_defaults(**defaults)
+    parser.set_defaults(**defaults_for((STATE,), arguments))
     args = parser.parse(arguments)
     is_conditional = args.quiet or args.max_age != RESULT_AGE.default
     if is_conditional and args.format not in ("text", "line"):
@@ -276,7 +273,6 @@ def request_of(arguments: Sequence[str]) -> StatusRequest:
         is_quiet=args.quiet,
         color=args.color,
         is_daily=args.state == parser.get_default(STATE.attribute),
-        needs_sendmail=SMTP.attribute not in defaults,
     )
 
 

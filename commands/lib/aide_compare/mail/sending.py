@@ -1,6 +1,6 @@
-"""How a mail leaves this machine: sendmail with a time limit, SMTP if that is chosen, and the
-system log if neither takes it. It may first wait in a directory for the unit that sends it: there
-each is a file with the whole message, put there in one step.
+"""How a mail leaves this machine: sendmail with a time limit, and the system log if that does not
+take it. It may first wait in a directory for the unit that sends it: there each is a file with the
+whole message, put there in one step.
 
 A way is a function that is given the bytes of a message, and raises a Fault if it was not taken.
 """
@@ -9,8 +9,6 @@ from __future__ import annotations
 import email
 import fcntl
 import os
-import re
-import signal
 import socket
 import stat
 import time
@@ -23,8 +21,7 @@ from aide_compare.base.directories import LISTING, Directory, closed_after, open
 from aide_compare.base.ending import Fault, Status, failing, say
 from aide_compare.base.escapes import shown
 from aide_compare.base.files import in_memory
-from aide_compare.base.kinds import Server
-from aide_compare.base.processes import bound_memory, in_child, run_on
+from aide_compare.base.processes import run_on
 from aide_compare.base.replacement import replace
 from aide_compare.mail.message import shortened
 
@@ -36,11 +33,9 @@ LOG = "/dev/log"
 JOURNAL = "/run/systemd/journal/socket"
 AUTH_ALERT = 4 * 8 + 1
 MAX_ANSWER = 1 << 16
-QUIT_SECONDS = 5
 LOG_SECONDS = 5
-MAX_LABEL = 63  # Bytes of a part of a domain (RFC 1035).
 MAX_WAITING = 64
-MAX_BYTES = 64 << 20  # Of a mail that waits, and of memory for all that a server answers.
+MAX_BYTES = 64 << 20  # Of a mail that waits.
 TIMED_OUT = 1
 
 Way = Callable[[bytes], object]
@@ -56,10 +51,8 @@ def find_mailer() -> str:
     raise Fault(Status.DEVICE, "cannot find sendmail, so no mail can be sent")
 
 
-def way_out(server: Optional[Server], seconds: int) -> Way:
-    """SMTP if a server is given, otherwise sendmail, which has to be there."""
-    if server:
-        return partial(by_smtp, server, seconds)
+def way_out(seconds: int) -> Way:
+    """The way by sendmail, which has to be there."""
     return partial(by_sendmail, find_mailer(), seconds)
 
 
@@ -105,79 +98,6 @@ def by_sendmail(path: str, seconds: int, message: bytes) -> None:
     lines = [line for line in end.answer.split(b"\n") if line.strip()]
     why = shown(lines[-1], 300) if lines else "it gave no reason"
     raise Fault(Status.DEVICE, f"{end.words}: {why}")
-
-
-def own_domain() -> str:
-    """The name of this machine as a domain (RFC 5321), whatever bytes somebody has put into it."""
-    labels = []
-    for label in os.uname().nodename.split("."):
-        letters = re.sub("[^A-Za-z0-9-]", "", label).strip("-")
-        labels.append(letters[:MAX_LABEL].rstrip("-"))
-    return ".".join(label for label in labels if label) or "localhost"
-
-
-def by_smtp(server: Server, seconds: int, message: bytes) -> None:
-    """Hands a message to a mail server. A child with limits of time and memory has the exchange: a
-    server may answer slowly, or without end."""
-    in_child(str(server), partial(_hand_over, server, seconds, message), seconds)
-
-
-def _hand_over(server: Server, seconds: int, message: bytes) -> bytes:
-    """Hands a message over by SMTP (RFC 5321), which needs no set-ID program, but has to listen and
-    to take the message for each address. There is nothing to answer."""
-    import smtplib
-
-    _bound_memory(message)
-    try:
-        why = _exchange(server, seconds, message)
-    except MemoryError:
-        why = ": its answers have no end"
-    except (OSError, smtplib.SMTPException, UnicodeError) as error:
-        why = f": {shown(str(error), 300)}"
-    if why:
-        raise Fault(Status.DEVICE, f"{server} did not take it{why}")
-    return b""
-
-
-def _bound_memory(message: bytes) -> None:
-    """Room for some copies of the message and for what a server answers, and for no more."""
-    bound_memory(10 * len(message) + MAX_BYTES)
-
-
-def _exchange(server: Server, seconds: int, message: bytes) -> str:
-    """Sends a message. Returns for which addresses the server did not take it; "" for none."""
-    import smtplib
-
-    deadline = time.monotonic() + seconds
-    mail = email.message_from_bytes(message)
-    sender = f"aide-compare@{own_domain()}"
-    mail["From"] = sender
-    connection = smtplib.SMTP(
-        server.host, server.port, local_hostname=own_domain(), timeout=seconds
-    )
-    refused = connection.send_message(mail, sender)
-    # The server has the mail: what it answers to QUIT, however slowly, changes nothing.
-    with suppress(OSError, smtplib.SMTPException):
-        _end_by_alarm(min(QUIT_SECONDS, (deadline - time.monotonic()) / 2))
-        connection.quit()
-    if not refused:
-        return ""
-    # The others get the second, short mail too, which says who has none.
-    whys = [
-        f"{name}: {code} {answer.decode('ascii', 'replace')}"
-        for name, (code, answer) in refused.items()
-    ]
-    return f" for {shown('; '.join(whys), 300)}"
-
-
-def _end_by_alarm(seconds: float) -> None:
-    """After so many seconds a call of the system that waits fails."""
-
-    def give_up(*_: object) -> None:
-        raise TimeoutError
-
-    signal.signal(signal.SIGALRM, give_up)
-    signal.setitimer(signal.ITIMER_REAL, max(seconds, 0.01))
 
 
 def alert(text: str) -> bool:

@@ -17,17 +17,16 @@ MAX_ALIASES = 1 << 20
 ROOTS_ALIAS = rb"(?mi)^[ \t]*root[ \t]*:"
 
 
-def troubles(queue: str, needs_sendmail: bool) -> Iterator[str]:
+def troubles(queue: str) -> Iterator[str]:
     """A line for the mails that wait in a directory, and one for sendmail if it is not there."""
     with suppress(Fault, OSError), open_directory(queue) as directory:
         count = len(waiting_in(directory))
         if count:
             yield f"{counted(count, 'mail')} that could not be sent yet: {shown(queue)}"
-    if needs_sendmail:
-        try:
-            find_mailer()
-        except Fault as fault:
-            yield fault.text
+    try:
+        find_mailer()
+    except Fault as fault:
+        yield fault.text
 
 
 def hint_for_exim(aliases: str) -> Iterator[str]:
