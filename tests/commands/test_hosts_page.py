@@ -36,7 +36,8 @@ class HostsPageTest(CommandTest):
         values."""
         hosts = four_hosts(self)
         hosts.list_hosts("www1", "www2", "www3", "www4", "calm", "never")
-        status, page, errors = hosts.report("--format=page", "--max-hosts", "2")
+        self.set_names("commands.hosts_report", MAX_NAMES=2)
+        status, page, errors = hosts.report("--format=page")
         self.assertEqual((status, errors), (18, ""))
         self.assertTrue(page.startswith("<!doctype html>"), page[:100])
         self.assertEqual(page.count("aide on 6 hosts: 4 differ, 1 not compared"), 2)
@@ -59,19 +60,13 @@ class HostsPageTest(CommandTest):
         various = '<td class="none">various<td><details><summary>-rw-------</summary>0600'
         self.only(items, "/etc/p</code>", various)
 
-    def test_order(self) -> None:
-        page = four_hosts(self).report("--format=page", "--order", "common").output
-        files = [each for each in items_of(page) if "/usr/.x</code>" in each]
-        self.assertEqual(len(files), 2, page)
-        self.assertIn("on 1 of 5 hosts", files[-1])
-
     def test_groups(self) -> None:
         """Of one severity, the changes of the same hosts stand together, the fewest first."""
         hosts = Hosts(self)
         many = [line(b"/usr/bin/%d" % number) for number in range(4)]
         texts = {"good1": many, "good2": many, "good3": [line(b"/usr/bin/2x")]}
         hosts.compared({name: (database(), database(*lines)) for name, lines in texts.items()})
-        items = items_of(hosts.report("--format=page", "--order", "common").output)
+        items = items_of(hosts.report("--format=page").output)
         paths = [re.search("<code>(.*?)</code>", each) for each in items]
         found = [path.group(1).rpartition("/")[2] for path in paths if path]
         self.assertEqual(found, ["2x", "0", "1", "2", "3"])

@@ -154,7 +154,7 @@ class CompletionsTest(InstallTest):
             (["aide-compare", "mail", "--queue", "VERS"], []),
             (["aide-compare", "mail", "-A", "report_l"], ["report_level="]),
             (["aide-compare", "sort", "VERS"], ["VERSION"]),
-            (["aide-compare", "hosts", "report", "--order", ""], ["common", "path", "rare"]),
+            (["aide-compare", "hosts", "report", "--format", "j"], ["json"]),
             (["aide-compare", "hosts", "report", "--store", "pack"], ["packaging"]),
             (["aide-compare", "hosts", "compare", "VERS"], ["VERSION"]),
         ):
@@ -179,7 +179,7 @@ class CompletionsTest(InstallTest):
             ("aide-compare mail --aft", "aide-compare mail --after="),
             ("aide-compare sort --h", "aide-compare sort --help"),
             ("aide-compare sort VERS", "aide-compare sort VERSION"),
-            ("aide-compare hosts report --order=ra", "aide-compare hosts report --order=rare"),
+            ("aide-compare hosts report --format=js", "aide-compare hosts report --format=json"),
         ):
             done = self.run_words(
                 ["zsh", "-f", "-c", ASK_ZSH, "zsh", folder, line], cwd=self.source, timeout=60
@@ -208,7 +208,7 @@ class CompletionsTest(InstallTest):
             ("aide-compare --exclude-f", ["--exclude-from"]),
             ("aide-compare mail --max-r", ["--max-report"]),
             ("aide-compare mail --aft", ["--after"]),
-            ("aide-compare hosts report --order ra", ["rare"]),
+            ("aide-compare hosts report --format js", ["json"]),
             ("aide-compare hosts fe", ["fetch"]),
         ):
             done = self.run_words(

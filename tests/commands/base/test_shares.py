@@ -57,7 +57,7 @@ class SharesTest(ModuleTest):
         found = selected(-3, [("high", [0]), ("low", [1])])
         self.expect("no room", (found.in_order(), found.left_out), ([], {"high": 1, "low": 1}))
         notes = [f"canary w{number}: what changed there" for number in range(70)]
-        summary = Summary(HostCounts(1, 0, 1, 0, 0), 0, 0, 1, "path", notes)
+        summary = Summary(HostCounts(1, 0, 1, 0, 0), 0, 0, 1, notes)
         change = SharedChange({"kind": "added", "path": "/a", "hosts": 1, "names": ["w"]}, [0])
         report = Report(summary, [Host("w", 1, open=1, high=0)], lambda: [change], "command")
         lines = list(short_lines(report))

@@ -5,13 +5,13 @@ from __future__ import annotations
 import json
 import os
 import shlex
+from functools import partial
 from typing import Iterable, Iterator, NamedTuple, Optional, Sequence
 
 from aide_compare.base import progress
 from aide_compare.base.ending import Fault, Status, write_blocks
 from aide_compare.base.files import private_file
 from aide_compare.base.line_sorter import LineSorter
-from aide_compare.base.kinds import matching, pattern
 from aide_compare.base.options import (
     ATTACH_PAGE,
     HOST_STORE,
@@ -24,7 +24,6 @@ from aide_compare.base.options import (
     Option,
 )
 from aide_compare.base.parser import Parser, add_option
-from aide_compare.base.paths import Pattern
 from aide_compare.base.program import FRONT, find_installed
 from aide_compare.base.words import counted
 from aide_compare.commands.mail import Heartbeat, count_quiet_run
@@ -36,14 +35,13 @@ from aide_compare.hosts.hosts_read import hosts_of, read_host
 from aide_compare.hosts.hosts_text import Report, headline, report_lines, short_lines
 from aide_compare.hosts.reported import CUT, UNREADABLE, Host, HostCounts, SharedChange, Summary
 from aide_compare.hosts.store import HOSTS_FILE, share_of
-from aide_compare.lines.change import Fields, bytes_of
 from aide_compare.lines.reader import ENCODE
 from aide_compare.mail.message import build, clean, within
 from aide_compare.mail.sending import Way, alert, deliver, way_out
 from aide_compare.show.told import severity_in_colour
 
 NAME = "aide-compare hosts report"
-GREATEST = 10**12
+MAX_NAMES = 20  # Of the hosts of a change, for people.
 # The page that a mail may have. It leaves out what has no room, and says how much.
 MAX_MAILED_PAGE = 500000
 COLUMNS = 78
@@ -63,9 +61,6 @@ class ReportRequest(NamedTuple):
     stores: Sequence[str]  # That of a host is the one of its share.
     seconds: int
     max_age: int
-    patterns: Sequence[Pattern]  # Of the paths that are reported; all without any.
-    max_hosts: int
-    order: str
     format: str
     address: str  # "" without a mail.
     has_page: bool  # The mail has the page too.
@@ -81,8 +76,6 @@ def command_words(request: ReportRequest) -> list[str]:
     if list(request.stores) != [STORE]:
         for store in request.stores:
             words += ["--store", os.path.abspath(store)]
-    for wanted in request.patterns:
-        words += ["--only-path", os.fsdecode(wanted.text)]
     if request.max_age != RESULT_AGE.default:
         words += ["--max-age", str(request.max_age)]
     if request.hosts_file != HOSTS_FILE:
@@ -103,39 +96,23 @@ def command_text(words: Iterable[str]) -> str:
     return "\n  ".join(lines)
 
 
-def is_wanted(fields: Fields, patterns: Sequence[Pattern]) -> bool:
-    if not patterns:
-        return True
-    pieces = bytes_of(fields, "path")[1:].split(b"/")
-    return any(wanted.matches(pieces) for wanted in patterns)
-
-
 def read_hosts(names: Sequence[str], request: ReportRequest) -> tuple[list[Host], SameChanges]:
-    """All hosts, which are read one after the other, and the changes that are asked for."""
+    """All hosts, which are read one after the other, and their changes."""
     changes = SameChanges()
     hosts = []
     for number, name in enumerate(names):
-
-        def add(fields: Fields) -> None:
-            if is_wanted(fields, request.patterns):
-                changes.add(number, fields)
-
         store = request.stores[share_of(name, len(request.stores)) - 1]
+        add = partial(changes.add, number)
         hosts.append(read_host(name, store, request.seconds, request.max_age, add))
     return hosts, changes
 
 
-def sort_key(found: Found, order: str, by_severity: bool) -> bytes:
+def sort_key(found: Found) -> bytes:
     """What a change is sorted by: its severity and its owner, how many hosts have it, and then as
     for one host. Those with one key stay in the order of paths."""
     place = found.place
-    first = b""
-    if by_severity:
-        first = b"%d%d" % (place.level, place.owners)
-    if order == "path":
-        return first
-    hosts = found.hosts if order == "rare" else GREATEST - found.hosts
-    return first + b"%012d%05d%d" % (hosts, place.rank, place.is_added)
+    row = (place.level, place.owners, found.hosts, place.rank, place.is_added)
+    return b"%d%d%012d%05d%d" % row
 
 
 class HostsReport:
@@ -149,9 +126,9 @@ class HostsReport:
         self.hosts, same_changes = read_hosts(names, request)
         self.command = command_text(command_words(request))
         self.body = private_file()
-        by_severity = request.format != "json" or request.order != "path"
-        changes = same_changes.found(names, request.max_hosts)
-        count = self._sort(changes, request.order, by_severity)
+        is_json = request.format == "json"
+        changes = same_changes.found(names, len(names) if is_json else MAX_NAMES)
+        count = self._sort(changes, is_by_path=is_json)
         self.worst = max(host.status for host in self.hosts)
         notes = notes_of(request.stores, self.hosts)
         # Silent differences are no reason for a mail.
@@ -169,16 +146,16 @@ class HostsReport:
             cut=sum(host.report == CUT for host in self.hosts),
             not_listed=sum(host.report == UNREADABLE for host in self.hosts),
             changes=count,
-            order=request.order,
             canary=notes.lines,
         )
 
-    def _sort(self, changes: Iterator[Found], order: str, by_severity: bool) -> int:
-        """Writes the changes in an order, and within it in that of paths. Returns how many."""
+    def _sort(self, changes: Iterator[Found], is_by_path: bool) -> int:
+        """Writes the changes in the order of their paths, or first what matters most. Returns how
+        many."""
         sorter = LineSorter()
         count = 0
         for found in changes:
-            key = sort_key(found, order, by_severity)
+            key = b"" if is_by_path else sort_key(found)
             numbers = ",".join(map(str, found.payers)).encode()
             sorter.put(b"%s\t%s\t%s\n" % (key, numbers, ENCODE(found.fields).encode()))
             count += 1
@@ -263,17 +240,10 @@ def own_parser() -> Parser:
     stores = (
         f"where the reports are kept ({STORE}); given N times: the Kth one is that of --share K/N"
     )
-    orders = "changes by path (as JSON), on the fewest hosts first (as text), or on the most"
-    paths = "only changes of these paths, as in /usr/local/**"
-    count = matching("[1-9][0-9]{0,4}|100000", "a number from 1 to 100000", int)
-    named = "how many hosts of a change are named (20)"
     age = "a host that was compared longer ago counts as not compared (26h; 0: no limit)"
     wait = "how long to wait for a run over a host (10m)"
     parser.add(
         HOST_STORE._replace(help=stores, default=None, is_repeated=True),
-        Option("--order", orders, choices=("path", "rare", "common")),
-        Option("--only-path", paths, metavar="PATTERN", kind=pattern, is_repeated=True),
-        Option("--max-hosts", named, metavar="N", kind=count, default=20),
         RESULT_AGE._replace(help=age),
         HOST_TIME._replace(help=wait),
     )
@@ -298,15 +268,11 @@ def request_of(arguments: Sequence[str]) -> ReportRequest:
         raise Fault(Status.USAGE, "--weekly goes with --to", f"try: {NAME} --help")
     if args.mail_time != MAIL_TIME.default and not args.to:
         raise Fault(Status.USAGE, "--mail-time goes with --to", f"try: {NAME} --help")
-    usual_order = "path" if args.format == "json" else "rare"
     return ReportRequest(
         hosts_file=args.file,
         stores=args.store or [STORE],
         seconds=args.time,
         max_age=args.max_age,
-        patterns=args.only_path,
-        max_hosts=args.max_hosts,
-        order=args.order or usual_order,
         format=args.format or "text",
         address=args.to or "",
         has_page=args.attach_page,

@@ -8,7 +8,7 @@ from typing import Iterator, Sequence
 
 from aide_compare.base.escapes import shown_note
 from aide_compare.base.files import private_file
-from aide_compare.hosts.hosts_text import ORDERS, Report, canary_lines, headline, host_lists
+from aide_compare.hosts.hosts_text import ORDER, Report, canary_lines, headline, host_lists
 from aide_compare.hosts.reported import SharedChange
 from aide_compare.hosts.shares import Selection, rank_of
 from aide_compare.show.page_heading import MAX_PAGE, RESERVE, Beginning, CountRow
@@ -56,7 +56,7 @@ def head(report: Report, left_out: int, high: int) -> bytes:
         remarks += host_list(title, lines)
     outcome = "No changes are listed"
     if summary.changes:
-        outcome = f"{number(summary.changes)} different changes, {ORDERS[summary.order]}"
+        outcome = f"{number(summary.changes)} different changes, {ORDER}"
     title = headline(summary)
     rows = (
         CountRow("hosts", summary.counts.hosts),

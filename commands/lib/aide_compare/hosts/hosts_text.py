@@ -28,11 +28,7 @@ WHY = {
     CUT: "its changes were cut",
     UNREADABLE: "its changes cannot be read, or are too many",
 }
-ORDERS = {
-    "path": "in the order of paths",
-    "rare": "those on the fewest hosts first",
-    "common": "those on the most hosts first",
-}
+ORDER = "those on the fewest hosts first"
 # What has changed of an entry, in a word, by the attributes that differ.
 WORDS = {
     "Type": "type",
@@ -156,8 +152,7 @@ def report_lines(report: Report) -> Iterator[str]:
     for title, lines in host_lists(report.hosts).items():
         yield from list_lines(title, lines)
     if summary.changes:
-        order = ORDERS[summary.order]
-        yield f"{counted(summary.changes, 'different change')}, {order}:"
+        yield f"{counted(summary.changes, 'different change')}, {ORDER}:"
         yield ""
     for shared in report.changes():
         yield from change_lines(shared, summary.counts.hosts)

@@ -45,7 +45,6 @@ class Summary(NamedTuple):
     cut: int  # Of the hosts that differ.
     not_listed: int
     changes: int
-    order: str
     canary: Sequence[str]  # What the runs have noted of their canaries.
 
     def fields(self) -> Fields:
