@@ -1,7 +1,6 @@
 """aide-compare accept: digests, what is told, refusals, owners and modes, two at once."""
 from __future__ import annotations
 
-import base64
 import fcntl
 import gzip
 import hashlib
@@ -28,9 +27,8 @@ class AcceptTest(AcceptingTest):
         return stat.S_IMODE(found.st_mode), found.st_uid, found.st_gid
 
     def test_digests(self) -> None:
-        text = base64.b64encode(hashlib.sha256(NEW).digest()).decode()
-        wrapped = text[:32] + "\n" + text[32:]
-        for digest in (DIGEST, DIGEST.upper(), DIGEST[:16], DIGEST[:44], text, wrapped):
+        wrapped = DIGEST[:32] + "\n" + DIGEST[32:]
+        for digest in (DIGEST, DIGEST.upper(), DIGEST[:16], DIGEST[:44], wrapped):
             fresh(self)
             self.accepts(b"base/aide.db.new is the baseline now: base/aide.db\n", digest)
             self.assertEqual(contents(self), DONE, digest)

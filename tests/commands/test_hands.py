@@ -83,9 +83,7 @@ class HandsTest(CommandTest):
     def test_same_counts(self) -> None:
         """A run by hand and a mail have the same counts, by the same defaults. The check judges by
         the same lines."""
-        lines = (
-            "  --alarm=not-silent \n--to a@b.example\n--weekly Mon\n--warning 99\n--max-age 5d\n"
-        )
+        lines = "  --mail-time=9s \n--to a@b.example\n--weekly Mon\n--warning 99\n--max-age 5d\n"
         self.prepare(lines)
         told: list[bytes] = [b"1 open (1 high), 1 recorded of 2 changes", b"by /srv/* ("]
         self.answered(5, None, told, TOOL, "-v", "--state", "hand.state", *NIGHT)
@@ -157,7 +155,7 @@ class HandsTest(CommandTest):
 
     def test_bad_values(self) -> None:
         """A value that a mail cannot use costs no mail, and the mail says it."""
-        for line, said in (("--alarm never", b"invalid choice"), ("--to é", b"address")):
+        for line, said in (("--mail-time never", b"--mail-time"), ("--to é", b"address")):
             self.prepare(line + "\n")
             self.mails(7, "--no-defaults", *NIGHT)
             answer = mail.call(self, *NIGHT)

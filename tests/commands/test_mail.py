@@ -78,7 +78,7 @@ class TextsTest(MailTest):
             self.assertEqual(subject(message), SUBJECT + "no comparison (status %d)" % status)
             self.assertTrue(body(message).startswith(b"aide-compare"), words)
         addresses = ["--to"], ["--to", ""], ["--to", "a\nBcc: b"], ["--to", "-x"], ["--to", "é"]
-        others = ["--max-mail", "x"], ["--weekly", "--", "x"], ["--state", "-"], ["--weekly=Foo"]
+        others = ["--mail-time", "x"], ["--weekly", "--", "x"], ["--state", "-"], ["--weekly=Foo"]
         for words in (*addresses, *others):
             answer = call(self, "old.db", "new.db", *words)
             self.assertEqual((answer.status, sent(self)), (15, None), (words, answer))
@@ -160,9 +160,11 @@ class TextsTest(MailTest):
         self.assertEqual(found, [("text/plain", None, None), page])
         self.assertIn(b"File changes on ", body(parts[1]), "a page with the host")
         self.assertNotIn(b"<script", body(parts[1]))
-        text = body(self.mail("--attach-page", "--max-mail", "9k", "old.db", "new.db"))
-        said = "aide-compare mail: there is no page: it would be larger than --max-mail"
+        self.after_import("commands.mail_message", "MAX_MAIL\nMAX_MAIL = 9000\n")
+        text = body(self.mail("--attach-page", "old.db", "new.db"))
+        said = "aide-compare mail: there is no page: a mail with it would be larger than 1 MiB"
         self.assertTrue(words_of(text).endswith(said), text)
+        self.replaced["aide_compare.commands.mail_message"] = ""
         failing = "def head(*words):\n    raise KeyError('an odd report')\n"
         self.after_import("show.page", "head\n" + failing)
         text = body(self.mail("--attach-page", "old.db", "new.db"))

@@ -189,9 +189,9 @@ class SetupTest(CommandTest):
         reader = b"\nThen a@example.org gets a mail if a change is not silent"
         again = self.set_up("setup again", ("--no-mail",), 0, b"All was there already.", reader)
         self.assertEqual(again.output.count(b" (already)"), 8, again)
-        for words in (("--to", "b@example.org"), ("--alarm", "any")):
-            told = f"stays as it is; write there: {' '.join(words)}\n".encode()
-            self.expect("other options", self.call(TOOL, *words), 18, None, told)
+        words = ("--to", "b@example.org")
+        told = f"stays as it is; write there: {' '.join(words)}\n".encode()
+        self.expect("another reader", self.call(TOOL, *words), 18, None, told)
         self.write(DEFAULTS, "--attach-page\n")
         self.set_up("setup again, for root's mail", (), 0, b"a test mail to root\n")
         self.set_up("setup again, without a word", ("-q",), 0)
@@ -218,12 +218,10 @@ class SetupTest(CommandTest):
 
     def test_cron(self) -> None:
         shutil.rmtree(self.path("root/run/systemd"))
-        words = ("--no-mail", "--alarm", "any")
-        self.set_up("setup without systemd", words, 0, b"cron.daily")
+        self.set_up("setup without systemd", ("--no-mail",), 0, b"cron.daily")
         self.assertFalse(os.path.lexists(self.path("root/etc/systemd")))
         mode = os.stat(self.path("root/etc/cron.daily/aide-compare")).st_mode
         self.assertEqual(stat.S_IMODE(mode), 0o755, "a job that cron runs")
-        self.assertIn(b"--alarm any\n", self.read(DEFAULTS), "all changes are mailed")
         self.write("root/run/systemd/system/keep", "")
         said = b"is there beside the timer; remove it, or go on with --cron\n"
         self.expect("cron's job and the timer", self.call(TOOL), 18, None, said)

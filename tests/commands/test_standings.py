@@ -185,8 +185,7 @@ class StandingsTest(mail.MailTest):
         self.expect("the check", answer, 2, f"AIDE CRITICAL: {WORDS}: ".encode(), b"")
 
     def test_alarms(self) -> None:
-        """What is silent raises no alarm but by --alarm any. What a package's records have does,
-        always."""
+        """What is silent raises no alarm. What a package's records have does."""
         for host, status, mails in (
             (silent(), 0, False),
             (recorded(), 1, True),
@@ -194,8 +193,6 @@ class StandingsTest(mail.MailTest):
         ):
             self.assertEqual(check(self, host).status, status)
             self.assertEqual(is_mailed(self, host), mails, status)
-            self.assertEqual(check(self, host, "--alarm", "any").status, 2)
-            self.assertTrue(is_mailed(self, host, "--alarm", "any"), status)
         for words, status in (
             (("--critical", "1"), 2),
             (("--critical", "medium"), 2),
@@ -204,13 +201,6 @@ class StandingsTest(mail.MailTest):
         ):
             answer = check(self, recorded(), *words)
             self.assertEqual(answer.status, status, ("limits count what is recorded", words))
-        for words, status in (
-            (("--critical", "1"), 2),
-            (("--warning", "1"), 2),
-            (("--critical", "9"), 1),
-        ):
-            answer = check(self, silent(), "--alarm", "any", *words)
-            self.assertEqual(answer.status, status, ("limits count what is silent", words))
 
     def test_no_proof(self) -> None:
         """A line that says a standing which no proof has given is refused; so are counts of another

@@ -21,7 +21,6 @@ HIGH = Counts(recorded=1, recorded_high=1)
 OPEN = Counts(open=2, open_low=1, open_medium=1)
 OPEN_HIGH = Counts(open=1, open_high=1)
 OK, WARNING, CRITICAL, UNKNOWN = range(4)
-ANY = {"alarm": "any"}
 ROWS: tuple[tuple[int, int, Optional[Counts], dict[str, str]], ...] = (
     (OK, 0, None, {}),
     (WARNING, 1, None, {}),
@@ -36,10 +35,6 @@ ROWS: tuple[tuple[int, int, Optional[Counts], dict[str, str]], ...] = (
     (CRITICAL, 7, OPEN_HIGH, {}),
     (CRITICAL, 7, OPEN, {"critical": "1"}),
     (CRITICAL, 7, OPEN, {"critical": "medium"}),
-    (WARNING, 1, SILENT, ANY),
-    (CRITICAL, 4, SILENT, ANY),
-    (CRITICAL, 4, SILENT, {**ANY, "warning": "1"}),
-    (CRITICAL, 4, SILENT, {**ANY, "critical": "1"}),
     (WARNING, 4, LOW, {"critical": "2"}),
     (CRITICAL, 4, MEDIUM, {"critical": "2"}),
     (WARNING, 4, LOW, {"critical": "medium"}),
@@ -58,7 +53,7 @@ ROWS: tuple[tuple[int, int, Optional[Counts], dict[str, str]], ...] = (
 def level(status: int, counts: Optional[Counts], words: dict[str, str]) -> int:
     limits = [words.get(name) for name in ("warning", "critical")]
     asked = [alarm_limit(limit) if limit else None for limit in limits]
-    request = CheckRequest("state", 100, words.get("alarm", "not-silent"), *asked)
+    request = CheckRequest("state", 100, *asked)
     state: Any = mock.Mock(status=status, standings=counts)
     return check.level_of(request, state)
 
@@ -77,7 +72,7 @@ class CheckTest(ModuleTest):
         with mock.patch.object(parser, "write_all") as written:
             self.gives(UNKNOWN, check.main, ["--help"])
         shown = " ".join(written.call_args[0][1].decode().split())
-        parts = ["state file that aide-compare wrote", "older result is", "which changes count"]
+        parts = ["state file that aide-compare wrote", "older result is"]
         for text in (*parts, " ".join(check.EPILOG.split())):
             self.assertIn(text, shown)
         self.assertEqual(check.request_of(["--no-defaults"]).state, DAILY)

@@ -18,7 +18,6 @@ if TYPE_CHECKING:
 UNITS = {"": 1, "s": 1, "m": 60, "h": 3600, "d": 86400, "k": 1 << 10, "M": 1 << 20, "G": 1 << 30}
 MAX_SECONDS = 30 * 86400
 MAX_SIZE = 1 << 62
-BASE64_DIGEST = "[A-Za-z0-9+/]{42}[AEIMQUYcgkosw048]="
 HEX_DIGITS = "[0-9a-fA-F]{16,64}"
 
 Value = TypeVar("Value")
@@ -90,15 +89,11 @@ def any_text(text: str) -> str:
 
 
 def digest_digits(text: str) -> str:
-    """The digits of a SHA-256: all 64 of them, the first 16 or more, or all of it in base 64."""
+    """The digits of a SHA-256: all 64 of them, or the first 16 or more."""
     joined = "".join(text.split())
-    if re.fullmatch(BASE64_DIGEST, joined):
-        import base64
-
-        joined = base64.b64decode(joined).hex()
     if not re.fullmatch(HEX_DIGITS, joined):
         name = shown(text, 100) or "''"
-        needs = "give 16 to 64 hexadecimal digits, or all 44 characters of base64"
+        needs = "give 16 to 64 hexadecimal digits"
         raise argparse.ArgumentTypeError(f"not a SHA-256: {name}; {needs}")
     return joined.lower()
 

@@ -19,9 +19,6 @@ from aide_compare.base.kinds import (
     some_text,
 )
 
-# Which changes raise an alarm: those that are not silent, or all.
-NOT_SILENT = "not-silent"
-ALARMS = (NOT_SILENT, "any")
 DAYS = ("Mon", "Tue", "Wed", "Thu", "Fri", "Sat", "Sun")
 
 
@@ -148,20 +145,7 @@ SHA256 = Option(
     metavar="DIGEST",
     kind=digest_digits,
 )
-ALARM = Option(
-    "--alarm",
-    "which changes raise an alarm (not-silent)",
-    choices=ALARMS,
-    default=NOT_SILENT,
-)
 TO = Option("--to", "where the mail goes", metavar="ADDRESS", kind=address)
-MAX_MAIL = Option(
-    "--max-mail",
-    "leave the page out of a mail that would be larger (1M)",
-    metavar="SIZE",
-    kind=size,
-    default=1 << 20,
-)
 MAIL_TIME = Option(
     "--mail-time",
     "how long sending may take (60s)",
@@ -218,5 +202,5 @@ NO_DEFAULTS = Option("--no-defaults", "do not read the defaults in /etc/aide-com
 # databases of this machine only, those of a mail, and those of a check.
 COMPARISON_DEFAULTS = (CONFIG, MAX_SIZE, MAX_REPORT, MAX_AGE, EXCLUDE_FROM, EXCLUDE, TRUSTED, STATE)
 MACHINES_DEFAULTS = (TRUSTED, STATE)
-MAIL_DEFAULTS = (TO, MAX_MAIL, MAIL_TIME, ATTACH_PAGE, WEEKLY, ALARM)
-CHECK_DEFAULTS = (WARNING, CRITICAL, ALARM, STATE)
+MAIL_DEFAULTS = (TO, MAIL_TIME, ATTACH_PAGE, WEEKLY)
+CHECK_DEFAULTS = (WARNING, CRITICAL, STATE)

@@ -11,11 +11,9 @@ from aide_compare.base.ending import Done, Fault, tell, why_of
 from aide_compare.base.escapes import guarded, shown
 from aide_compare.base.kinds import AlarmLimit
 from aide_compare.base.options import (
-    ALARM,
     CHECK_DEFAULTS,
     CRITICAL,
     NO_DEFAULTS,
-    NOT_SILENT,
     RESULT_AGE,
     STATE,
     WARNING,
@@ -31,10 +29,7 @@ DESCRIPTION = "Prints in one line what the last comparison found."
 EPILOG = """\
 Status: 0 OK, all changes are silent; 1 WARNING, some are not; 2 CRITICAL, one of these is open and
 of severity high; 3 UNKNOWN, all else. A LIMIT replaces the rule for 1 or 2: a number of changes
-that are not silent, or the least severity of one, high, medium or low.
-
-With --alarm any: 1 WARNING, entries were added; 2 CRITICAL, entries were removed or changed; and
-a LIMIT that is a number counts all changes."""
+that are not silent, or the least severity of one, high, medium or low."""
 MAX_LINE = 300
 ONLY_ADDED = 1
 
@@ -53,7 +48,6 @@ class CheckRequest(NamedTuple):
 
     state: str
     max_age: int
-    alarm: str
     warning: Optional[AlarmLimit]
     critical: Optional[AlarmLimit]
 
@@ -66,32 +60,23 @@ class Answer(NamedTuple):
     numbers: str = ""
 
 
-def changes_that_count(request: CheckRequest, counts: Counts) -> int:
-    """How many changes a limit that is a number counts."""
-    if request.alarm == NOT_SILENT:
-        return counts.told
-    return counts.total
-
-
-def is_reached(limit: AlarmLimit, request: CheckRequest, counts: Counts) -> bool:
+def is_reached(limit: AlarmLimit, counts: Counts) -> bool:
     if limit.severity:
         severities = SEVERITIES[: SEVERITIES.index(limit.severity) + 1]
         return any(counts.of_severity(severity) for severity in severities)
-    return changes_that_count(request, counts) >= limit.changes
+    return counts.told >= limit.changes
 
 
-def is_critical(request: CheckRequest, state: State, counts: Counts) -> bool:
+def is_critical(request: CheckRequest, counts: Counts) -> bool:
     if request.critical is not None:
-        return is_reached(request.critical, request, counts)
-    if request.alarm != NOT_SILENT:
-        return state.status != ONLY_ADDED
+        return is_reached(request.critical, counts)
     return counts.open_high > 0
 
 
 def is_warning(request: CheckRequest, counts: Counts) -> bool:
     if request.warning is not None:
-        return is_reached(request.warning, request, counts)
-    return changes_that_count(request, counts) > 0
+        return is_reached(request.warning, counts)
+    return counts.told > 0
 
 
 def level_of(request: CheckRequest, state: State) -> Level:
@@ -103,7 +88,7 @@ def level_of(request: CheckRequest, state: State) -> Level:
         return Level.UNKNOWN
     if counts is None:
         return Level.WARNING if state.status == ONLY_ADDED else Level.CRITICAL
-    if is_critical(request, state, counts):
+    if is_critical(request, counts):
         return Level.CRITICAL
     if is_warning(request, counts):
         return Level.WARNING
@@ -132,14 +117,13 @@ def request_of(arguments: list[str]) -> CheckRequest:
     parser.add(
         STATE._replace(default=DAILY, help=f"the state file that aide-compare wrote ({DAILY})"),
         RESULT_AGE._replace(help="an older result is UNKNOWN (26h)"),
-        ALARM._replace(help="which changes count (not-silent)"),
         WARNING,
         CRITICAL,
         NO_DEFAULTS,
     )
     parser.set_defaults(**defaults_for(CHECK_DEFAULTS, arguments))
     args = parser.parse(arguments)
-    return CheckRequest(args.state, args.max_age, args.alarm, args.warning, args.critical)
+    return CheckRequest(args.state, args.max_age, args.warning, args.critical)
 
 
 def main(arguments: Sequence[str]) -> int:

@@ -21,7 +21,6 @@ from aide_compare.base.options import (
     JOBS,
     MAX_SIZE,
     NO_DEFAULTS,
-    NOT_SILENT,
     Option,
 )
 from aide_compare.base.parser import Parser, defaults_for
@@ -89,7 +88,7 @@ def compare_host(settings: Settings, host: str) -> HostResult:
         return HostResult(host, 0, False, "no differences")
     if state.status > 7:
         return HostResult(host, state.status, True, without_name(host, state.error))
-    return HostResult(host, state.status, is_alarm(state, NOT_SILENT), counts_text(state))
+    return HostResult(host, state.status, is_alarm(state), counts_text(state))
 
 
 def note_death(store: str, host: str, text: str) -> None:

@@ -20,6 +20,7 @@ from aide_compare.mail.text import Mail, fault_lines, note_lines, text_of_change
 from aide_compare.show.told import told_of
 
 MAX_PATTERNS = 8  # Of --exclude, in the command of a mail.
+MAX_MAIL = 1 << 20  # Bytes of a mail with a page.
 # The columns that earlier mails have told; None if no state is kept that a next run can see.
 Told = Optional[Sequence[str]]
 
@@ -39,12 +40,12 @@ def message_of(
     if comparison.status == Status.USAGE:  # Who has typed it sees it at once.
         write_all(2, told_of(comparison).encode("utf-8", "backslashreplace"))
     columns = unknown_columns(told, state)
-    if not (is_alarm(state, request.alarm) or columns or comparison.warnings):
+    if not (is_alarm(state) or columns or comparison.warnings):
         return b""
     notes = notes_of(request, comparison)
     page = None
     if request.has_page and comparison.differs:
-        made = page_of(comparison, judged, request.max_mail)
+        made = page_of(comparison, judged)
         page = made.data
         if page is None:
             notes.append(f"{NAME}: there is no page: {made.why}")
@@ -130,18 +131,18 @@ class MadePage(NamedTuple):
     why: str = ""
 
 
-def page_of(comparison: Comparison, judged: Optional[Judged], max_mail: int) -> MadePage:
+def page_of(comparison: Comparison, judged: Optional[Judged]) -> MadePage:
     """The plain page of the changes. An alarm is not lost if there can be no page."""
     if judged is None:
         return MadePage(None, "the changes are not known")
-    if comparison.known_lines().size > max_mail:
+    if comparison.known_lines().size > MAX_MAIL:
         return MadePage(None, "the changes are too many for one")
     try:
-        whole = within(page_parts(comparison, judged), max_mail // 2)
+        whole = within(page_parts(comparison, judged), MAX_MAIL // 2)
     except Exception as error:
         return MadePage(None, why_of(error))
     if whole is None:
-        return MadePage(None, "it would be larger than --max-mail")
+        return MadePage(None, "a mail with it would be larger than 1 MiB")
     return MadePage(whole)
 
 

@@ -11,12 +11,10 @@ from aide_compare.base.ending import Fault, Status, say
 from aide_compare.base.escapes import shown
 from aide_compare.base.kinds import unit_name
 from aide_compare.base.options import (
-    ALARM,
     DAYS,
     ATTACH_PAGE,
     MAIL_DEFAULTS,
     MAIL_TIME,
-    MAX_MAIL,
     STATE,
     TO,
     USER,
@@ -48,10 +46,8 @@ class MailRequest(NamedTuple):
     asked: Union[CompareRequest, Fault]  # What the command line alone asks for.
     default_fault: str  # What is wrong with the defaults; "" if nothing is.
     address: str
-    max_mail: int
     seconds: int
     has_page: bool
-    alarm: str
     is_test: bool
     weekly: Optional[str]  # The day of the heartbeat.
     queue: Optional[str]
@@ -66,8 +62,7 @@ def own_parser() -> Parser:
     usage = "%(prog)s [OPTIONS] [ARGUMENTS of aide-compare]"
     parser = Parser(NAME, DESCRIPTION, epilog=EPILOG, usage=usage)
     parser.add(TO._replace(default="root", help="where the mail goes (root)"))
-    parser.add(MAX_MAIL, MAIL_TIME, ATTACH_PAGE)
-    parser.add(ALARM._replace(help="which changes are mailed: not-silent (the default), or any"))
+    parser.add(MAIL_TIME, ATTACH_PAGE)
     queue = "keep the mail in this directory; --send-queue sends it"
     send = "compare nothing, and send the mails of this directory"
     unit = "with --send-queue: mail first that this unit of systemd failed"
@@ -120,10 +115,8 @@ def parsed(
         asked=comparison_of(rest, args),
         default_fault="",
         address=args.to,
-        max_mail=args.max_mail,
         seconds=args.mail_time,
         has_page=args.attach_page,
-        alarm=args.alarm,
         is_test=args.test,
         weekly=args.weekly,
         queue=args.queue,

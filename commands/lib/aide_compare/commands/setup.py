@@ -15,7 +15,7 @@ from aide_compare.base.escapes import shown
 from aide_compare.base.files import reopened
 from aide_compare.base.replacement import replace
 from aide_compare.base.directories import closed_after, open_directory
-from aide_compare.base.options import ALARM, NOT_SILENT, TO, Option
+from aide_compare.base.options import TO, Option
 from aide_compare.base.parser import Parser
 from aide_compare.base.program import MAX_DIFFERENT
 from aide_compare.base.words import counted
@@ -73,7 +73,6 @@ class SetupRequest(NamedTuple):
     is_dry_run: bool
     is_check: bool
     address: str  # "" for root.
-    alarm: str
     wants_cron: bool
     wants_mail: bool
     is_quiet: bool
@@ -189,9 +188,7 @@ class Machine:
         if count:
             done = f"Done: {counted(count, 'step')} now."
         reader = self.reader()
-        is_any = options_there().get("--alarm") == "any"
-        cause = "if anything differs" if is_any else "if a change is not silent"
-        mail = f"Then {reader} gets a mail {cause}, or if nothing was compared:"
+        mail = f"Then {reader} gets a mail if a change is not silent, or if nothing was compared:"
         first = f"The first comparison runs {self.next_run()}."
         example = [SUBJECT.format(host=shown(os.uname().nodename)), *MAIL]
         lines = ["", done, first, mail, "", *example, "", "To compare now: aide-compare"]
@@ -204,8 +201,7 @@ class Machine:
 
     def options_asked(self) -> dict[str, str]:
         """The options of each day that the command line asks for."""
-        asked = {"--to": self.request.address, "--alarm": self.request.alarm}
-        return {name: value for name, value in asked.items() if value not in ("", NOT_SILENT)}
+        return {"--to": self.request.address} if self.request.address else {}
 
     def comparison(self) -> int | None:
         """The status of a comparison of now, which prints why it fails; None without databases, or
@@ -309,7 +305,6 @@ def request_of(arguments: Sequence[str]) -> SetupRequest:
         Option("--dry-run", "print the steps, and change nothing"),
         Option("--check", "print what is missing, compare once, and change nothing"),
         TO._replace(help="who gets the mails (root)"),
-        ALARM._replace(help="mail the changes that are not silent, or any (not-silent)"),
         Option("--cron", "a job of cron instead of the timer"),
         Option("--no-mail", "send no test mail"),
     )
@@ -318,7 +313,6 @@ def request_of(arguments: Sequence[str]) -> SetupRequest:
         is_dry_run=args.dry_run,
         is_check=args.check,
         address=args.to or "",
-        alarm=args.alarm,
         wants_cron=args.cron,
         wants_mail=not args.no_mail,
         is_quiet=args.quiet,

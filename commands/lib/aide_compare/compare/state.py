@@ -21,7 +21,6 @@ MAX_TOLD = 3
 # The state of the daily run, and how much the clocks of two machines that share a file may differ.
 DAILY = "/var/lib/aide-compare/daily/state"
 AHEAD = 300
-ALARM_ANY = "any"
 NEEDED = ("status", "time")
 NUMBERS = (*NEEDED, *KINDS, "old_written", "new_written")
 DIGESTS = ("old_sha256", "new_sha256")
@@ -135,11 +134,11 @@ class State(NamedTuple):
         return ""
 
 
-def is_alarm(state: State, alarm: str) -> bool:
-    """Whether a run raises an alarm by a word of ALARMS. Without standings, which nobody could find
-    out, each change does."""
+def is_alarm(state: State) -> bool:
+    """Whether a run raises an alarm. Without standings, which nobody could find out, each change
+    does."""
     standings = state.standings
-    if state.status > 7 or alarm == ALARM_ANY or standings is None:
+    if state.status > 7 or standings is None:
         return state.status != 0
     return standings.told > 0
 
