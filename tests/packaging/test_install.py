@@ -9,7 +9,7 @@ from typing import Any
 from tests.lib.program_test import slow
 from tests.lib.programs import lines_program_of
 from tests.packaging import byte_code
-from tests.packaging.installation import Answer, InstallTest, files, rights, tree
+from tests.packaging.installation import HERE, Answer, InstallTest, files, rights, tree
 
 DOCUMENTS = "share/doc/aide-compare"
 MANIFEST = "lib/aide-compare/installed"
@@ -237,7 +237,7 @@ class InstallingTest(InstallTest):
             self.refuses("a program that is not there", folder, done, missing)
         done = self.install("--help")
         self.assertEqual((done[0], "--uninstall" in done[1]), (0, True), done)
-        self.assertIn("8 to 13 minutes", done[1])
+        self.assertIn("13 minutes", done[1])
 
     def test_build(self) -> None:
         """A program that is not built, or that is old, is built first."""
@@ -250,13 +250,15 @@ class InstallingTest(InstallTest):
         calls, programs = self.path("calls"), os.path.dirname(self.program)
         note = f'echo "$PWD $*" >> "{calls}"'
         put = f'mkdir -p out && cp "{programs}/${{PWD##*/}}" out/'
-        self.write("stubs/rt", f"#!/bin/sh\n{note}\n{put}\n", 0o755)
+        self.write("stubs/rt", f"#!/bin/sh\n{note}\n{put}\necho crate aide_attr: x\n", 0o755)
+        shutil.copytree(os.path.join(HERE, "tools/source"), os.path.join(source, "tools/source"))
+        shutil.copy(os.path.join(HERE, "crates.txt"), source)
         done = self.install("--destdir", folder, source=source, env=self.plain())
         self.refuses("no program and no rt", folder, done, "rt", "--program")
         surroundings = dict(os.environ, PATH=self.path("stubs") + ":" + self.plain_path)
-        both = ["aide", "aide_lines"]
+        both = ["aide_lines", "aide"]
         nothing: list[str] = []
-        for old, wanted in (("", both), ("", nothing), (built, both[:1]), (lines_built, both[1:])):
+        for old, wanted in (("", both), ("", nothing), (built, both[1:]), (lines_built, both[:1])):
             if old:
                 os.utime(old, (1, 1))
             self.write("calls", "")
@@ -265,7 +267,9 @@ class InstallingTest(InstallTest):
                 lines = [line for line in file.read().splitlines() if " run " in line]
             called = [f"{source}/crates/{crate} run -- -D -c /dev/null" for crate in wanted]
             self.assertEqual((done[0], lines), (0, called), done)
-            self.assertEqual("8 to 13 minutes" in done[2], bool(wanted), "it says how long")
+            self.assertEqual("13 minutes" in done[2], bool(wanted), "it says how long")
+            steps = re.findall(r"(?m)^  1 of \d+ crates proved, 0 min: aide_attr$", done[2])
+            self.assertEqual(len(steps), len(wanted), done)
         found = tree(os.path.join(folder, "usr/local"))
         for program, target in zip((self.program, lines_program_of(self.program)), PROGRAMS):
             with open(program, "rb") as file:
@@ -277,7 +281,7 @@ class InstallingTest(InstallTest):
         words = ["sh", script, "--output", self.path("unbuilt/out")]
         done = self.run_words(words, env=surroundings)
         self.assertEqual((done[0], os.path.exists(built)), (0, True), done)
-        self.assertIn("8 to 13 minutes", done[2])
+        self.assertIn("13 minutes", done[2])
         self.write("stubs/rt", "#!/bin/sh\nexit 1\n", 0o755)
         os.remove(built)
         unproved = self.path("unproved")

@@ -37,6 +37,13 @@ def below(crate, uses):
     return found
 
 
+def unproved(program):
+    """How many crates are proved when a program is built: itself, and those below it that are not
+    built yet."""
+    folders = [os.path.join(TOP, "crates", crate) for crate in below(program, libraries())]
+    return 1 + sum(not os.path.isdir(os.path.join(folder, "out", "rlib")) for folder in folders)
+
+
 def built(crate):
     folder = os.path.join(TOP, "crates", crate, "out", "rlib")
     if not os.path.isdir(folder):
