@@ -113,20 +113,20 @@ def instructions_of(command: list[str]) -> int:
 
 def usage_of(command: list[str], directory: str) -> Usage:
     """Runs a command by GNU time, which is small: a child of this process begins with its
-    memory."""
+    memory. It ends itself as a shell does if a signal has ended the command."""
     output = os.path.join(directory, "output")
     figures = os.path.join(directory, "figures")
     with open(output, "wb") as target:
-        subprocess.run(
-            ["/usr/bin/time", "-q", "-o", figures, "-f", "%U %S %M %x", *command],
+        done = subprocess.run(
+            ["/usr/bin/time", "-q", "-o", figures, "-f", "%U %S %M", *command],
             stdin=subprocess.DEVNULL,
             stdout=target,
             stderr=subprocess.DEVNULL,
             check=False,
         )
     with open(figures) as file:
-        user, system, memory, status = file.read().split()[-4:]
-    signal = max(0, int(status) - 128)
+        user, system, memory = file.read().split()[-3:]
+    signal = max(0, done.returncode - 128)
     return Usage(float(user) + float(system), int(memory) / 1024, os.path.getsize(output), signal)
 
 
@@ -146,7 +146,7 @@ def aide_of(program: str, directory: str, level: str, runs: int) -> str:
         return ""
     theirs = [usage_of(compare(AIDE, directory, level), directory) for _ in range(runs)]
     if theirs[0].signal:
-        return f"ended by signal {theirs[0].signal}"
+        return f"crashes (signal {theirs[0].signal})"
     ours = [usage_of(compare(program, directory, level), directory) for _ in range(runs)]
     least = min(usage.seconds for usage in theirs)
     return f"{least:.2f} s, {least / max(0.01, min(usage.seconds for usage in ours)):.0f} times"
