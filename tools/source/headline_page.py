@@ -33,8 +33,15 @@ INTRO = """\
 
 `python3 -m tools.source.headline_page --write` writes this page, and
 `tests/source/check_docs.py` compares it with the definitions. Read it to know
-what the headline of the [README](../README.md) claims about two databases. The
-proof need not be read: the toolchain has checked it. Only the meaning of
+what the headline claims about two databases:
+
+> For every accepted configuration and every two databases, where each opening
+> gives the same bytes, the run writes exactly the report and gives the status
+> that the definitions over whole maps assign, or names the first faulty line
+> and writes nothing; and at no moment does it hold more bytes of the databases
+> than the longest line of each and one further line no longer than these.
+
+The proof need not be read: the toolchain has checked it. Only the meaning of
 arguments and configurations is left out.
 
 How to read a definition:
