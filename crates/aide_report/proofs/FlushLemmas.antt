@@ -1,6 +1,6 @@
 -- What the flush at the end makes of what was written before it.
 use Rattle.std.proofs.Common.{◌≡◌, ◌∙◌, ◌≤◌, ℕ, List, Bool, true, false, ap, le_refl, refl, subst, sym}
-use Rattle.std.specs.Prelude.{Result, Ok, Err, IfOk, OnOk}
+use Rattle.std.specs.Prelude.{Result, Ok, Err, OnOk}
 use Rattle.aide_db.specs.DeskView.{DeskView}
 use Rattle.aide_db.specs.declared.limits.Limits.{Limits}
 use Rattle.aide_text.specs.Failures.{Rose, one_more}

@@ -210,7 +210,7 @@ fault_as {a = a} {b = b} {sink = sink} {next = next} {fault = fault} f p =
       first = p.first;
       over = λ wish old new told_old told_new r runs.
           stops_by r (IsHindered old new sources sink) (IsHindered old new sources next) fault
-              (hindered_as old new sources sink next fault f)
+          (hindered_as old new sources sink next fault f)
           (p.over wish old new told_old told_new r runs);
       refused = p.refused;
       not_given = p.not_given;

@@ -66,8 +66,9 @@ fn put_last<W: Sink>(out: &mut W, pen: &mut Pen, found: &Found)
         digest: &found.readings.digests.of_new,
         skipped: found.readings.skipped_new,
     };
+    let pair = ReadPair { old, new };
     let status = outcome_of(&found.counts, &found.readings).status();
-    put_closing_line(out, pen, &ReadPair { old, new }, &found.counts, false, status);
+    put_closing_line(out, pen, &pair, &found.counts, false, status);
 }
 
 /// Reads the old database to its end, and closes it.

@@ -1,5 +1,5 @@
 -- The runs that write a report or lines keep what a session relies on.
-use Rattle.std.proofs.Common.{◌≡◌, ◌∙◌, ℕ, List, [], Option, Some, None, refl, sym, ap, Ok, Err, inl, inr, ◌⊎◌, ◌++◌, append_assoc}
+use Rattle.std.proofs.Common.{◌≡◌, ◌∙◌, ℕ, List, [], Option, Some, None, refl, sym, ap, Ok, Err, inl, inr, ◌++◌, append_assoc}
 use Rattle.std.specs.Prelude.{Result, IfErr, IfOk, OnOk, ⊤}
 use Rattle.std.specs.Io.KnownBytes.{Appends}
 use Rattle.std.proofs.Math.Path.{subst}

@@ -18,7 +18,6 @@ use Rattle.aide_report.specs.Missing.{IsHindered, IsOfReliable, RunsOverBy, Send
 use Rattle.aide_report.specs.Missing.{run_answer}
 use Rattle.aide_report.specs.RunFaults.{IsCaused}
 use Rattle.aide_report.specs.Runs.{Report}
-use Rattle.aide_report.specs.Sent.{SendsPart}
 use Rattle.aide_entry.specs.Cause.{is_memory}
 use Rattle.aide_db.specs.Side.{by_side}
 use Rattle.aide_report.specs.Room.{IsNotOfMemory}

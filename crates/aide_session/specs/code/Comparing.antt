@@ -1,5 +1,5 @@
 -- What a session relies on of a comparison, whatever is written.
-use Rattle.std.specs.Prelude.{◌≡◌, ◌≤◌, ◌*◌, ℕ, true, List, Option, Some, None, Result, Ok, Err}
+use Rattle.std.specs.Prelude.{◌≡◌, ◌≤◌, ◌*◌, ℕ, true, List, Option, Some, Result, Ok, Err}
 use Rattle.std.specs.Prelude.{IfErr, IfOk, OnOk, max}
 use Rattle.aide_db.specs.Database.{IsSound}
 use Rattle.aide_db.specs.DeskView.{DeskView}
