@@ -174,8 +174,8 @@ class HostsAddTest(CommandTest):
         options = ("--store", self.path("store"), "--hosts-file", self.path("etc-hosts"))
         hosts = ("www", "denied", "db1", "db2")
         terminal = self.terminal("aide-compare hosts add", *options, *hosts)
-        for host, answer in ((b"www", b"yes\n"), (b"db1", b"no\n"), (b"db2", b"yes\n")):
-            terminal.read(b"Then %s is watched from now on. %s" % (host, PROMPT))
+        for name, answer in ((b"www", b"yes\n"), (b"db1", b"no\n"), (b"db2", b"yes\n")):
+            terminal.read(b"Then %s is watched from now on. %s" % (name, PROMPT))
             terminal.type(answer)
         status, text = terminal.end()
         self.assertEqual((status, files(self)["etc-hosts"]), (24, "www\ndb2\n"), text)

@@ -116,7 +116,8 @@ class OccasionTest(CommandTest):
         lines = [b'{"format":4,"old":"o","new":"n"}', self.lines_over(OLD, OLD).splitlines()[-1]]
         more = [word for number in range(60) for word in ("--with", f"a{number}={'x' * 4000}")]
         text = b"\n".join(lines) + b"\n"
-        for words in (more, []):
+        none: list[str] = []
+        for words in (more, none):
             first, last = self.added_to(text, "--full", *words)
             self.assertEqual(first["old_digest"], last["old"]["sha256"][:16])
             text = json.dumps(first).encode() + b"\n" + json.dumps(last).encode() + b"\n"

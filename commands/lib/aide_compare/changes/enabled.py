@@ -46,8 +46,8 @@ def run_level_links(name: bytes, text: bytes) -> dict[bytes, bytes]:
 
 
 def unit_links(path: bytes, name: bytes, text: bytes) -> Enabled:
-    """The links to a unit, and what deb-systemd-helper writes of them; nothing if it is installed in
-    another way than for what wants or requires it."""
+    """The links to a unit, and what deb-systemd-helper writes of them; nothing if it is installed
+    in another way than for what wants or requires it."""
     places = []
     for key, values in re.findall(INSTALL, text):
         if key not in DIRECTORIES:

@@ -27,9 +27,9 @@ DESCRIPTION = """\
 Fetches the first database of each HOST by ssh, shows the key of HOST and the SHA-256 of the
 database, and asks. After yes the key is in known_hosts, the database is the baseline, and HOST is
 in the file of hosts."""
-EPILOG = """Status, the highest of all hosts: 0 HOST is watched; 15 bad arguments, or no terminal; 18
-nothing was fetched; 24 the answer was no, there is a baseline of HOST already, or it sent no sound
-database."""
+EPILOG = """Status, the highest of all hosts: 0 HOST is watched; 15 bad arguments, or no terminal;
+18 nothing was fetched; 24 the answer was no, there is a baseline of HOST already, or it sent no
+sound database."""
 
 
 class AddRequest(NamedTuple):

@@ -55,8 +55,8 @@ def _ask(
     take: Taker,
     first: bytes = b"",
 ) -> Answer:
-    """Runs a program over texts, by these words and those that name the texts. `first`: lines before
-    all of them."""
+    """Runs a program over texts, by these words and those that name the texts. `first`: lines
+    before all of them."""
     defined = texts.defining_host()
     before = first + defined.texts.before
     if before:

@@ -228,7 +228,8 @@ def open_lines(listing: Listing, read: Read) -> Iterator[str]:
     most = most_of(listing.made, len(SEVERITIES), MAX_GROUPS, name)
     for place, count in most.first:
         severity, package = name(place)
-        yield f"  {severity:<6}  made     {guarded(package)}: {counted(count, 'file')}, by its scripts"
+        files = f"{counted(count, 'file')}, by its scripts"
+        yield f"  {severity:<6}  made     {guarded(package)}: {files}"
     if most.others:
         files = counted(most.total, "file")
         yield f"  and {files} made by more packages"
