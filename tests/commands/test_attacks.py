@@ -271,7 +271,9 @@ class AttacksTest(CommandTest):
         note = b"one: 1 line that includes other files is passed over"
         self.answered(7, None, [note, *DIFFER], TOOL, "-c", "one", "old.db", "new.db")
         quiet = b"NO differences"
-        self.answered(0, quiet, b"", TOOL, "-c", "one", "new.db", "new.db.gz")
+        equal = [b"both databases are equal"]
+        plain = self.answered(0, quiet, equal, TOOL, "-c", "one", "new.db", "new.db.gz")
+        self.assertNotIn(note, plain.errors)
         self.answered(0, quiet, note, TOOL, "-v", "-c", "one", "new.db", "new.db.gz")
         told = [b"aide: before:2: bad value\n", b"line 2: report_level=x\n"]
         self.refused(17, told, TOOL, "-c", "conf", "-B", "# @@{HOSTNAME}\nreport_level=x")

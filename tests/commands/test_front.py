@@ -36,9 +36,10 @@ class FrontTest(CommandTest):
         for name in ("sort", "jsn"):
             self.write(name, NEW)
         same = b"no differences in 3 entries\n"
-        self.answered(0, same, b"", TOOL, "./sort", "new.db")
+        equal = [b"both databases are equal"]
+        self.answered(0, same, equal, TOOL, "./sort", "new.db")
         self.answered(0, OLD, None, TOOL, "sort", "old.db")
-        self.answered(0, same, b"", TOOL, "jsn", "new.db")
+        self.answered(0, same, equal, TOOL, "jsn", "new.db")
         self.refused(18, b"cannot open the old database", TOOL, "stat.db", "new.db")
 
     def test_help(self) -> None:

@@ -187,7 +187,7 @@ class SilencedTest(mail.MailTest):
         """Compiled Python that does not do what its source says was "made again, the same"."""
         directory = b"/usr/lib/python3/dist-packages/policy/"
         source, compiled = directory + b"check.py", directory + b"__pycache__/check.cpython-311.pyc"
-        for now, named in ((TWO, compiled.rpartition(b"/")[0]), (ONE, compiled)):
+        for now, named in ((TWO, b"made     policy 2"), (ONE, b"changed  " + compiled)):
             host = Host()
             host.old.file(source, ONE).file(compiled, ONE)
             host.new.file(source, now).file(compiled, b"\xce and not N")

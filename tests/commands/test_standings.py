@@ -125,7 +125,8 @@ class StandingsTest(mail.MailTest):
         self.assertEqual(brief.errors, answer.errors, ("the same is said", brief))
         self.write("same.db", self.read("o.db"))
         answer = self.call(TOOL, "--state", "state", "o.db", "same.db")
-        self.expect("no difference", answer, 0, b"no differences in 7 entries", b"")
+        equal = [b"both databases are equal, byte for byte"]
+        self.expect("no difference", answer, 0, b"no differences in 7 entries", equal)
         self.assertEqual(self.state().get("open"), "0", ("its state", self.state()))
         want = "1 change, all silent\n\n1 change is silent: 1 same\n\n"
         self.assertEqual(silent().brief(self), want, "all is silent")
