@@ -250,6 +250,7 @@ class SeverityTest(ModuleTest):
         ranks = [
             table.of(b"/srv/x", None, entry(FILE, capabilities=SETUID)).rank,
             table.of(b"/etc/passwd", entry(FILE), entry(FILE)).rank,
+            table.of(b"/etc/group", entry(FILE), entry(FILE)).rank,
             table.of(b"/etc/cron.d/x", None, entry(FILE)).rank,
             table.of(b"/usr/bin/x", None, entry(PROGRAM)).rank,
             table.of(b"/var/lib/dpkg/info/x.postinst", None, entry(PROGRAM)).rank,
