@@ -78,7 +78,8 @@ class MachineTest(ScratchTest):
     def setUp(self) -> None:
         self.program = find_program()
         super().setUp()
-        for name in [*DIRECTORIES, "/stubs", "/tmp", "/var/lib/prometheus/node-exporter"]:
+        others = ["/stubs", "/tmp", "/var/lib/prometheus/node-exporter", os.path.dirname(STATE)]
+        for name in [*DIRECTORIES, *others]:
             os.makedirs(self.path(name), exist_ok=True)
         os.chmod(self.path("/var/lib/aide"), 0o700)
         for name in ("/tmp", "/var/tmp"):

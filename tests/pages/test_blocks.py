@@ -12,7 +12,7 @@ import unittest
 
 from tests.lib.scratch import TOP, read
 from tests.pages.blocks import MANUALS, Block, blocks_of, plain
-from tests.pages.machine import HOSTS, STORE, MachineTest
+from tests.pages.machine import HOSTS, STATE, STORE, MachineTest
 
 HEAD = "@@begin_db\n@@db_spec name perm size atime inode\n"
 # One entry is removed, one added, and two are changed: /c can be written by everybody, of /d only
@@ -53,7 +53,7 @@ STATUSES = [
     ("the configuration has a fault", OLD, NEW, COMPARE + " -A report_level=no_such_level"),
     ("a file could not be opened", OLD, NEW, COMPARE + " -A database_new=file:/no/such/file"),
     (
-        "a database changed while it was read",
+        "a database changed while a report was made of it",
         OLD,
         NEW,
         f"zcat -f new.gz | {COMPARE} -A database_new=file:/dev/stdin",
@@ -75,6 +75,7 @@ class PagesTest(MachineTest):
         for name in FRESH:
             shutil.rmtree(self.path(name), ignore_errors=True)
             os.makedirs(self.path(name), 0o700)
+        os.makedirs(self.path(os.path.dirname(STATE)))
         for name, text in (("old", old), ("new", new)):
             for path in (f"/tmp/{name}.gz", f"/tmp/{name}.db.gz"):
                 self.write(path, gzip.compress(text.encode()))
