@@ -49,7 +49,7 @@ IN_MEMORY = {
     b"read_beside_words": 250,
     b"point": 10,
     b"session": 500,
-    b"lines_session_beside_on": 400,
+    b"lines_session_on": 400,
 }
 # What comes before the one call whose command line is not understood: it may feel no refusal.
 NOT_UNDERSTOOD = b"a trusted pair in part:\njob: no trusted pair\n"

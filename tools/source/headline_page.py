@@ -20,14 +20,13 @@ COMPARE = "crates/aide_headline/src/comparison.rt"
 PROGRAM = "crates/aide_headline/src/program.rt"
 COMPARE_LINES = "crates/aide_headline/src/lines.rt"
 PROGRAM_LINES = "crates/aide_headline/src/lines_program.rt"
-PROGRAM_BESIDE = "crates/aide_headline/src/beside_program.rt"
 RUN_RECORD = "crates/aide_report/specs/Run.antt"
 # What contracts see of a desk, which no clause names by its type.
 DESK = ("aide_db", "DeskView", "DeskView")
 # What a configuration means and what arguments ask for are premises of the second call. Their
 # definitions are not printed.
 PREMISES = [("aide_conf", "ReadResult", "ReadsAs"), ("aide_words", "Job", "job_of")]
-PREMISES_BESIDE = [("aide_words", "BesideJob", "beside_job_of")]
+PREMISES_TRUSTED = [("aide_words", "BesideJob", "beside_job_of")]
 INTRO = """\
 # The headline, and what it rests on
 
@@ -78,7 +77,6 @@ configuration is accepted with these settings. The definitions of both are not
 printed here:"""
 OF_TWO = "Two databases"
 OF_PROGRAM = "The whole program, by arguments and files"
-OF_PAIR = "The whole program, if its arguments name a trusted pair"
 FILES = """\
 Contracts do not see the bytes of a machine's files, so no clause above speaks
 of them. Two fields of the record that `run` promises do. In them `a` and `b`
@@ -204,21 +202,16 @@ def pages():
     )
     made.add(*types_of(made, []))
     made.add(*library_words(made.outside))
-    calls = [
-        (OF_TWO, COMPARE_LINES, "compare_as_lines"),
-        (OF_PROGRAM, PROGRAM_LINES, "run_lines_program"),
-    ]
-    calls.append((OF_PAIR, PROGRAM_BESIDE, "run_beside_program"))
-    lines, (compare, program, beside) = begun(INTRO_OF_LINES, definitions, calls, printed)
-    imports = {**imports_of(read(COMPARE_LINES)), **imports_of(read(PROGRAM_LINES))}
-    lines.part("What the first two calls have besides", [], compare + program, imports, PREMISES)
-    of_beside = premises(definitions, PREMISES_BESIDE)
+    calls = [(OF_TWO, COMPARE_LINES, "compare_as_lines")]
+    calls.append((OF_PROGRAM, PROGRAM_LINES, "run_lines_program"))
+    lines, (compare, program) = begun(INTRO_OF_LINES, definitions, calls, printed)
+    lines.part("What the first call has besides", [], compare, imports_of(read(COMPARE_LINES)))
     lines.part(
-        "What the third call has besides",
-        of_beside,
-        beside,
-        imports_of(read(PROGRAM_BESIDE)),
-        PREMISES + PREMISES_BESIDE,
+        "What the second call has besides",
+        premises(definitions, PREMISES_TRUSTED),
+        program,
+        imports_of(read(PROGRAM_LINES)),
+        PREMISES + PREMISES_TRUSTED,
     )
     lines.add(*types_of(lines, made.outside))
     lines.add(*library_words(lines.outside, made.outside))

@@ -2,13 +2,11 @@
 //! the report and for lines of JSON.
 #![tactic(auto)]
 
-mod beside_program;
 mod comparison;
 mod lines;
 mod lines_program;
 mod program;
 
-pub use beside_program::run_beside_program;
 pub use comparison::compare_databases;
 pub use lines::compare_as_lines;
 pub use lines_program::run_lines_program;

@@ -2,7 +2,7 @@
 use aide_db::{Desk, Side, Sources};
 use aide_report::WriteSink;
 use aide_session::{
-    BesideJob, Job, Memory, MemorySite, Site, Words, WordsFault, lines_session_beside_on,
+    BesideJob, Job, Memory, MemorySite, Site, Words, WordsFault, lines_session_on,
     read_beside_words, read_words, session,
 };
 use arrayvec::ArrayVec;
@@ -223,7 +223,7 @@ fn lines_end_of<'a>(
     let mut err = WriteSink::new(ArrayVec::<u8, 4096>::new());
     let mut desk = Desk::new(alloc);
     let mut trusted_desk = Desk::new(alloc);
-    let status = lines_session_beside_on(
+    let status = lines_session_on(
         alloc,
         words,
         &mut desk,
@@ -249,7 +249,7 @@ pub(crate) fn run_lines<'a>(
 ) -> Result<(), Memory> {
     let mut ended = lines_end_of(rt.alloc(), words, site, trusted);
     if ended.is_starved() {
-        tell(rt, "lines_session_beside_on");
+        tell(rt, "lines_session_on");
         ended = lines_end_of(rt.alloc(), words, site, trusted);
         if ended.is_starved() {
             return Err(Memory);

@@ -2,8 +2,8 @@
 #![tactic(auto)]
 
 pub use aide_session::{
-    BesideJob, FileSite, Job, Memory, MemorySite, Site, Word, Words, WordsFault, lines_session,
-    lines_session_beside_on, read_beside_words, read_words, start_lines,
+    BesideJob, FileSite, Job, Memory, MemorySite, Site, Word, Words, WordsFault, lines_session_on,
+    read_beside_words, read_words, start_lines,
 };
 use std::process::ExitCode;
 

@@ -2,7 +2,6 @@
 #![tactic(auto)]
 
 mod beside;
-mod beside_program;
 mod comparison;
 mod config_check;
 mod config_file;
@@ -25,9 +24,8 @@ mod trusted_lines;
 pub use aide_words::{
     BesideJob, Job, Memory, Word, Words, WordsFault, read_beside_words, read_words,
 };
-pub use beside_program::lines_session_beside_on;
 pub use file_site::FileSite;
-pub use lines_program::{lines_session, lines_session_on};
+pub use lines_program::lines_session_on;
 pub use machine::{start, start_lines};
 pub use memory_site::MemorySite;
 pub use paged_sink::PagedSink;

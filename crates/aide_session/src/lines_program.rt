@@ -1,47 +1,217 @@
-//! The whole program over any site, if it writes lines of JSON.
-ghost use Rattle.aide_session.specs.Session.{HoldsBy, IsSessionBy, view_between};
-ghost use Rattle.aide_session.specs.Writing.{the_lines};
+//! The program that writes lines of JSON. Its arguments may name a trusted pair.
+ghost use Rattle.std.specs.Prelude.{◌≡◌, ◌≢◌, ◌≤◌, ℕ, List, Some, None, Ok, Err, IfOk, IfErr};
+ghost use Rattle.std.specs.Prelude.{IsSome};
+ghost use Rattle.aide_conf.specs.ReadResult.{ReadsAs};
+ghost use Rattle.aide_conf.specs.declared.fault.ConfFaultKind.TheVariants.{Memory};
+ghost use Rattle.aide_conf.specs.declared.task.Need.TheVariants.{Compare};
+ghost use Rattle.aide_db.specs.Count.{one_more};
+ghost use Rattle.aide_session.specs.BesideEnds.{EndsBesideBy, HasReadBeside};
+ghost use Rattle.aide_session.specs.BesideSession.{IsLineSession};
+ghost use Rattle.aide_session.specs.Session.{view_between};
+ghost use Rattle.aide_session.specs.code.BesideParts.{HasTextBeside, RunsAlone, beside_between};
+ghost use Rattle.aide_session.specs.code.BesideParts.{peaks_between, trusted_between};
+ghost use Rattle.aide_session.specs.code.Parts.{AreSame, part_between};
+ghost use Rattle.aide_words.specs.BesideJob.{BesideText, beside_job_of, text_of_beside};
 
+use crate::beside::compare_beside;
 use crate::comparison::AsLines;
+use crate::config_file::{ConfigFault, read_config};
 use crate::devices::Devices;
-use crate::program::run_and_pass_on;
+use crate::lines::{put_conf_line, put_memory_line, put_too_large_line, put_unread_line};
+use crate::program::run_words;
+use crate::put::pass_on;
 use crate::site::Site;
+use crate::status::Status;
+use aide_conf::{ConfFault, ConfFaultKind, Need, Settings, Task};
 use aide_db::Desk;
 use aide_report::Sink;
-use aide_words::Words;
+use aide_words::{BesideJob, Words, WordsFault, read_beside_words};
 use std::alloc::Global;
 
-/// Runs the whole program over any site like [`session_on`], but writes the changes as lines of JSON
-/// in place of the report. Of a configuration that is only checked it writes one line, which says
-/// what the configuration sets.
+/// Reads the settings of a job beside a trusted pair from its three texts.
+fn read_settings_beside(alloc: Global, job: &BesideJob, text: &[u8]) -> Result<Settings, ConfFault>
+    ensures ok { IfOk result (λ settings. ReadsAs Compare job.now.before text.now job.now.after
+        (Ok settings)) }
+    ensures err { IfErr result (λ fault. fault.kind ≢ Memory
+        → ReadsAs Compare job.now.before text.now job.now.after (Err fault)) }
+    ensures named { IfOk result (λ settings. IsSome settings.old_path × IsSome settings.new_path) }
+{
+    let before = job.before.as_str().as_bytes();
+    let after = job.after.as_str().as_bytes();
+    Settings::read(alloc, before, text, after, Need::Compare)
+}
+
+/// Compares the databases that the settings name beside the trusted pair of a job.
+fn compare_settings<S: Site, W: Sink, E: Sink>(
+    job: &BesideJob,
+    settings: &Settings,
+    devices: &mut Devices<'_, AsLines, S, W, E>,
+    trusted_desk: &mut Desk<Global>,
+    trusted: &mut S,
+) -> u8
+    requires { IsSome settings.now.old_path × IsSome settings.now.new_path }
+    ensures same { AreSame devices.old devices.new }
+    ensures closes { HasReadBeside (S.file_at devices.old.site.now) (text_of_beside job.now)
+        (Ok settings.now)
+        → EndsBesideBy (text_of_beside job.now) result
+        (S.failures devices.old.site.now)
+        (beside_between S.Sources W.Sink E.Sink devices.old devices.new
+        trusted_desk.old trusted_desk.new trusted.old trusted.new) }
+    ensures lookups { S.lookups devices.new.site.now ≡ S.lookups devices.old.site.now }
+    ensures trusted_lookups { S.lookups trusted.new ≡ S.lookups trusted.old }
+{
+    let Some(task) = settings.task() else {
+        unreachable!()
+    };
+    let trusted_task = Task {
+        old_path: job.trusted_old.as_str(),
+        new_path: job.trusted_new.as_str(),
+        options: task.options,
+    };
+    compare_beside(&task, &trusted_task, devices, trusted_desk, trusted)
+}
+
+/// Runs the session of a job beside a trusted pair, whose configuration has been read.
+fn run_text_beside<S: Site, W: Sink, E: Sink>(
+    job: &BesideJob,
+    text: &[u8],
+    devices: &mut Devices<'_, AsLines, S, W, E>,
+    trusted_desk: &mut Desk<Global>,
+    trusted: &mut S,
+) -> u8
+    ensures same { AreSame devices.old devices.new }
+    ensures closes { HasTextBeside (S.file_at devices.old.site.now) (text_of_beside job.now)
+        text.now
+        → EndsBesideBy (text_of_beside job.now) result
+        (S.failures devices.old.site.now)
+        (beside_between S.Sources W.Sink E.Sink devices.old devices.new
+        trusted_desk.old trusted_desk.new trusted.old trusted.new) }
+    ensures lookups { S.lookups devices.new.site.now ≡ S.lookups devices.old.site.now }
+    ensures trusted_lookups { S.lookups trusted.new ≡ S.lookups trusted.old }
+{
+    match read_settings_beside(devices.alloc, job, text) {
+        Ok(settings) => compare_settings(job, &settings, devices, trusted_desk, trusted),
+        Err(fault) => match fault.kind {
+            ConfFaultKind::Memory => {
+                put_memory_line(devices.err);
+                Status::Memory as u8
+            }
+            _ => {
+                put_conf_line(devices.err, fault);
+                Status::Configuration as u8
+            }
+        },
+    }
+}
+
+/// Runs the session of a job beside a trusted pair.
+fn run_job_beside<S: Site, W: Sink, E: Sink>(
+    job: &BesideJob,
+    devices: &mut Devices<'_, AsLines, S, W, E>,
+    trusted_desk: &mut Desk<Global>,
+    trusted: &mut S,
+) -> u8
+    ensures same { AreSame devices.old devices.new }
+    ensures closes { EndsBesideBy (text_of_beside job.now) result
+        (S.failures devices.old.site.now)
+        (beside_between S.Sources W.Sink E.Sink devices.old devices.new
+        trusted_desk.old trusted_desk.new trusted.old trusted.new) }
+    ensures lookups { S.lookups devices.new.site.now ≤ one_more (S.lookups devices.old.site.now) }
+    ensures trusted_lookups { S.lookups trusted.new ≡ S.lookups trusted.old }
+{
+    let path = job.config.as_str();
+    match read_config(devices.alloc, devices.site, path) {
+        Ok(text) => run_text_beside(job, text.as_slice(), devices, trusted_desk, trusted),
+        Err(ConfigFault::TooLarge) => {
+            put_too_large_line(devices.err);
+            Status::Configuration as u8
+        }
+        Err(ConfigFault::Unread) => {
+            put_unread_line(devices.err, path);
+            Status::Device as u8
+        }
+        Err(ConfigFault::Memory) => {
+            put_memory_line(devices.err);
+            Status::Memory as u8
+        }
+    }
+}
+
+/// Runs the session of these arguments, which may name a trusted pair. Its lines may still wait
+/// in standard error afterwards.
+fn run_line_words<S: Site, W: Sink, E: Sink>(
+    words: &Words,
+    devices: &mut Devices<'_, AsLines, S, W, E>,
+    trusted_desk: &mut Desk<Global>,
+    trusted: &mut S,
+) -> u8
+    ensures same { AreSame devices.old devices.new }
+    ensures alone { beside_job_of words.now ≡ None
+        → RunsAlone words.now result (part_between S.Sources W.Sink E.Sink devices.old devices.new)
+        (trusted_between S.Sources W.Sink E.Sink devices.old devices.new trusted.old trusted.new)
+        (peaks_between devices.old devices.new trusted_desk.old trusted_desk.new) }
+    ensures beside { (job : BesideText) → beside_job_of words.now ≡ Some job
+        → EndsBesideBy job result (S.failures devices.old.site.now)
+        (beside_between S.Sources W.Sink E.Sink devices.old devices.new
+        trusted_desk.old trusted_desk.new trusted.old trusted.new) }
+    ensures lookups { S.lookups devices.new.site.now ≤ one_more (S.lookups devices.old.site.now) }
+    ensures trusted_lookups { S.lookups trusted.new ≡ S.lookups trusted.old }
+{
+    match read_beside_words(devices.alloc, words) {
+        Ok(job) => run_job_beside(&job, devices, trusted_desk, trusted),
+        Err(WordsFault::Usage) => run_words(words, devices),
+        Err(WordsFault::Memory) => {
+            put_memory_line(devices.err);
+            Status::Memory as u8
+        }
+    }
+}
+
+/// Runs the session of these arguments, and passes its lines on.
+fn run_lines_and_pass_on<S: Site, W: Sink, E: Sink>(
+    words: &Words,
+    devices: &mut Devices<'_, AsLines, S, W, E>,
+    trusted_desk: &mut Desk<Global>,
+    trusted: &mut S,
+) -> u8
+    ensures same { AreSame devices.old devices.new }
+    ensures session { IsLineSession words.now result
+        (part_between S.Sources W.Sink E.Sink devices.old devices.new)
+        (trusted_between S.Sources W.Sink E.Sink devices.old devices.new trusted.old trusted.new)
+        (peaks_between devices.old devices.new trusted_desk.old trusted_desk.new) }
+{
+    let status = run_line_words(words, devices, trusted_desk, trusted);
+    pass_on(devices.err);
+    status
+}
+
+/// Runs the whole program over any site like [`session_on`](crate::session_on), but writes the changes as lines of
+/// JSON in place of the report. Of a configuration that is only checked it writes one line, which says what the
+/// configuration sets.
+///
+/// The arguments may name a trusted pair of databases too, which are then read from the second site. If they name
+/// none, the second site and its desk are left alone.
 pub fn lines_session_on<S: Site, W: Sink, E: Sink>(
     alloc: Global,
     words: &Words,
     desk: &mut Desk<Global>,
     site: &mut S,
+    trusted_desk: &mut Desk<Global>,
+    trusted: &mut S,
     out: &mut W,
     err: &mut E,
 ) -> u8
-    ensures session { IsSessionBy the_lines words.now result (view_between S.Sources W.Sink E.Sink
-        site.old site.new out.old out.new err.old err.new) }
-    ensures desk { HoldsBy the_lines (S.file_at site.old) words.now desk.old.peak desk.new.peak }
+    ensures session { IsLineSession words.now result
+        (view_between S.Sources W.Sink E.Sink site.old site.new out.old out.new err.old err.new)
+        (view_between S.Sources W.Sink E.Sink trusted.old trusted.new out.old out.new
+        err.old err.new)
+        (record {
+          before = desk.old.peak;
+          after = desk.new.peak;
+          trusted_before = trusted_desk.old.peak;
+          trusted_after = trusted_desk.new.peak;
+        }) }
 {
     let mut devices = Devices::new(AsLines, alloc, desk, site, out, err);
-    run_and_pass_on(words, &mut devices)
-}
-
-/// Runs the whole program over any site like [`lines_session_on`], with a desk of its own that has
-/// held nothing before.
-pub fn lines_session<S: Site, W: Sink, E: Sink>(
-    alloc: Global,
-    words: &Words,
-    site: &mut S,
-    out: &mut W,
-    err: &mut E,
-) -> u8
-    ensures session { IsSessionBy the_lines words.now result (view_between S.Sources W.Sink E.Sink
-        site.old site.new out.old out.new err.old err.new) }
-{
-    let mut desk = Desk::new(alloc);
-    lines_session_on(alloc, words, &mut desk, site, out, err)
+    run_lines_and_pass_on(words, &mut devices, trusted_desk, trusted)
 }

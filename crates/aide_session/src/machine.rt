@@ -4,10 +4,10 @@ ghost use Rattle.aide_session.specs.BesideSession.{HasRunLines};
 ghost use Rattle.aide_session.specs.Session.{HasRunBy};
 ghost use Rattle.aide_session.specs.Writing.{the_report};
 
-use crate::beside_program::lines_session_beside_on;
 use crate::comparison::{AsReport, Comparison};
 use crate::devices::Devices;
 use crate::file_site::FileSite;
+use crate::lines_program::lines_session_on;
 use crate::paged_sink::PagedSink;
 use crate::program::run_and_pass_on;
 use crate::site::Site;
@@ -101,7 +101,7 @@ fn run_lines_paged<S: Site, W: Sink + Drop, E: Sink + Drop>(
     let mut err = PagedSink::new(alloc, err)?;
     let mut desk = Desk::new(alloc);
     let mut trusted_desk = Desk::new(alloc);
-    let status = lines_session_beside_on(
+    let status = lines_session_on(
         alloc,
         words,
         &mut desk,

@@ -1,10 +1,8 @@
 //! Sessions beside a trusted pair. Their output is that of the plain program in `tests/oracle`.
-use super::lines::are_cut;
-use super::session::{CONF, Ended, site_of, words_of};
+use super::lines::{are_cut, ended_on, program_ended};
+use super::session::{CONF, site_of, words_of};
 use aide_db::Desk;
-use aide_headline::run_beside_program;
-use aide_report::MemorySink;
-use aide_session::{Memory, MemorySite, Site, Words, lines_session_beside_on};
+use aide_session::{Memory, MemorySite};
 use std::alloc::Global;
 use std::test::Fail;
 
@@ -50,58 +48,6 @@ fn trusted_site<'a>(alloc: Global, old: &'a [u8], new: &'a [u8]) -> Result<Memor
     site.add("/trusted_old", old)?;
     site.add("/trusted_new", new)?;
     Ok(site)
-}
-
-/// Runs a session on these desks. It has no contract, so that the many facts about `lines_session_beside_on` are no
-/// part of the proofs of its callers.
-fn ended_on<S: Site>(
-    alloc: Global,
-    words: &Words,
-    desk: &mut Desk<Global>,
-    site: &mut S,
-    trusted_desk: &mut Desk<Global>,
-    trusted: &mut S,
-) -> Ended {
-    let mut output = MemorySink::new(alloc);
-    let mut errors = MemorySink::new(alloc);
-    let status = lines_session_beside_on(
-        alloc,
-        words,
-        desk,
-        site,
-        trusted_desk,
-        trusted,
-        &mut output,
-        &mut errors,
-    );
-    Ended {
-        status,
-        output,
-        errors,
-    }
-}
-
-/// What the whole program writes and returns. It has no contract, for the same reason.
-fn program_ended<S: Site>(alloc: Global, words: &Words, site: &mut S, trusted: &mut S) -> Ended {
-    let mut output = MemorySink::new(alloc);
-    let mut errors = MemorySink::new(alloc);
-    let mut desk = Desk::new(alloc);
-    let mut trusted_desk = Desk::new(alloc);
-    let status = run_beside_program(
-        alloc,
-        words,
-        &mut desk,
-        site,
-        &mut trusted_desk,
-        trusted,
-        &mut output,
-        &mut errors,
-    );
-    Ended {
-        status,
-        output,
-        errors,
-    }
 }
 
 #[test]

@@ -9,6 +9,7 @@ use super::session::{site_of, words_of};
 use aide_conf::{Need, Settings};
 use aide_db::{Desk, MemorySources};
 use aide_report::MemorySink;
+use aide_session::MemorySite;
 use by_clauses::{lines_on, report_on};
 use by_run::{LIMITS, Refusal, counts_of};
 use by_run_clauses::{
@@ -76,7 +77,18 @@ fn statuses_on(alloc: Global, desk: &mut Desk<Global>) -> Result<(u8, u8), Fail>
     let mut out = MemorySink::new(alloc);
     let mut err = MemorySink::new(alloc);
     let report = report_on(alloc, &words, desk, &mut site, &mut out, &mut err);
-    let lines = lines_on(alloc, &words, desk, &mut site, &mut out, &mut err);
+    let mut trusted = MemorySite::new(alloc);
+    let mut trusted_desk = Desk::new(alloc);
+    let lines = lines_on(
+        alloc,
+        &words,
+        desk,
+        &mut site,
+        &mut trusted_desk,
+        &mut trusted,
+        &mut out,
+        &mut err,
+    );
     Ok((report, lines))
 }
 

@@ -1,11 +1,11 @@
 //! The calls whose contracts are the headline.
-use super::lines::{LINES, MODE_600, MODE_644, are_cut};
+use super::lines::{LINES, MODE_600, MODE_644, are_cut, program_ended};
 use super::session::{CONF, site_of, words_of};
 use aide_conf::{Need, Settings};
 use aide_db::{Desk, Limits, MemorySources};
-use aide_headline::{compare_as_lines, compare_databases, run_lines_program, run_program};
+use aide_headline::{compare_as_lines, compare_databases, run_program};
 use aide_report::{MemorySink, Outcome, RunFault, Sink};
-use aide_session::{Site, Words};
+use aide_session::{MemorySite, Site, Words};
 use std::alloc::Global;
 use std::test::Fail;
 
@@ -68,18 +68,6 @@ fn status_of<S: Site, W: Sink>(alloc: Global, words: &Words, site: &mut S, out: 
     run_program(alloc, words, &mut desk, site, out, &mut err)
 }
 
-/// The status of the program that writes lines. It has no contract, for the same reason.
-fn lines_status_of<S: Site, W: Sink>(
-    alloc: Global,
-    words: &Words,
-    site: &mut S,
-    out: &mut W,
-) -> u8 {
-    let mut desk = Desk::new(alloc);
-    let mut err = MemorySink::new(alloc);
-    run_lines_program(alloc, words, &mut desk, site, out, &mut err)
-}
-
 #[test]
 fn reports_two_databases(rt: HostRuntime) {
     let mut out = MemorySink::new(rt.alloc());
@@ -131,9 +119,9 @@ fn writes_the_lines_of_two_databases(rt: HostRuntime) {
 fn runs_the_whole_program_of_lines(rt: HostRuntime) -> Result<(), Fail> {
     let mut site = site_of(rt.alloc(), CONF, MODE_644, MODE_600)?;
     let words = words_of(rt.alloc(), "aide -E -c /conf")?;
-    let mut out = MemorySink::new(rt.alloc());
-    let status = lines_status_of(rt.alloc(), &words, &mut site, &mut out);
-    assert!(rt; status == 4, "status {status}");
-    assert!(rt; out.bytes() == LINES, "lines");
+    let mut trusted = MemorySite::new(rt.alloc());
+    let ended = program_ended(rt.alloc(), &words, &mut site, &mut trusted);
+    assert!(rt; ended.status == 4, "status {}", ended.status);
+    assert!(rt; ended.output.bytes() == LINES, "lines");
     Ok(())
 }

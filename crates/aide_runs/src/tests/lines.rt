@@ -1,8 +1,9 @@
 //! Sessions that write lines of JSON. Their output is that of the plain program in `tests/oracle`.
 use super::session::{CONF, Ended, site_of, words_of};
 use aide_db::Desk;
+use aide_headline::run_lines_program;
 use aide_report::MemorySink;
-use aide_session::{Memory, Site, Words, lines_session, lines_session_on};
+use aide_session::{Memory, MemorySite, Site, Words, lines_session_on};
 use std::alloc::Global;
 use std::test::Fail;
 
@@ -37,12 +38,28 @@ pub(super) fn are_cut(lines: &[u8]) -> bool {
     true
 }
 
-/// Runs a session with a desk of its own. It has no contract, so that the many facts about `lines_session` are no part
-/// of the proofs of its callers.
-fn ended<S: Site>(alloc: Global, words: &Words, site: &mut S) -> Ended {
+/// Runs a session on these desks. It has no contract, so that the many facts about `lines_session_on` are no part of
+/// the proofs of its callers.
+pub(super) fn ended_on<S: Site>(
+    alloc: Global,
+    words: &Words,
+    desk: &mut Desk<Global>,
+    site: &mut S,
+    trusted_desk: &mut Desk<Global>,
+    trusted: &mut S,
+) -> Ended {
     let mut output = MemorySink::new(alloc);
     let mut errors = MemorySink::new(alloc);
-    let status = lines_session(alloc, words, site, &mut output, &mut errors);
+    let status = lines_session_on(
+        alloc,
+        words,
+        desk,
+        site,
+        trusted_desk,
+        trusted,
+        &mut output,
+        &mut errors,
+    );
     Ended {
         status,
         output,
@@ -50,11 +67,27 @@ fn ended<S: Site>(alloc: Global, words: &Words, site: &mut S) -> Ended {
     }
 }
 
-/// Runs a session on this desk.
-fn ended_on<S: Site>(alloc: Global, words: &Words, desk: &mut Desk<Global>, site: &mut S) -> Ended {
+/// What the whole program writes and returns. It has no contract, for the same reason.
+pub(super) fn program_ended<S: Site>(
+    alloc: Global,
+    words: &Words,
+    site: &mut S,
+    trusted: &mut S,
+) -> Ended {
     let mut output = MemorySink::new(alloc);
     let mut errors = MemorySink::new(alloc);
-    let status = lines_session_on(alloc, words, desk, site, &mut output, &mut errors);
+    let mut desk = Desk::new(alloc);
+    let mut trusted_desk = Desk::new(alloc);
+    let status = run_lines_program(
+        alloc,
+        words,
+        &mut desk,
+        site,
+        &mut trusted_desk,
+        trusted,
+        &mut output,
+        &mut errors,
+    );
     Ended {
         status,
         output,
@@ -66,13 +99,22 @@ fn ended_on<S: Site>(alloc: Global, words: &Words, desk: &mut Desk<Global>, site
 fn writes_the_lines_of_changes(rt: HostRuntime) -> Result<(), Fail> {
     let mut site = site_of(rt.alloc(), CONF, MODE_644, MODE_600)?;
     let words = words_of(rt.alloc(), "aide -E -c /conf")?;
+    let mut trusted = MemorySite::new(rt.alloc());
     let mut desk = Desk::new(rt.alloc());
-    let ended = ended_on(rt.alloc(), &words, &mut desk, &mut site);
+    let mut trusted_desk = Desk::new(rt.alloc());
+    let ended = ended_on(
+        rt.alloc(),
+        &words,
+        &mut desk,
+        &mut site,
+        &mut trusted_desk,
+        &mut trusted,
+    );
     assert!(rt; ended.status == 4, "status {}", ended.status);
     assert!(rt; ended.output.bytes() == LINES, "output");
     assert!(rt; ended.errors.bytes().is_empty(), "error lines");
     // The two entries are on the desk at once.
-    assert!(rt; desk.peak() >= 12 + 12);
+    assert!(rt; desk.peak() >= 12 + 12 && trusted_desk.peak() == 0);
     Ok(())
 }
 
@@ -80,7 +122,17 @@ fn writes_the_lines_of_changes(rt: HostRuntime) -> Result<(), Fail> {
 fn says_what_a_configuration_sets(rt: HostRuntime) -> Result<(), Fail> {
     let mut site = site_of(rt.alloc(), CONF, MODE_644, MODE_600)?;
     let words = words_of(rt.alloc(), "aide -D -c /conf")?;
-    let ended = ended(rt.alloc(), &words, &mut site);
+    let mut trusted = MemorySite::new(rt.alloc());
+    let mut desk = Desk::new(rt.alloc());
+    let mut trusted_desk = Desk::new(rt.alloc());
+    let ended = ended_on(
+        rt.alloc(),
+        &words,
+        &mut desk,
+        &mut site,
+        &mut trusted_desk,
+        &mut trusted,
+    );
     assert!(rt; ended.status == 0, "status {}", ended.status);
     assert!(rt; ended.output.bytes() == SETTINGS, "output");
     assert!(rt; ended.errors.bytes().is_empty(), "error lines");

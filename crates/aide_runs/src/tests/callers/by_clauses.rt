@@ -1,5 +1,5 @@
-//! A caller of `session_on` and `lines_session_on` that takes each promise out of its record.
-ghost use Rattle.std.specs.Prelude.{◌≡◌, ◌≤◌, ◌⊎◌, true, max};
+//! Callers of `session_on` and `lines_session_on` that take each promise out of its record.
+ghost use Rattle.std.specs.Prelude.{◌≡◌, ◌≤◌, ◌⊎◌, true, None, max};
 ghost use Rattle.aide_db.specs.Count.{one_more};
 ghost use Rattle.aide_report.specs.Failures.{Rose};
 ghost use Rattle.aide_session.specs.Answer.{Answer, IsAnswerBy, Named};
@@ -9,6 +9,7 @@ ghost use Rattle.aide_session.specs.Existence.{HasSessionAnswerBy, TellsNamed};
 ghost use Rattle.aide_session.specs.Held.{HoldsWithin, most_held};
 ghost use Rattle.aide_session.specs.Put.{HasNoFailure};
 ghost use Rattle.aide_session.specs.Writing.{the_lines, the_report};
+ghost use Rattle.aide_words.specs.BesideJob.{beside_job_of};
 
 use aide_db::Desk;
 use aide_report::Sink;
@@ -66,14 +67,19 @@ pub(super) fn lines_on<S: Site, W: Sink, E: Sink>(
     words: &Words,
     desk: &mut Desk<Global>,
     site: &mut S,
+    trusted_desk: &mut Desk<Global>,
+    trusted: &mut S,
     out: &mut W,
     err: &mut E,
 ) -> u8
-    ensures peak { desk.old.peak ≤ desk.new.peak }
-    ensures below { desk.new.peak ≤ max desk.old.peak most_held }
-    ensures bound { (named : Named) (a : Answer)
+    ensures peak { beside_job_of words.now ≡ None → desk.old.peak ≤ desk.new.peak }
+    ensures below { beside_job_of words.now ≡ None
+        → desk.new.peak ≤ max desk.old.peak most_held }
+    ensures bound { beside_job_of words.now ≡ None → (named : Named) (a : Answer)
         → IsAnswerBy the_lines (S.file_at site.old) words.now named a
         → HoldsWithin (S.file_at site.old) named desk.old.peak desk.new.peak }
+    ensures still { beside_job_of words.now ≡ None
+        → trusted_desk.new.peak ≡ trusted_desk.old.peak }
 {
-    lines_session_on(alloc, words, desk, site, out, err)
+    lines_session_on(alloc, words, desk, site, trusted_desk, trusted, out, err)
 }

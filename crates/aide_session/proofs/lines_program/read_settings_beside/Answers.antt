@@ -1,7 +1,7 @@
 use Rattle.std.proofs.Common.{◌∙◌}
 use Rattle.aide_words.specs.BesideJob.{text_of_beside}
 use Rattle.aide_session.proofs.BesideParts.{fault_of_texts, settings_of_texts}
-use Rattle.aide_session.proofs.beside_program.read_settings_beside.Goals as goal
+use Rattle.aide_session.proofs.lines_program.read_settings_beside.Goals as goal
 
 pub returns-clause-ok : goal.returns-clause-ok
 returns-clause-ok c =

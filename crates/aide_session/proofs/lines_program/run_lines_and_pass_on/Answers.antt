@@ -8,7 +8,7 @@ use Rattle.aide_session.proofs.BesideExistence.{answered_beside}
 use Rattle.aide_session.proofs.Closings.{closes_passed}
 use Rattle.aide_session.proofs.Endings.{ends_exactly, ends_passed, ends_reliably, no_failure_never_rose}
 use Rattle.aide_session.proofs.Existence.{answered}
-use Rattle.aide_session.proofs.beside_program.run_lines_and_pass_on.Goals as goal
+use Rattle.aide_session.proofs.lines_program.run_lines_and_pass_on.Goals as goal
 
 pub returns-clause-session : goal.returns-clause-session
 returns-clause-session g c =

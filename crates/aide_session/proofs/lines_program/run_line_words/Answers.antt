@@ -7,7 +7,7 @@ use Rattle.aide_session.proofs.Closings.{closes_starved}
 use Rattle.aide_session.proofs.Endings.{ends_starved}
 use Rattle.aide_session.proofs.HeldLemmas.{same_held}
 use Rattle.aide_session.proofs.PutLemmas.{appends_none}
-use Rattle.aide_session.proofs.beside_program.run_line_words.Goals as goal
+use Rattle.aide_session.proofs.lines_program.run_line_words.Goals as goal
 
 pub returns-in-Ok-clause-alone : goal.returns-in-Ok-clause-alone
 returns-in-Ok-clause-alone g c = λ none. absurd (is_none_and_some _ _ none c.in-Ok.ensures.ok)

@@ -5,7 +5,7 @@ use Rattle.aide_session.specs.Lines.{unread_line}
 use Rattle.aide_words.specs.BesideJob.{text_of_beside}
 use Rattle.aide_session.proofs.BesideParts.{ends_seen, has_text, seen_read}
 use Rattle.aide_session.proofs.PutLemmas.{appends_none, put_as}
-use Rattle.aide_session.proofs.beside_program.run_job_beside.Goals as goal
+use Rattle.aide_session.proofs.lines_program.run_job_beside.Goals as goal
 
 pub returns-in-Ok-clause-closes : goal.returns-in-Ok-clause-closes
 returns-in-Ok-clause-closes g c =

@@ -6,7 +6,7 @@ use Rattle.aide_session.specs.BesideEnds.{no_memory_left}
 use Rattle.aide_session.specs.code.BesideParts.{named_by}
 use Rattle.aide_words.specs.BesideJob.{text_of_beside}
 use Rattle.aide_session.proofs.BesideParts.{closes_as}
-use Rattle.aide_session.proofs.beside_program.compare_settings.Goals as goal
+use Rattle.aide_session.proofs.lines_program.compare_settings.Goals as goal
 
 pub returns-clause-closes : goal.returns-clause-closes
 returns-clause-closes g c = λ read.
