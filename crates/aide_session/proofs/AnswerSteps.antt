@@ -1,5 +1,5 @@
 -- From one step of the answer to the next.
-use Rattle.std.proofs.Common.{◌≡◌, ◌∙◌, ℕ, List, Option, Some, None, sym, ap, true, false, Bool, Ok, Err}
+use Rattle.std.proofs.Common.{◌≡◌, ℕ, List, Option, Some, None, true, false, Bool, Ok, Err, rules}
 use Rattle.std.specs.Prelude.{Result}
 use Rattle.std.proofs.Math.Path.{subst}
 use Rattle.aide_conf.specs.Settings.{Configured}
@@ -54,24 +54,13 @@ IsRead files path text = (file : Option (List ℕ)) → files path ≡ Some file
 pub read_is : (w : Writing) (files later : Files) (job : JobText) (path text copy : List ℕ) (named : Named) (a : Answer)
     → path ≡ job.config → copy ≡ text → later ≡ files → IsRead files path text
     → IsJobAnswerBy w files job named a → IsTextAnswerBy w later job copy named a
-read_is w files later job path text copy named a is_path is_text same found is =
-    let known = subst (λ (x : List ℕ). files x ≡ Some is.file) (sym is_path) is.known in
-    let of_text = text_is w files job is.file text named a (found is.file known) is.then_is in
-    subst (λ (f : Files). IsTextAnswerBy w f job copy named a) (sym same)
-    (subst (λ (x : List ℕ). IsTextAnswerBy w files job x named a) (sym is_text) of_text)
+read_is w files later job path text copy named a is_path is_text same found is = search (rules, text_is)
 
 -- what is known where the configuration of a job was read
 pub has_read : (files later : Files) (words : List (List ℕ)) (job : JobText) (path text copy : List ℕ)
     → path ≡ job.config → copy ≡ text → later ≡ files → IsRead files path text → is_too_large text ≡ false
     → job_of words ≡ Some job → HasRead later words job copy
-has_read files later words job path text copy is_path is_text same found small is = record {
-  job_is = is;
-  text_is = λ file known.
-      let before = subst (λ (f : Files). f job.config ≡ Some file) same known in
-      let at_path = subst (λ (x : List ℕ). files x ≡ Some file) (sym is_path) before in
-      (found file at_path).0 ∙ ap (λ (x : List ℕ). Some x) (sym is_text);
-  small = subst (λ (x : List ℕ). is_too_large x ≡ false) (sym is_text) small;
-}
+has_read files later words job path text copy is_path is_text same found small is = search (rules, job_is, text_is)
 
 -- a job that reads only as this has the answer of this reading
 read_answer : (w : Writing) (files : Files) (job : JobText) (text : List ℕ) (read : Result Configured ConfFault) (named : Named)

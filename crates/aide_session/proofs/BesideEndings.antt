@@ -1,6 +1,6 @@
 -- A session beside a trusted pair ends with its answer, or is kept from it.
 use Rattle.std.proofs.Common.{◌≡◌, ◌∙◌, ℕ, ◌≤◌, List, [], Option, Some, None, refl, sym, ap, Bool, true, false, Ok, Err, inl, inr, ◌⊎◌}
-use Rattle.std.proofs.Common.{arith}
+use Rattle.std.proofs.Common.{arith, rules}
 use Rattle.std.specs.Prelude.{Result, IsSome, max}
 use Rattle.std.specs.Io.KnownBytes.{Appends, Keeps}
 use Rattle.std.proofs.Math.Path.{subst}
@@ -8,7 +8,6 @@ use Rattle.std.proofs.lemmas.List.{append-nil}
 use Rattle.aide_conf.specs.Settings.{Configured}
 use Rattle.aide_conf.specs.declared.fault.ConfFault.{ConfFault}
 use Rattle.aide_conf.specs.declared.options.Options.{Options}
-use Rattle.aide_conf.specs.declared.task.Need.TheVariants.{Compare}
 use Rattle.aide_conf.proofs.Laws.{no_configuration_has_two_answers}
 use Rattle.aide_db.proofs.Laws.{no_sound_text_has_a_fault}
 use Rattle.aide_db.specs.Database.{IsSound}
@@ -221,24 +220,14 @@ module _ (wish beside : Asked) (old new trusted_old trusted_new : List ℕ) (bef
   sound_cut : (fault : PairFault) → AllSound → Cut fault
       → SendsPart (lines_beside wish beside old new trusted_old trusted_new).text before after
   sound_cut (Compared (Write written)) sound cut = cut.0 sound
-  sound_cut (Compared (Open side)) sound cut =
-      begins_what_is_written limits wish beside old new trusted_old trusted_new sound before after cut
-  sound_cut (Compared (Database fault)) sound cut =
-      begins_what_is_written limits wish beside old new trusted_old trusted_new sound before after cut
-  sound_cut (Compared (Changed side)) sound cut =
-      begins_what_is_written limits wish beside old new trusted_old trusted_new sound before after cut
-  sound_cut (Trusted fault) sound cut =
-      begins_what_is_written limits wish beside old new trusted_old trusted_new sound before after cut
+  sound_cut fault sound cut = begins_what_is_written limits wish beside old new trusted_old trusted_new sound before after cut
 
   abbrev Begun : Type 0
   Begun = BeginsBeside wish beside (changes_between old new) (changes_between trusted_old trusted_new) before after
 
   unsound_cut : (fault : PairFault) → (AllSound → ⊥) → Cut fault → Begun
   unsound_cut (Compared (Write written)) unsound cut = cut.1 unsound
-  unsound_cut (Compared (Open side)) unsound cut = cut
-  unsound_cut (Compared (Database fault)) unsound cut = cut
-  unsound_cut (Compared (Changed side)) unsound cut = cut
-  unsound_cut (Trusted fault) unsound cut = cut
+  unsound_cut fault unsound cut = cut
 
   front_by : (compared trusted : Result Report RunFault) (r : Result Report PairFault) (fault : PairFault)
       → RunsOver limits wish (Some old) (Some new) compared → RunsOver limits beside (Some trusted_old) (Some trusted_new) trusted
@@ -254,17 +243,7 @@ module _ (wish beside : Asked) (old new trusted_old trusted_new : List ℕ) (bef
       (Some trusted_new)) x before after) (sym is)
       (unsound_cut fault (λ sound. unsound_pair beside trusted_old trusted_new first trusted_runs sound.of_trusted_old
       sound.of_trusted_new) cut)
-  front_by (Ok report) (Ok other) r fault runs trusted_runs is cut =
-      let compared = sound_pair wish old new report runs in
-      let trusted = sound_pair beside trusted_old trusted_new other trusted_runs in
-      subst (λ (x : Result Report PairFault). SendsFront (out_beside wish beside (Some old) (Some new) (Some trusted_old)
-      (Some trusted_new)) x before after) (sym is)
-      (sound_cut fault (record {
-        of_old = compared.0;
-        of_new = compared.1;
-        of_trusted_old = trusted.0;
-        of_trusted_new = trusted.1;
-      }) cut)
+  front_by (Ok report) (Ok other) r fault runs trusted_runs is cut = search (rules, sound_pair, sound_cut)
 
 -- ---- a comparison and its answer
 
@@ -272,11 +251,7 @@ module _ (sent : OutputBeside) (named trusted : Named) (s : Sinks) where
   well : (r : Result Report PairFault) (outcome : Outcome) (status : ℕ) → status ≡ compared_status (Ok outcome)
       → Puts (outcome_lines outcome) s → SendsWholeOf r outcome s.out_old s.out_new
       → WholeBeside (answer_beside sent named trusted r) status s
-  well (Ok report) outcome status is put all = record {
-    status_is = is ∙ ap (λ (o : Outcome). compared_status (Ok o)) (sym all.0);
-    output = all.1;
-    put = subst (λ (o : Outcome). Puts (outcome_lines o) s) (sym all.0) put;
-  }
+  well (Ok report) outcome status is put all = search rules
   well (Err fault) outcome status is put all = absurd all
 
   front : (r : Result Report PairFault) → SendsFront sent r s.out_old s.out_new
@@ -288,13 +263,7 @@ module _ (sent : OutputBeside) (named trusted : Named) (s : Sinks) where
       → Puts (pair_fault_line named.old_path named.new_path trusted.old_path trusted.new_path fault) s
       → SendsFront sent r s.out_old s.out_new → r ≡ Err fault
       → WholeBeside (answer_beside sent named trusted r) status s
-  right r fault status is put part same =
-      subst (λ (x : Result Report PairFault). WholeBeside (answer_beside sent named trusted x) status s) (sym same)
-      (record {
-        status_is = is;
-        output = subst (λ (x : Result Report PairFault). SendsFront sent x s.out_old s.out_new) same part;
-        put = put;
-      })
+  right r fault status is put part same = search rules
 
   -- a run stops for the fault that is the answer, or for one that hindered it
   by_stop : (r : Result Report PairFault) (hindered : PairFault → Type 0) (fault : PairFault) (P : Type 0)
@@ -368,9 +337,7 @@ module _ (job : BesideText) (status before count : ℕ) (v : BesideView) (s : Co
 module _ (files trusted_files : Files) (job : BesideText) (named : Named) (a : AnswerBeside) where
   of_text : (file : Option (List ℕ)) (text : List ℕ) → file ≡ Some text → is_too_large text ≡ false
       → IsFileBeside files trusted_files job file named a → IsTextBeside files trusted_files job text named a
-  of_text file text same small is =
-      subst (λ (b : Bool). IsSizedBeside files trusted_files job b text named a) small
-      (subst (λ (o : Option (List ℕ)). IsFileBeside files trusted_files job o named a) same is)
+  of_text file text same small is = search rules
 
   of_large : (file : Option (List ℕ)) → IsLarge file → IsFileBeside files trusted_files job file named a
       → a ≡ refused_beside too_large_line 17
@@ -384,19 +351,14 @@ module _ (files trusted_files : Files) (job : BesideText) (named : Named) (a : A
   -- the answer of the reading that was made
   of_read : (read : Result Configured ConfFault) → HasReadBeside files job read → IsAnswerBeside files trusted_files job named a
       → IsReadBeside files trusted_files job read named a
-  of_read read has is =
-      let text = of_text is.file has.text (has.text_is is.file is.known) has.small is.then_is in
-      subst (λ (r : Result Configured ConfFault). IsReadBeside files trusted_files job r named a)
-      (no_configuration_has_two_answers Compare job.before has.text job.after read text.read has.reads text.reads) text.then_is
+  of_read read has is = search (rules, of_text, no_configuration_has_two_answers)
 
 -- ---- the end of a session
 
 whole_stop : (a : AnswerBeside) (line : List ℕ) (code status : ℕ) (v : BesideView) → a ≡ refused_beside line code
     → StopsWith line code status v
     → WholeBeside a status v.sinks
-whole_stop a line code status v is stops =
-    subst (λ (x : AnswerBeside). WholeBeside x status v.sinks) (sym is)
-    (record { status_is = stops.status_is; output = stops.output; put = stops.put })
+whole_stop a line code status v is stops = search rules
 
 module _ (job : BesideText) (status before : ℕ) (v : BesideView) (named : Named) (a : AnswerBeside)
     (is : IsAnswerBeside v.files v.trusted_files job named a) where
@@ -417,9 +379,7 @@ module _ (job : BesideText) (status before : ℕ) (v : BesideView) (named : Name
         cause = (unreliable, cause.0);
         put = put_as _ _ (ap unread_line (sym is.config_is)) stops.put;
       })))
-  stop_ends config_too_large cause stops =
-      inl (whole_stop a too_large_line 17 status v
-      (of_large v.files v.trusted_files job named a is.file (cause is.file is.known) is.then_is) stops)
+  stop_ends config_too_large cause stops = search (rules, whole_stop, of_large)
   stop_ends (config_refused fault) cause stops =
       inl (whole_stop a (conf_line fault) 17 status v (of_read v.files v.trusted_files job named a (Err fault) cause is) stops)
 
@@ -459,34 +419,15 @@ module _ (job : BesideText) (status before : ℕ) (v : BesideView) (named : Name
 module _ (job : BesideText) (status before : ℕ) (v : BesideView) where
   pub trusted_bound_beside : EndsBesideBy job status before v
       → HoldsWithin v.trusted_files (trusted_of job) v.trusted_peak_before v.trusted_peak_after
-  trusted_bound_beside ends = elim ends [
-    | inl early ↦ λ old new has_old has_new. let still = early.stops.trusted_still in omega (arith, still)
-    | inr closes ↦ closes.closes.compares.trusted_bound
-  ]
+  trusted_bound_beside ends = search rules
 
   pub peaks_beside : EndsBesideBy job status before v → PeaksRise v
-  peaks_beside ends = elim ends [
-    | inl early ↦ (
-      let still = early.stops.still in omega (arith, still),
-      let still = early.stops.still in omega (arith, still),
-      let still = early.stops.trusted_still in omega (arith, still),
-      let still = early.stops.trusted_still in omega (arith, still),
-    )
-    | inr closes ↦ (
-      closes.closes.compares.peak,
-      closes.closes.compares.below,
-      closes.closes.compares.trusted_peak,
-      closes.closes.compares.trusted_below,
-    )
-  ]
+  peaks_beside ends = search rules
 
 -- standard error has counted no fewer failures
 pub put_rises : (job : BesideText) (status before : ℕ) (v : BesideView) → EndsBesideBy job status before v
     → v.sinks.err_before ≤ v.sinks.err_after
-put_rises job status before v ends = elim ends [
-  | inl early ↦ early.stops.put.never_falls
-  | inr closes ↦ closes.closes.put.never_falls
-]
+put_rises job status before v ends = search rules
 
 -- ---- without a failure
 
@@ -503,13 +444,7 @@ no_failure_left (trusted_unread fault) site trusted_site out none trusted_none o
 pub unfailed_beside : (a : AnswerBeside) (named trusted : Named) (status : ℕ) (s : Sinks) (site trusted_site out : Type 0) → (site → ⊥)
     → (trusted_site → ⊥) → (out → ⊥) → EndsWithin a named trusted status s site trusted_site out
     → WholeBeside a status s ⊎ StarvedBeside status s
-unfailed_beside a named trusted status s site trusted_site out none trusted_none out_none ends = elim ends [
-  | inl whole ↦ inl whole
-  | inr rest ↦ elim rest [
-    | inl starved ↦ inr starved
-    | inr broken ↦ absurd (no_failure_left broken.failure site trusted_site out none trusted_none out_none broken.cause)
-  ]
-]
+unfailed_beside a named trusted status s site trusted_site out none trusted_none out_none ends = search (rules, broken, no_failure_left)
 
 -- ---- once the lines are passed on
 
@@ -522,43 +457,11 @@ module _ (v : BesideView) (bytes : Option (List ℕ)) (count : ℕ) (kept : Keep
     passed line put = put_passed line _ _ _ _ _ _ kept more put
 
     passed_stop : (line : List ℕ) (code status : ℕ) → StopsWith line code status v → StopsWith line code status (passed_view v bytes count)
-    passed_stop line code status stops = record {
-      status_is = stops.status_is;
-      put = passed line stops.put;
-      output = stops.output;
-      unopened = stops.unopened;
-      trusted_unopened = stops.trusted_unopened;
-      unflushed = stops.unflushed;
-      still = stops.still;
-      trusted_still = stops.trusted_still;
-    }
+    passed_stop line code status stops = search (rules, passed)
 
     passed_pairs : (named trusted : Named) (options : Options) (result : Result Outcome PairFault) (site : Type 0)
         → ComparesPairs named trusted options result site v → ComparesPairs named trusted options result site (passed_view v bytes count)
-    passed_pairs named trusted options result site c = record {
-      over = c.over;
-      sound = c.sound;
-      trusted_sound = c.trusted_sound;
-      cut = c.cut;
-      unopened = c.unopened;
-      missing = c.missing;
-      trusted_missing = c.trusted_missing;
-      behind = c.behind;
-      consistent = c.consistent;
-      flushed = c.flushed;
-      flushes = c.flushes;
-      fault = c.fault;
-      opens = c.opens;
-      trusted_opens = c.trusted_opens;
-      opens_some = c.opens_some;
-      trusted_opens_some = c.trusted_opens_some;
-      peak = c.peak;
-      below = c.below;
-      bound = c.bound;
-      trusted_peak = c.trusted_peak;
-      trusted_below = c.trusted_below;
-      trusted_bound = c.trusted_bound;
-    }
+    passed_pairs named trusted options result site c = search rules
 
     pub passed_beside : (job : BesideText) (status before : ℕ) → EndsBesideBy job status before v
         → EndsBesideBy job status before (passed_view v bytes count)

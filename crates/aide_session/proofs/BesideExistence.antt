@@ -1,5 +1,5 @@
 -- There is an answer to a job beside a trusted pair, where it is told what stands at the paths that are named.
-use Rattle.std.proofs.Common.{◌≡◌, ℕ, ◌≤◌, List, Option, Some, None, refl, sym, arith, Bool, true, false, Ok, Err, inl, inr}
+use Rattle.std.proofs.Common.{◌≡◌, ℕ, ◌≤◌, List, Option, Some, None, refl, sym, arith, Bool, true, false, Ok, Err, inl, inr, rules}
 use Rattle.std.specs.Prelude.{Result, IsSome, ⊤}
 use Rattle.std.proofs.Math.Path.{subst}
 use Rattle.aide_conf.specs.ReadResult.{ReadsAs}
@@ -40,10 +40,7 @@ refused_okay r fault is okay = subst IsOkay is okay
 both_there : (bounds : Limits) (wish : Asked) (old new : Option (List ℕ)) (r : Result Report RunFault) → RunsOver bounds wish old new r
     → IsOkay r → AreThere old new
 both_there bounds wish None new r runs okay = absurd (refused_okay r _ runs okay)
-both_there bounds wish (Some old) None r runs okay = elim runs [
-  | inl missing ↦ refused_okay r _ missing.1 okay
-  | inr bad ↦ refused_okay r _ bad.2 okay
-]
+both_there bounds wish (Some old) None r runs okay = search (rules, refused_okay)
 both_there bounds wish (Some old) (Some new) r runs okay = tt
 
 abbrev IsWhole : Option Report → Type 0

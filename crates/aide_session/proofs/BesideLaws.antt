@@ -1,11 +1,10 @@
 -- What the answer to a job beside a trusted pair is, from what a caller knows of the arguments and of the files, and that
 -- there is one and only one.
 use Rattle.std.specs.Prelude.{◌≡◌, ℕ, Option, Some, None, List, Result, Ok, Err, Bool, true, false}
-use Rattle.std.proofs.Common.{◌∙◌, refl, sym}
+use Rattle.std.proofs.Common.{◌∙◌, refl, sym, rules}
 use Rattle.std.proofs.Math.Path.{subst}
 use Rattle.aide_conf.specs.Settings.{Configured}
 use Rattle.aide_conf.specs.declared.fault.ConfFault.{ConfFault}
-use Rattle.aide_conf.specs.declared.task.Need.TheVariants.{Compare}
 use Rattle.aide_conf.proofs.Laws.{no_configuration_has_two_answers}
 use Rattle.aide_db.specs.declared.limits.Limits.{Limits}
 use Rattle.aide_report.specs.Asked.{Asked}
@@ -96,10 +95,7 @@ module _ (files trusted_files : Files) (job : BesideText) where
   -- the same settings and the same configuration name the same paths
   same_named : (s : Configured) (named other : Named) (a b : AnswerBeside) → other.config ≡ named.config
       → ComparesBeside files trusted_files job s named a → ComparesBeside files trusted_files job s other b → other ≡ named
-  same_named s named other a b same p q =
-      let old = same_some s.old_path other.old_path named.old_path q.old_is p.old_is in
-      let new = same_some s.new_path other.new_path named.new_path q.new_is p.new_is in
-      λ i. record { config = same i; old_path = old i; new_path = new i }
+  same_named s named other a b same p q = search (rules, same_some)
 
   one_comparison : (s : Configured) (named : Named) (a b : AnswerBeside) → ComparesBeside files trusted_files job s named a
       → ComparesBeside files trusted_files job s named b → a ≡ b
@@ -129,10 +125,7 @@ module _ (files trusted_files : Files) (job : BesideText) where
 
   one_text : (text : List ℕ) (named other : Named) (a b : AnswerBeside) → other.config ≡ named.config
       → IsTextBeside files trusted_files job text named a → IsTextBeside files trusted_files job text other b → a ≡ b
-  one_text text named other a b same p q =
-      one_reading p.read named other a b same p.then_is
-      (subst (λ (r : Result Configured ConfFault). IsReadBeside files trusted_files job r other b)
-      (no_configuration_has_two_answers Compare job.before text job.after p.read q.read p.reads q.reads) q.then_is)
+  one_text text named other a b same p q = search (rules, one_reading, no_configuration_has_two_answers)
 
   one_size : (large : Bool) (text : List ℕ) (named other : Named) (a b : AnswerBeside) → other.config ≡ named.config
       → IsSizedBeside files trusted_files job large text named a → IsSizedBeside files trusted_files job large text other b → a ≡ b
@@ -147,7 +140,4 @@ module _ (files trusted_files : Files) (job : BesideText) where
   -- A job has only one answer.
   pub no_job_beside_has_two_answers : (named other : Named) (a b : AnswerBeside) → IsAnswerBeside files trusted_files job named a
       → IsAnswerBeside files trusted_files job other b → a ≡ b
-  no_job_beside_has_two_answers named other a b p q =
-      one_of_file p.file named other a b (q.config_is ∙ sym p.config_is) p.then_is
-      (subst (λ (o : Option (List ℕ)). IsFileBeside files trusted_files job o other b)
-      (one_file (files job.config) p.file q.file p.known q.known) q.then_is)
+  no_job_beside_has_two_answers named other a b p q = search (rules, one_of_file, one_file)

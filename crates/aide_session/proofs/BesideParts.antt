@@ -1,6 +1,6 @@
 -- The parts of a session beside a trusted pair, over what is seen of both sites.
-use Rattle.std.proofs.Common.{◌≡◌, ◌∙◌, ℕ, ◌≤◌, List, Option, Some, None, sym, ap, Bool, true, false, Ok, Err, inl, inr, ◌⊎◌}
-use Rattle.std.proofs.Common.{arith}
+use Rattle.std.proofs.Common.{◌≡◌, ◌∙◌, ℕ, ◌≤◌, List, Option, Some, None, refl, sym, ap, Bool, true, false, Ok, Err, inl, inr, ◌⊎◌}
+use Rattle.std.proofs.Common.{arith, rules}
 use Rattle.std.specs.Prelude.{Result, IfErr, IfOk, ⊤}
 use Rattle.std.proofs.Math.Path.{subst}
 use Rattle.std.proofs.lemmas.Result.{IfErr-weaker, on_ok_weaker}
@@ -196,14 +196,7 @@ compares_pairs src w e x y p q out_old out_new err_old err_new d f u v wish besi
 
 -- what two calls of a site in a row leave as it was
 pub kept_then : {S R : Type 0} (s : AnySources S R) (a b c : S) → KeepsFiles s a b → KeepsFiles s b c → KeepsFiles s a c
-kept_then s a b c first then = record {
-  files = then.files ∙ first.files;
-  openings = then.openings ∙ first.openings;
-  given = then.given ∙ first.given;
-  lookups = then.lookups ∙ first.lookups;
-  reliable = then.reliable ∙ first.reliable;
-  failures = then.failures ∙ first.failures;
-}
+kept_then s a b c first then = search rules
 
 module _ {S R W E : Type 0} (s : AnySources S R) (w : AnySink W) (e : AnySink E) (c z : S) (out_old out_new : W) (err_old err_new : E) where
   -- after the sites were pointed
@@ -212,45 +205,7 @@ module _ {S R W E : Type 0} (s : AnySources S R) (w : AnySink W) (e : AnySink E)
       (record { before = q; after = last; trusted_before = v; trusted_after = end })
       ≡ beside_view (view_between s w e a c out_old out_new err_old err_new) (view_between s w e x z out_old out_new err_old err_new)
       (record { before = p; after = last; trusted_before = u; trusted_after = end })
-  seen_pointed a b x y p q last u v end kept other_kept same other_same = λ i. record {
-    files = kept.files i;
-    trusted_files = other_kept.files i;
-    is_reliable = kept.reliable i;
-    trusted_reliable = other_kept.reliable i;
-    site_after = s.failures c;
-    trusted_before = other_kept.failures i;
-    trusted_after = s.failures z;
-    out_before = w.failures out_old;
-    out_after = w.failures out_new;
-    sinks = record {
-      out_old = w.delivered out_old;
-      out_new = w.delivered out_new;
-      err_old = e.delivered err_old;
-      err_new = e.delivered err_new;
-      err_before = e.failures err_old;
-      err_after = e.failures err_new;
-    };
-    course = record {
-      opened_before = kept.openings i;
-      opened_after = s.openings c;
-      given_after = s.was_given c;
-      flushes_before = w.flushes out_old;
-      flushes_after = w.flushes out_new;
-      is_flushed = w.is_flushed out_new;
-    };
-    trusted_course = record {
-      opened_before = other_kept.openings i;
-      opened_after = s.openings z;
-      given_after = s.was_given z;
-      flushes_before = w.flushes out_old;
-      flushes_after = w.flushes out_new;
-      is_flushed = w.is_flushed out_new;
-    };
-    peak_before = same i;
-    peak_after = last;
-    trusted_peak_before = other_same i;
-    trusted_peak_after = end;
-  }
+  seen_pointed a b x y p q last u v end kept other_kept same other_same = search rules
 
   -- after the configuration was read
   pub seen_read : (a b x : S) (p last u end : ℕ) → OpensOneFile s a b
@@ -258,45 +213,7 @@ module _ {S R W E : Type 0} (s : AnySources S R) (w : AnySink W) (e : AnySink E)
       (record { before = p; after = last; trusted_before = u; trusted_after = end })
       ≡ beside_view (view_between s w e a c out_old out_new err_old err_new) (view_between s w e x z out_old out_new err_old err_new)
       (record { before = p; after = last; trusted_before = u; trusted_after = end })
-  seen_read a b x p last u end opened = λ i. record {
-    files = opened.files i;
-    trusted_files = s.file_at x;
-    is_reliable = opened.reliable i;
-    trusted_reliable = s.is_reliable x;
-    site_after = s.failures c;
-    trusted_before = s.failures x;
-    trusted_after = s.failures z;
-    out_before = w.failures out_old;
-    out_after = w.failures out_new;
-    sinks = record {
-      out_old = w.delivered out_old;
-      out_new = w.delivered out_new;
-      err_old = e.delivered err_old;
-      err_new = e.delivered err_new;
-      err_before = e.failures err_old;
-      err_after = e.failures err_new;
-    };
-    course = record {
-      opened_before = opened.openings i;
-      opened_after = s.openings c;
-      given_after = s.was_given c;
-      flushes_before = w.flushes out_old;
-      flushes_after = w.flushes out_new;
-      is_flushed = w.is_flushed out_new;
-    };
-    trusted_course = record {
-      opened_before = s.openings x;
-      opened_after = s.openings z;
-      given_after = s.was_given z;
-      flushes_before = w.flushes out_old;
-      flushes_after = w.flushes out_new;
-      is_flushed = w.is_flushed out_new;
-    };
-    peak_before = p;
-    peak_after = last;
-    trusted_peak_before = u;
-    trusted_peak_after = end;
-  }
+  seen_read a b x p last u end opened = rw (opened.files, opened.reliable, opened.openings) refl
 
 -- the comparison as it is seen from an earlier moment
 pub closes_seen : (named trusted : Named) (options : Options) (status : ℕ) (v now : BesideView) (count later end : ℕ) → later ≡ count
@@ -310,9 +227,7 @@ closes_seen named trusted options status v now count later end same seen closes 
 pub closes_as : (named trusted other : Named) (options wish : Options) (status : ℕ) (site : Type 0) (v : BesideView) → trusted ≡ other
     → options ≡ wish → ClosesCompared named trusted options status site v
     → ClosesCompared named other wish status site v
-closes_as named trusted other options wish status site v same same_wish closes =
-    subst (λ (o : Options). ClosesCompared named other o status site v) same_wish
-    (subst (λ (n : Named). ClosesCompared named n options status site v) same closes)
+closes_as named trusted other options wish status site v same same_wish closes = search (rules, same_wish)
 
 stop_later : (files : Files) (is_reliable : Bool) (job : BesideText) (site more : Type 0) (stop : EarlyStop) → (site → more)
     → StopCause files is_reliable job site stop → StopCause files is_reliable job more stop
@@ -349,21 +264,13 @@ ends_seen job status before later v now more seen ends =
 pub has_text : (files later : Files) (job : BesideText) (path text copy : List ℕ)
     → path ≡ job.config → copy ≡ text → later ≡ files → IsReadFile files path text → is_too_large text ≡ false
     → HasTextBeside later job copy
-has_text files later job path text copy is_path is_text same found small = record {
-  text_is = λ file known.
-      let before = subst (λ (f : Files). f job.config ≡ Some file) same known in
-      let at_path = subst (λ (x : List ℕ). files x ≡ Some file) (sym is_path) before in
-      (found file at_path).0 ∙ ap (λ (x : List ℕ). Some x) (sym is_text);
-  small = subst (λ (x : List ℕ). is_too_large x ≡ false) (sym is_text) small;
-}
+has_text files later job path text copy is_path is_text same found small = search rules
 
 -- ---- what the texts of a job read as
 
 reads_for : (job : BesideText) (before text after : List ℕ) (read : Result Configured ConfFault) → before ≡ job.before → after ≡ job.after
     → ReadsAs Compare before text after read → ReadsAs Compare job.before text job.after read
-reads_for job before text after read is_before is_after reads =
-    subst (λ (x : List ℕ). ReadsAs Compare job.before text x read) is_after
-    (subst (λ (x : List ℕ). ReadsAs Compare x text after read) is_before reads)
+reads_for job before text after read is_before is_after reads = search rules
 
 module _ (job : BesideText) (before text after : List ℕ) (is_before : before ≡ job.before) (is_after : after ≡ job.after) where
   pub settings_of_texts : (result : Result Configured ConfFault)
@@ -376,10 +283,7 @@ module _ (job : BesideText) (before text after : List ℕ) (is_before : before �
       → IfErr result (λ f. IsRefused Compare (places before text after) f ⊎ IsStarved Compare (places before text after) f)
       → IfErr result (λ f. (f.kind ≡ Memory → ⊥) → ReadsAs Compare job.before text job.after (Err f))
   fault_of_texts (Ok s) refused = tt
-  fault_of_texts (Err fault) refused = λ other. reads_for job before text after (Err fault) is_before is_after (elim refused [
-    | inl is ↦ is
-    | inr starved ↦ absurd (other starved.kind)
-  ])
+  fault_of_texts (Err fault) refused = search (rules, reads_for)
 
 -- ---- the job of the arguments
 

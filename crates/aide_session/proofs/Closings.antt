@@ -1,6 +1,5 @@
 -- How a session closes over any site.
-use Rattle.std.proofs.Common.{◌≡◌, ◌∙◌, ℕ, ◌≤◌, List, [], Option, Some, None, refl, sym, ap, Bool, true, false, Ok, Err}
-use Rattle.std.proofs.Common.{arith}
+use Rattle.std.proofs.Common.{◌≡◌, ◌∙◌, ℕ, ◌≤◌, List, [], Option, Some, None, refl, sym, Bool, true, false, Ok, Err, rules}
 use Rattle.std.specs.Prelude.{Result, ⊤}
 use Rattle.std.specs.Io.KnownBytes.{Keeps}
 use Rattle.std.proofs.Math.Path.{subst}
@@ -18,7 +17,7 @@ use Rattle.aide_report.specs.declared.run_fault.RunFault.{RunFault}
 use Rattle.aide_report.specs.declared.run_fault.RunFault.TheVariants.{Open, Database, Changed, Write}
 use Rattle.aide_session.specs.Answer.{Named, limits, need_of}
 use Rattle.aide_session.specs.Closing.{Asks, AsksAndReads, AsksToCompare, ClosesBy, Closing, Course, course_between}
-use Rattle.aide_session.specs.Closing.{ClosingCause, closing_line, HasText, IsTold, IsUntold, RunCause, untold_config}
+use Rattle.aide_session.specs.Closing.{ClosingCause, HasText, IsTold, IsUntold, RunCause, untold_config}
 use Rattle.aide_session.specs.Closing.{no_job, no_memory, no_config, large_config, bad_config, good_config, bad_run}
 use Rattle.aide_session.specs.Closing.{good_run}
 use Rattle.aide_session.specs.Ends.{Sinks}
@@ -43,10 +42,7 @@ course_of opened_before opened_after given_after flushes_before flushes_after is
     }
 
 opens_none : (before after : Side → ℕ) (most : ℕ) → after ≡ before → OpensAtMost before after most
-opens_none before after most is =
-    let of_old = ap (λ (f : Side → ℕ). f Old) is in
-    let of_new = ap (λ (f : Side → ℕ). f New) is in
-    record { of_old = omega (arith, of_old); of_new = omega (arith, of_new) }
+opens_none before after most is = search rules
 
 -- where only the configuration is named
 abbrev pub only_config : List ℕ → Named
@@ -234,17 +230,7 @@ cause_by files words named (good_run options outcome) site more out then cause =
 pub closes_by : (w : Writing) (files : Files) (words : List (List ℕ)) (status : ℕ) (s : Sinks) (course : Course) (site more out : Type 0)
     → (site → more) → ClosesBy w files words status s course site out
     → ClosesBy w files words status s course more out
-closes_by w files words status s course site more out then closes = record {
-  closing = closes.closing;
-  named = closes.named;
-  cause = cause_by files words closes.named closes.closing site more out then closes.cause;
-  status_is = closes.status_is;
-  output = closes.output;
-  cut = closes.cut;
-  opens = closes.opens;
-  opens_some = closes.opens_some;
-  put = closes.put;
-}
+closes_by w files words status s course site more out then closes = search (rules, cause_by)
 
 abbrev denies_old : Side → Type 0
 denies_old Old = ⊥
@@ -278,9 +264,7 @@ pub closes_over : (w : Writing) (files later : Files) (words : List (List ℕ)) 
     → ClosesBy w later words status s later_course (Rose later_count end) out
     → ClosesBy w files words status s course (Rose count end) out
 closes_over w files later words status s course later_course count later_count end out same same_course same_count closes =
-    subst (λ (n : ℕ). ClosesBy w files words status s course (Rose n end) out) same_count
-    (subst (λ (d : Course). ClosesBy w files words status s d (Rose later_count end) out) same_course
-    (subst (λ (f : Files). ClosesBy w f words status s later_course (Rose later_count end) out) same closes))
+    search (rules, same_course)
 
 pub asks_over : (files later : Files) (words : List (List ℕ)) (named : Named) → later ≡ files
     → AsksToCompare files words named → AsksToCompare later words named
@@ -305,9 +289,7 @@ pub closes_later : (w : Writing) (files later : Files) (words : List (List ℕ))
     → ClosesBy w later words status s later_course (Rose later_count end) out
     → ClosesBy w files words status s course (Rose count end) out
 closes_later w files later words status s course later_course count later_count end out same same_course more closes =
-    closes_by w files words status s course (Rose later_count end) (Rose count end) out (rose_later count later_count end more)
-    (subst (λ (d : Course). ClosesBy w files words status s d (Rose later_count end) out) same_course
-    (subst (λ (f : Files). ClosesBy w f words status s later_course (Rose later_count end) out) same closes))
+    search (rules, closes_by, rose_later, same_course)
 
 -- the sides were opened as often
 pub same_course : {S W : Type 0} (openings : S → Side → ℕ) (was_given : S → Side → Bool) (flushes : W → ℕ) (is_flushed : W → Bool)
@@ -315,9 +297,7 @@ pub same_course : {S W : Type 0} (openings : S → Side → ℕ) (was_given : S 
     → openings later ≡ openings before
     → course_between openings was_given flushes is_flushed later after out_old out_new
     ≡ course_between openings was_given flushes is_flushed before after out_old out_new
-same_course openings was_given flushes is_flushed before later after out_old out_new same =
-    ap (λ (opened : Side → ℕ). course_of opened (openings after) (was_given after) (flushes out_old) (flushes out_new)
-    (is_flushed out_new)) same
+same_course openings was_given flushes is_flushed before later after out_old out_new same = search rules
 
 -- the same closing once its lines are passed on
 pub closes_passed : (w : Writing) (files : Files) (words : List (List ℕ)) (status : ℕ) (c d e f g : Option (List ℕ)) (m n k : ℕ)
@@ -325,14 +305,4 @@ pub closes_passed : (w : Writing) (files : Files) (words : List (List ℕ)) (sta
     → Keeps f g → n ≤ k
     → ClosesBy w files words status (sinks c d e f m n) course site out
     → ClosesBy w files words status (sinks c d e g m k) course site out
-closes_passed w files words status c d e f g m n k course site out kept more closes = record {
-  closing = closes.closing;
-  named = closes.named;
-  cause = closes.cause;
-  status_is = closes.status_is;
-  output = closes.output;
-  cut = closes.cut;
-  opens = closes.opens;
-  opens_some = closes.opens_some;
-  put = put_passed (closing_line closes.named closes.closing) e f g m n k kept more closes.put;
-}
+closes_passed w files words status c d e f g m n k course site out kept more closes = search (rules, put_passed)

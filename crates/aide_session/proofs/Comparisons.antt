@@ -1,5 +1,5 @@
 -- The runs that write a report or lines keep what a session relies on.
-use Rattle.std.proofs.Common.{◌≡◌, ◌∙◌, ℕ, List, [], Option, Some, None, refl, sym, ap, Ok, Err, inl, inr, ◌++◌, append_assoc}
+use Rattle.std.proofs.Common.{◌≡◌, ◌∙◌, ℕ, List, [], Option, Some, None, refl, sym, ap, Ok, Err, inl, inr, ◌++◌, append_assoc, rules}
 use Rattle.std.specs.Prelude.{Result, IfErr, IfOk, OnOk, ⊤}
 use Rattle.std.specs.Io.KnownBytes.{Appends}
 use Rattle.std.proofs.Math.Path.{subst}
@@ -26,7 +26,7 @@ use Rattle.aide_report.specs.declared.run_fault.RunFault.{RunFault}
 use Rattle.aide_report.specs.declared.run_fault.RunFault.TheVariants.{Open, Database, Changed, Write}
 use Rattle.aide_report.proofs.LinesRunLemmas.{begun_then_closed}
 use Rattle.aide_session.specs.Answer.{limits}
-use Rattle.aide_session.specs.Output.{Output, nothing, start_of}
+use Rattle.aide_session.specs.Output.{nothing, start_of}
 use Rattle.aide_session.specs.Writing.{the_lines, the_report}
 use Rattle.aide_session.specs.code.Comparing.{EndsBy, IsComparison, SendsFront, out_at_fault}
 use Rattle.aide_text.specs.Sent.{SendsPart}
@@ -71,19 +71,13 @@ module _ (wish : Asked) (old new : List ℕ) (before after : Option (List ℕ)) 
   sound_cut : (fault : RunFault) → IsSound limits old → IsSound limits new → CutsLines limits wish old new before after fault
       → SendsPart (lines_read wish old new).text before after
   sound_cut (Write written) sound_old sound_new cut = cut.0 sound_old sound_new
-  sound_cut (Open side) sound_old sound_new cut =
-      longer_part _ _ _ before after (begun_then_closed limits wish old new sound_old sound_new) cut
-  sound_cut (Database fault) sound_old sound_new cut =
-      longer_part _ _ _ before after (begun_then_closed limits wish old new sound_old sound_new) cut
-  sound_cut (Changed side) sound_old sound_new cut =
+  sound_cut fault sound_old sound_new cut =
       longer_part _ _ _ before after (begun_then_closed limits wish old new sound_old sound_new) cut
 
   unsound_cut : (fault : RunFault) → (IsSound limits old → IsSound limits new → ⊥) → CutsLines limits wish old new before after fault
       → SendsPart (lines_begun wish old new) before after
   unsound_cut (Write written) unsound cut = cut.1 unsound
-  unsound_cut (Open side) unsound cut = cut
-  unsound_cut (Database fault) unsound cut = cut
-  unsound_cut (Changed side) unsound cut = cut
+  unsound_cut fault unsound cut = cut
 
   -- two texts of which one has a first fault are not both sound
   not_both : (first : DbFault) → RunsBy limits (lines_read wish) old new (Err first) → IsSound limits old → IsSound limits new → ⊥
@@ -153,44 +147,14 @@ module _ (wish : Asked) (a b : Seen) (d e : DeskView) (o p : SinkSeen) where
 
   pub lines_comparison : (result : Result Outcome RunFault) → IsLinesRun limits wish a b d e o p result
       → IsComparison the_lines wish a b d e o p result
-  lines_comparison result ran = record {
-    over = λ old new told_old told_new r runs.
-        line_ends result old new r _ ran told_old told_new runs (ran.over old new told_old told_new r runs);
-    reliable = ran.reliable;
-    sound = ran.sound;
-    consistent = ran.consistent;
-    flushed = ran.flushed;
-    flushes = ran.flushes;
-    cut = ran.cut;
-    back = ran.unopened;
-    caused = IfErr-weaker result _ _ (λ fault cause. caused_of _ _ _ fault cause) ran.cause;
-    right = ran.right;
-    refused = ran.refused;
-    not_given = ran.not_given;
-    sources_never_fall = ran.sources_never_fall;
-    opens = opens_always _ _ a.openings b.openings result ran.opens;
-    opens_told = opens_told a.openings b.openings result ran.opens;
-    opens_within = λ old new told_old told_new sound_old sound_new. ran.opens_some;
-    opens_some = ran.opens_some;
-    opens_first = unsaid result;
-    peak = ran.peak;
-    below = ran.below;
-    bound = ran.bound;
-    room = ran.room;
-    memory = ran.memory;
-    lookups = ran.lookups;
-  }
+  lines_comparison result ran = search (rules, line_ends, IfErr-weaker, caused_of, opens_always, opens_told, unsaid)
 
   report_ends : (result : Result Outcome RunFault) (old new : Option (List ℕ)) (r : Result Report RunFault)
       (hindered : RunFault → Type 0)
       → EndsOver r hindered result o.delivered p.delivered
       → EndsBy (out_at_fault the_report wish old new) r hindered result o.delivered p.delivered
   report_ends (Ok outcome) old new r hindered ends = ends
-  report_ends (Err fault) old new r hindered ends = (
-    ends.0,
-    subst (λ (x : Output). SendsFront x r o.delivered p.delivered) (sym (none_at_fault wish old new))
-        (report_front r o.delivered p.delivered ends.1),
-  )
+  report_ends (Err fault) old new r hindered ends = search (rules, none_at_fault, report_front)
 
   pub report_comparison : (result : Result Outcome RunFault) → IsRun limits wish a b d e o p result
       → IsComparison the_report wish a b d e o p result

@@ -1,6 +1,6 @@
 -- How a session ends.
 use Rattle.std.proofs.Common.{◌≡◌, ◌∙◌, ℕ, ◌≤◌, List, [], Option, Some, None, refl, sym, ap, arith, Bool, true, false}
-use Rattle.std.proofs.Common.{Ok, Err, inl, inr, ◌⊎◌}
+use Rattle.std.proofs.Common.{Ok, Err, inl, inr, ◌⊎◌, rules}
 use Rattle.std.proofs.lemmas.List.{append-nil}
 use Rattle.std.specs.Prelude.{Result, IsSome, unwrap_or}
 use Rattle.std.specs.Io.KnownBytes.{Appends, Keeps}
@@ -56,9 +56,7 @@ goes_then_starts (start_of text) c d part = part
 pub ends_refused : (a : Answer) (named : Named) (line : List ℕ) (status : ℕ) (d e f : Option (List ℕ)) (m n : ℕ) (site out : Type 0)
     → a ≡ refused line status → Put line e f m n
     → Ends a named status (sinks d d e f m n) site out
-ends_refused a named line status d e f m n site out is put =
-    subst (λ (x : Answer). Ends x named status (sinks d d e f m n) site out) (sym is)
-    (inl (record { status_is = refl; output = appends_none d; put = put }))
+ends_refused a named line status d e f m n site out is put = search (rules, appends_none)
 
 -- want of memory before anything went out
 pub ends_starved : (a : Answer) (named : Named) (d e f : Option (List ℕ)) (m n : ℕ) (site out : Type 0)
@@ -79,12 +77,8 @@ pub ends_told : (says : Option (Configured → List ℕ)) (s : Configured) (a : 
     (is_flushed : Bool) (k l : ℕ) (site out : Type 0)
     → a ≡ checked_by says s → IsTold says s c d is_flushed k l
     → Ends a named 0 (sinks c d e e m m) site out
-ends_told None s a named c d e m is_flushed k l site out is told =
-    subst (λ (x : Answer). Ends x named 0 (sinks c d e e m m) site out) (sym is)
-    (inl (record { status_is = refl; output = told.0; put = put_none e m }))
-ends_told (Some says) s a named c d e m is_flushed k l site out is told =
-    subst (λ (x : Answer). Ends x named 0 (sinks c d e e m m) site out) (sym is)
-    (inl (record { status_is = refl; output = told.0; put = put_none e m }))
+ends_told None s a named c d e m is_flushed k l site out is told = search (rules, put_none)
+ends_told (Some says) s a named c d e m is_flushed k l site out is told = search (rules, put_none)
 
 -- it could not be written
 pub ends_untold : (says : Option (Configured → List ℕ)) (s : Configured) (a : Answer) (named : Named) (c d e f : Option (List ℕ))
@@ -92,9 +86,7 @@ pub ends_untold : (says : Option (Configured → List ℕ)) (s : Configured) (a 
     → a ≡ checked_by says s → IsUntold says s c d k l → out → Put write_line e f m n
     → Ends a named 18 (sinks c d e f m n) site out
 ends_untold None s a named c d e f m n k l site out is untold rose put = absurd untold
-ends_untold (Some says) s a named c d e f m n k l site out is untold rose put =
-    subst (λ (x : Answer). Ends x named 18 (sinks c d e f m n) site out) (sym is)
-    (inr (inr (record { status_is = refl; output = untold.0; failure = unwritten; cause = rose; put = put })))
+ends_untold (Some says) s a named c d e f m n k l site out is untold rose put = search rules
 
 cause_by : (failure : Failure) (site more out : Type 0) → (site → more) → FailureCause failure site out
     → FailureCause failure more out
@@ -106,19 +98,7 @@ cause_by unwritten site more out then cause = cause
 -- the same ending for a cause that follows
 pub ends_by : (a : Answer) (named : Named) (status : ℕ) (s : Sinks) (site more out : Type 0) → (site → more)
     → Ends a named status s site out → Ends a named status s more out
-ends_by a named status s site more out then ends = elim ends [
-  | inl whole ↦ inl whole
-  | inr rest ↦ elim rest [
-    | inl starved ↦ inr (inl starved)
-    | inr broken ↦ inr (inr (record {
-      status_is = broken.status_is;
-      output = broken.output;
-      failure = broken.failure;
-      cause = cause_by broken.failure site more out then broken.cause;
-      put = broken.put;
-    }))
-  ]
-]
+ends_by a named status s site more out then ends = search (rules, cause_by)
 
 no_cause : (failure : Failure) (site out : Type 0) → (site → ⊥) → (out → ⊥) → FailureCause failure site out → ⊥
 no_cause config_unread site out unfailed_site unfailed_out cause = unfailed_site cause
@@ -130,13 +110,7 @@ no_cause unwritten site out unfailed_site unfailed_out cause = unfailed_out caus
 pub ends_unfailed : (a : Answer) (named : Named) (status : ℕ) (s : Sinks) (site out : Type 0) → (site → ⊥) → (out → ⊥)
     → Ends a named status s site out
     → Whole a status s ⊎ Starved a status s
-ends_unfailed a named status s site out unfailed_site unfailed_out ends = elim ends [
-  | inl whole ↦ inl whole
-  | inr rest ↦ elim rest [
-    | inl starved ↦ inr starved
-    | inr broken ↦ absurd (no_cause broken.failure site out unfailed_site unfailed_out broken.cause)
-  ]
-]
+ends_unfailed a named status s site out unfailed_site unfailed_out ends = search (rules, no_cause)
 
 pub no_failure_never_rose : (m n : ℕ) → HasNoFailure m n → Rose m n → ⊥
 no_failure_never_rose m n unfailed rose = let h = rose unfailed.1 in omega (arith, h, unfailed.0)
@@ -201,11 +175,7 @@ pub ends_well : (sent : Output) (r : Result Report RunFault) (o : Outcome) (name
     (site out : Type 0)
     → SendsWhole r o c d → Put (outcome_lines o) e f m n
     → Ends (answer_by sent named r) named (status_of o.added o.removed o.changed) (sinks c d e f m n) site out
-ends_well sent (Ok report) o named c d e f m n site out well put = inl (record {
-  status_is = sym (ap (λ (x : Outcome). status_of x.added x.removed x.changed) well.0);
-  output = well.1;
-  put = subst (λ (x : Outcome). Put (outcome_lines x) e f m n) (sym well.0) put;
-})
+ends_well sent (Ok report) o named c d e f m n site out well put = search rules
 ends_well sent (Err fault) o named c d e f m n site out well put = absurd well
 
 early_part : (sent : Output) (named : Named) (r : Result Report RunFault) (c d : Option (List ℕ)) → SendsFront sent r c d
@@ -226,9 +196,7 @@ run_right : (sent : Output) (r : Result Report RunFault) (fault : RunFault) (nam
     → SendsFront sent r c d
     → Put (right_line named fault) e f m n → r ≡ Err fault
     → Ends (answer_by sent named r) named (right_status fault) (sinks c d e f m n) site out
-run_right sent r fault named c d e f m n site out front put is =
-    subst (λ (x : Result Report RunFault). Ends (answer_by sent named x) named (right_status fault) (sinks c d e f m n) site out) (sym is)
-    (inl (record { status_is = refl; output = subst (λ (x : Result Report RunFault). SendsFront sent x c d) is front; put = put }))
+run_right sent r fault named c d e f m n site out front put is = search rules
 
 -- a run stops for the fault that is the answer, or for one that hindered it
 by_stop : (r : Result Report RunFault) (hindered : RunFault → Type 0) (fault : RunFault) (P : Type 0)
@@ -251,10 +219,7 @@ run_database sent side line db.Read r named reliable rose out old new c d e f m 
 run_database sent side line db.Memory r named reliable rose out old new c d e f m n front stops fed cause unfailed put =
     absurd (true_is_not_false fed)
 run_database sent side line kind r named reliable rose out old new c d e f m n front stops fed cause unfailed put =
-    by_stop r (IsHindered old new rose out) (Database (fault_at side line kind))
-    (Ends (answer_by sent named r) named 24 (sinks c d e f m n) ((reliable ≡ false) × rose) out)
-    (run_right sent r (Database (fault_at side line kind)) named c d e f m n ((reliable ≡ false) × rose) out front put)
-    (λ hindered. absurd hindered.1) stops
+    search (rules, by_stop, run_right)
 
 -- a side that is there gives its bytes
 told_given : (bytes : Option (List ℕ)) (is_missing : Bool) (file : Option (List ℕ)) → TellsSide bytes is_missing file
@@ -320,23 +285,14 @@ pub run_of : (w : Writing) (bytes_of : Side → Option (List ℕ)) (is_missing :
     (is : ComparesSides w bytes_of is_missing asked named a)
     → (r : Result Report RunFault) × RunsOverBy limits (w.over asked) is.old_file is.new_file r
     × (a ≡ answer_by (out_at_fault w asked is.old_file is.new_file) named r)
-run_of w bytes_of is_missing asked named a is =
-    let by_run = compared_by w asked.options named is.old_file is.new_file a is.then_is in
-    let same = same_asked asked.options asked.options named.old_path asked.old_path named.new_path asked.new_path refl is.old_is
-    is.new_is in (
-      by_run.0,
-      subst (λ (wish : Asked). RunsOverBy limits (w.over wish) is.old_file is.new_file by_run.0) same by_run.1,
-      subst (λ (wish : Asked). a ≡ answer_by (out_at_fault w wish is.old_file is.new_file) named by_run.0) same by_run.2,
-    )
+run_of w bytes_of is_missing asked named a is = search (rules, compared_by, same_asked)
 
 -- the line of a run's fault over the paths that are named
 pub put_paths : (fault : RunFault) (named : Named) (old_path new_path : List ℕ) (e f : Option (List ℕ)) (m n : ℕ)
     → named.old_path ≡ old_path → named.new_path ≡ new_path
     → Put (run_fault_line old_path new_path fault) e f m n
     → Put (run_fault_line named.old_path named.new_path fault) e f m n
-put_paths fault named old_path new_path e f m n is_old is_new put =
-    subst (λ (x : List ℕ). Put (run_fault_line x named.new_path fault) e f m n) (sym is_old)
-    (subst (λ (x : List ℕ). Put (run_fault_line old_path x fault) e f m n) (sym is_new) put)
+put_paths fault named old_path new_path e f m n is_old is_new put = search rules
 
 -- the same ending for an answer that is equal
 pub ends_as : (a b : Answer) (named : Named) (status : ℕ) (s : Sinks) (site out : Type 0) → a ≡ b
@@ -354,17 +310,14 @@ failed_later reliable later_reliable count later_count end same more failed =
 pub ends_exactly : (a : Answer) (named : Named) (reliable : Bool) (status : ℕ) (s : Sinks) (m n k l : ℕ) → HasNoFailure m n
     → HasNoFailure k l → Ends a named status s (HasFailed reliable m n) (Rose k l)
     → Whole a status s ⊎ Starved a status s
-ends_exactly a named reliable status s m n k l unfailed_site unfailed_out ends =
-    ends_unfailed a named status s (HasFailed reliable m n) (Rose k l) (λ failed. no_failure_never_rose m n unfailed_site failed.1)
-    (no_failure_never_rose k l unfailed_out) ends
+ends_exactly a named reliable status s m n k l unfailed_site unfailed_out ends = search (rules, ends_unfailed, no_failure_never_rose)
 
 -- an ending where the site is reliable and the output has counted no failure
 pub ends_reliably : (a : Answer) (named : Named) (reliable : Bool) (status : ℕ) (s : Sinks) (m n k l : ℕ)
     → reliable ≡ true → HasNoFailure k l → Ends a named status s (HasFailed reliable m n) (Rose k l)
     → Whole a status s ⊎ Starved a status s
 ends_reliably a named reliable status s m n k l is unfailed_out ends =
-    ends_unfailed a named status s (HasFailed reliable m n) (Rose k l) (λ failed. true_is_not_false (sym is ∙ failed.0))
-    (no_failure_never_rose k l unfailed_out) ends
+    search (rules, ends_unfailed, true_is_not_false, no_failure_never_rose)
 
 -- the same ending by a status that is equal
 pub ends_status : (a : Answer) (named : Named) (status put : ℕ) (s : Sinks) (site out : Type 0) → status ≡ put
@@ -375,24 +328,4 @@ ends_status a named status put s site out same ends = subst (λ (n : ℕ). Ends 
 pub ends_passed : (a : Answer) (named : Named) (status : ℕ) (c d e f g : Option (List ℕ)) (m n k : ℕ) (site out : Type 0)
     → Keeps f g → n ≤ k
     → Ends a named status (sinks c d e f m n) site out → Ends a named status (sinks c d e g m k) site out
-ends_passed a named status c d e f g m n k site out kept more ends = elim ends [
-  | inl whole ↦ inl (record {
-    status_is = whole.status_is;
-    output = whole.output;
-    put = put_passed a.errors e f g m n k kept more whole.put;
-  })
-  | inr rest ↦ elim rest [
-    | inl starved ↦ inr (inl (record {
-      status_is = starved.status_is;
-      output = starved.output;
-      put = put_passed memory_line e f g m n k kept more starved.put;
-    }))
-    | inr broken ↦ inr (inr (record {
-      status_is = broken.status_is;
-      output = broken.output;
-      failure = broken.failure;
-      cause = broken.cause;
-      put = put_passed (failure_line named broken.failure) e f g m n k kept more broken.put;
-    }))
-  ]
-]
+ends_passed a named status c d e f g m n k site out kept more ends = search (rules, put_passed)

@@ -1,7 +1,6 @@
 -- What the texts of a job read as.
-use Rattle.std.proofs.Common.{◌≡◌, ℕ, List, Ok, Err, inl, inr, sym, ◌⊎◌}
+use Rattle.std.proofs.Common.{◌≡◌, ℕ, List, Ok, Err, ◌⊎◌, rules}
 use Rattle.std.specs.Prelude.{Result, IfOk, IfErr}
-use Rattle.std.proofs.Math.Path.{subst}
 use Rattle.aide_conf.specs.Cutting.{places}
 use Rattle.aide_conf.specs.ReadResult.{IsRead, IsRefused, IsStarved, ReadsAs}
 use Rattle.aide_conf.specs.Settings.{Configured}
@@ -16,19 +15,13 @@ use Rattle.aide_session.specs.code.Premises.{ReadsOnlyAs}
 reads_same : (need job_need : Need) (before job_before text after job_after : List ℕ) (read : Result Configured ConfFault)
     → need ≡ job_need → before ≡ job_before → after ≡ job_after
     → ReadsAs need before text after read → ReadsAs job_need job_before text job_after read
-reads_same need job_need before job_before text after job_after read is_need is_before is_after reads =
-    subst (λ (x : List ℕ). ReadsAs job_need job_before text x read) is_after
-    (subst (λ (x : List ℕ). ReadsAs job_need x text after read) is_before
-    (subst (λ (x : Need). ReadsAs x before text after read) is_need reads))
+reads_same need job_need before job_before text after job_after read is_need is_before is_after reads = search rules
 
 -- a refusal that is not for want of memory is that of the configuration
 refused_as : (need : Need) (before text after : List ℕ) (fault : ConfFault)
     → IsRefused need (places before text after) fault ⊎ IsStarved need (places before text after) fault
     → (fault.kind ≡ Memory → ⊥) → ReadsAs need before text after (Err fault)
-refused_as need before text after fault refused other = elim refused [
-  | inl is ↦ is
-  | inr starved ↦ absurd (other starved.kind)
-]
+refused_as need before text after fault refused other = search rules
 
 module _ (need : Need) (job : JobText) (before text after : List ℕ) (is_need : need ≡ need_of job.compare)
     (is_before : before ≡ job.before) (is_after : after ≡ job.after) where
@@ -37,11 +30,7 @@ module _ (need : Need) (job : JobText) (before text after : List ℕ) (is_need :
 
   reads_only : (read : Result Configured ConfFault) → ReadsAs need before text after read → Only read
       → ReadsOnlyAs job text read
-  reads_only read reads only = record {
-    reads = reads_same need (need_of job.compare) before job.before text after job.after read is_need is_before is_after reads;
-    only = λ other is. only other (reads_same (need_of job.compare) need job.before before text job.after after other (sym is_need)
-        (sym is_before) (sym is_after) is);
-  }
+  reads_only read reads only = search (rules, reads_same)
 
   pub settings_read : (result : Result Configured ConfFault)
       → IfOk result (λ s. IsRead need (places before text after) s) → IfOk result (λ s. Only (Ok s))

@@ -1,6 +1,6 @@
 -- What was put on standard error, piece by piece.
 use Rattle.std.proofs.Common.{◌≡◌, ◌∙◌, ℕ, ◌+◌, ◌≤◌, List, [], ◌∷◌, ◌++◌, Bool, Option, Some, None, true, false, sym, ap}
-use Rattle.std.proofs.Common.{arith, suc}
+use Rattle.std.proofs.Common.{arith, suc, rules}
 use Rattle.std.proofs.Math.Path.{subst}
 use Rattle.std.proofs.lemmas.Grind.{flat_map-append}
 use Rattle.std.proofs.lemmas.List.{append-nil}
@@ -27,11 +27,7 @@ put_as xs ys {a} {b} {m} {n} e p = subst (λ (l : List ℕ). Put l a b m n) e p
 -- the same text once it is passed on
 pub put_passed : (text : List ℕ) (a b c : Option (List ℕ)) (m n k : ℕ) → Keeps b c → n ≤ k → Put text a b m n
     → Put text a c m k
-put_passed text a b c m n k kept more p = record {
-  never_falls = let h = p.never_falls in omega (arith, h, more);
-  exact = λ unfailed. let h = p.never_falls in
-      Appends-kept a b c text (p.exact (omega (arith, h, more, unfailed.0), omega (arith, h, more, unfailed.0, unfailed.1))) kept;
-}
+put_passed text a b c m n k kept more p = search (rules, Appends-kept)
 
 below_more : (n : ℕ) → below (n + 1) ≡ below n ++ n ∷ []
 unfolding below
@@ -40,10 +36,7 @@ below_more n = let e : n + 1 ≡ suc n = omega arith in ap below e
 lines_more : (side : Side) (columns n : ℕ)
     → flat_map (line_if_skipped side columns) (below (n + 1))
     ≡ flat_map (line_if_skipped side columns) (below n) ++ line_if_skipped side columns n
-lines_more side columns n =
-    ap (λ (l : List ℕ). flat_map (line_if_skipped side columns) l) (below_more n)
-    ∙ flat_map-append (line_if_skipped side columns) (below n) (n ∷ [])
-    ∙ ap (λ (l : List ℕ). flat_map (line_if_skipped side columns) (below n) ++ l) (append-nil (line_if_skipped side columns n))
+lines_more side columns n = search (rules, below_more, flat_map-append, append-nil)
 
 -- the lines of the columns so far, and the next one
 pub next_column : (side : Side) (columns index : ℕ) {a b c : Sheet}
@@ -70,10 +63,7 @@ true_false e = cc
 put_by : (text : List ℕ) (a b : Sheet) (f h : Bool) → f ≡ false → WroteBy f h text a b
     → Put text a.bytes b.bytes a.failures b.failures
 put_by text a b true h fresh p = absurd (true_false fresh)
-put_by text a b false true fresh p = record {
-  never_falls = omega (arith, p.failures);
-  exact = λ unfailed. absurd (omega (arith, p.failures, unfailed.0, unfailed.1));
-}
+put_by text a b false true fresh p = search rules
 put_by text a b false false fresh p =
     record { never_falls = omega (arith, p.1); exact = λ unfailed. p.0.bytes }
 

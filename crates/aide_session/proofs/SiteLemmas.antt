@@ -1,6 +1,6 @@
 -- The file added last counts.
 use Rattle.std.proofs.Common.{◌≡◌, ◌≢◌, ◌∙◌, ℕ, ◌+◌, ◌<◌, List, [], ◌∷◌, ◌++◌, Option, Some, None, Bool, true, false}
-use Rattle.std.proofs.Common.{if◌then◌else◌, refl, sym, ap, ap₂, take, get_or, length}
+use Rattle.std.proofs.Common.{if◌then◌else◌, refl, sym, ap, ap₂, take, get_or, length, rules}
 use Rattle.std.specs.Prelude.{option_and_then}
 use Rattle.std.proofs.Math.Path.{subst}
 use Rattle.std.specs.Str.{bytes_eq}
@@ -10,7 +10,7 @@ use Rattle.std.proofs.lemmas.List.{drop_more}
 use Rattle.aide_db.specs.Side.{by_side}
 use Rattle.aide_db.specs.declared.side.Side.{Side}
 use Rattle.aide_session.specs.Files.{GivesFile}
-use Rattle.aide_session.specs.Sites.{Shelf, bytes_at, either, of_file, side_bytes, side_path}
+use Rattle.aide_session.specs.Sites.{Shelf, bytes_at, either, of_file, side_bytes}
 
 either_none : (o : Option (List ℕ)) → o ≡ either o None
 either_none None = refl
@@ -51,9 +51,7 @@ bytes_eq_other a b apart = false_from (bytes_eq a b) (λ same. apart ((bytes_dec
 
 pub added_here : (files : List (List ℕ × List ℕ)) (path bytes : List ℕ)
     → bytes_at (files ++ (path, bytes) ∷ []) path ≡ Some bytes
-added_here files path bytes =
-    bytes_snoc files (path, bytes) path ∙ ap (λ (b : Bool). either (if b then Some bytes else None) (bytes_at files path))
-    (bytes_eq_self path)
+added_here files path bytes = search (rules, bytes_snoc, bytes_eq_self)
 
 pub added_elsewhere : (files : List (List ℕ × List ℕ)) (path bytes other : List ℕ) → other ≢ path
     → bytes_at (files ++ (path, bytes) ∷ []) other ≡ bytes_at files other
@@ -79,10 +77,7 @@ pub found_on_side : (view site : Shelf) (side : Side) (files : List (List ℕ ×
     → files ≡ view.files → old_path ≡ view.old_path → new_path ≡ view.new_path → view ≡ site
     → path ≡ by_side old_path new_path side → found ≡ option_and_then (λ p. bytes_at files p) path
     → side_bytes site side ≡ found
-found_on_side view site side files old_path new_path path found is_files is_old is_new is_view is_path is =
-    ap (λ (s : Shelf). side_bytes s side) (sym is_view)
-    ∙ found_at files view.files path (side_path view side) found is_files
-    (is_path ∙ ap₂ (λ (a b : Option (List ℕ)). by_side a b side) is_old is_new) is
+found_on_side view site side files old_path new_path path found is_files is_old is_new is_view is_path is = search (rules, found_at)
 
 -- a reel over the bytes that were found gives the file that is known
 pub gives_found : (there : Option (List ℕ)) (bytes : List ℕ) (file : Option (List ℕ)) → there ≡ Some bytes

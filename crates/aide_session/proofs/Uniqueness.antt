@@ -1,5 +1,5 @@
 -- There is only one answer.
-use Rattle.std.proofs.Common.{◌≡◌, ◌∙◌, ℕ, List, Option, Some, None, sym, ap, Bool, true, false, Ok, Err}
+use Rattle.std.proofs.Common.{◌≡◌, ◌∙◌, ℕ, List, Option, Some, None, sym, ap, Bool, true, false, Ok, Err, rules}
 use Rattle.std.specs.Prelude.{Result}
 use Rattle.std.proofs.Math.Path.{subst}
 use Rattle.aide_conf.specs.Settings.{Configured}
@@ -13,10 +13,9 @@ use Rattle.aide_report.specs.declared.run_fault.RunFault.{RunFault}
 use Rattle.aide_report.proofs.FirstFaults.{RunsBy-unique}
 use Rattle.aide_report.proofs.MissingLemmas.{RunsOver-unique}
 use Rattle.aide_session.specs.Answer.{Answer, Named, ComparesBy, IsComparedBy, IsFileAnswerBy, IsReadAnswerBy}
-use Rattle.aide_session.specs.Answer.{IsAnswerBy, IsSizedAnswerBy, IsTextAnswerBy, IsWordsAnswerBy, asked_by, limits, need_of}
+use Rattle.aide_session.specs.Answer.{IsAnswerBy, IsSizedAnswerBy, IsTextAnswerBy, IsWordsAnswerBy, limits}
 use Rattle.aide_session.specs.Files.{Files, is_too_large}
 use Rattle.aide_session.specs.Writing.{Writing}
-use Rattle.aide_session.specs.code.Comparing.{out_at_fault}
 use Rattle.aide_words.specs.Job.{JobText, job_of}
 use Rattle.aide_session.proofs.Endings.{answer_by, compared_by, same_some}
 
@@ -36,28 +35,16 @@ one_run over wish (Some old) (Some new) r s p q =
 module _ (w : Writing) (files : Files) where
   one_comparison : (options : Options) (named : Named) (old new : Option (List ℕ)) (a b : Answer)
       → IsComparedBy w options named old new a → IsComparedBy w options named old new b → a ≡ b
-  one_comparison options named old new a b p q =
-      let one = compared_by w options named old new a p in
-      let other = compared_by w options named old new b q in
-      one.2 ∙ ap (λ (r : Result Report RunFault). answer_by (out_at_fault w (asked_by options named) old new) named r)
-      (one_run (w.over (asked_by options named)) (asked_by options named) old new one.0 other.0 one.1 other.1) ∙ sym other.2
+  one_comparison options named old new a b p q = search (rules, compared_by, answer_by, one_run)
 
   one_of_paths : (s : Configured) (named : Named) (a b : Answer) → ComparesBy w files s named a
       → ComparesBy w files s named b → a ≡ b
-  one_of_paths s named a b p q =
-      let old = one_file (files named.old_path) p.old_file q.old_file p.old_told q.old_told in
-      let new = one_file (files named.new_path) p.new_file q.new_file p.new_told q.new_told in
-      one_comparison s.options named p.old_file p.new_file a b p.then_is
-      (subst (λ (o : Option (List ℕ)). IsComparedBy w s.options named o p.new_file b) old
-      (subst (λ (o : Option (List ℕ)). IsComparedBy w s.options named q.old_file o b) new q.then_is))
+  one_of_paths s named a b p q = search (rules, one_file, one_comparison)
 
   -- the same configuration and the same settings name the same paths
   same_named : (s : Configured) (named other : Named) (a b : Answer) → other.config ≡ named.config
       → ComparesBy w files s named a → ComparesBy w files s other b → other ≡ named
-  same_named s named other a b same p q =
-      let old = same_some s.old_path other.old_path named.old_path q.old_is p.old_is in
-      let new = same_some s.new_path other.new_path named.new_path q.new_is p.new_is in
-      λ i. record { config = same i; old_path = old i; new_path = new i }
+  same_named s named other a b same p q = search (rules, same_some)
 
   one_of_reading : (compare : Bool) (read : Result Configured ConfFault) (named other : Named) (a b : Answer)
       → other.config ≡ named.config → IsReadAnswerBy w files compare read named a
@@ -70,10 +57,7 @@ module _ (w : Writing) (files : Files) where
 
   one_of_text : (job : JobText) (text : List ℕ) (named other : Named) (a b : Answer) → other.config ≡ named.config
       → IsTextAnswerBy w files job text named a → IsTextAnswerBy w files job text other b → a ≡ b
-  one_of_text job text named other a b same p q =
-      let reads = no_configuration_has_two_answers (need_of job.compare) job.before text job.after p.read q.read p.reads q.reads in
-      one_of_reading job.compare p.read named other a b same p.then_is
-      (subst (λ (r : Result Configured ConfFault). IsReadAnswerBy w files job.compare r other b) reads q.then_is)
+  one_of_text job text named other a b same p q = search (rules, no_configuration_has_two_answers, one_of_reading)
 
   one_of_size : (job : JobText) (large : Bool) (text : List ℕ) (named other : Named) (a b : Answer)
       → other.config ≡ named.config → IsSizedAnswerBy w files job large text named a
@@ -91,10 +75,7 @@ module _ (w : Writing) (files : Files) where
   one_of_words : (job : Option JobText) (named other : Named) (a b : Answer) → IsWordsAnswerBy w files job named a
       → IsWordsAnswerBy w files job other b → a ≡ b
   one_of_words None named other a b p q = p ∙ sym q
-  one_of_words (Some job) named other a b p q =
-      let file = one_file (files job.config) p.file q.file p.known q.known in
-      one_of_file job p.file named other a b (q.config_is ∙ sym p.config_is) p.then_is
-      (subst (λ (o : Option (List ℕ)). IsFileAnswerBy w files job o other b) file q.then_is)
+  one_of_words (Some job) named other a b p q = search (rules, one_file, one_of_file)
 
   pub one_answer : (words : List (List ℕ)) (named other : Named) (a b : Answer) → IsAnswerBy w files words named a
       → IsAnswerBy w files words other b → a ≡ b

@@ -1,4 +1,4 @@
-use Rattle.std.proofs.Common.{inl, inr, refl}
+use Rattle.std.proofs.Common.{inr, rules}
 use Rattle.aide_report.specs.Asked.{asked}
 use Rattle.aide_session.specs.code.BesideParts.{named_by}
 use Rattle.aide_session.proofs.BesideParts.{closes_seen, pointed_later, seen_pointed}
@@ -6,28 +6,10 @@ use Rattle.aide_session.proofs.PutLemmas.{appends_none}
 use Rattle.aide_session.proofs.beside.compare_beside.Goals as goal
 
 pub returns-in-Err-clause-closes : goal.returns-in-Err-clause-closes
-returns-in-Err-clause-closes g c = λ config same. inl (record {
-  status_is = refl;
-  put = c.put_memory_line.ensures;
-  output = appends_none (g.W.Sink.delivered c.args.devices.now.out.now);
-  unopened = c.prepare.ensures.keeps.openings;
-  trusted_unopened = refl;
-  unflushed = refl;
-  still = c.prepare.ensures.peak;
-  trusted_still = refl;
-})
+returns-in-Err-clause-closes g c = search (rules, appends_none)
 
 pub returns-in-Err-prepare-clause-closes : goal.returns-in-Err-prepare-clause-closes
-returns-in-Err-prepare-clause-closes g c = λ config same. inl (record {
-  status_is = refl;
-  put = c.put_memory_line-in-Err-prepare.ensures;
-  output = appends_none (g.W.Sink.delivered c.args.devices.now.out.now);
-  unopened = c.prepare.ensures.keeps.openings;
-  trusted_unopened = c.prepare-2.ensures.keeps.openings;
-  unflushed = refl;
-  still = c.prepare.ensures.peak;
-  trusted_still = c.prepare-2.ensures.peak;
-})
+returns-in-Err-prepare-clause-closes g c = search (rules, appends_none)
 
 pub returns-clause-closes : goal.returns-clause-closes
 returns-clause-closes g c = λ config same.
@@ -46,7 +28,4 @@ returns-clause-closes g c = λ config same.
     (pointed_later _ _ beside _ _ second.keeps.files c.in_default-prepare.ensures.pointed) same))
 
 pub run_pairs-requires : goal.run_pairs-requires
-run_pairs-requires g c = record {
-  room = c.in_default.ensures.room;
-  trusted_room = c.in_default-prepare.ensures.room;
-}
+run_pairs-requires g c = search rules

@@ -1,4 +1,4 @@
-use Rattle.std.proofs.Common.{refl}
+use Rattle.std.proofs.Common.{refl, rules}
 use Rattle.aide_session.proofs.Closings.{closes_told, closes_untold}
 use Rattle.aide_session.proofs.Endings.{ends_told, ends_untold}
 use Rattle.aide_session.proofs.HeldLemmas.{same_held}
@@ -16,9 +16,7 @@ pub returns-in-Ok-clause-bound : goal.returns-in-Ok-clause-bound
 returns-in-Ok-clause-bound g c = λ named. same_held (g.S.Sources.file_at c.args.devices.now.site.now) named c.args.devices.now.desk.now.peak
 
 pub returns-in-Err-clause-ends : goal.returns-in-Err-clause-ends
-returns-in-Err-clause-ends g c = λ named a is.
-    ends_untold g.C.Comparison.writing.says c.args.settings.now a named _ _ _ _ _ _ _ _ _ _ is c.in-Err.ensures.untold
-    c.in-Err.ensures.rose c.put_write_line.ensures
+returns-in-Err-clause-ends g c = search (rules, ends_untold)
 
 pub returns-in-Err-clause-closes : goal.returns-in-Err-clause-closes
 returns-in-Err-clause-closes g c = λ words config read.

@@ -1,4 +1,4 @@
-use Rattle.std.proofs.Common.{◌∙◌}
+use Rattle.std.proofs.Common.{◌∙◌, rules}
 use Rattle.aide_session.proofs.Readings.{failures_after, given_file, large_file, lookups_after}
 use Rattle.aide_session.proofs.config_file.read_config.Goals as goal
 
@@ -11,19 +11,7 @@ returns-in-Err-result-clause-large g c = λ e file is. large_file file (g.S.R.Re
     (c.read_all-result.ensures.large (c.in-Err-result.is ∙ e))
 
 pub returns-in-Ok-result-clause-opens : goal.returns-in-Ok-result-clause-opens
-returns-in-Ok-result-clause-opens g c = record {
-  files = c.close.ensures.keeps.files ∙ c.config.ensures.keeps.files;
-  reliable = c.close.ensures.keeps.reliable ∙ c.config.ensures.keeps.reliable;
-  openings = c.close.ensures.openings ∙ c.config.ensures.keeps.openings;
-  lookups = lookups_after _ _ _ c.close.ensures.lookups c.config.ensures.lookups;
-  never_falls = failures_after _ _ _ _ c.in-Ok.ensures.ok c.close.ensures.adds;
-}
+returns-in-Ok-result-clause-opens g c = search (rules, lookups_after, failures_after)
 
 pub returns-in-Err-result-clause-opens : goal.returns-in-Err-result-clause-opens
-returns-in-Err-result-clause-opens g c = record {
-  files = c.close.ensures.keeps.files ∙ c.config.ensures.keeps.files;
-  reliable = c.close.ensures.keeps.reliable ∙ c.config.ensures.keeps.reliable;
-  openings = c.close.ensures.openings ∙ c.config.ensures.keeps.openings;
-  lookups = lookups_after _ _ _ c.close.ensures.lookups c.config.ensures.lookups;
-  never_falls = failures_after _ _ _ _ c.in-Ok.ensures.ok c.close.ensures.adds;
-}
+returns-in-Err-result-clause-opens g c = search (rules, lookups_after, failures_after)

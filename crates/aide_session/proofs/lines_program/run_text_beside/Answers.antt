@@ -1,32 +1,13 @@
-use Rattle.std.proofs.Common.{inl, refl}
-use Rattle.aide_session.specs.BesideEnds.{config_refused, no_memory_left}
+use Rattle.std.proofs.Common.{inl, refl, rules}
+use Rattle.aide_session.specs.BesideEnds.{config_refused}
 use Rattle.aide_session.proofs.PutLemmas.{appends_none}
 use Rattle.aide_session.proofs.lines_program.run_text_beside.Goals as goal
 
 pub returns-in-Ok-clause-closes : goal.returns-in-Ok-clause-closes
-returns-in-Ok-clause-closes g c = λ has.
-    c.compare_settings.ensures.closes (record {
-      text = c.args.text.now;
-      text_is = has.text_is;
-      small = has.small;
-      reads = c.in-Ok.ensures.ok;
-    })
+returns-in-Ok-clause-closes g c = search rules
 
 pub returns-in-Memory-clause-closes : goal.returns-in-Memory-clause-closes
-returns-in-Memory-clause-closes g c = λ has. inl (record {
-  stop = no_memory_left;
-  cause = tt;
-  stops = record {
-    status_is = refl;
-    put = c.put_memory_line.ensures;
-    output = appends_none (g.W.Sink.delivered c.args.devices.now.out.now);
-    unopened = refl;
-    trusted_unopened = refl;
-    unflushed = refl;
-    still = refl;
-    trusted_still = refl;
-  };
-})
+returns-in-Memory-clause-closes g c = search (rules, appends_none)
 
 pub returns-in_default-clause-closes : goal.returns-in_default-clause-closes
 returns-in_default-clause-closes g c = λ has. inl (record {

@@ -1,5 +1,4 @@
-use Rattle.std.proofs.Common.{refl, true, false, Ok, Err}
-use Rattle.aide_session.specs.Lines.{conf_line}
+use Rattle.std.proofs.Common.{refl, true, false, Ok, Err, rules}
 use Rattle.aide_session.proofs.AnswerSteps.{checked_is, compares_is, fault_is}
 use Rattle.aide_session.proofs.Closings.{asks_and_reads, closes_bad_config, closes_starved}
 use Rattle.aide_session.proofs.Endings.{ends_refused, ends_starved}
@@ -7,23 +6,17 @@ use Rattle.aide_session.proofs.HeldLemmas.{same_held}
 use Rattle.aide_session.proofs.program.run_prepared.Goals as goal
 
 pub returns-then-prepared-clause-ends : goal.returns-then-prepared-clause-ends
-returns-then-prepared-clause-ends g c = λ named a is.
-    c.compare.ensures.ends named a (compares_is g.C.Comparison.writing _ _ _ c.in-Ok.settings named a c.if-prepared.true c.in-Ok.ensures.ok
-    is)
+returns-then-prepared-clause-ends g c = search (rules, compares_is)
 
 pub returns-then-prepared-clause-closes : goal.returns-then-prepared-clause-closes
 returns-then-prepared-clause-closes g c = λ words has.
     c.compare.ensures.closes words _ (asks_and_reads _ words _ _ true (Ok c.in-Ok.settings) has c.if-prepared.true c.in-Ok.ensures.ok)
 
 pub returns-then-prepared-clause-bound : goal.returns-then-prepared-clause-bound
-returns-then-prepared-clause-bound g c = λ named a is.
-    c.compare.ensures.bound named a (compares_is g.C.Comparison.writing _ _ _ c.in-Ok.settings named a c.if-prepared.true
-    c.in-Ok.ensures.ok is)
+returns-then-prepared-clause-bound g c = search (rules, compares_is)
 
 pub returns-in-Ok-clause-ends : goal.returns-in-Ok-clause-ends
-returns-in-Ok-clause-ends g c = λ named a is.
-    c.check.ensures.ends named a (checked_is g.C.Comparison.writing _ _ _ c.in-Ok.settings named a c.if-prepared.false c.in-Ok.ensures.ok
-    is)
+returns-in-Ok-clause-ends g c = search (rules, checked_is)
 
 pub returns-in-Ok-clause-closes : goal.returns-in-Ok-clause-closes
 returns-in-Ok-clause-closes g c = λ words has.
@@ -44,10 +37,7 @@ returns-in-Memory-clause-bound g c = λ named a is. same_held
     (g.S.Sources.file_at c.args.devices.now.site.now) named c.args.devices.now.desk.now.peak
 
 pub returns-clause-ends : goal.returns-clause-ends
-returns-clause-ends g c = λ named a is.
-    ends_refused a named (conf_line c.in-Err.fault) 17 _ _ _ _ _ _ _
-    (fault_is g.C.Comparison.writing _ _ _ c.in-Err.fault named a (c.in-Err.ensures.err c.in_default.not-Memory) is)
-    c.put_conf_line.ensures
+returns-clause-ends g c = search (rules, ends_refused, fault_is)
 
 pub returns-clause-closes : goal.returns-clause-closes
 returns-clause-closes g c = λ words has.

@@ -1,6 +1,5 @@
-use Rattle.std.proofs.Common.{◌∙◌, ap, refl, Err}
+use Rattle.std.proofs.Common.{refl, rules}
 use Rattle.aide_words.specs.Job.{text_of_job}
-use Rattle.aide_session.specs.Lines.{usage_line}
 use Rattle.aide_session.proofs.Closings.{closes_misused, closes_starved}
 use Rattle.aide_session.proofs.Endings.{ends_refused, ends_starved}
 use Rattle.aide_session.proofs.AnswerSteps.{job_is, usage_is}
@@ -15,15 +14,10 @@ pub returns-in-Ok-clause-closes : goal.returns-in-Ok-clause-closes
 returns-in-Ok-clause-closes g c = c.run_job.ensures.closes c.args.words.now c.in-Ok.ensures.ok
 
 pub returns-in-Err-Usage-clause-ends : goal.returns-in-Err-Usage-clause-ends
-returns-in-Err-Usage-clause-ends g c = λ named a is.
-    let none = c.read_words.ensures.usage (c.in-Err-Usage.is ∙ ap Err c.in-Err-Usage.field-0-is) in
-    ends_refused a named usage_line 15 _ _ _ _ _ _ _ (usage_is g.C.Comparison.writing _ c.args.words.now named a none is)
-    c.put_usage_line.ensures
+returns-in-Err-Usage-clause-ends g c = search (rules, ends_refused, usage_is)
 
 pub returns-in-Err-Usage-clause-closes : goal.returns-in-Err-Usage-clause-closes
-returns-in-Err-Usage-clause-closes g c =
-    let none = c.read_words.ensures.usage (c.in-Err-Usage.is ∙ ap Err c.in-Err-Usage.field-0-is) in
-    closes_misused g.C.Comparison.writing _ c.args.words.now _ _ _ _ _ _ _ _ none c.put_usage_line.ensures refl refl
+returns-in-Err-Usage-clause-closes g c = search (rules, closes_misused)
 
 pub returns-in-Err-Memory-clause-ends : goal.returns-in-Err-Memory-clause-ends
 returns-in-Err-Memory-clause-ends g c = λ named a is. ends_starved a named _ _ _ _ _ _ _ c.put_memory_line.ensures
