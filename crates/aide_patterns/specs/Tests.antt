@@ -1,0 +1,51 @@
+-- The relations as tests, which compute: whether a path matches a pattern, and the line of the first rule that names it.
+use Rattle.std.specs.Prelude.{ℕ, ◌==◌, ◌&&◌, ◌||◌, nat_le, not, Bool, true, false}
+use Rattle.std.specs.Prelude.{if◌then◌else◌, List, [], ◌∷◌, Option, Some, None}
+use Rattle.std.specs.List.{list_any}
+use Rattle.aide_patterns.specs.Parts.{Part, one, many}
+use Rattle.aide_patterns.specs.Bytes.{ByteTest, is_byte, any_byte, in_class, Range}
+use Rattle.aide_patterns.specs.Path.{Component, Pattern, components, pattern_of}
+use Rattle.aide_patterns.specs.Line.{RuleText}
+
+-- a list, or what remains of it behind some of its items, passes a test
+abbrev pub some_rest : {X : Type 0} → (List X → Bool) → List X → Bool
+some_rest test [] = test []
+some_rest test (x ∷ xs) = test (x ∷ xs) || some_rest test xs
+
+-- the same, behind at least one of its items
+abbrev pub later_rest : {X : Type 0} → (List X → Bool) → List X → Bool
+later_rest test [] = false
+later_rest test (x ∷ xs) = some_rest test xs
+
+-- the items match the parts
+abbrev pub matches : {T X : Type 0} → (T → X → Bool) → List (Part T) → List X → Bool
+matches passes [] [] = true
+matches passes [] (x ∷ xs) = false
+matches passes (one t ∷ ps) [] = false
+matches passes (one t ∷ ps) (x ∷ xs) = passes t x && matches passes ps xs
+matches passes (many ∷ ps) xs = some_rest (matches passes ps) xs
+
+abbrev pub is_in : ℕ → Range → Bool
+is_in byte range = nat_le range.0 byte && nat_le byte range.1
+
+abbrev pub passes_byte : ByteTest → ℕ → Bool
+passes_byte (is_byte wanted) byte = byte == wanted
+passes_byte any_byte byte = true
+passes_byte (in_class negated ranges) byte =
+    if negated then not (list_any (is_in byte) ranges) else list_any (is_in byte) ranges
+
+abbrev pub matches_name : Component → List ℕ → Bool
+matches_name component name = matches passes_byte component name
+
+abbrev pub matches_path : Pattern → List ℕ → Bool
+matches_path pattern path = matches matches_name pattern (components path)
+
+-- the rule names the path
+abbrev pub names : List ℕ → Bool → RuleText → Bool
+names path is_program rule = (not is_program || rule.programs) && matches_path (pattern_of rule.pattern) path
+
+-- the line of the first rule that names the path
+abbrev pub line_of : List RuleText → List ℕ → Bool → Option ℕ
+line_of [] path is_program = None
+line_of (rule ∷ rules) path is_program =
+    if names path is_program rule then Some rule.line else line_of rules path is_program
