@@ -1,10 +1,11 @@
 -- The relations as tests, which compute: whether a path matches a pattern, and the line of the first rule that names it.
-use Rattle.std.specs.Prelude.{ℕ, ◌==◌, ◌&&◌, ◌||◌, nat_le, not, Bool, true, false}
+use Rattle.std.specs.Prelude.{ℕ, ◌+◌, ◌==◌, ◌&&◌, ◌||◌, nat_le, not, Bool, true, false}
 use Rattle.std.specs.Prelude.{if◌then◌else◌, List, [], ◌∷◌, Option, Some, None}
 use Rattle.std.specs.List.{list_any}
 use Rattle.aide_patterns.specs.Parts.{Part, one, many}
 use Rattle.aide_patterns.specs.Bytes.{ByteTest, is_byte, any_byte, in_class, Range}
-use Rattle.aide_patterns.specs.Path.{Component, Pattern, components, pattern_of}
+use Rattle.aide_patterns.specs.Component.{component_parts}
+use Rattle.aide_patterns.specs.Path.{Pattern, begins_with, components, is_dotted, pattern_of}
 use Rattle.aide_patterns.specs.Line.{RuleText}
 
 -- a list, or what remains of it behind some of its items, passes a test
@@ -34,15 +35,33 @@ passes_byte any_byte byte = true
 passes_byte (in_class negated ranges) byte =
     if negated then not (list_any (is_in byte) ranges) else list_any (is_in byte) ranges
 
-abbrev pub matches_name : Component → List ℕ → Bool
-matches_name component name = matches passes_byte component name
+-- a name matches the parts of a component
+abbrev pub matches_parts : List (Part ByteTest) → List ℕ → Bool
+matches_parts parts name = matches passes_byte parts name
 
+-- a name matches a component, if a wildcard may stand for a dot at its beginning
+abbrev pub matches_name : (component name : List ℕ) → Bool
+matches_name component name = matches_parts (component_parts component) name
+
+-- the same of a path
 abbrev pub matches_path : Pattern → List ℕ → Bool
 matches_path pattern path = matches matches_name pattern (components path)
 
+-- how many of these begin with a dot
+abbrev pub dots : List (List ℕ) → ℕ
+dots [] = 0
+dots (name ∷ more) = (if is_dotted name then 1 else 0) + dots more
+
+-- A path matches the text of a pattern. A component that begins with a dot matches no other name, so it is enough that
+-- the pattern has as many of them as the path.
+abbrev pub matches_text : (pattern path : List ℕ) → Bool
+matches_text pattern path = begins_with 47 path
+    && (matches_path (pattern_of pattern) path
+    && (dots (components pattern) == dots (components path)))
+
 -- the rule names the path
 abbrev pub names : List ℕ → Bool → RuleText → Bool
-names path is_program rule = (not is_program || rule.programs) && matches_path (pattern_of rule.pattern) path
+names path is_program rule = (not is_program || rule.programs) && matches_text rule.pattern path
 
 -- the line of the first rule that names the path
 abbrev pub line_of : List RuleText → List ℕ → Bool → Option ℕ

@@ -1,7 +1,7 @@
 use Rattle.std.proofs.Common.{◌≡◌, subst, sym, rules}
 use Rattle.aide_patterns.specs.Rules.{IsFound}
 use Rattle.aide_patterns.specs.Tests.{line_of}
-use Rattle.aide_patterns.proofs.MeaningLemmas.{line_is_found}
+use Rattle.aide_patterns.proofs.DotLemmas.{line_is_found}
 use Rattle.aide_patterns.proofs.exclusions.Exclusions.find.Goals as goal
 
 pub returns-clause-found : goal.returns-clause-found

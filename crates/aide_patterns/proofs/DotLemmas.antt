@@ -1,0 +1,263 @@
+-- The test of a path says what the relation says: it counts the components and the names that begin with a dot.
+use Rattle.std.proofs.Common.{◌≡◌, ◌≤◌, ◌+◌, ℕ, Bool, true, false, ◌||◌, ◌&&◌, not, List, [], ◌∷◌, refl, ap, sym, subst, ◌∙◌, arith, eq-eqb, inl, inr}
+use Rattle.std.specs.Prelude.{◌==◌, if◌then◌else◌, ◌↔◌, Option, Some, None}
+use Rattle.std.specs.List.{list_any}
+use Rattle.std.proofs.lemmas.Bool.{and_parts, and_from, or_cases, false≢true, eqb-true}
+use Rattle.aide_patterns.specs.Parts.{Part, one, many, Matches, end, item, none, more}
+use Rattle.aide_patterns.specs.Bytes.{is_byte}
+use Rattle.aide_patterns.specs.Component.{component_parts}
+use Rattle.aide_patterns.specs.Path.{Pattern, begins_with, below, components, is_dotted, is_double_star, pattern_from, pattern_of}
+use Rattle.aide_patterns.specs.Path.{IsPlainName, MatchesName, MatchesPath}
+use Rattle.aide_patterns.specs.Tests.{dots, matches, matches_parts, matches_name, matches_path, matches_text, some_rest, line_of, names}
+use Rattle.aide_patterns.specs.Line.{RuleText}
+use Rattle.aide_patterns.specs.Rules.{Names, IsFirst, IsFound, IsNamed}
+use Rattle.aide_patterns.proofs.FindLemmas.{line_behind, line_here}
+use Rattle.aide_patterns.proofs.FrontLemmas.{plain, plain_part}
+use Rattle.aide_patterns.specs.code.Fronts.{is_plain}
+use Rattle.aide_patterns.proofs.MatchLemmas.{or_left, or_right}
+use Rattle.aide_patterns.proofs.MeaningLemmas.{parts_complete, parts_sound, some_in, some_test}
+
+abbrev one_if : Bool → ℕ
+one_if b = if b then 1 else 0
+
+-- one if this begins with a dot
+abbrev dot : List ℕ → ℕ
+dot text = one_if (is_dotted text)
+
+-- how many components of a pattern begin with a dot
+abbrev pattern_dots : Pattern → ℕ
+pattern_dots [] = 0
+pattern_dots (one text ∷ ps) = dot text + pattern_dots ps
+pattern_dots (many ∷ ps) = pattern_dots ps
+
+-- a component that begins with a dot matches no other name
+dot_kept : (component name : List ℕ) → is_dotted component ≡ true → matches_name component name ≡ true
+    → is_dotted name ≡ true
+dot_kept [] name h m = absurd (false≢true h)
+dot_kept (byte ∷ component) name h m = go name (ap (λ ps. matches_parts ps name) parts ∙ m)
+  where
+    is : byte ≡ 46
+    is = eqb-true byte 46 h
+
+    parts : one (is_byte byte) ∷ component_parts component ≡ component_parts (byte ∷ component)
+    parts = sym (plain_part byte component (plain byte (ap is_plain is)))
+
+    go : (xs : List ℕ) → matches_parts (one (is_byte byte) ∷ component_parts component) xs ≡ true → is_dotted xs ≡ true
+    go [] k = absurd (false≢true k)
+    go (x ∷ xs) k =
+        ap (λ b. x == b) (sym is) ∙ (and_parts (x == byte) (matches_parts (component_parts component) xs) k).0
+
+dot_fits : (component name : List ℕ) → matches_name component name ≡ true → dot component ≤ dot name
+dot_fits component name m = go (is_dotted component) refl
+  where
+    go : (b : Bool) → is_dotted component ≡ b → dot component ≤ dot name
+    go false h = omega (arith, ap one_if h)
+    go true h =
+        omega (arith, ap one_if h, ap one_if (dot_kept component name h m))
+
+some_fits : (ps : Pattern) → ((ys : List (List ℕ)) → matches matches_name ps ys ≡ true → pattern_dots ps ≤ dots ys)
+    → (xs : List (List ℕ)) → some_rest (matches matches_name ps) xs ≡ true → pattern_dots ps ≤ dots xs
+some_fits ps each [] h = each [] h
+some_fits ps each (x ∷ xs) h = elim (or_cases (matches matches_name ps (x ∷ xs)) (some_rest (matches matches_name ps) xs) h) [
+  | inl now ↦ each (x ∷ xs) now
+  | inr later ↦ omega (arith, some_fits ps each xs later)
+]
+
+-- no pattern has more of them than what it matches
+fits : (ps : Pattern) (xs : List (List ℕ)) → matches matches_name ps xs ≡ true → pattern_dots ps ≤ dots xs
+fits [] xs h = omega arith
+fits (one t ∷ ps) [] h = absurd (false≢true h)
+fits (one t ∷ ps) (x ∷ xs) h =
+    let both = and_parts (matches_name t x) (matches matches_name ps xs) h in
+    omega (arith, dot_fits t x both.0, fits ps xs both.1)
+fits (many ∷ ps) xs h = some_fits ps (λ ys k. fits ps ys k) xs h
+
+dotted : (b c : Bool) → one_if b ≡ one_if c → c ≡ true → b ≡ true
+dotted true c e h = refl
+dotted false true e h = absurd (omega (arith, e))
+dotted false false e h = h
+
+undotted : (b : Bool) → one_if b ≡ 0 → b ≡ false
+undotted true e = absurd (omega (arith, e))
+undotted false e = refl
+
+some_sound : (ps : Pattern)
+    → ((ys : List (List ℕ)) → matches matches_name ps ys ≡ true → pattern_dots ps ≡ dots ys
+    → Matches MatchesName IsPlainName ps ys)
+    → (xs : List (List ℕ)) → some_rest (matches matches_name ps) xs ≡ true → pattern_dots ps ≡ dots xs
+    → Matches MatchesName IsPlainName (many ∷ ps) xs
+some_sound ps each [] h e = none (each [] h e)
+some_sound ps each (x ∷ xs) h e = elim (or_cases (matches matches_name ps (x ∷ xs)) (some_rest (matches matches_name ps) xs) h) [
+  | inl now ↦ none (each (x ∷ xs) now e)
+  | inr later ↦
+      let least = some_fits ps (λ ys k. fits ps ys k) xs later in
+      let here : dot x ≡ 0 = omega (arith, e, least) in
+      more (undotted (is_dotted x) here) (some_sound ps each xs later (omega (arith, e, here)))
+]
+
+-- with as many of them, no wildcard stands for a dot
+names_sound : (ps : Pattern) (xs : List (List ℕ)) → matches matches_name ps xs ≡ true → pattern_dots ps ≡ dots xs
+    → Matches MatchesName IsPlainName ps xs
+names_sound [] [] h e = end
+names_sound [] (x ∷ xs) h e = absurd (false≢true h)
+names_sound (one t ∷ ps) [] h e = absurd (false≢true h)
+names_sound (one t ∷ ps) (x ∷ xs) h e =
+    let both = and_parts (matches_name t x) (matches matches_name ps xs) h in
+    let first = dot_fits t x both.0 in
+    let least = fits ps xs both.1 in
+    let same : dot t ≡ dot x = omega (arith, e, first, least) in
+    item (record { matches = parts_sound (component_parts t) x both.0; dot = dotted (is_dotted t) (is_dotted x) same })
+    (names_sound ps xs both.1 (omega (arith, e, first, least)))
+names_sound (many ∷ ps) xs h e = some_sound ps (λ ys k f. names_sound ps ys k f) xs h e
+
+same_dot : (b c : Bool) → (b ≡ true → c ≡ true) → (c ≡ true → b ≡ true) → one_if b ≡ one_if c
+same_dot true c h k = ap one_if (sym (h refl))
+same_dot false true h k = absurd (false≢true (k refl))
+same_dot false false h k = refl
+
+some_here : {X : Type 0} (f : List X → Bool) (xs : List X) → f xs ≡ true → some_rest f xs ≡ true
+some_here f [] h = h
+some_here f (x ∷ xs) h = or_left (f (x ∷ xs)) (some_rest f xs) h
+
+names_complete : {ps : Pattern} {xs : List (List ℕ)} → Matches MatchesName IsPlainName ps xs
+    → (matches matches_name ps xs ≡ true) × (pattern_dots ps ≡ dots xs)
+names_complete end = (refl, refl)
+names_complete (item {t} {x} {ps} {xs} p m) =
+    let k = names_complete m in
+    let it = parts_complete (component_parts t) x p.matches in (
+      and_from (matches_name t x) (matches matches_name ps xs) it k.0,
+      omega (arith, k.1, same_dot (is_dotted t) (is_dotted x) (λ h. dot_kept t x h it) p.dot),
+    )
+names_complete (none {ps} {xs} m) = let k = names_complete m in (some_here (matches matches_name ps) xs k.0, k.1)
+names_complete (more {x} {ps} {xs} taken m) =
+    let k = names_complete m in (
+      or_right (matches matches_name ps (x ∷ xs)) (some_rest (matches matches_name ps) xs) k.0,
+      omega (arith, k.1, ap one_if taken),
+    )
+
+-- `**` does not begin with a dot
+star_dot : (text : List ℕ) → is_double_star text ≡ true → dot text ≡ 0
+star_dot [] h = refl
+star_dot (a ∷ []) h = absurd (false≢true h)
+star_dot (a ∷ b ∷ []) h = go (a == 42) refl
+  where
+    go : (c : Bool) → (a == 42) ≡ c → dot (a ∷ b ∷ []) ≡ 0
+    go true at = ap (λ x. one_if (x == 46)) (eqb-true a 42 at)
+    go false at = absurd (false≢true (sym (simp at) ∙ h))
+star_dot (a ∷ b ∷ c ∷ text) h = absurd (false≢true h)
+
+-- the pattern of some components has as many
+pattern_of_dots : (texts : List (List ℕ)) → pattern_dots (pattern_from texts) ≡ dots texts
+pattern_of_dots [] = refl
+pattern_of_dots (text ∷ []) = go (is_double_star text) refl
+  where
+    go : (b : Bool) → is_double_star text ≡ b → pattern_dots (pattern_from (text ∷ [])) ≡ dots (text ∷ [])
+    go true h = ap (λ b. pattern_dots (if b then below else one text ∷ [])) h ∙ omega (arith, star_dot text h)
+    go false h = ap (λ b. pattern_dots (if b then below else one text ∷ [])) h
+pattern_of_dots (text ∷ next ∷ texts) = go (is_double_star text) refl (pattern_of_dots (next ∷ texts))
+  where
+    go : (b : Bool) → is_double_star text ≡ b → pattern_dots (pattern_from (next ∷ texts)) ≡ dots (next ∷ texts)
+        → pattern_dots (pattern_from (text ∷ next ∷ texts)) ≡ dots (text ∷ next ∷ texts)
+    go true h again =
+        ap (λ b. pattern_dots (if b then many ∷ pattern_from (next ∷ texts) else one text ∷ pattern_from (next ∷ texts))) h
+        ∙ omega (arith, star_dot text h, again)
+    go false h again =
+        ap (λ b. pattern_dots (if b then many ∷ pattern_from (next ∷ texts) else one text ∷ pattern_from (next ∷ texts))) h
+        ∙ omega (arith, again)
+
+-- the test of a path is true exactly if the path matches the pattern of the text
+pub text_meaning : (pattern path : List ℕ) → (matches_text pattern path ≡ true) ↔ MatchesPath (pattern_of pattern) path
+text_meaning pattern path = (
+  λ h.
+      let both = and_parts (begins_with 47 path) _ h in
+      let rest = and_parts (matches_path (pattern_of pattern) path) _ both.1 in
+      record {
+        slash = both.0;
+        names = names_sound (pattern_of pattern) (components path) rest.0
+            (pattern_of_dots (components pattern)
+            ∙ eqb-true (dots (components pattern)) (dots (components path)) rest.1);
+      },
+  λ m.
+      let k = names_complete m.names in
+      and_from (begins_with 47 path) _ m.slash
+      (and_from (matches_path (pattern_of pattern) path) _ k.0
+      (eq-eqb (dots (components pattern)) (dots (components path)) (sym (pattern_of_dots (components pattern)) ∙ k.1))),
+)
+
+means_them : (is_program programs : Bool) → (not is_program || programs) ≡ true → is_program ≡ true → programs ≡ true
+means_them true programs h is = h
+means_them false programs h is = absurd (false≢true is)
+
+may_mean : (is_program programs : Bool) → (is_program ≡ true → programs ≡ true) → (not is_program || programs) ≡ true
+may_mean true programs h = h refl
+may_mean false programs h = refl
+
+rule_sound : (path : List ℕ) (is_program : Bool) (rule : RuleText) → names path is_program rule ≡ true
+    → Names path is_program rule
+rule_sound path is_program rule h =
+    let both = and_parts (not is_program || rule.programs) (matches_text rule.pattern path) h in
+    record {
+      matches = (text_meaning rule.pattern path).0 both.1;
+      programs = means_them is_program rule.programs both.0;
+    }
+
+rule_complete : (path : List ℕ) (is_program : Bool) (rule : RuleText) → Names path is_program rule
+    → names path is_program rule ≡ true
+rule_complete path is_program rule n =
+    and_from (not is_program || rule.programs) (matches_text rule.pattern path)
+    (may_mean is_program rule.programs n.programs) ((text_meaning rule.pattern path).1 n.matches)
+
+-- the test of a list is true exactly if a rule names the path
+pub list_meaning : (rules : List RuleText) (path : List ℕ) (is_program : Bool)
+    → (list_any (names path is_program) rules ≡ true) ↔ IsNamed rules path is_program
+list_meaning rules path is_program = (
+  some_in (names path is_program) (Names path is_program) (rule_sound path is_program) rules,
+  some_test (names path is_program) (Names path is_program) (rule_complete path is_program) rules,
+)
+
+-- the test finds the first rule that names the path
+found_behind : (rule : RuleText) (rules : List RuleText) (path : List ℕ) (is_program : Bool) (result : Option ℕ)
+    → names path is_program rule ≡ false → IsFound rules path is_program result → IsFound (rule ∷ rules) path is_program result
+found_behind rule rules path is_program None it_does_not found =
+    λ named. found ((list_meaning rules path is_program).0
+    (ap (λ b. b || list_any (names path is_program) rules) (sym it_does_not)
+    ∙ (list_meaning (rule ∷ rules) path is_program).1 named))
+found_behind rule rules path is_program (Some line) it_does_not found = record {
+  before = rule ∷ found.before;
+  rule = found.rule;
+  after = found.after;
+  parts = ap (λ rs. rule ∷ rs) found.parts;
+  number = found.number;
+  names = found.names;
+  others = λ named. found.others ((list_meaning found.before path is_program).0
+      (ap (λ b. b || list_any (names path is_program) found.before) (sym it_does_not)
+      ∙ (list_meaning (rule ∷ found.before) path is_program).1 named));
+}
+
+found_here : (rule : RuleText) (rules : List RuleText) (path : List ℕ) (is_program : Bool)
+    → names path is_program rule ≡ true → IsFirst (rule ∷ rules) path is_program rule.line
+found_here rule rules path is_program it_does = record {
+  before = [];
+  rule = rule;
+  after = rules;
+  parts = refl;
+  number = refl;
+  names = rule_sound path is_program rule it_does;
+  others = λ named. false≢true ((list_meaning [] path is_program).1 named);
+}
+
+found_by : (rule : RuleText) (rules : List RuleText) (path : List ℕ) (is_program : Bool) (b : Bool)
+    → names path is_program rule ≡ b → IsFound rules path is_program (line_of rules path is_program)
+    → IsFound (rule ∷ rules) path is_program (line_of (rule ∷ rules) path is_program)
+found_by rule rules path is_program true it_does found =
+    subst (IsFound (rule ∷ rules) path is_program) (sym (line_here rule rules path is_program it_does))
+    (found_here rule rules path is_program it_does)
+found_by rule rules path is_program false it_does_not found =
+    subst (IsFound (rule ∷ rules) path is_program) (sym (line_behind rule rules path is_program it_does_not))
+    (found_behind rule rules path is_program (line_of rules path is_program) it_does_not found)
+
+pub line_is_found : (rules : List RuleText) (path : List ℕ) (is_program : Bool)
+    → IsFound rules path is_program (line_of rules path is_program)
+line_is_found [] path is_program = λ named. false≢true ((list_meaning [] path is_program).1 named)
+line_is_found (rule ∷ rules) path is_program =
+    found_by rule rules path is_program (names path is_program rule) refl (line_is_found rules path is_program)
