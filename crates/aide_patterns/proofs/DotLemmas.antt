@@ -17,15 +17,15 @@ use Rattle.aide_patterns.specs.code.Fronts.{is_plain}
 use Rattle.aide_patterns.proofs.MatchLemmas.{or_left, or_right}
 use Rattle.aide_patterns.proofs.MeaningLemmas.{parts_complete, parts_sound, some_in, some_test}
 
-abbrev one_if : Bool → ℕ
+abbrev pub one_if : Bool → ℕ
 one_if b = if b then 1 else 0
 
 -- one if this begins with a dot
-abbrev dot : List ℕ → ℕ
+abbrev pub dot : List ℕ → ℕ
 dot text = one_if (is_dotted text)
 
 -- how many components of a pattern begin with a dot
-abbrev pattern_dots : Pattern → ℕ
+abbrev pub pattern_dots : Pattern → ℕ
 pattern_dots [] = 0
 pattern_dots (one text ∷ ps) = dot text + pattern_dots ps
 pattern_dots (many ∷ ps) = pattern_dots ps
@@ -119,7 +119,7 @@ some_here : {X : Type 0} (f : List X → Bool) (xs : List X) → f xs ≡ true �
 some_here f [] h = h
 some_here f (x ∷ xs) h = or_left (f (x ∷ xs)) (some_rest f xs) h
 
-names_complete : {ps : Pattern} {xs : List (List ℕ)} → Matches MatchesName IsPlainName ps xs
+pub names_complete : {ps : Pattern} {xs : List (List ℕ)} → Matches MatchesName IsPlainName ps xs
     → (matches matches_name ps xs ≡ true) × (pattern_dots ps ≡ dots xs)
 names_complete end = (refl, refl)
 names_complete (item {t} {x} {ps} {xs} p m) =
@@ -147,7 +147,7 @@ star_dot (a ∷ b ∷ []) h = go (a == 42) refl
 star_dot (a ∷ b ∷ c ∷ text) h = absurd (false≢true h)
 
 -- the pattern of some components has as many
-pattern_of_dots : (texts : List (List ℕ)) → pattern_dots (pattern_from texts) ≡ dots texts
+pub pattern_of_dots : (texts : List (List ℕ)) → pattern_dots (pattern_from texts) ≡ dots texts
 pattern_of_dots [] = refl
 pattern_of_dots (text ∷ []) = go (is_double_star text) refl
   where

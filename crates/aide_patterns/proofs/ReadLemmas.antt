@@ -40,7 +40,7 @@ is_added rules (Ok (Some rule)) all fits e = go (nat_lt (length rules) most_rule
 is_added rules (Err kind) all fits e = cc
 
 -- a line has a fault behind some rules: its own one, or that its rule is one too many
-abbrev FaultBehind : List RuleText → LineResult → ListFaultKind → Type 0
+abbrev pub FaultBehind : List RuleText → LineResult → ListFaultKind → Type 0
 FaultBehind rules line kind = (fault_read line ≡ Some kind)
     ⊎ ((kind ≡ TooMany) × (most_rules < length (rules ++ rule_read line)))
 

@@ -1,0 +1,75 @@
+-- A text without wildcards matches itself, and nothing else.
+use Rattle.std.proofs.Common.{◌≡◌, ℕ, Bool, true, false, ◌&&◌, List, [], ◌∷◌, refl, ap, sym, subst, ◌∙◌, eq-eqb}
+use Rattle.std.specs.Prelude.{◌==◌}
+use Rattle.std.specs.List.{list_all}
+use Rattle.std.proofs.lemmas.Bool.{and_parts, and_from, false≢true, eqb-true}
+use Rattle.aide_patterns.specs.Bytes.{is_byte}
+use Rattle.aide_patterns.specs.Component.{component_parts}
+use Rattle.aide_patterns.specs.Parts.{one}
+use Rattle.aide_patterns.specs.Path.{is_double_star, pattern_from}
+use Rattle.aide_patterns.specs.Pieces.{head_until, others_until}
+use Rattle.aide_patterns.specs.Tests.{matches, matches_name, matches_parts}
+use Rattle.aide_patterns.specs.code.Fronts.{is_plain}
+use Rattle.aide_patterns.proofs.FrontLemmas.{head_other, head_slash, no_double_star, one_part, others_other, others_slash}
+use Rattle.aide_patterns.proofs.FrontLemmas.{parts_plain, plain, step_plain, step_slash, within}
+
+-- the component that such a text begins with is not `**`
+pub first_no_star : (text : List ℕ) → list_all is_plain text ≡ true → is_double_star (head_until 47 text) ≡ false
+first_no_star [] h = refl
+first_no_star (byte ∷ text) h = no_double_star byte text (plain byte (and_parts (is_plain byte) (list_all is_plain text) h).0)
+
+-- nothing is left of a path
+nothing_left : (path : List ℕ) → within [] path ≡ true → path ≡ []
+nothing_left [] h = refl
+nothing_left (d ∷ path) h = go (d == 47) refl
+  where
+    both : (matches_parts [] (head_until 47 (d ∷ path)) ≡ true) × (matches matches_name [] (others_until 47 (d ∷ path)) ≡ true)
+    both = and_parts (matches_parts [] (head_until 47 (d ∷ path))) (matches matches_name [] (others_until 47 (d ∷ path))) h
+
+    go : (b : Bool) → (d == 47) ≡ b → d ∷ path ≡ []
+    go true at = absurd (false≢true (ap (matches matches_name []) (sym (others_slash d path at)) ∙ both.1))
+    go false at = absurd (false≢true (ap (matches_parts []) (sym (head_other d path at)) ∙ both.0))
+
+-- what such a text matches behind a slash is itself
+pub within_is : (text path : List ℕ) → list_all is_plain text ≡ true → within text path ≡ true → path ≡ text
+within_is [] path h m = nothing_left path m
+within_is (byte ∷ text) path h m = go (byte == 47) refl (λ left k. within_is text left both.1 k)
+  where
+    both : (is_plain byte ≡ true) × (list_all is_plain text ≡ true)
+    both = and_parts (is_plain byte) (list_all is_plain text) h
+
+    go : (b : Bool) → (byte == 47) ≡ b → ((left : List ℕ) → within text left ≡ true → left ≡ text) → path ≡ byte ∷ text
+    go true at again =
+        let is : byte ≡ 47 = eqb-true byte 47 at in
+        let k = step_slash text path (first_no_star text both.1) (ap (λ x. within (x ∷ text) path) (sym is) ∙ m) in
+        k.is ∙ (ap (λ t. 47 ∷ t) (again k.left k.matches) ∙ ap (λ x. x ∷ text) (sym is))
+    go false at again =
+        let k = step_plain byte text path (plain byte both.0) at m in
+        k.is ∙ ap (λ t. byte ∷ t) (again k.left k.matches)
+
+-- such a text matches itself behind a slash
+pub within_itself : (text : List ℕ) → list_all is_plain text ≡ true → within text text ≡ true
+within_itself [] h = refl
+within_itself (byte ∷ text) h = go (byte == 47) refl (within_itself text both.1)
+  where
+    both : (is_plain byte ≡ true) × (list_all is_plain text ≡ true)
+    both = and_parts (is_plain byte) (list_all is_plain text) h
+
+    names : List (List ℕ)
+    names = others_until 47 (byte ∷ text)
+
+    go : (b : Bool) → (byte == 47) ≡ b → within text text ≡ true → within (byte ∷ text) (byte ∷ text) ≡ true
+    go true at again =
+        and_from (matches_name (head_until 47 (byte ∷ text)) (head_until 47 (byte ∷ text))) _
+        (ap (λ t. matches_name t t) (head_slash byte text at))
+        (ap (λ ts. matches matches_name (pattern_from ts) ts) (others_slash byte text at)
+        ∙ (ap (λ ps. matches matches_name ps (head_until 47 text ∷ others_until 47 text))
+        (one_part (head_until 47 text) (others_until 47 text) (first_no_star text both.1)) ∙ again))
+    go false at again =
+        let rest = and_parts (matches_name (head_until 47 text) (head_until 47 text))
+        (matches matches_name (pattern_from (others_until 47 text)) (others_until 47 text)) again in
+        and_from (matches_name (head_until 47 (byte ∷ text)) (head_until 47 (byte ∷ text))) _
+        (ap (λ ps. matches_parts ps (head_until 47 (byte ∷ text))) (parts_plain byte text (plain byte both.0) at)
+        ∙ (ap (matches_parts (one (is_byte byte) ∷ component_parts (head_until 47 text))) (head_other byte text at)
+        ∙ and_from (byte == byte) (matches_name (head_until 47 text) (head_until 47 text)) (eq-eqb byte byte refl) rest.0))
+        (ap (λ ts. matches matches_name (pattern_from ts) ts) (others_other byte text at) ∙ rest.1)
