@@ -1,5 +1,6 @@
 -- The first rule of a list that names a path.
-use Rattle.std.proofs.Common.{◌≡◌, ◌<◌, ◌≤◌, ◌+◌, ℕ, Bool, true, false, List, [], ◌∷◌, ap, sym, ◌∙◌, drop, map, length, get_or, drop-cons, add-one, suc}
+use Rattle.std.proofs.Common.{◌≡◌, ◌<◌, ◌≤◌, ◌+◌, ℕ, Bool, true, false, List, [], ◌∷◌, ap, sym, ◌∙◌, drop, map, length, get_or, drop-cons}
+use Rattle.std.proofs.Common.{add-one, suc}
 use Rattle.std.specs.Prelude.{Option, Some, None}
 use Rattle.std.proofs.lemmas.List.{drop_all}
 use Rattle.aide_patterns.specs.Line.{RuleText}

@@ -10,8 +10,8 @@ use Rattle.aide_patterns.specs.Path.{is_double_star, pattern_from}
 use Rattle.aide_patterns.specs.Pieces.{head_until, others_until}
 use Rattle.aide_patterns.specs.Tests.{matches, matches_name, matches_parts}
 use Rattle.aide_patterns.specs.code.Fronts.{is_plain}
-use Rattle.aide_patterns.proofs.FrontLemmas.{head_other, head_slash, no_double_star, one_part, others_other, others_slash}
-use Rattle.aide_patterns.proofs.FrontLemmas.{parts_plain, plain, step_plain, step_slash, within}
+use Rattle.aide_patterns.proofs.FrontLemmas.{head_other, head_slash, no_double_star, one_part, others_other, others_slash, parts_plain}
+use Rattle.aide_patterns.proofs.FrontLemmas.{plain, step_plain, step_slash, within}
 
 -- the component that such a text begins with is not `**`
 pub first_no_star : (text : List ℕ) → list_all is_plain text ≡ true → is_double_star (head_until 47 text) ≡ false

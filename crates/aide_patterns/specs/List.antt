@@ -1,6 +1,6 @@
 -- What a list says: the rules of its lines, or its first fault.
-use Rattle.std.specs.Prelude.{◌≡◌, ◌≤◌, ◌<◌, ◌+◌, ◌⊎◌, ℕ, length, List, [], ◌∷◌, ◌++◌}
-use Rattle.std.specs.Prelude.{Option, Some, None, Result, Ok, Err}
+use Rattle.std.specs.Prelude.{◌≡◌, ◌≤◌, ◌<◌, ◌+◌, ◌⊎◌, ℕ, length, List, [], ◌∷◌, ◌++◌, Option, Some}
+use Rattle.std.specs.Prelude.{None, Result, Ok, Err}
 use Rattle.std.specs.List.{All, flat_map}
 use Rattle.aide_patterns.specs.Line.{LineResult, RuleText, rule_of}
 use Rattle.aide_patterns.specs.Pieces.{pieces}
@@ -54,7 +54,7 @@ pub record HasRules (text : List ℕ) (rules : List RuleText) : Type 0 where
   pub all : rules ≡ rules_of (lines_of text)
   pub few : length rules ≤ most_rules
 
--- A line behind others has this fault: its own one, or that its rule is one too many.
+-- A line after others has this fault: its own one, or that its rule is one too many.
 abbrev pub HasFault : (before : List Line) → Line → ListFaultKind → Type 0
 HasFault before line kind = (fault_read (rule_of line.0 line.1) ≡ Some kind)
     ⊎ ((kind ≡ TooMany) × (most_rules < length (rules_of before ++ rule_at line)))

@@ -1,4 +1,4 @@
--- The relations as tests, which compute: whether a path matches a pattern, and the line of the first rule that names it.
+-- The relations as tests that compute: whether a path matches a pattern, and which line names it.
 use Rattle.std.specs.Prelude.{ℕ, ◌+◌, ◌==◌, ◌&&◌, ◌||◌, nat_le, not, Bool, true, false}
 use Rattle.std.specs.Prelude.{if◌then◌else◌, List, [], ◌∷◌, Option, Some, None}
 use Rattle.std.specs.List.{list_any}
@@ -8,12 +8,12 @@ use Rattle.aide_patterns.specs.Component.{component_parts}
 use Rattle.aide_patterns.specs.Path.{Pattern, begins_with, components, is_dotted, pattern_of}
 use Rattle.aide_patterns.specs.Line.{RuleText}
 
--- a list, or what remains of it behind some of its items, passes a test
+-- a list, or what remains of it after some of its items, passes a test
 abbrev pub some_rest : {X : Type 0} → (List X → Bool) → List X → Bool
 some_rest test [] = test []
 some_rest test (x ∷ xs) = test (x ∷ xs) || some_rest test xs
 
--- the same, behind at least one of its items
+-- the same, after at least one of its items
 abbrev pub later_rest : {X : Type 0} → (List X → Bool) → List X → Bool
 later_rest test [] = false
 later_rest test (x ∷ xs) = some_rest test xs
@@ -39,7 +39,7 @@ passes_byte (in_class negated ranges) byte =
 abbrev pub matches_parts : List (Part ByteTest) → List ℕ → Bool
 matches_parts parts name = matches passes_byte parts name
 
--- a name matches a component, if a wildcard may stand for a dot at its beginning
+-- a name matches a component, if wildcards may match a dot at its beginning
 abbrev pub matches_name : (component name : List ℕ) → Bool
 matches_name component name = matches_parts (component_parts component) name
 

@@ -1,4 +1,4 @@
--- What a pattern begins with that stands for itself.
+-- The beginning of a pattern that has no wildcard.
 use Rattle.std.specs.Prelude.{◌≡◌, drop, ℕ, ◌==◌, ◌&&◌, ◌||◌, not, Bool, true, false, List, [], ◌∷◌}
 use Rattle.aide_patterns.specs.Path.{pattern_of}
 use Rattle.aide_patterns.specs.Tests.{matches_path}
@@ -13,14 +13,14 @@ begins (first ∷ text) (byte ∷ front) = (first == byte) && begins text front
 abbrev pub is_plain : ℕ → Bool
 is_plain byte = not ((byte == 42) || ((byte == 63) || ((byte == 91) || (byte == 92))))
 
--- A front of a pattern, behind its first slash, that stands for itself. It does not end in a slash: behind one, `**`
--- may stand for no component.
+-- The front of a pattern, after its first slash, has no wildcard. It does not end in a slash: after one, `**` may match
+-- no component.
 abbrev pub is_fixed : List ℕ → Bool
 is_fixed [] = true
 is_fixed (byte ∷ []) = is_plain byte && not (byte == 47)
 is_fixed (byte ∷ next ∷ more) = is_plain byte && is_fixed (next ∷ more)
 
--- every path that matches the pattern begins so behind its first byte
+-- every path that matches the pattern begins so after its first byte
 abbrev pub IsFront : (pattern front : List ℕ) → Type 0
 IsFront pattern front = (path : List ℕ) → matches_path (pattern_of pattern) path ≡ true
     → begins (drop 1 path) front ≡ true
