@@ -7,6 +7,8 @@ mod cursor_tests;
 mod group_tests;
 mod noted;
 mod pace;
+#[cfg(test)]
+mod pattern_tests;
 mod reels;
 mod refusing;
 #[cfg(test)]
