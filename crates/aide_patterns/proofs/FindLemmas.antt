@@ -5,7 +5,7 @@ use Rattle.std.specs.Prelude.{Option, Some, None}
 use Rattle.std.proofs.lemmas.List.{drop_all}
 use Rattle.aide_patterns.specs.Line.{RuleText}
 use Rattle.aide_patterns.specs.Tests.{line_of, names}
-use Rattle.aide_patterns.specs.code.Said.{rule_text}
+use Rattle.aide_patterns.specs.Said.{rule_text}
 use Rattle.aide_patterns.specs.declared.rule.Rule.{Rule}
 
 pub line_here : (rule : RuleText) (rules : List RuleText) (path : List ℕ) (is_program : Bool)

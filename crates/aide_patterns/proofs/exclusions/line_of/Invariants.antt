@@ -1,6 +1,6 @@
 use Rattle.std.proofs.Common.{◌≡◌, map, drop}
 use Rattle.aide_patterns.specs.Tests.{line_of}
-use Rattle.aide_patterns.specs.code.Said.{rule_text}
+use Rattle.aide_patterns.specs.Said.{rule_text}
 use Rattle.aide_patterns.proofs.exclusions.line_of.Given as goal
 
 abbrev pub invariant-loop-rule : goal.invariant-loop-rule
