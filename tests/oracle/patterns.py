@@ -63,7 +63,9 @@ def expression_of(component: bytes) -> bytes:
             expression += b"."
         elif byte == b"[":
             members, at = class_at(component, at)
-            expression += b"(?:%s)" % (b"|".join(b"\\x%02x" % m for m in sorted(members)) or b"(?!)")
+            expression += b"(?:%s)" % (
+                b"|".join(b"\\x%02x" % m for m in sorted(members)) or b"(?!)"
+            )
         elif byte == b"\\":
             if at == len(component):
                 raise Fault("OpenEscape")

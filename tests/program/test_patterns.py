@@ -14,13 +14,11 @@ TABLES = TOP / "crates/aide_faults/src/pattern_tests.rt"
 SHIPPED = TOP / "contrib/aide/debian.without"
 
 TEXT = r'b"(?:[^"\\]|\\.)*"'
-CONSTANT = re.compile(rf"const (\w+): &\[u8\] = ({TEXT});")
-ROW = re.compile(
-    rf"Row \{{\s*list: (\w+),\s*path: ({TEXT}),\s*is_program: (\w+),\s*line: (\d+),?\s*\}}"
-)
-REFUSAL = re.compile(
-    rf"Refusal \{{\s*list: ({TEXT}),\s*line: (\d+),\s*kind: ([\w:]+)(?:\(PatternFault::(\w+)\))?,?\s*\}}"
-)
+CONSTANT = re.compile(rf"const (\w+): &\[u8\] =\s*({TEXT});")
+ROW = re.compile(rf"^    \((\w+), ({TEXT}), (true|false), (\d+)\),$", re.MULTILINE)
+FAULTY = re.compile(rf"^    \(({TEXT}), (\d+), PatternFault::(\w+)\),$", re.MULTILINE)
+REASONS = re.compile(r"const BAD_REASONS: .* = \[(.*)\];")
+SIZES = re.compile(r"; (\d+)\] = \[")
 
 
 def fault_of(text: bytes) -> str:
@@ -34,25 +32,32 @@ def fault_of(text: bytes) -> str:
 class Tables(unittest.TestCase):
     def setUp(self) -> None:
         self.code = TABLES.read_text(encoding="utf-8")
+        self.rows = ROW.findall(self.code)
+        self.faulty = FAULTY.findall(self.code)
+        self.reasons = re.findall(TEXT, "".join(REASONS.findall(self.code)))
+
+    def test_sizes(self) -> None:
+        found = [len(self.rows), len(self.faulty), len(self.reasons)]
+        self.assertEqual(found, [int(size) for size in SIZES.findall(self.code)])
 
     def test_lines_that_name_paths(self) -> None:
         lists = {name: ast.literal_eval(text) for name, text in CONSTANT.findall(self.code)}
-        rows = ROW.findall(self.code)
-        self.assertEqual(len(rows), self.code.count("Row {") - 1)
-        for name, text, is_program, line in rows:
+        for name, text, is_program, line in self.rows:
             path = ast.literal_eval(text)
             with self.subTest(name=name, path=path):
                 rules = patterns.rules_of(lists[name])
                 expected = patterns.line_of(rules, path, is_program == "true")
                 self.assertEqual(int(line), expected)
 
-    def test_lines_that_are_refused(self) -> None:
-        rows = REFUSAL.findall(self.code)
-        self.assertEqual(len(rows), self.code.count("Refusal {") - 1)
-        for text, line, kind, pattern_fault in rows:
+    def test_lines_that_are_no_patterns(self) -> None:
+        for text, line, kind in self.faulty:
             with self.subTest(text=text):
-                name = pattern_fault or kind.rpartition("::")[2]
-                self.assertEqual(fault_of(ast.literal_eval(text)), f"{line} {name}")
+                self.assertEqual(fault_of(ast.literal_eval(text)), f"{line} {kind}")
+
+    def test_lines_without_a_reason(self) -> None:
+        for text in self.reasons:
+            with self.subTest(text=text):
+                self.assertEqual(fault_of(ast.literal_eval(text)), "1 BadReason")
 
 
 class Shipped(unittest.TestCase):
