@@ -1,0 +1,58 @@
+-- Which changes a list leaves out.
+use Rattle.std.specs.Prelude.{ℕ, nat_le, Bool, true, false, not, ◌&&◌, ◌||◌, if◌then◌else◌, length}
+use Rattle.std.specs.Prelude.{Option, Some, None, List, []}
+use Rattle.aide_agreement.specs.Account.{Pair}
+use Rattle.aide_entry.specs.Attributes.{Attributes}
+use Rattle.aide_entry.specs.View.{entry_in}
+use Rattle.aide_entry.specs.declared.view.View.{View}
+use Rattle.aide_patterns.specs.Line.{RuleText}
+use Rattle.aide_patterns.specs.Tests.{line_of}
+use Rattle.aide_left_out.specs.Rights.{is_harmless, is_of_program}
+use Rattle.aide_left_out.specs.Settings.{is_setting}
+use Rattle.aide_left_out.specs.Writers.{opens_directory}
+use Rattle.aide_left_out.specs.declared.change.Measures.{Measures}
+
+-- no path of a file on Linux is longer
+abbrev pub longest_path : ℕ
+longest_path = 4096
+
+-- the line of the first rule that names the path, which is not too long; programs are there, or are not
+abbrev pub line_at : List RuleText → (path : List ℕ) → (is_program : Bool) → Option ℕ
+line_at rules path is_program =
+    if nat_le (length path) longest_path then line_of rules path is_program else None
+
+-- the entry, if there is one, gives nobody a right
+abbrev pub is_harmless_if : (measures : Bool) → Option Attributes → Bool
+is_harmless_if measures None = true
+is_harmless_if measures (Some entry) = is_harmless measures entry
+
+-- the entry, if there is one, is that of a program
+abbrev pub has_program : Option Attributes → Bool
+has_program None = false
+has_program (Some entry) = is_of_program entry
+
+-- one of the databases has an entry
+abbrev pub has_entry : Pair → Bool
+has_entry (None, None) = false
+has_entry _ = true
+
+-- Whatever a list says, a change may be left out: it is not one of the settings, no entry that is there gives a right,
+-- and nobody may write a directory who could not before.
+abbrev pub may_go : Measures → (path : List ℕ) → Pair → Bool
+may_go measures path pair = not (is_setting path)
+    && (is_harmless_if measures.of_old pair.0
+    && (is_harmless_if measures.of_new pair.1 && not (opens_directory pair.0 pair.1)))
+
+-- The line of a list that leaves out the change at a path: the first one that names the path, and that names programs
+-- if one of the entries is that of a program.
+unfoldable pub left_out : List RuleText → Measures → (path : List ℕ) → Pair → Option ℕ
+left_out rules measures path pair =
+    if has_entry pair && may_go measures path pair
+    then line_at rules path (has_program pair.0 || has_program pair.1)
+    else None
+
+-- the path of the entries at one path: that of the old one, or else of the new one
+abbrev pub path_of : (old_one new_one : Option View) → List ℕ
+path_of (Some old_one) other = (entry_in old_one).0
+path_of None (Some new_one) = (entry_in new_one).0
+path_of None None = []

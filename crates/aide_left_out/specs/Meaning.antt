@@ -1,0 +1,86 @@
+-- What it means that a list leaves out a change, in facts.
+use Rattle.std.specs.Prelude.{◌≡◌, ◌≢◌, ◌⊎◌, ◌%◌, ◌≤◌, ℕ, pos, Bool, true, false, ◌||◌, length}
+use Rattle.std.specs.Prelude.{Option, Some, None, IfSome, is_some, List}
+use Rattle.aide_agreement.specs.Account.{Pair}
+use Rattle.aide_agreement.specs.Own.{is_device}
+use Rattle.aide_attr.specs.declared.attr.Attr.TheVariants.{Acl, Caps, Ftype, Gid, Perm, Uid}
+use Rattle.aide_attr.specs.declared.file_type.FileType.{FileType}
+use Rattle.aide_attr.specs.declared.file_type.FileType.TheVariants.{Directory, Link, Other}
+use Rattle.aide_entry.specs.Attributes.{Attributes, number_in, type_in}
+use Rattle.aide_patterns.specs.Line.{RuleText}
+use Rattle.aide_patterns.specs.Rules.{IsFirst}
+use Rattle.aide_left_out.specs.LeftOut.{has_program, longest_path}
+use Rattle.aide_left_out.specs.Rights.{has_bit, is_program, is_within_reach, mode_in}
+use Rattle.aide_left_out.specs.Settings.{is_setting}
+use Rattle.aide_left_out.specs.Writers.{is_directory, others_write}
+use Rattle.aide_left_out.specs.declared.change.Measures.{Measures}
+
+-- An entry gives nobody a right.
+pub record IsHarmless (measures : Bool) (entry : Attributes) : Type 0 where
+  pub kind : FileType
+  pub mode : ℕ
+  -- it has this type, and these permissions
+  pub typed : type_in (entry Ftype) ≡ Some kind
+  pub moded : mode_in (entry Perm) ≡ Some mode
+  pub known : (bits : ℕ) → kind ≢ Other bits
+  pub no_user_id : has_bit mode 11 ≡ false
+  pub no_group_id : kind ≢ Directory → has_bit mode 10 ≡ false
+  pub no_capabilities : kind ≢ Link → entry Caps ≡ None
+  -- a device is root's, and nobody has a permission
+  pub no_device : is_device kind ≡ true → (mode % 512 ≡ 0) × (number_in (entry Uid) ≡ Some (pos 0))
+  -- of a program, the database says whether it has capabilities
+  pub measured : is_program kind mode ≡ true → measures ≡ true
+
+-- Who may write a directory could write it before.
+pub record KeepsWriters (old_one : Option Attributes) (after : Attributes) : Type 0 where
+  -- what others than its owner may write was a directory, with the same permissions, group and access list
+  pub others : others_write after ≡ true → (before : Attributes) × (old_one ≡ Some before)
+      × (is_directory before ≡ true) × (before Perm ≡ after Perm) × (before Gid ≡ after Gid)
+      × (before Acl ≡ after Acl)
+  -- what was a directory has the same owner
+  pub owner : (before : Attributes) → old_one ≡ Some before → is_directory before ≡ true
+      → before Uid ≡ after Uid
+
+-- one of the databases has this entry
+abbrev pub IsThere : Attributes → Pair → Type 0
+IsThere entry pair = (pair.0 ≡ Some entry) ⊎ (pair.1 ≡ Some entry)
+
+-- A line of a list leaves out the change at a path.
+pub record IsLeftOut (rules : List RuleText) (measures : Measures) (path : List ℕ) (pair : Pair) (line : ℕ)
+    : Type 0 where
+  -- one of the databases has an entry there
+  pub there : (entry : Attributes) × IsThere entry pair
+  -- it is the first one that names the path, and that names programs if one of the entries is that of a program
+  pub first : IsFirst rules path (has_program pair.0 || has_program pair.1) line
+  pub short : length path ≤ longest_path
+  pub no_setting : is_setting path ≡ false
+  -- none of the entries gives a right
+  pub old_one : IfSome pair.0 (IsHarmless measures.of_old)
+  pub new_one : IfSome pair.1 (IsHarmless measures.of_new)
+  pub writers : (after : Attributes) → pair.1 ≡ Some after → is_directory after ≡ true → KeepsWriters pair.0 after
+
+-- What a change at a path may give somebody a right by, whatever a list says.
+pub data GivesRight (path : List ℕ) (pair : Pair) : Type 0 where
+  -- it is at the path of the settings, or below it
+  by_setting : is_setting path ≡ true → GivesRight path pair
+  -- what is there may be anything
+  by_unknown_type : (entry : Attributes) → IsThere entry pair → type_in (entry Ftype) ≡ None → GivesRight path pair
+  by_unknown_mode : (entry : Attributes) → IsThere entry pair → mode_in (entry Perm) ≡ None → GivesRight path pair
+  -- who executes it has the rights of its user, or of its group
+  by_user_id : (entry : Attributes) (mode : ℕ) → IsThere entry pair → mode_in (entry Perm) ≡ Some mode
+      → has_bit mode 11 ≡ true → GivesRight path pair
+  by_group_id : (entry : Attributes) (mode : ℕ) → IsThere entry pair → is_directory entry ≡ false
+      → mode_in (entry Perm) ≡ Some mode → has_bit mode 10 ≡ true → GivesRight path pair
+  by_capabilities : (entry : Attributes) (kind : FileType) → IsThere entry pair → type_in (entry Ftype) ≡ Some kind
+      → kind ≢ Link → is_some (entry Caps) ≡ true → GivesRight path pair
+  -- a device, unless it is root's and nobody has a permission
+  by_device : (entry : Attributes) (kind : FileType) (mode : ℕ) → IsThere entry pair
+      → type_in (entry Ftype) ≡ Some kind → is_device kind ≡ true → mode_in (entry Perm) ≡ Some mode
+      → is_within_reach mode (number_in (entry Uid)) ≡ true → GivesRight path pair
+  -- a directory that others than its owner may write, and could not before
+  by_directory : (after : Attributes) → pair.1 ≡ Some after → is_directory after ≡ true
+      → others_write after ≡ true → ((before : Attributes) → pair.0 ≡ Some before → is_directory before ≡ true
+      → others_write before ≡ false) → GivesRight path pair
+  -- a directory that has another owner
+  by_owner : (before after : Attributes) → pair.0 ≡ Some before → pair.1 ≡ Some after
+      → is_directory before ≡ true → is_directory after ≡ true → before Uid ≢ after Uid → GivesRight path pair
