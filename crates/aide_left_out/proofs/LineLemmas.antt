@@ -3,7 +3,8 @@ use Rattle.std.proofs.Common.{◌≡◌, ◌∙◌, ◌≤◌, ℕ, Bool, true, 
 use Rattle.std.specs.Prelude.{nat_le, Option, Some, if◌then◌else◌, ◌||◌}
 use Rattle.std.specs.List.{list_any}
 use Rattle.std.proofs.lemmas.Bool.{leb-true, le-leb}
-use Rattle.aide_patterns.proofs.MeaningLemmas.{line_is_found, list_meaning}
+use Rattle.aide_patterns.proofs.DotLemmas.{line_is_found, list_meaning}
+use Rattle.aide_patterns.proofs.Laws.{same_line}
 use Rattle.aide_patterns.specs.Line.{RuleText}
 use Rattle.aide_patterns.specs.Rules.{IsFirst, IsFound, Names}
 use Rattle.aide_patterns.specs.Tests.{line_of, names}
@@ -58,19 +59,6 @@ line_from rules path is_program line h =
     named_by rule path is_program n = or_nothing (names path is_program rule)
         ((list_meaning (rule ∷ []) path is_program).1 (0, rule, (omega arith), refl, n))
 
-by_first : (b : Bool) (here rest longer : Option ℕ) (line : ℕ) → (rest ≡ Some line → longer ≡ Some line)
-    → (if b then here else rest) ≡ Some line → (if b then here else longer) ≡ Some line
-by_first true here rest longer line h e = e
-by_first false here rest longer line h e = h e
-
--- a list with more lines gives the same line
-pub line_longer : (rules more : List RuleText) (path : List ℕ) (is_program : Bool) (line : ℕ)
-    → line_of rules path is_program ≡ Some line → line_of (rules ++ more) path is_program ≡ Some line
-line_longer [] more path is_program line e = cc
-line_longer (rule ∷ rules) more path is_program line e =
-    by_first (names path is_program rule) (Some rule.line) (line_of rules path is_program)
-    (line_of (rules ++ more) path is_program) line (λ f. line_longer rules more path is_program line f) e
-
 pub at_means : (rules : List RuleText) (path : List ℕ) (is_program : Bool) (line : ℕ)
     → line_at rules path is_program ≡ Some line → (length path ≤ longest_path) × IsFirst rules path is_program line
 at_means rules path is_program line e =
@@ -88,4 +76,4 @@ pub at_longer : (rules more : List RuleText) (path : List ℕ) (is_program : Boo
 at_longer rules more path is_program line e =
     let both = chosen (nat_le (length path) longest_path) (line_of rules path is_program) line e in
     choose (nat_le (length path) longest_path) (line_of (rules ++ more) path is_program) line both.0
-    (line_longer rules more path is_program line both.1)
+    (same_line rules more path is_program line both.1)
