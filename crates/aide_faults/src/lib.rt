@@ -5,6 +5,8 @@
 mod cursor_tests;
 #[cfg(test)]
 mod group_tests;
+#[cfg(test)]
+mod left_out_tests;
 mod noted;
 mod pace;
 #[cfg(test)]
