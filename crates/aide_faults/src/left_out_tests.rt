@@ -15,70 +15,273 @@ struct Row {
 }
 
 const ALL: &[u8] = b"# all\n/**\nprograms(made anew) /**\n/**";
+
 const LATER: &[u8] = b"/b\n/?\n/a";
+
 const SETTINGS: &[u8] = b"/etc/**\n/etc/*";
+
 const NONE: &[u8] = b"";
 
 // Below the columns name, perm, uid, gid, acl and capabilities.
 const FILE: &[u8] = b"/a 100644 0 0 0 0";
+
 const OTHER: &[u8] = b"/a 100600 7 7 0 0";
+
 const PROGRAM: &[u8] = b"/a 100700 0 0 0 0";
+
 const SET_USER: &[u8] = b"/a 104644 0 0 0 0";
+
 const SET_GROUP: &[u8] = b"/a 102644 0 0 0 0";
+
 const CAPABLE: &[u8] = b"/a 100644 0 0 0 YQ==";
+
 const LINK: &[u8] = b"/a 120777 0 0 0 YQ==";
+
 const DEVICE: &[u8] = b"/a 20666 0 0 0 0";
+
 const SHUT_DEVICE: &[u8] = b"/a 60000 0 0 0 0";
+
 const DEVICE_OF_A_USER: &[u8] = b"/a 60000 7 0 0 0";
+
 const UNTYPED: &[u8] = b"/a 644 0 0 0 0";
+
 const UNKNOWN: &[u8] = b"/a 30644 0 0 0 0";
+
 const DIRECTORY: &[u8] = b"/a 42755 0 0 0 0";
+
 const OF_A_USER: &[u8] = b"/a 42755 7 0 0 0";
+
 const OPEN: &[u8] = b"/a 40775 0 7 0 0";
+
 const OPEN_TO_MORE: &[u8] = b"/a 40777 0 7 0 0";
+
 const OPEN_BY_A_LIST: &[u8] = b"/a 40775 0 7 YQ== 0";
+
 const SET_USER_DIRECTORY: &[u8] = b"/a 44755 0 0 0 0";
+
 const SETTING: &[u8] = b"/etc/aide-compare 40755 0 0 0 0";
+
 const IN_SETTINGS: &[u8] = b"/etc/aide%2Dcompare/a 100644 0 0 0 0";
+
 const BESIDE_SETTINGS: &[u8] = b"/etc/aide%2Dcompared 100644 0 0 0 0";
 
 const ROWS: [Row; 36] = [
-    Row { list: ALL, old: FILE, new: OTHER, line: 2 },
-    Row { list: ALL, old: FILE, new: NONE, line: 2 },
-    Row { list: ALL, old: NONE, new: FILE, line: 2 },
-    Row { list: ALL, old: FILE, new: PROGRAM, line: 3 },
-    Row { list: ALL, old: PROGRAM, new: FILE, line: 3 },
-    Row { list: ALL, old: NONE, new: PROGRAM, line: 3 },
-    Row { list: LATER, old: FILE, new: OTHER, line: 2 },
-    Row { list: LATER, old: FILE, new: PROGRAM, line: 0 },
-    Row { list: NONE, old: FILE, new: OTHER, line: 0 },
-    Row { list: ALL, old: SET_USER, new: FILE, line: 0 },
-    Row { list: ALL, old: FILE, new: SET_USER, line: 0 },
-    Row { list: ALL, old: SET_GROUP, new: NONE, line: 0 },
-    Row { list: ALL, old: FILE, new: CAPABLE, line: 0 },
-    Row { list: ALL, old: CAPABLE, new: FILE, line: 0 },
-    Row { list: ALL, old: FILE, new: LINK, line: 2 },
-    Row { list: ALL, old: NONE, new: DEVICE, line: 0 },
-    Row { list: ALL, old: DEVICE, new: SHUT_DEVICE, line: 0 },
-    Row { list: ALL, old: NONE, new: SHUT_DEVICE, line: 2 },
-    Row { list: ALL, old: NONE, new: DEVICE_OF_A_USER, line: 0 },
-    Row { list: ALL, old: FILE, new: UNTYPED, line: 0 },
-    Row { list: ALL, old: UNTYPED, new: NONE, line: 0 },
-    Row { list: ALL, old: FILE, new: UNKNOWN, line: 0 },
-    Row { list: ALL, old: NONE, new: DIRECTORY, line: 2 },
-    Row { list: ALL, old: NONE, new: OF_A_USER, line: 2 },
-    Row { list: ALL, old: DIRECTORY, new: OF_A_USER, line: 0 },
-    Row { list: ALL, old: FILE, new: OPEN, line: 0 },
-    Row { list: ALL, old: NONE, new: OPEN, line: 0 },
-    Row { list: ALL, old: OPEN, new: OPEN, line: 2 },
-    Row { list: ALL, old: OPEN, new: NONE, line: 2 },
-    Row { list: ALL, old: OPEN, new: OPEN_TO_MORE, line: 0 },
-    Row { list: ALL, old: OPEN, new: OPEN_BY_A_LIST, line: 0 },
-    Row { list: ALL, old: DIRECTORY, new: OPEN, line: 0 },
-    Row { list: ALL, old: SET_USER_DIRECTORY, new: NONE, line: 0 },
-    Row { list: SETTINGS, old: SETTING, new: NONE, line: 0 },
-    Row { list: SETTINGS, old: NONE, new: IN_SETTINGS, line: 0 },
-    Row { list: SETTINGS, old: NONE, new: BESIDE_SETTINGS, line: 1 },
+    Row {
+        list: ALL,
+        old: FILE,
+        new: OTHER,
+        line: 2,
+    },
+    Row {
+        list: ALL,
+        old: FILE,
+        new: NONE,
+        line: 2,
+    },
+    Row {
+        list: ALL,
+        old: NONE,
+        new: FILE,
+        line: 2,
+    },
+    Row {
+        list: ALL,
+        old: FILE,
+        new: PROGRAM,
+        line: 3,
+    },
+    Row {
+        list: ALL,
+        old: PROGRAM,
+        new: FILE,
+        line: 3,
+    },
+    Row {
+        list: ALL,
+        old: NONE,
+        new: PROGRAM,
+        line: 3,
+    },
+    Row {
+        list: LATER,
+        old: FILE,
+        new: OTHER,
+        line: 2,
+    },
+    Row {
+        list: LATER,
+        old: FILE,
+        new: PROGRAM,
+        line: 0,
+    },
+    Row {
+        list: NONE,
+        old: FILE,
+        new: OTHER,
+        line: 0,
+    },
+    Row {
+        list: ALL,
+        old: SET_USER,
+        new: FILE,
+        line: 0,
+    },
+    Row {
+        list: ALL,
+        old: FILE,
+        new: SET_USER,
+        line: 0,
+    },
+    Row {
+        list: ALL,
+        old: SET_GROUP,
+        new: NONE,
+        line: 0,
+    },
+    Row {
+        list: ALL,
+        old: FILE,
+        new: CAPABLE,
+        line: 0,
+    },
+    Row {
+        list: ALL,
+        old: CAPABLE,
+        new: FILE,
+        line: 0,
+    },
+    Row {
+        list: ALL,
+        old: FILE,
+        new: LINK,
+        line: 2,
+    },
+    Row {
+        list: ALL,
+        old: NONE,
+        new: DEVICE,
+        line: 0,
+    },
+    Row {
+        list: ALL,
+        old: DEVICE,
+        new: SHUT_DEVICE,
+        line: 0,
+    },
+    Row {
+        list: ALL,
+        old: NONE,
+        new: SHUT_DEVICE,
+        line: 2,
+    },
+    Row {
+        list: ALL,
+        old: NONE,
+        new: DEVICE_OF_A_USER,
+        line: 0,
+    },
+    Row {
+        list: ALL,
+        old: FILE,
+        new: UNTYPED,
+        line: 0,
+    },
+    Row {
+        list: ALL,
+        old: UNTYPED,
+        new: NONE,
+        line: 0,
+    },
+    Row {
+        list: ALL,
+        old: FILE,
+        new: UNKNOWN,
+        line: 0,
+    },
+    Row {
+        list: ALL,
+        old: NONE,
+        new: DIRECTORY,
+        line: 2,
+    },
+    Row {
+        list: ALL,
+        old: NONE,
+        new: OF_A_USER,
+        line: 2,
+    },
+    Row {
+        list: ALL,
+        old: DIRECTORY,
+        new: OF_A_USER,
+        line: 0,
+    },
+    Row {
+        list: ALL,
+        old: FILE,
+        new: OPEN,
+        line: 0,
+    },
+    Row {
+        list: ALL,
+        old: NONE,
+        new: OPEN,
+        line: 0,
+    },
+    Row {
+        list: ALL,
+        old: OPEN,
+        new: OPEN,
+        line: 2,
+    },
+    Row {
+        list: ALL,
+        old: OPEN,
+        new: NONE,
+        line: 2,
+    },
+    Row {
+        list: ALL,
+        old: OPEN,
+        new: OPEN_TO_MORE,
+        line: 0,
+    },
+    Row {
+        list: ALL,
+        old: OPEN,
+        new: OPEN_BY_A_LIST,
+        line: 0,
+    },
+    Row {
+        list: ALL,
+        old: DIRECTORY,
+        new: OPEN,
+        line: 0,
+    },
+    Row {
+        list: ALL,
+        old: SET_USER_DIRECTORY,
+        new: NONE,
+        line: 0,
+    },
+    Row {
+        list: SETTINGS,
+        old: SETTING,
+        new: NONE,
+        line: 0,
+    },
+    Row {
+        list: SETTINGS,
+        old: NONE,
+        new: IN_SETTINGS,
+        line: 0,
+    },
+    Row {
+        list: SETTINGS,
+        old: NONE,
+        new: BESIDE_SETTINGS,
+        line: 1,
+    },
 ];
 
 /// The only entries of two databases or none, whether each database has the column of capabilities, and the line of the
@@ -92,11 +295,41 @@ struct Measured {
 }
 
 const MEASURED: [Measured; 5] = [
-    Measured { old: PROGRAM, new: FILE, of_old: false, of_new: true, line: 0 },
-    Measured { old: PROGRAM, new: FILE, of_old: true, of_new: false, line: 3 },
-    Measured { old: NONE, new: PROGRAM, of_old: true, of_new: false, line: 0 },
-    Measured { old: NONE, new: PROGRAM, of_old: false, of_new: true, line: 3 },
-    Measured { old: FILE, new: OTHER, of_old: false, of_new: false, line: 2 },
+    Measured {
+        old: PROGRAM,
+        new: FILE,
+        of_old: false,
+        of_new: true,
+        line: 0,
+    },
+    Measured {
+        old: PROGRAM,
+        new: FILE,
+        of_old: true,
+        of_new: false,
+        line: 3,
+    },
+    Measured {
+        old: NONE,
+        new: PROGRAM,
+        of_old: true,
+        of_new: false,
+        line: 0,
+    },
+    Measured {
+        old: NONE,
+        new: PROGRAM,
+        of_old: false,
+        of_new: true,
+        line: 3,
+    },
+    Measured {
+        old: FILE,
+        new: OTHER,
+        of_old: false,
+        of_new: false,
+        line: 2,
+    },
 ];
 
 const LIMITS: Limits = Limits {
@@ -140,7 +373,10 @@ fn hold_entry(rt: &impl Abort, alloc: Global, desk: &mut Desk<Global>, side: Sid
         assert!(rt; false, "memory");
         return;
     };
-    assert!(rt; hold(desk, side, text.as_slice()) == Ok(Step::Record), "{entry:?}");
+    assert!(rt;
+        hold(desk, side, text.as_slice()) == Ok(Step::Record),
+        "{entry:?}"
+    );
 }
 
 /// Checks which line of a list leaves out a change.
@@ -153,13 +389,22 @@ fn assert_line(rt: &impl Abort, alloc: Global, row: &Row, measures: Measures) {
     hold_entry(rt, alloc, &mut desk, Side::Old, row.old);
     hold_entry(rt, alloc, &mut desk, Side::New, row.new);
     let line = line_of(&list, measures, &desk);
-    assert!(rt; line == row.line, "{:?} {:?} {:?}: {line}", row.list, row.old, row.new);
+    assert!(rt;
+        line == row.line,
+        "{:?} {:?} {:?}: {line}",
+        row.list,
+        row.old,
+        row.new
+    );
 }
 
 #[test]
 fn the_lines_that_leave_out_changes(rt: HostRuntime) {
     for row in &ROWS {
-        let measures = Measures { of_old: true, of_new: true };
+        let measures = Measures {
+            of_old: true,
+            of_new: true,
+        };
         assert_line(&rt, rt.alloc(), row, measures);
     }
 }
@@ -173,7 +418,10 @@ fn the_programs_of_databases_without_capabilities(rt: HostRuntime) {
             new: measured.new,
             line: measured.line,
         };
-        let measures = Measures { of_old: measured.of_old, of_new: measured.of_new };
+        let measures = Measures {
+            of_old: measured.of_old,
+            of_new: measured.of_new,
+        };
         assert_line(&rt, rt.alloc(), &row, measures);
     }
 }

@@ -10,7 +10,7 @@ use Rattle.aide_entry.specs.Attributes.{Attributes, number_in, type_in}
 use Rattle.aide_patterns.specs.Line.{RuleText}
 use Rattle.aide_patterns.specs.Rules.{IsFirst}
 use Rattle.aide_left_out.specs.LeftOut.{has_program, longest_path}
-use Rattle.aide_left_out.specs.Rights.{has_bit, is_program, is_within_reach, mode_in}
+use Rattle.aide_left_out.specs.Rights.{has_bit, is_of_program, is_program, is_within_reach, mode_in}
 use Rattle.aide_left_out.specs.Settings.{is_setting}
 use Rattle.aide_left_out.specs.Writers.{is_directory, others_write}
 use Rattle.aide_left_out.specs.declared.change.Measures.{Measures}
@@ -46,8 +46,8 @@ abbrev pub IsThere : Attributes → Pair → Type 0
 IsThere entry pair = (pair.0 ≡ Some entry) ⊎ (pair.1 ≡ Some entry)
 
 -- A line of a list leaves out the change at a path.
-pub record IsLeftOut (rules : List RuleText) (measures : Measures) (path : List ℕ) (pair : Pair) (line : ℕ)
-    : Type 0 where
+pub record IsLeftOut (rules : List RuleText) (measures : Measures) (path : List ℕ) (pair : Pair)
+    (line : ℕ) : Type 0 where
   -- one of the databases has an entry there
   pub there : (entry : Attributes) × IsThere entry pair
   -- it is the first one that names the path, and that names programs if one of the entries is that of a program
@@ -57,30 +57,43 @@ pub record IsLeftOut (rules : List RuleText) (measures : Measures) (path : List 
   -- none of the entries gives a right
   pub old_one : IfSome pair.0 (IsHarmless measures.of_old)
   pub new_one : IfSome pair.1 (IsHarmless measures.of_new)
-  pub writers : (after : Attributes) → pair.1 ≡ Some after → is_directory after ≡ true → KeepsWriters pair.0 after
+  pub writers : (after : Attributes) → pair.1 ≡ Some after → is_directory after ≡ true
+      → KeepsWriters pair.0 after
 
 -- What a change at a path may give somebody a right by, whatever a list says.
-pub data GivesRight (path : List ℕ) (pair : Pair) : Type 0 where
+pub data GivesRight (measures : Measures) (path : List ℕ) (pair : Pair) : Type 0 where
   -- it is at the path of the settings, or below it
-  by_setting : is_setting path ≡ true → GivesRight path pair
+  by_setting : is_setting path ≡ true → GivesRight measures path pair
   -- what is there may be anything
-  by_unknown_type : (entry : Attributes) → IsThere entry pair → type_in (entry Ftype) ≡ None → GivesRight path pair
-  by_unknown_mode : (entry : Attributes) → IsThere entry pair → mode_in (entry Perm) ≡ None → GivesRight path pair
+  by_unknown_type : (entry : Attributes) → IsThere entry pair → type_in (entry Ftype) ≡ None
+      → GivesRight measures path pair
+  by_unknown_mode : (entry : Attributes) → IsThere entry pair → mode_in (entry Perm) ≡ None
+      → GivesRight measures path pair
   -- who executes it has the rights of its user, or of its group
-  by_user_id : (entry : Attributes) (mode : ℕ) → IsThere entry pair → mode_in (entry Perm) ≡ Some mode
-      → has_bit mode 11 ≡ true → GivesRight path pair
+  by_user_id : (entry : Attributes) (mode : ℕ) → IsThere entry pair
+      → mode_in (entry Perm) ≡ Some mode → has_bit mode 11 ≡ true → GivesRight measures path pair
   by_group_id : (entry : Attributes) (mode : ℕ) → IsThere entry pair → is_directory entry ≡ false
-      → mode_in (entry Perm) ≡ Some mode → has_bit mode 10 ≡ true → GivesRight path pair
-  by_capabilities : (entry : Attributes) (kind : FileType) → IsThere entry pair → type_in (entry Ftype) ≡ Some kind
-      → kind ≢ Link → is_some (entry Caps) ≡ true → GivesRight path pair
+      → mode_in (entry Perm) ≡ Some mode → has_bit mode 10 ≡ true → GivesRight measures path pair
+  by_capabilities : (entry : Attributes) (kind : FileType) → IsThere entry pair
+      → type_in (entry Ftype) ≡ Some kind → kind ≢ Link → is_some (entry Caps) ≡ true
+      → GivesRight measures path pair
+  -- a program that may have capabilities, since its database does not have their column
+  by_old_program : (entry : Attributes) → pair.0 ≡ Some entry → is_of_program entry ≡ true
+      → measures.of_old ≡ false → GivesRight measures path pair
+  by_new_program : (entry : Attributes) → pair.1 ≡ Some entry → is_of_program entry ≡ true
+      → measures.of_new ≡ false → GivesRight measures path pair
   -- a device, unless it is root's and nobody has a permission
   by_device : (entry : Attributes) (kind : FileType) (mode : ℕ) → IsThere entry pair
       → type_in (entry Ftype) ≡ Some kind → is_device kind ≡ true → mode_in (entry Perm) ≡ Some mode
-      → is_within_reach mode (number_in (entry Uid)) ≡ true → GivesRight path pair
-  -- a directory that others than its owner may write, and could not before
+      → is_within_reach mode (number_in (entry Uid)) ≡ true → GivesRight measures path pair
+  -- a directory that others than its owner may write, and that was none before with the same permissions, group and
+  -- access list
   by_directory : (after : Attributes) → pair.1 ≡ Some after → is_directory after ≡ true
-      → others_write after ≡ true → ((before : Attributes) → pair.0 ≡ Some before → is_directory before ≡ true
-      → others_write before ≡ false) → GivesRight path pair
+      → others_write after ≡ true
+      → ((before : Attributes) → pair.0 ≡ Some before → is_directory before ≡ true
+      → before Perm ≡ after Perm → before Gid ≡ after Gid → before Acl ≢ after Acl)
+      → GivesRight measures path pair
   -- a directory that has another owner
   by_owner : (before after : Attributes) → pair.0 ≡ Some before → pair.1 ≡ Some after
-      → is_directory before ≡ true → is_directory after ≡ true → before Uid ≢ after Uid → GivesRight path pair
+      → is_directory before ≡ true → is_directory after ≡ true → before Uid ≢ after Uid
+      → GivesRight measures path pair

@@ -1,6 +1,6 @@
 -- Which entries give somebody a right.
-use Rattle.std.specs.Prelude.{ℕ, ◌%◌, ◌==◌, ℤ, pos, negsuc, nat_lt, Bool, true, false, not, ◌&&◌, ◌||◌}
-use Rattle.std.specs.Prelude.{if◌then◌else◌, Option, Some, None, is_some}
+use Rattle.std.specs.Prelude.{ℕ, ◌%◌, ◌==◌, ℤ, pos, negsuc, nat_lt, Bool, true, false, not, ◌&&◌}
+use Rattle.std.specs.Prelude.{◌||◌, if◌then◌else◌, Option, Some, None, is_some}
 use Rattle.std.specs.Int.{bit_at}
 use Rattle.aide_attr.specs.declared.attr.Attr.TheVariants.{Caps, Ftype, Perm, Uid}
 use Rattle.aide_attr.specs.declared.file_type.FileType.{FileType}
@@ -31,8 +31,8 @@ abbrev pub is_program : FileType → ℕ → Bool
 is_program File mode = may_run mode
 is_program _ mode = false
 
--- Who executes it gets the rights of its user or of its group. In a directory the bit of the group only says whose group
--- new files have.
+-- Who executes it gets the rights of its user or of its group. In a directory the bit of the group only says whose
+-- group new files have.
 abbrev pub gives_id : FileType → ℕ → Bool
 gives_id Directory mode = has_bit mode 11
 gives_id _ mode = has_bit mode 11 || has_bit mode 10
@@ -65,14 +65,16 @@ is_known _ = true
 
 -- An entry of this type, with these permissions, gives nobody a right. Of a program that is known only if its database
 -- has the column of capabilities.
-abbrev pub is_harmless_as : (measures : Bool) → FileType → ℕ → (owner : Option ℤ) → Option Value → Bool
+abbrev pub is_harmless_as : (measures : Bool) → FileType → ℕ → (owner : Option ℤ) → Option Value
+    → Bool
 is_harmless_as measures kind mode owner capabilities = is_known kind
     && (not (gives_id kind mode)
     && (not (has_capabilities kind capabilities)
     && (not (is_open_device kind mode owner) && (not (is_program kind mode) || measures))))
 
 -- the same, if it has a type and permissions; an entry without them may give any right
-abbrev pub is_harmless_by : (measures : Bool) → Option FileType → Option ℕ → (owner : Option ℤ) → Option Value → Bool
+abbrev pub is_harmless_by : (measures : Bool) → Option FileType → Option ℕ → (owner : Option ℤ)
+    → Option Value → Bool
 is_harmless_by measures (Some kind) (Some mode) owner capabilities =
     is_harmless_as measures kind mode owner capabilities
 is_harmless_by measures _ _ owner capabilities = false
@@ -80,7 +82,8 @@ is_harmless_by measures _ _ owner capabilities = false
 -- an entry gives nobody a right
 abbrev pub is_harmless : (measures : Bool) → Attributes → Bool
 is_harmless measures entry =
-    is_harmless_by measures (type_in (entry Ftype)) (mode_in (entry Perm)) (number_in (entry Uid)) (entry Caps)
+    is_harmless_by measures (type_in (entry Ftype)) (mode_in (entry Perm)) (number_in (entry Uid))
+    (entry Caps)
 
 -- the same of a program, if this is its type and these are its permissions
 abbrev pub is_program_by : Option FileType → Option ℕ → Bool

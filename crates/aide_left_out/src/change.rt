@@ -66,8 +66,8 @@ fn may_go(
         && !opens_directory(old_one, new_one)
 }
 
-/// Returns the line of a list that leaves out the change at the path of an entry. A path that no line names is the rule,
-/// so the list is asked first.
+/// Returns the line of a list that leaves out the change at the path of an entry. Most paths are named by no line, so
+/// the list is asked first.
 fn left_out_at(
     list: &Exclusions<'_>,
     measures: Measures,
@@ -111,9 +111,9 @@ fn line_of_change(
     }
 }
 
-/// Returns the line of a list that leaves out a change, by what two databases have at its path: the first line that names
-/// the path, and that names programs if one of the entries is that of a program. Nothing that may give somebody a right
-/// is left out, whatever a list says. A path with escapes is decoded into the room.
+/// Returns the line of a list that leaves out a change, by what two databases have at its path: the first line that
+/// names the path, and that names programs if one of the entries is that of a program. Nothing that may give somebody a
+/// right is left out, whatever a list says. A path with escapes is decoded into the room.
 pub fn left_out(
     list: &Exclusions<'_>,
     measures: Measures,
@@ -128,10 +128,9 @@ pub fn left_out(
     ensures longer { (line : ℕ) (more : List RuleText) → result ≡ Some line
         → left_out (list.now ++ more) measures (path_of old_one.entry new_one.entry)
         (found old_one.entry, found new_one.entry) ≡ Some line }
-    ensures rights { GivesRight (path_of old_one.entry new_one.entry)
+    ensures rights { GivesRight measures (path_of old_one.entry new_one.entry)
         (found old_one.entry, found new_one.entry) → result ≡ None }
     ensures nothing { list.now ≡ [] → result ≡ None }
 {
-    let line = line_of_change(list, measures, old_one, new_one, room);
-    line
+    line_of_change(list, measures, old_one, new_one, room)
 }

@@ -7,8 +7,8 @@ use Rattle.aide_left_out.proofs.change.left_out.Goals as goal
 pub returns-clause-means : goal.returns-clause-means
 returns-clause-means c line = (
   λ e. left_out_means c.args.list.now c.args.measures (path_of c.args.old_one c.args.new_one)
-      (found c.args.old_one, found c.args.new_one) line (sym c.line_of_change-line.ensures ∙ e),
-  λ h. c.line_of_change-line.ensures
+      (found c.args.old_one, found c.args.new_one) line (sym c.line_of_change.ensures ∙ e),
+  λ h. c.line_of_change.ensures
       ∙ left_out_from c.args.list.now c.args.measures (path_of c.args.old_one c.args.new_one)
       (found c.args.old_one, found c.args.new_one) line h,
 )
@@ -16,16 +16,16 @@ returns-clause-means c line = (
 pub returns-clause-longer : goal.returns-clause-longer
 returns-clause-longer c line more e =
     longer_leaves_out c.args.list.now more c.args.measures (path_of c.args.old_one c.args.new_one)
-    (found c.args.old_one, found c.args.new_one) line (sym c.line_of_change-line.ensures ∙ e)
+    (found c.args.old_one, found c.args.new_one) line (sym c.line_of_change.ensures ∙ e)
 
 pub returns-clause-rights : goal.returns-clause-rights
 returns-clause-rights c right =
-    c.line_of_change-line.ensures
+    c.line_of_change.ensures
     ∙ rights_stay c.args.list.now c.args.measures (path_of c.args.old_one c.args.new_one)
     (found c.args.old_one, found c.args.new_one) right
 
 pub returns-clause-nothing : goal.returns-clause-nothing
 returns-clause-nothing c e =
-    c.line_of_change-line.ensures
+    c.line_of_change.ensures
     ∙ nothing_left_out c.args.list.now c.args.measures (path_of c.args.old_one c.args.new_one)
     (found c.args.old_one, found c.args.new_one) e
