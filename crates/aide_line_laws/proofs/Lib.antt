@@ -18,3 +18,4 @@ pub mod Cutting
 pub mod CompleteLaws
 pub mod BesideLaws
 pub mod AccountLaws
+pub mod MapLaws

@@ -6,3 +6,4 @@ pub mod SettingsFields
 pub mod TextFields
 pub mod Reading
 pub mod Complete
+pub mod OverMaps

@@ -1,0 +1,332 @@
+-- A path has a line exactly if the databases differ there, and the line says what accounts for this.
+use Rattle.std.proofs.Common.{◌≡◌, ◌∙◌, ℕ, Bool, true, false, List, [], ◌∷◌, ◌++◌, map, Option, Some, None, inl, inr, refl, sym, ap, subst}
+use Rattle.std.proofs.Common.{if◌then◌else◌}
+use Rattle.std.specs.Prelude.{◌&&◌, cond, not, T}
+use Rattle.std.specs.List.{AllByRecursion, filter}
+use Rattle.std.specs.Ordering.{is_eq, is_lt, eq_by_cmp, ordering_reverse}
+use Rattle.std.specs.declared.cmp.Ordering.{Ordering}
+use Rattle.std.specs.declared.cmp.Ordering.TheVariants.{Less, Equal, Greater}
+use Rattle.std.specs.Cmp.{IsTotalOrder, tied_itself}
+use Rattle.std.specs.FinMap.{entries_sorted, get, get-entries}
+use Rattle.std.specs.FinMap.Entries.{below_all, find, is_sorted}
+use Rattle.aide_agreement.specs.Account.{Pair, is_as_old, is_as_trusted, same_as}
+use Rattle.aide_agreement.specs.Agreement.{agree}
+use Rattle.aide_agreement.specs.declared.account.SameAs.{SameAs}
+use Rattle.aide_agreement.specs.declared.account.SameAs.TheVariants.{Old, Trusted}
+use Rattle.aide_agreement.proofs.Laws.{agree_from_meaning, meaning_of_agree}
+use Rattle.aide_attr.specs.declared.delta.Ignore.{Ignore}
+use Rattle.aide_conf.specs.declared.options.Options.{Options}
+use Rattle.aide_db.specs.Database.{IsSound}
+use Rattle.aide_db.specs.Map.{Database, database_of}
+use Rattle.aide_db.specs.declared.limits.Limits.{Limits}
+use Rattle.aide_entry.specs.Attributes.{Attributes}
+use Rattle.aide_entry.specs.Path.{path_cmp}
+use Rattle.aide_entry.proofs.PathLaws.{path_cmp_total, path_cmp-IsAntisymmetric}
+use Rattle.aide_report.specs.Asked.{Asked}
+use Rattle.aide_report.specs.ChangeLines.{Accounts, listed_changes}
+use Rattle.aide_report.specs.Compare.{changes, compared}
+use Rattle.aide_report.specs.Entries.{PathChange}
+use Rattle.aide_report.specs.Sections.{all_listed, is_in}
+use Rattle.aide_report.proofs.MergeLemmas.{and_first, and_second, get-compared, lt_less, paired}
+use Rattle.aide_line_laws.specs.ByteValues.{AreBytes}
+use Rattle.aide_line_laws.specs.Field.{Field}
+use Rattle.aide_line_laws.specs.OverMaps.{AreApart, HappenedThere, IsAbout, IsAccount, IsFramed, IsOneOf, SayAll, SaysOne, StayedAsOld, differ_beyond}
+use Rattle.aide_line_laws.specs.TextFields.{change_fields, fields_beside, fields_read}
+use Rattle.aide_line_laws.proofs.ReadingLaws.{account_is_read_back, path_is_read_back}
+use Rattle.aide_line_laws.proofs.TextLaws.{IsChangeOfBytes, changes_bytes}
+
+-- ---- what accounts for a change
+
+is_stayed : (pair : Pair) → is_as_old pair ≡ true → StayedAsOld pair
+is_stayed (Some old, Some new) e = record { old = old; new = new; both = refl; agrees = meaning_of_agree old new e }
+is_stayed (Some old, None) e = cc
+is_stayed (None, Some new) e = cc
+is_stayed (None, None) e = cc
+
+stayed_is : (pair : Pair) → StayedAsOld pair → is_as_old pair ≡ true
+stayed_is pair h = ap is_as_old h.both ∙ agree_from_meaning h.old h.new h.agrees
+
+not_stayed : (pair : Pair) → (StayedAsOld pair → ⊥) → is_as_old pair ≡ false
+not_stayed pair apart = elim (is_as_old pair) as (λ b. is_as_old pair ≡ b → b ≡ false) [
+  | true ↦ λ e. absurd (apart (is_stayed pair e))
+  | false ↦ λ e. refl
+] refl
+
+both_of : (a b : Bool) → a && b ≡ true → (a ≡ true) × (b ≡ true)
+both_of true b e = (refl, e)
+both_of false b e = cc
+
+is_happened : (found trusted : Pair) → is_as_trusted found trusted ≡ true → HappenedThere found trusted
+is_happened (old, Some new) (trusted_old, Some trusted_new) e =
+    let h = both_of (agree new trusted_new) (not (is_as_old (trusted_old, Some trusted_new))) e in
+    (meaning_of_agree new trusted_new h.0, λ stayed. absurd (subst (λ b. not b ≡ true → ⊥) (sym (stayed_is _ stayed)) (λ f. cc f) h.1))
+is_happened (Some old, Some new) (Some trusted_old, None) e = cc
+is_happened (Some old, Some new) (None, None) e = cc
+is_happened (None, Some new) (Some trusted_old, None) e = cc
+is_happened (None, Some new) (None, None) e = cc
+is_happened (Some old, None) (Some trusted_old, None) e = meaning_of_agree old trusted_old e
+is_happened (Some old, None) (None, None) e = cc
+is_happened (Some old, None) (None, Some trusted_new) e = cc
+is_happened (Some old, None) (Some trusted_old, Some trusted_new) e = cc
+is_happened (None, None) (None, None) e = cc
+is_happened (None, None) (None, Some trusted_new) e = cc
+is_happened (None, None) (Some trusted_old, None) e = cc
+is_happened (None, None) (Some trusted_old, Some trusted_new) e = cc
+
+happened_is : (found trusted : Pair) → HappenedThere found trusted → is_as_trusted found trusted ≡ true
+happened_is (old, Some new) (trusted_old, Some trusted_new) h =
+    rw (agree_from_meaning new trusted_new h.0, not_stayed (trusted_old, Some trusted_new) h.1) refl
+happened_is (Some old, Some new) (Some trusted_old, None) h = absurd h
+happened_is (Some old, Some new) (None, None) h = absurd h
+happened_is (None, Some new) (Some trusted_old, None) h = absurd h
+happened_is (None, Some new) (None, None) h = absurd h
+happened_is (Some old, None) (Some trusted_old, None) h = agree_from_meaning old trusted_old h
+happened_is (Some old, None) (None, None) h = absurd h
+happened_is (Some old, None) (None, Some trusted_new) h = absurd h
+happened_is (Some old, None) (Some trusted_old, Some trusted_new) h = absurd h
+happened_is (None, None) (None, None) h = absurd h
+happened_is (None, None) (None, Some trusted_new) h = absurd h
+happened_is (None, None) (Some trusted_old, None) h = absurd h
+happened_is (None, None) (Some trusted_old, Some trusted_new) h = absurd h
+
+-- what the tests give: the old entry first, then the trusted machine
+abbrev chosen_by : Bool → Bool → Option SameAs
+chosen_by old trusted = cond old (Some Old) (cond trusted (Some Trusted) None)
+
+is_old : (a b : Bool) → chosen_by a b ≡ Some Old → a ≡ true
+is_old true b e = refl
+is_old false true e = cc
+is_old false false e = cc
+
+is_trusted : (a b : Bool) → chosen_by a b ≡ Some Trusted → (a ≡ false) × (b ≡ true)
+is_trusted true b e = cc
+is_trusted false true e = (refl, refl)
+is_trusted false false e = cc
+
+never : (pair : Pair) → is_as_old pair ≡ false → StayedAsOld pair → ⊥
+never pair e stayed = let f = sym e ∙ stayed_is pair stayed in cc
+
+-- What is said to account for a change does, and is said if it does.
+pub same_as_is_account : (found trusted : Pair) → IsAccount found trusted (same_as found trusted)
+unfolding same_as
+same_as_is_account found trusted = record {
+  old = λ e. is_stayed found (is_old (is_as_old found) (is_as_trusted found trusted) e);
+  from_old = λ stayed. rw (stayed_is found stayed) refl;
+  trusted = λ e. let h = is_trusted (is_as_old found) (is_as_trusted found trusted) e in
+      (is_happened found trusted h.1, never found h.0);
+  from_trusted = λ happened apart. rw (not_stayed found apart, happened_is found trusted happened) refl;
+}
+
+-- ---- each change has what both databases have at its path
+
+greater_of : (x y : List ℕ) → T (is_lt (path_cmp x y)) → path_cmp y x ≡ Greater
+greater_of x y h = path_cmp_total.antisymm y x ∙ ap ordering_reverse (lt_less _ h)
+
+found_past : (z : PathChange) (es fs : List PathChange) → T (below_all path_cmp z.0 fs)
+    → AllByRecursion (λ c. find path_cmp c.0 es ≡ Some c.1) fs
+    → AllByRecursion (λ c. find path_cmp c.0 (z ∷ es) ≡ Some c.1) fs
+found_past z es [] h p = tt
+found_past z es (c ∷ fs) h p = (
+  ap (λ r. cond (is_eq r) (Some z.1) (find path_cmp c.0 es)) (greater_of z.0 c.0 (and_first _ _ h)) ∙ p.0,
+  found_past z es fs (and_second _ _ h) p.1,
+)
+
+all_found : (es : List PathChange) → T (is_sorted path_cmp es) → AllByRecursion (λ c. find path_cmp c.0 es ≡ Some c.1) es
+all_found [] h = tt
+all_found (e ∷ es) h = (
+  ap (λ r. cond (is_eq r) (Some e.1) (find path_cmp e.0 es)) (tied_itself path_cmp_total e.0),
+  found_past e es es (and_first _ _ h) (all_found es (and_second _ _ h)),
+)
+
+is_pair : (a b : Option Attributes) (s : Pair) → paired a b ≡ Some s → s ≡ (a, b)
+is_pair None None s e = cc
+is_pair None (Some y) s e = cc
+is_pair (Some x) b s e = cc
+
+is_paired : (ignore : Ignore) (a b : Option Attributes) → differ_beyond ignore (a, b) ≡ true → paired a b ≡ Some (a, b)
+is_paired ignore None None e = cc
+is_paired ignore None (Some y) e = refl
+is_paired ignore (Some x) b e = refl
+
+tied : (r : Ordering) → is_eq r ≡ true → r ≡ Equal
+tied Less e = cc
+tied Equal e = refl
+tied Greater e = cc
+
+-- ---- which paths have a line
+
+listed_is : (options : Options) (path : List ℕ) (pair : Pair)
+    → is_in options all_listed (path, pair) ≡ differ_beyond options.ignore pair
+listed_is options path (None, None) = refl
+listed_is options path (None, Some new) = refl
+listed_is options path (Some old, None) = refl
+listed_is options path (Some old, Some new) = refl
+
+module _ (options : Options) (old new : Database) (trusted : List ℕ → Pair) where
+  abbrev accounts : Accounts
+  accounts change = same_as change.1 (trusted change.0)
+
+  -- the change has what both databases have at its path, which is of bytes
+  abbrev IsTrue : PathChange → Type 0
+  IsTrue change = AreBytes change.0 × (change.1 ≡ (get old change.0, get new change.0))
+
+  abbrev line : PathChange → List Field
+  line change = change_fields options accounts change
+
+  abbrev lines_of : List PathChange → List (List Field)
+  lines_of all = map line (listed_changes options all)
+
+  about : (change : PathChange) → IsTrue change → IsAbout change.0 (line change)
+  about change h = path_is_read_back options accounts change h.0
+
+  says : (change : PathChange) → IsTrue change → is_in options all_listed change ≡ true
+      → SaysOne options.ignore old new trusted (line change)
+  says change h e = record {
+    path = change.0;
+    about = about change h;
+    differs = ap (differ_beyond options.ignore) (sym h.1) ∙ sym (listed_is options change.0 change.1) ∙ e;
+    account = accounts change;
+    said = account_is_read_back options accounts change;
+    right = subst (λ pair. IsAccount pair (trusted change.0) (accounts change)) h.1
+        (same_as_is_account change.1 (trusted change.0));
+  }
+
+  says_each : (all : List PathChange) → AllByRecursion IsTrue all → (fields : List Field) → IsOneOf fields (lines_of all)
+      → SaysOne options.ignore old new trusted fields
+  says_each [] h fields is = absurd is
+  says_each (change ∷ all) h fields is =
+      elim (is_in options all_listed change) as (λ b. is_in options all_listed change ≡ b
+      → IsOneOf fields (map line (if b then change ∷ listed_changes options all else listed_changes options all))
+      → SaysOne options.ignore old new trusted fields) [
+        | true ↦ λ e found. elim found [
+            | inl same ↦ subst (SaysOne options.ignore old new trusted) (sym same) (says change h.0 e)
+            | inr rest ↦ says_each all h.1 fields rest
+          ]
+        | false ↦ λ e rest. says_each all h.1 fields rest
+      ] refl is
+
+  later : (change : PathChange) (all : List PathChange) (fields : List Field) → IsOneOf fields (lines_of all)
+      → IsOneOf fields (lines_of (change ∷ all))
+  later change all fields is =
+      elim (is_in options all_listed change) as (λ b. IsOneOf fields
+      (map line (if b then change ∷ listed_changes options all else listed_changes options all))) [
+        | true ↦ inr is
+        | false ↦ is
+      ]
+
+  at_once : (change : PathChange) (all : List PathChange) → is_in options all_listed change ≡ true
+      → IsOneOf (line change) (lines_of (change ∷ all))
+  at_once change all e = rw e (inl refl)
+
+  abbrev HasLine : List ℕ → List PathChange → Type 0
+  HasLine path all = (fields : List Field) × IsOneOf fields (lines_of all) × IsAbout path fields
+
+  has_first : (change : PathChange) (all : List PathChange) → IsTrue change → (path : List ℕ) → path ≡ change.0
+      → differ_beyond options.ignore change.1 ≡ true → HasLine path (change ∷ all)
+  has_first change all h path same d =
+      (line change, at_once change all (listed_is options change.0 change.1 ∙ d), about change h ∙ ap (λ p. Some p) (sym same))
+
+  has_line : (all : List PathChange) → AllByRecursion IsTrue all → (path : List ℕ) (pair : Pair)
+      → find path_cmp path all ≡ Some pair → differ_beyond options.ignore pair ≡ true → HasLine path all
+  has_line [] h path pair e d = cc
+  has_line (change ∷ all) h path pair e d =
+      elim (eq_by_cmp path_cmp path change.0) as (λ b. eq_by_cmp path_cmp path change.0 ≡ b
+      → cond b (Some change.1) (find path_cmp path all) ≡ Some pair → HasLine path (change ∷ all)) [
+        | true ↦ λ same is. has_first change all h.0 path
+            (path_cmp-IsAntisymmetric path change.0 (tied (path_cmp path change.0) same))
+            (ap (differ_beyond options.ignore) (some_same change.1 pair is) ∙ d)
+        | false ↦ λ other is. let found = has_line all h.1 path pair is d in
+            (found.0, later change all found.0 found.1, found.2)
+      ] refl e
+    where
+      some_same : (x y : Pair) → Some x ≡ Some y → x ≡ y
+      some_same x y e = cc
+
+  unlike : (key : List ℕ) (change : PathChange) → T (is_lt (path_cmp key change.0)) → IsTrue change
+      → IsAbout key (line change) → ⊥
+  unlike key change less h about_key =
+      let same = sym about_key ∙ about change h in
+      let is = sym (lt_less _ less) ∙ ap (path_cmp key) (sym (one_text key change.0 same)) ∙ tied_itself path_cmp_total key in cc
+    where
+      one_text : (x y : List ℕ) → Some x ≡ Some y → x ≡ y
+      one_text x y e = cc
+
+  no_later : (key : List ℕ) (all : List PathChange) → T (below_all path_cmp key all) → AllByRecursion IsTrue all
+      → (other : List Field) → IsOneOf other (lines_of all) → IsAbout key other → ⊥
+  no_later key [] below h other is about_key = is
+  no_later key (change ∷ all) below h other is about_key =
+      elim (is_in options all_listed change) as (λ b. IsOneOf other
+      (map line (if b then change ∷ listed_changes options all else listed_changes options all)) → ⊥) [
+        | true ↦ λ found. elim found [
+            | inl same ↦ unlike key change (and_first _ _ below) h.0 (subst (IsAbout key) same about_key)
+            | inr rest ↦ no_later key all (and_second _ _ below) h.1 other rest about_key
+          ]
+        | false ↦ λ rest. no_later key all (and_second _ _ below) h.1 other rest about_key
+      ] is
+
+  are_apart : (all : List PathChange) → T (is_sorted path_cmp all) → AllByRecursion IsTrue all → AreApart (lines_of all)
+  are_apart [] sorted h = tt
+  are_apart (change ∷ all) sorted h =
+      elim (is_in options all_listed change) as (λ b. AreApart
+      (map line (if b then change ∷ listed_changes options all else listed_changes options all))) [
+        | true ↦ (
+            λ other is path about_line about_other. no_later change.0 all (and_first _ _ sorted) h.1 other is
+                (about_other ∙ sym about_line ∙ about change h.0),
+            are_apart all (and_second _ _ sorted) h.1,
+          )
+        | false ↦ are_apart all (and_second _ _ sorted) h.1
+      ]
+
+  all_true : (all : List PathChange) → AllByRecursion IsChangeOfBytes all
+      → AllByRecursion (λ c. find path_cmp c.0 (changes old new) ≡ Some c.1) all → AllByRecursion IsTrue all
+  all_true [] h k = tt
+  all_true (change ∷ all) h k = (
+    (
+      h.0.0,
+      is_pair (get old change.0) (get new change.0) change.1
+          (sym (get-compared path_cmp path_cmp_total old new change.0) ∙ get-entries (compared old new) change.0 ∙ k.0),
+    ),
+    all_true all h.1 k.1,
+  )
+
+  -- The lines of the changes of two databases say all: a path has a line exactly if the databases differ there beyond what
+  -- the options ignore, only one, and it says what accounts for the change.
+  pub lines_say_all : AllByRecursion IsChangeOfBytes (changes old new)
+      → SayAll options.ignore old new trusted (lines_of (changes old new))
+  lines_say_all bytes =
+      let sorted = entries_sorted (compared old new) in
+      let true_ones = all_true (changes old new) bytes (all_found (changes old new) sorted) in record {
+        each = says_each (changes old new) true_ones;
+        all = λ path d. has_line (changes old new) true_ones path (get old path, get new path)
+            (sym (get-entries (compared old new) path) ∙ get-compared path_cmp path_cmp_total old new path
+            ∙ is_paired options.ignore (get old path) (get new path) d) d;
+        apart = are_apart (changes old new) sorted true_ones;
+      }
+
+-- ---- texts
+
+-- The lines over two sound texts of bytes say all, without a trusted machine.
+pub lines_read_say_all : (limits : Limits) (wish : Asked) (old new : List ℕ) → IsSound limits old → IsSound limits new
+    → AreBytes old → AreBytes new
+    → (lines : List (List Field)) × IsFramed lines (fields_read wish old new)
+    × SayAll wish.options.ignore (database_of old) (database_of new) (λ path. (None, None)) lines
+lines_read_say_all limits wish old new old_sound new_sound old_bytes new_bytes = (
+  _,
+  record { first = _; last = _; parts = refl },
+  lines_say_all wish.options (database_of old) (database_of new) (λ path. (None, None))
+      (changes_bytes limits old new old_sound new_sound old_bytes new_bytes),
+)
+
+-- Those over four texts, of which the first two are sound and of bytes, say all by what the trusted texts have.
+pub lines_beside_say_all : (limits : Limits) (wish trusted : Asked) (old new trusted_old trusted_new : List ℕ)
+    → IsSound limits old → IsSound limits new → AreBytes old → AreBytes new
+    → (lines : List (List Field)) × IsFramed lines (fields_beside wish trusted old new trusted_old trusted_new)
+    × SayAll wish.options.ignore (database_of old) (database_of new)
+    (λ path. (get (database_of trusted_old) path, get (database_of trusted_new) path)) lines
+lines_beside_say_all limits wish trusted old new trusted_old trusted_new old_sound new_sound old_bytes new_bytes = (
+  _,
+  record { first = _; last = _; parts = refl },
+  lines_say_all wish.options (database_of old) (database_of new)
+      (λ path. (get (database_of trusted_old) path, get (database_of trusted_new) path))
+      (changes_bytes limits old new old_sound new_sound old_bytes new_bytes),
+)

@@ -1,0 +1,93 @@
+-- What the lines of changes say of four databases, path by path.
+use Rattle.std.specs.Prelude.{◌≡◌, ◌⊎◌, ℕ, Bool, true, false, List, [], ◌∷◌, ◌++◌, Option, Some, None, ⊤}
+use Rattle.std.specs.Prelude.{codes, option_map}
+use Rattle.std.specs.FinMap.{get}
+use Rattle.json.specs.Json.{string}
+use Rattle.aide_agreement.specs.Account.{Pair}
+use Rattle.aide_agreement.specs.Meaning.{Agrees}
+use Rattle.aide_agreement.specs.declared.account.SameAs.{SameAs}
+use Rattle.aide_agreement.specs.declared.account.SameAs.TheVariants.{Old, Trusted}
+use Rattle.aide_attr.specs.declared.delta.Ignore.{Ignore}
+use Rattle.aide_db.specs.Map.{Database}
+use Rattle.aide_entry.specs.Attributes.{Attributes}
+use Rattle.aide_line_text.specs.Entry.{account_word}
+use Rattle.aide_report.specs.Changed.{differ_by}
+use Rattle.aide_line_laws.specs.Field.{Field}
+use Rattle.aide_line_laws.specs.Reading.{text_under, value_under}
+
+-- ---- one path
+
+-- what two databases have at a path differs beyond what the options ignore: only one of them has an entry there, or both
+-- have one and an attribute was changed, added or removed
+abbrev pub differ_beyond : Ignore → Pair → Bool
+differ_beyond ignore (None, None) = false
+differ_beyond ignore (None, Some new) = true
+differ_beyond ignore (Some old, None) = true
+differ_beyond ignore (Some old, Some new) = differ_by ignore old new
+
+-- both have an entry there, and the two agree
+pub record StayedAsOld (pair : Pair) : Type 0 where
+  pub old : Attributes
+  pub new : Attributes
+  pub both : pair ≡ (Some old, Some new)
+  pub agrees : Agrees old new
+
+-- The same happened at the path of a trusted machine: it has an entry that agrees with the new one, and that entry is no
+-- old one; or it had an entry that agrees with the one that is gone, and has none any more.
+abbrev pub HappenedThere : (found trusted : Pair) → Type 0
+HappenedThere (old, Some new) (trusted_old, Some trusted_new) =
+    Agrees new trusted_new × (StayedAsOld (trusted_old, Some trusted_new) → ⊥)
+HappenedThere (Some old, None) (Some trusted_old, None) = Agrees old trusted_old
+HappenedThere _ _ = ⊥
+
+-- What accounts for a change: the old entry exactly if it stayed as it was; otherwise the trusted machine exactly if the
+-- same happened there.
+pub record IsAccount (found there : Pair) (account : Option SameAs) : Type 0 where
+  pub old : account ≡ Some Old → StayedAsOld found
+  pub from_old : StayedAsOld found → account ≡ Some Old
+  pub trusted : account ≡ Some Trusted → HappenedThere found there × (StayedAsOld found → ⊥)
+  pub from_trusted : HappenedThere found there → (StayedAsOld found → ⊥) → account ≡ Some Trusted
+
+-- ---- lines
+
+-- the line is about the path
+abbrev pub IsAbout : List ℕ → List Field → Type 0
+IsAbout path fields = text_under (codes "path") fields ≡ Some path
+
+-- it is one of the lines
+abbrev pub IsOneOf : List Field → List (List Field) → Type 0
+IsOneOf fields [] = ⊥
+IsOneOf fields (line ∷ lines) = (fields ≡ line) ⊎ IsOneOf fields lines
+
+-- no two of the lines are about one path
+abbrev pub AreApart : List (List Field) → Type 0
+AreApart [] = ⊤
+AreApart (line ∷ lines) =
+    ((other : List Field) → IsOneOf other lines → (path : List ℕ) → IsAbout path line
+    → IsAbout path other → ⊥) × AreApart lines
+
+-- these lines, with a first and a last one around them
+pub record IsFramed (lines all : List (List Field)) : Type 0 where
+  pub first : List Field
+  pub last : List Field
+  pub parts : all ≡ first ∷ (lines ++ last ∷ [])
+
+-- a line is about a path at which the databases differ, and says what accounts for this
+pub record SaysOne (ignore : Ignore) (old new : Database) (there : List ℕ → Pair)
+    (fields : List Field) : Type 0 where
+  pub path : List ℕ
+  pub about : IsAbout path fields
+  pub differs : differ_beyond ignore (get old path, get new path) ≡ true
+  pub account : Option SameAs
+  pub said : value_under (codes "same_as") fields
+      ≡ option_map (λ one. string (account_word one)) account
+  pub right : IsAccount (get old path, get new path) (there path) account
+
+-- Lines about two databases, by what a trusted pair has at each path: a path has a line exactly if the two differ there
+-- beyond what the options ignore. It has one, which says what accounts for this.
+pub record SayAll (ignore : Ignore) (old new : Database) (there : List ℕ → Pair)
+    (lines : List (List Field)) : Type 0 where
+  pub each : (fields : List Field) → IsOneOf fields lines → SaysOne ignore old new there fields
+  pub all : (path : List ℕ) → differ_beyond ignore (get old path, get new path) ≡ true
+      → (fields : List Field) × IsOneOf fields lines × IsAbout path fields
+  pub apart : AreApart lines
