@@ -19,3 +19,4 @@ pub mod CompleteLaws
 pub mod BesideLaws
 pub mod AccountLaws
 pub mod MapLaws
+pub mod RunMapLaws

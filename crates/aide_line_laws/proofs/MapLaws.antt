@@ -199,9 +199,9 @@ module _ (options : Options) (old new : Database) (trusted : List ℕ → Pair) 
       → IsOneOf fields (map line (if b then change ∷ listed_changes options all else listed_changes options all))
       → SaysOne options.ignore old new trusted fields) [
         | true ↦ λ e found. elim found [
-            | inl same ↦ subst (SaysOne options.ignore old new trusted) (sym same) (says change h.0 e)
-            | inr rest ↦ says_each all h.1 fields rest
-          ]
+          | inl same ↦ subst (SaysOne options.ignore old new trusted) (sym same) (says change h.0 e)
+          | inr rest ↦ says_each all h.1 fields rest
+        ]
         | false ↦ λ e rest. says_each all h.1 fields rest
       ] refl is
 
@@ -258,9 +258,9 @@ module _ (options : Options) (old new : Database) (trusted : List ℕ → Pair) 
       elim (is_in options all_listed change) as (λ b. IsOneOf other
       (map line (if b then change ∷ listed_changes options all else listed_changes options all)) → ⊥) [
         | true ↦ λ found. elim found [
-            | inl same ↦ unlike key change (and_first _ _ below) h.0 (subst (IsAbout key) same about_key)
-            | inr rest ↦ no_later key all (and_second _ _ below) h.1 other rest about_key
-          ]
+          | inl same ↦ unlike key change (and_first _ _ below) h.0 (subst (IsAbout key) same about_key)
+          | inr rest ↦ no_later key all (and_second _ _ below) h.1 other rest about_key
+        ]
         | false ↦ λ rest. no_later key all (and_second _ _ below) h.1 other rest about_key
       ] is
 
@@ -270,10 +270,10 @@ module _ (options : Options) (old new : Database) (trusted : List ℕ → Pair) 
       elim (is_in options all_listed change) as (λ b. AreApart
       (map line (if b then change ∷ listed_changes options all else listed_changes options all))) [
         | true ↦ (
-            λ other is path about_line about_other. no_later change.0 all (and_first _ _ sorted) h.1 other is
-                (about_other ∙ sym about_line ∙ about change h.0),
-            are_apart all (and_second _ _ sorted) h.1,
-          )
+          λ other is path about_line about_other. no_later change.0 all (and_first _ _ sorted) h.1 other is
+              (about_other ∙ sym about_line ∙ about change h.0),
+          are_apart all (and_second _ _ sorted) h.1,
+        )
         | false ↦ are_apart all (and_second _ _ sorted) h.1
       ]
 

@@ -2,6 +2,7 @@
 use Rattle.std.specs.Prelude.{◌≡◌, ◌⊎◌, ℕ, Bool, true, false, List, [], ◌∷◌, ◌++◌, Option, Some, None, ⊤}
 use Rattle.std.specs.Prelude.{codes, option_map}
 use Rattle.std.specs.FinMap.{get}
+use Rattle.std.specs.Io.KnownBytes.{Appends}
 use Rattle.json.specs.Json.{string}
 use Rattle.aide_agreement.specs.Account.{Pair}
 use Rattle.aide_agreement.specs.Meaning.{Agrees}
@@ -12,7 +13,9 @@ use Rattle.aide_db.specs.Map.{Database}
 use Rattle.aide_entry.specs.Attributes.{Attributes}
 use Rattle.aide_line_text.specs.Entry.{account_word}
 use Rattle.aide_report.specs.Changed.{differ_by}
+use Rattle.aide_line_laws.specs.Complete.{AreComplete}
 use Rattle.aide_line_laws.specs.Field.{Field}
+use Rattle.aide_line_laws.specs.JsonLine.{AreJsonLines}
 use Rattle.aide_line_laws.specs.Reading.{text_under, value_under}
 
 -- ---- one path
@@ -91,3 +94,15 @@ pub record SayAll (ignore : Ignore) (old new : Database) (there : List ℕ → P
   pub all : (path : List ℕ) → differ_beyond ignore (get old path, get new path) ≡ true
       → (fields : List Field) × IsOneOf fields lines × IsAbout path fields
   pub apart : AreApart lines
+
+-- What has gone out since is complete lines of JSON, and those between the first and the last one say all.
+pub record HasSaidAll (ignore : Ignore) (old new : Database) (there : List ℕ → Pair)
+    (before after : Option (List ℕ)) : Type 0 where
+  pub text : List ℕ
+  pub bytes : Appends before after text
+  pub all : List (List Field)
+  pub are_lines : AreJsonLines text all
+  pub complete : AreComplete all
+  pub lines : List (List Field)
+  pub framed : IsFramed lines all
+  pub say : SayAll ignore old new there lines

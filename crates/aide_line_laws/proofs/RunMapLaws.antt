@@ -1,0 +1,91 @@
+-- What a run has written after `Ok` says all: a path has a line exactly if the databases differ there.
+use Rattle.std.proofs.Common.{◌≡◌, ℕ, List, Some, None, Ok, refl}
+use Rattle.std.specs.FinMap.{get}
+use Rattle.aide_db.specs.DeskView.{DeskView}
+use Rattle.aide_db.specs.Map.{database_of}
+use Rattle.aide_db.specs.declared.limits.Limits.{Limits}
+use Rattle.aide_db.specs.declared.side.Side.TheVariants.{Old, New}
+use Rattle.aide_report.specs.Asked.{Asked}
+use Rattle.aide_report.specs.LinesRead.{lines_read}
+use Rattle.aide_report.specs.LinesRun.{IsLinesRun}
+use Rattle.aide_report.specs.Runs.{report_over}
+use Rattle.aide_report.specs.Seen.{Seen, SinkSeen}
+use Rattle.aide_report.specs.declared.outcome.Outcome.{Outcome}
+use Rattle.aide_trusted.specs.BesideLines.{lines_beside}
+use Rattle.aide_trusted.specs.PairSeen.{Gives, PairSeen}
+use Rattle.aide_trusted.specs.RunBeside.{IsRunBeside}
+use Rattle.aide_line_laws.specs.ByteValues.{AreBytes}
+use Rattle.aide_line_laws.specs.OverMaps.{HasSaidAll}
+use Rattle.aide_line_laws.specs.TextFields.{fields_beside, fields_read}
+use Rattle.aide_line_laws.proofs.BesideLaws.{ArePathsOfBytes, lines_beside_are_complete, lines_beside_are_json}
+use Rattle.aide_line_laws.proofs.CompleteLaws.{lines_read_are_complete}
+use Rattle.aide_line_laws.proofs.MapLaws.{lines_beside_say_all, lines_read_say_all}
+use Rattle.aide_line_laws.proofs.TextLaws.{lines_read_are_json}
+
+-- After `Ok` a run over two texts of bytes has written lines that say all of their maps.
+pub a_run_says_all : (limits : Limits) (wish : Asked) (a b : Seen) (d e : DeskView) (o p : SinkSeen) (old new : List ℕ)
+    → a.bytes_of Old ≡ Some old → a.bytes_of New ≡ Some new → AreBytes old → AreBytes new → ArePathsOfBytes wish
+    → (outcome : Outcome) → IsLinesRun limits wish a b d e o p (Ok outcome)
+    → HasSaidAll wish.options.ignore (database_of old) (database_of new) (λ path. (None, None)) o.delivered p.delivered
+a_run_says_all limits wish a b d e o p old new told_old told_new old_bytes new_bytes paths outcome run =
+    let old_sound = run.sound Old old told_old in
+    let new_sound = run.sound New new told_new in
+    let ends =
+    run.over (Some old) (Some new) told_old told_new (Ok (lines_read wish old new)) (
+      Ok (lines_read wish old new),
+      (old_sound, new_sound, refl),
+      refl,
+    )
+    in
+    let says = lines_read_say_all limits wish old new old_sound new_sound old_bytes new_bytes in
+    record {
+      text = (lines_read wish old new).text;
+      bytes = ends.1;
+      all = fields_read wish old new;
+      are_lines = lines_read_are_json limits wish old new old_sound new_sound old_bytes new_bytes paths.0 paths.1;
+      complete = lines_read_are_complete wish old new;
+      lines = says.0;
+      framed = says.1;
+      say = says.2;
+    }
+
+-- After `Ok` a run over four texts of bytes has written lines that say all of the first two maps, by what the trusted two
+-- have at each path.
+pub a_trusted_run_says_all : (limits : Limits) (p q : PairSeen) (o s : SinkSeen) (old new trusted_old trusted_new : List ℕ)
+    → Gives p old new → Gives q trusted_old trusted_new → AreBytes old → AreBytes new
+    → ArePathsOfBytes p.asked → ArePathsOfBytes q.asked
+    → (outcome : Outcome) → IsRunBeside limits p q o s (Ok outcome)
+    → HasSaidAll p.asked.options.ignore (database_of old) (database_of new)
+    (λ path. (get (database_of trusted_old) path, get (database_of trusted_new) path)) o.delivered s.delivered
+a_trusted_run_says_all limits p q o s old new trusted_old trusted_new gives trusted_gives old_bytes new_bytes paths others
+    outcome run =
+    let old_sound = run.sound Old old gives.0 in
+    let new_sound = run.sound New new gives.1 in
+    let lines = lines_beside p.asked q.asked old new trusted_old trusted_new in
+    let ends =
+    run.over (Some old) (Some new) (Some trusted_old) (Some trusted_new) gives trusted_gives (Ok lines) (record {
+      compared = Ok (report_over p.asked old new);
+      trusted = Ok (report_over q.asked trusted_old trusted_new);
+      compared_runs = (Ok (report_over p.asked old new), (old_sound, new_sound, refl), refl);
+      trusted_runs = (
+        Ok (report_over q.asked trusted_old trusted_new),
+        (run.trusted_sound Old trusted_old trusted_gives.0, run.trusted_sound New trusted_new trusted_gives.1, refl),
+        refl,
+      );
+      answer = refl;
+    })
+    in
+    let says =
+    lines_beside_say_all limits p.asked q.asked old new trusted_old trusted_new old_sound new_sound old_bytes new_bytes
+    in
+    record {
+      text = lines.text;
+      bytes = ends.1;
+      all = fields_beside p.asked q.asked old new trusted_old trusted_new;
+      are_lines = lines_beside_are_json limits p.asked q.asked old new trusted_old trusted_new old_sound new_sound
+          old_bytes new_bytes paths others;
+      complete = lines_beside_are_complete p.asked q.asked old new trusted_old trusted_new;
+      lines = says.0;
+      framed = says.1;
+      say = says.2;
+    }
