@@ -9,7 +9,7 @@ tables of files.
   tools/source/public_specs.py finds, or cited by the laws of the crate. No file of specs/code/ is
   reached from a call that a crate of a program makes.
 - Each clause that docs/LIBRARY.md names for a call is a clause of this call.
-- docs/HEADLINE.md and docs/HEADLINE_LINES.md are what tools/source/headline_page.py prints of the definitions.
+- The pages docs/HEADLINE*.md are what tools/source/headline_page.py prints of the definitions.
 - Each block of a page has a mark that says how it is tried (tests/pages/blocks.py).
 - Each text that docs/CONTRACTS.md gives for a kind of change stands in a file.
 

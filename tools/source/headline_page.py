@@ -1,7 +1,9 @@
-"""Prints docs/HEADLINE.md and docs/HEADLINE_LINES.md: the headline, of the report and of the lines
-of JSON, and each definition that it rests on, with the sentence over it.
+"""Prints docs/HEADLINE.md, docs/HEADLINE_LINES.md and docs/HEADLINE_JSON.md: the headline of the
+report, what the lines of JSON say of the databases, and what the calls that write lines promise;
+and each definition that these rest on, with the sentence over it.
 
-From the contracts of `aide_headline` this follows each name to its definition, and from there to
+From the contracts of `aide_headline`, and from the laws of `aide_line_laws` that the second page
+begins with, this follows each name to its definition, and from there to
 the definitions that it uses, as tools/source/public_specs.py does for all public calls. A
 definition stands before those that it uses. With --write the pages are written;
 tests/source/check_docs.py compares them with the definitions.
@@ -15,7 +17,9 @@ from tools.source.definition_lines import PROSE, shown, users_first, wrapped
 from tools.source.definitions import TOP, WORD, Definitions, crates, imports_of
 from tools.source.headline_tables import library_words, members_of, read, types_of
 
-PAGE, LINES_PAGE = "docs/HEADLINE.md", "docs/HEADLINE_LINES.md"
+PAGE, THEOREM_PAGE = "docs/HEADLINE.md", "docs/HEADLINE_LINES.md"
+LINES_PAGE = "docs/HEADLINE_JSON.md"
+LAWS = "crates/aide_line_laws/proofs/RunMapLaws.antt"
 COMPARE = "crates/aide_headline/src/comparison.rt"
 PROGRAM = "crates/aide_headline/src/program.rt"
 COMPARE_LINES = "crates/aide_headline/src/lines.rt"
@@ -27,6 +31,19 @@ DESK = ("aide_db", "DeskView", "DeskView")
 # definitions are not printed.
 PREMISES = [("aide_conf", "ReadResult", "ReadsAs"), ("aide_words", "Job", "job_of")]
 PREMISES_TRUSTED = [("aide_words", "BesideJob", "beside_job_of")]
+# The map of a text, which the second page has in a part of its own.
+MAP = ("aide_db", "Map", "database_of")
+# The records of a run, and what contracts see of devices: HEADLINE_JSON.md has them.
+RUNS = [
+    ("aide_report", "LinesRun", "IsLinesRun"),
+    ("aide_trusted", "RunBeside", "IsRunBeside"),
+    ("aide_trusted", "PairSeen", "PairSeen"),
+    ("aide_trusted", "PairSeen", "Gives"),
+    ("aide_report", "Seen", "Seen"),
+    ("aide_report", "Seen", "SinkSeen"),
+    ("aide_report", "Asked", "Asked"),
+    DESK,
+]
 INTRO = """\
 # The headline, and what it rests on
 
@@ -62,15 +79,41 @@ How to read a definition:
   contracts see of the sources or the site, of the output and of standard error;
   a table at the end lists them.
 """
+INTRO_OF_THEOREM = """\
+# What the lines of JSON say, and what is silent
+
+`python3 -m tools.source.headline_page --write` writes this page too, and the
+tests compare it with the definitions. [HEADLINE.md](HEADLINE.md) tells how to
+read a definition. Read this page to know which changes are silent:
+
+> If a run over two databases ends well, a path has a line exactly if the two
+> databases differ there beyond what the options ignore, and it has only one.
+> The line says that the old entry accounts for the change exactly if both
+> entries are there and agree; otherwise it says that the trusted machine does
+> exactly if the same happened there: it has an entry that agrees with the new
+> one and that its own old entry does not agree with, or it had an entry that
+> agrees with the one that is gone, and has none any more. Nothing else is ever
+> said to account for a change.
+
+At any fault, and if the output fails, no last line has gone out, so that a
+reader never takes the lines for complete. [HEADLINE_JSON.md](HEADLINE_JSON.md)
+has the contracts of the calls that write lines, with all that they promise
+besides, and the text of each line.
+"""
 INTRO_OF_LINES = """\
-# The headline of the lines of JSON, and what it rests on besides
+# The calls that write lines of JSON, and what they rest on besides
 
 `python3 -m tools.source.headline_page --write` writes this page too, and the
 tests compare it with the definitions. [HEADLINE.md](HEADLINE.md) tells how to
 read a definition, and has all those that the report needs too: the maps, their
 changes, the summary string, what arguments ask for. This page adds those that
-only the lines need.
+only the lines need. [HEADLINE_LINES.md](HEADLINE_LINES.md) says what the lines
+mean.
 """
+OF_LAWS = f"""\
+Both laws (`{LAWS}`) are proved of the
+record that the public call promises, for two databases alone and for two beside
+a trusted pair:"""
 ASKED = """\
 Its premise also names the job that the arguments ask for, and says that the
 configuration is accepted with these settings. The definitions of both are not
@@ -87,6 +130,12 @@ def contract_of(text, name):
     """A public function without its body: the line that names it, its arguments and its clauses."""
     begin = text.index("pub fn %s<" % name)
     return text[begin : text.index("\n{\n", begin)]
+
+
+def law_of(text: str, name: str) -> str:
+    """What a law says: its name and its type."""
+    begin = text.index(f"pub {name} :")
+    return text[begin : text.index(f"\n{name} ", begin)]
 
 
 def fields_of(text: str, names: list[str]) -> list[str]:
@@ -173,8 +222,24 @@ def begun(intro, definitions, calls, printed=()):
     return made, contracts
 
 
+def theorem(definitions):
+    """The page of what lines say of the databases, and each definition that its laws rest on."""
+    text = read(LAWS)
+    laws = [law_of(text, name) for name in ("a_run_says_all", "a_trusted_run_says_all")]
+    made = Page(definitions, INTRO_OF_THEOREM)
+    made.add("", "## The theorem", "", *OF_LAWS.split("\n"), "")
+    made.block("text", "\n\n".join(laws))
+    silent = {name: ("aide_line_laws", "OverMaps", name) for name in ("IsAccount", "differ_beyond")}
+    made.part("What is silent, and what differs", [], " ".join(silent), silent)
+    made.part("What the lines say", [], "\n".join(laws), imports_of(text), [*RUNS, MAP])
+    made.part("What the maps are", [], "database_of", {"database_of": MAP})
+    made.add(*types_of(made, []))
+    made.add(*library_words(made.outside))
+    return made
+
+
 def pages():
-    """The texts of both pages, by their names."""
+    """The texts of all pages, by their names."""
     definitions, record = Definitions(crates()), read(RUN_RECORD)
     calls = [(OF_TWO, COMPARE, "compare_databases"), (OF_PROGRAM, PROGRAM, "run_program")]
     made, (compare, program) = begun(INTRO, definitions, calls)
@@ -215,12 +280,13 @@ def pages():
     )
     lines.add(*types_of(lines, made.outside))
     lines.add(*library_words(lines.outside, made.outside))
-    return {PAGE: "\n".join(made.lines) + "\n", LINES_PAGE: "\n".join(lines.lines) + "\n"}
+    named = {PAGE: made, THEOREM_PAGE: theorem(definitions), LINES_PAGE: lines}
+    return {name: "\n".join(page.lines) + "\n" for name, page in named.items()}
 
 
 def main():
     parser = parser_of("tools.source.headline_page", __doc__)
-    parser.add_argument("--write", action="store_true", help="write %s and %s" % (PAGE, LINES_PAGE))
+    parser.add_argument("--write", action="store_true", help="write the pages")
     arguments = parser.parse_args()
     for name, text in pages().items():
         if arguments.write:

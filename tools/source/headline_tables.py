@@ -29,6 +29,15 @@ MEANINGS = {
     "standard": "base64 with the alphabet of RFC 4648 that ends with `+/`, with padding",
     "decoded_of": "the bytes that a base64 text encodes, or nothing if it is no base64. Padding is needed, and unused bits are 0",
     "encode_of": "the base64 text of bytes",
+    "Json": "a value of JSON (RFC 8259): an object, an array, a string, a number, true or false, or null",
+    "boolean": "true or false, as a value of JSON",
+    "string": "a text, as a value of JSON",
+    "object": "an object with these members, as a value of JSON",
+    "Members": "the members of an object in their order, each a name and a value",
+    "no_members": "no member",
+    "member": "a member, and others behind it",
+    "document": "that a text is this value of JSON, with nothing behind it but space",
+    "decode_of": "the bytes of which a text has the hexadecimal digits, or a fault",
     "encode_lower": "bytes in hexadecimal, in small letters",
     "sha256": "the SHA-256 of bytes, by FIPS 180-4",
     "lower_digits": "the sixteen digits of hexadecimal, with small letters",
@@ -72,16 +81,15 @@ def parts_of(text: str, name: str) -> list[str]:
     return re.findall(r"^    (?:pub )?(\w+)(?=[:,( {])", "\n".join(lines), re.M)
 
 
-def aliases_of(page: Page) -> dict[tuple[str, str, str], str]:
-    """The names under which the files of a page import variants, by crate, type and variant. Two
-    names end the program."""
-    found: dict[tuple[str, str, str], str] = {}
+def aliases_of(page: Page) -> dict[tuple[str, str, str], list[str]]:
+    """The names under which the files of a page import variants, by crate, type and variant."""
+    found: dict[tuple[str, str, str], list[str]] = {}
     for file in {place[:2] for place in page.printed if place not in page.known}:
         for alias, target in page.definitions.files[file].imports.items():
             if ".TheVariants" in target[1] and alias[0].isupper():
                 place = target[0], type_of(target)[2], target[2]
-                if found.setdefault(place, alias) != alias:
-                    sys.exit(f"{place} has two names: {found[place]}, {alias}")
+                names = found.setdefault(place, [])
+                names += [alias] if alias not in names else []
     return found
 
 
@@ -131,8 +139,9 @@ def types_of(page: Page, known: list[tuple[str, str, str]]) -> list[str]:
         words = " ".join(above.group(1).replace("/// ", "").split()) if above else ""
         parts = []
         for part in parts_of(read(file), name):
-            alias = aliases.get((crate, name, part), part)
-            parts.append(f"`{part}`" + (f" (above `{alias}`)" if alias != part else ""))
+            others = [each for each in aliases.get((crate, name, part), []) if each != part]
+            above = f" (above {listed(others)})" if others else ""
+            parts.append(f"`{part}`{above}")
         sentence = words.split(". ")[0].rstrip(".")
         lines.append(f"| `{name}` | {sentence} | {', '.join(parts)} | `{file}` |")
     constants = constants_of(declared)
