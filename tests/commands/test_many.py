@@ -68,7 +68,7 @@ class ManyTest(CommandTest):
         self.assertEqual(wanted[LIB + b"evil.so"].split()[0], "open")
         for path in (b"tool.so", b"bare", b"moved", b"tool00", b"tool01"):
             self.assertTrue(wanted[LIB + path].startswith("recorded"), (path, wanted))
-        self.assertRegex(brief, r"made +tool 2: 6 files, by its scripts")
+        self.assertRegex(brief, r"\n  tool 2: 6 files made by its scripts\n")
         for count in (1, 2, 7):
             self.set_names("changes.recorded", MAX_ASKED=count)
             self.assertEqual(standings_of(host.ask(self)[1]), wanted, count)

@@ -150,7 +150,7 @@ class RecordedTest(CommandTest):
         files = {LIB + b"python3/evil.py": TWO, LIB + b"python3/three.py": TWO}
         host.packages.append(Package("tool", "2", files))
         text = host.brief(self)
-        made = "  medium  made     python 2: 2 files, by its scripts\n"
+        made = "  python 2: 2 files made by its scripts\n"
         self.assertEqual(text.count(made), 1, ("one line for a package", text))
         for name in (*compiled_files, LIB + b"python3/evil.py"):
             line = f"  medium  changed  {name.decode()}: content"
@@ -173,7 +173,7 @@ class RecordedTest(CommandTest):
         host.write(self)
         words = ("--trusted", "trusted-old.db", "trusted-new.db", "host-old.db", "host-new.db")
         text = self.call("aide-compare", *words).output.decode()
-        self.assertIn("  medium  made     python 2: 1 file, by its scripts\n", text)
+        self.assertIn("  python 2: 1 file made by its scripts\n", text)
         self.assertIn("  medium  changed  /usr/lib/python3/__pycache__/evil.cpython-311.pyc", text)
         self.assertEqual(text.count("one.cpython"), 0, text)
 
@@ -260,7 +260,7 @@ class RecordedTest(CommandTest):
             LIB + b"fresh": "recorded fresh 1",
         }
         self.check("rpm's records", host, wanted)
-        line = "  tool 1:2-3: 2 files, as rpm's records have them"
+        line = "  tool 1:2-3: 2 files\n"
         text = host.brief(self)
         self.assertIn(line, text, "their line")
         self.assertIn("\nNew packages: fresh 1\n", text, "one of which each path came")

@@ -36,8 +36,8 @@ Open:
   medium  changed  /srv/log: content, size 3 -> 28
   medium  changed  /srv/plain: mode -rw-r--r-- -> -rw-------
 
-Recorded:
-  tool 2: 1 file, as dpkg's records have them
+Recorded, as dpkg on this host says:
+  tool 2: 1 file
 
 1 change is silent: 1 same
 
@@ -275,19 +275,19 @@ class StandingsTest(mail.MailTest):
             r"/usr/\.x y",
             r"/srv/gone",
             r"/srv/m/0000",
-            r"  medium  added    /srv/m: 2980 more files\n",
-            r"Recorded:",
+            r"  medium  and 2,980 more in /srv/m\n",
+            r"Recorded, as dpkg on this host says:",
         )
         self.assertRegex(text, re.compile(".*".join(parts), re.S))
         self.assertEqual(text.count("/srv/m/"), 20, text[:500])
 
     def test_too_many(self) -> None:
         """Of more changes than memory is given for, the report is printed, and says why."""
-        self.set_names("changes.judged", MAX_FINDINGS=2)
+        self.set_names("changes.table", MAX_ROWS=2)
         answer = self.call(TOOL, "old.db", "new.db")
         said = b"not judged: there are more than 2 changes"
         self.expect("too many", answer, 7, b"AIDE found differences", said)
-        self.set_names("changes.judged", MAX_FINDINGS=4)
+        self.set_names("changes.table", MAX_ROWS=4)
         self.assertIn(b"4 open", self.call(TOOL, "old.db", "new.db").output)
 
     def test_hostile(self) -> None:

@@ -89,7 +89,7 @@ class TerminalTest(CommandTest):
         plain = standings.BRIEF.encode()
         coloured = plain.replace(b"  high ", b"  %shigh%s " % (RED, PLAIN))
         coloured = coloured.replace(b"  medium ", b"  %smedium%s " % (YELLOW, PLAIN))
-        titles = rb"(?m)^(4 open .*|Open:|Recorded:)$"
+        titles = rb"(?m)^(4 open .*|Open:|Recorded.*:)$"
         coloured = re.sub(titles, lambda found: BOLD + found.group() + PLAIN, coloured)
         never, always = ("--color", "never"), ("--color", "always")
         rows: list[tuple[str, tuple[str, ...], bytes]] = [

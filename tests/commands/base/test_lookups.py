@@ -1,5 +1,5 @@
-"""Short ways to what a slower one says: names in a directory, directories by number, beginnings of
-lines, and texts of times."""
+"""Short ways to what a slower one says: names in a directory, beginnings of lines, and texts of
+times."""
 from __future__ import annotations
 
 import io
@@ -10,8 +10,7 @@ from typing import Any, Dict, List
 from tests.commands.base.calls import ModuleTest
 from tests.commands.viewers.expected import RIGHTS, SLOTS
 
-from aide_compare.base.paths import Pattern, key_of_path, path_of
-from aide_compare.changes.finding import Directories, directory_of
+from aide_compare.base.paths import Pattern
 from aide_compare.lines.decoded import texts_of, texts_of_line
 from aide_compare.lines.reader import ENCODE, Reader
 from aide_compare.show.added import members_text, text_members, time_texts
@@ -80,16 +79,6 @@ class LookupsTest(ModuleTest):
                 got = test is not None and bool(test(pieces[-1]))
                 if got != pattern.matches(pieces):
                     self.fail(f"{text!r} and {path!r}: {got}")
-
-    def test_directories(self) -> None:
-        """Each directory has one number, and no other has it."""
-        keys = {key_of_path(random_path(self.draw)): b"" for _ in range(3000)}
-        for key in [*keys]:
-            keys[key] = directory_of(path_of(key))
-        directories = Directories()
-        numbers = {directories.number_of(key): keys[key] for key in sorted(keys)}
-        self.expect("directories", sorted(numbers.values()), sorted(set(keys.values())))
-        self.expect("their numbers", sorted(numbers), list(range(directories.count)))
 
     def test_beginnings(self) -> None:
         """The beginning of a line says what its object says."""

@@ -3,31 +3,37 @@ has to have."""
 from __future__ import annotations
 
 import hashlib
-from types import SimpleNamespace
-from typing import Any
 from unittest import mock
 
 from tests.commands.base.calls import ModuleTest
 
 from aide_compare.changes import recorded
-from aide_compare.changes.finding import IS_CONTENT, IS_LINK
+from aide_compare.base.paths import key_of_path
 from aide_compare.changes.packages import Member
 from aide_compare.changes.recorded import (
-    AskedPlace,
     Contents,
     Matcher,
     Sieve,
     source_of,
     target_of,
 )
+from aide_compare.changes.severity import Weight, held_by
+from aide_compare.changes.table import Table
+from aide_compare.changes.weighing import Known, Weighed
 
+NOTHING_HELD = held_by(None, None)
 COMPILED = b"/a/__pycache__/b.cpython-311%s.pyc"
 
 
-def found(*rows: tuple[bytes, int]) -> Any:
-    """Findings with these keys and bits."""
-    records = [SimpleNamespace(bits=bits) for _, bits in rows]
-    return SimpleNamespace(rows=lambda: records, keys=lambda: [key for key, _ in rows])
+def table(*rows: tuple[bytes, str, bool]) -> Table:
+    """A table of changed entries with these paths and forms, and whether records are asked."""
+    changes = Table()
+    weight = Weight("medium", 3)
+    for path, form, may_be_recorded in rows:
+        known = Known(NOTHING_HELD, 0, form, True)
+        key = key_of_path(path)
+        changes.add([Weighed("changed", key, 0, weight, known, may_be_recorded)])
+    return changes
 
 
 class RecordedTest(ModuleTest):
@@ -60,7 +66,7 @@ class RecordedTest(ModuleTest):
 
     def test_asked(self) -> None:
         """At most so many, or so many bytes of them, at once; only those of a content."""
-        rows = [(b"\1%d" % number, IS_CONTENT) for number in range(5)]
+        rows = [(b"/%d" % number, "file", True) for number in range(5)]
         for most, size, counts in (
             (2, 99, [2, 2, 1]),
             (9, 3, [2, 2, 1]),
@@ -68,10 +74,10 @@ class RecordedTest(ModuleTest):
             (5, 99, [5]),
         ):
             with mock.patch.multiple(recorded, MAX_ASKED=most, MAX_BYTES=size):
-                got = [len(asked) for asked in recorded._asked(found(*rows), None)]
+                got = [len(asked) for asked in recorded._asked(table(*rows), None)]
             self.expect(f"{most} at once, of {size} bytes", got, counts)
-        links = found((b"\1a", 0), (b"\1b", IS_CONTENT | IS_LINK), (b"\1c", IS_CONTENT))
-        every = {b"/b": AskedPlace(1, True), b"/c": AskedPlace(2, False)}
+        links = table((b"/a", "file", False), (b"/b", "link", True), (b"/c", "file", True))
+        every = {row.path: row for row in links.rows("place > 0")}
         self.expect("those of a content", list(recorded._asked(links, None)), [every])
         one = {b"/c": every[b"/c"]}
         self.expect("some", list(recorded._asked(links, b"/c".__eq__)), [one])
@@ -80,17 +86,16 @@ class RecordedTest(ModuleTest):
     def test_match(self) -> None:
         """All records are read for many findings only, and a finding only if they have its path."""
         for count, is_many in ((1, False), (2, True)):
-            findings, records = mock.MagicMock(), mock.Mock()
-            findings.__len__.return_value = count
-            findings.rows.return_value = [SimpleNamespace(bits=IS_CONTENT)] * count
-            findings.keys.return_value = [b"\1a", b"\1b"]
+            records = mock.Mock()
             records.known_paths.return_value = [[b"/a"]]
             records.members.return_value = {}
+            changes = table(*[(b"/a", "file", True), (b"/b", "file", True)][:count])
+            read = mock.Mock()
             with mock.patch.object(recorded, "MAX_ASKED", 1):
-                Matcher(records, mock.Mock(), mock.Mock()).match(findings)
+                Matcher(records, mock.Mock(), read).match(changes)
             self.expect("all records", records.known_paths.called, is_many)
             self.expect("what is asked for", records.members.call_args[0][0], {b"/a"})
-            findings.finding.assert_not_called()
+            read.assert_not_called()
 
     def test_contents(self) -> None:
         """A content that only the file on this machine says is read, as long as there is room."""

@@ -18,7 +18,7 @@ from aide_compare.base.parser import Parser
 from aide_compare.compare import configuration, state
 from aide_compare.lines import attributes, reader
 from aide_compare.lines.change import Change, Values, change_of
-from aide_compare.show import brief
+from aide_compare.show import entry
 
 ESCAPED: tuple[tuple[str | bytes, str], ...] = (
     (b"a b", "a b"),
@@ -127,7 +127,7 @@ class TextsTest(ModuleTest):
             ("changed in its time alone", ({"Mtime": 0}, {}), "mtime 1970-01-01T00:00:00Z -> none"),
         ]
         for label, pair, want in rows:
-            self.expect("what %s, and when" % label, brief.entry_words(change_between(*pair)), want)
+            self.expect("what %s, and when" % label, entry.entry_words(change_between(*pair)), want)
 
     def test_options(self) -> None:
         parser = Parser("name", "What it does.")

@@ -63,7 +63,7 @@ class WeighingTest(ModuleTest):
         for side in (OLD, {**OLD, "Pad": "x" * MAX_LINE}):
             again = weighed(scales, fields_of(letters, old=side, new=set_id))
             self.assertEqual(again[:5], came[:5], "known, or too long to be kept")
-        self.assertEqual((came.line_at, came.known.owner, came.known.is_file), (7, 0, True))
+        self.assertEqual((came.line_at, came.known.owner, came.known.form), (7, 0, "file"))
 
     def test_differing(self) -> None:
         """A right whose letter says no difference is no value of the change; all others stay."""

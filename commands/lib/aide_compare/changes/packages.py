@@ -17,7 +17,7 @@ from aide_compare.base.escapes import shown
 from aide_compare.base.files import open_regular
 from aide_compare.base.directories import LISTING, closed_after, open_directory
 from aide_compare.base.processes import run
-from aide_compare.changes.finding import Findings
+from aide_compare.changes.table import Table
 
 DPKG = "/var/lib/dpkg"
 DPKG_LOG = "/var/log/dpkg.log"
@@ -276,25 +276,25 @@ class Dpkg:
             names = [name for name in os.listdir(self._info) if name.endswith(LIST)]
         return sorted(names)[:MAX_FILES]
 
-    def named(self, findings: Findings, _kinds: Kinds, trusted: Optional[Set[bytes]]) -> Named:
+    def named(self, changes: Table, _kinds: Kinds, trusted: Optional[Set[bytes]]) -> Named:
         """The packages whose list came or went, those of which dpkg's log says that their last
         change was to an older version, and those that are not as in a trusted pair: `trusted` are
         the paths of the digests that are, None without a pair."""
         named = Named()
         count = 0
-        for path, kind in findings.below(INFO_DIRECTORY):
-            match = re.fullmatch(INFO, path)
+        for row in changes.below(INFO_DIRECTORY):
+            match = re.fullmatch(INFO, row.path)
             if match is None:
                 continue
             start, name, ending = match.groups()
             version = self._version_of(name) or b""
             words = words_of(name, version)
             if ending == SUMS:
-                if kind != "removed" and trusted is not None:
+                if row.kind != "removed" and trusted is not None:
                     named.unsigned.append(words)
-            elif kind == "added":
+            elif row.kind == "added":
                 named.add_new(words, start + b"." + SUMS, trusted)
-            elif kind == "removed":
+            elif row.kind == "removed":
                 named.removed.append(shown(name, 100))
             elif name in self._versions_before and count < MAX_COMPARED:
                 count += 1

@@ -5,14 +5,13 @@ from __future__ import annotations
 import os
 import re
 from contextlib import suppress
-from typing import Callable, Dict, Iterable, Iterator, List, NamedTuple, Optional, Set
+from typing import Callable, Dict, Iterable, Iterator, List, Optional, Set
 
 from aide_compare.base.ending import Fault
 from aide_compare.base.files import BLOCK, open_regular
-from aide_compare.base.paths import path_of
-from aide_compare.changes.finding import IS_CONTENT, IS_LINK, Finding, Findings
 from aide_compare.changes.packages import Dpkg, Member, Members
 from aide_compare.changes.rpm import Rpm
+from aide_compare.changes.table import Row, Table
 from aide_compare.lines.attributes import COLUMNS_OF_DIGESTS, DIGEST_COLUMNS
 from aide_compare.lines.change import Change, Standing, Values
 from aide_compare.lines.decoded import exact_bytes
@@ -28,19 +27,12 @@ COMPILED = re.compile(rb"(/.*)/__pycache__/([^/]+)\.cpython-[0-9]+(?:\.opt-[12])
 # what a content is.
 STRONG_BYTES = 32
 
-# What gives the values of a finding.
-Read = Callable[[Finding], Change]
+# What gives the values of a change by its row.
+Read = Callable[[Row], Change]
 
 
-class AskedPlace(NamedTuple):
-    """Where a finding is."""
-
-    number: int
-    is_link: bool
-
-
-# By their paths.
-Asked = Dict[bytes, AskedPlace]
+# Rows by their paths.
+Asked = Dict[bytes, Row]
 
 
 def digests_of(values: Values) -> Dict[str, bytes]:
@@ -142,15 +134,15 @@ class Sieve:
         return path.startswith(b"/usr/") and self.has(path[len(b"/usr") :])
 
 
-def _asked(findings: Findings, may_have: Optional[Callable[[bytes], bool]]) -> Iterator[Asked]:
-    """The findings that may be recorded, some thousand at once."""
+def _asked(changes: Table, may_have: Optional[Callable[[bytes], bool]]) -> Iterator[Asked]:
+    """The changes that may be recorded, some thousand at once."""
     asked: Asked = {}
     size = 0
-    for number, (record, key) in enumerate(zip(findings.rows(), findings.keys())):
-        path = path_of(key)
-        if record.bits & IS_CONTENT and (may_have is None or may_have(path)):
-            asked[path] = AskedPlace(number, bool(record.bits & IS_LINK))
-            size += len(key)
+    for row in changes.rows("may_be_recorded", order="place"):
+        path = row.path
+        if may_have is None or may_have(path):
+            asked[path] = row
+            size += len(path)
         if len(asked) >= MAX_ASKED or size > MAX_BYTES:
             yield asked
             asked = {}
@@ -181,51 +173,41 @@ class Matcher:
         # Of each package with a recorded change: the kinds of these.
         self.kinds: Dict[str, Set[str]] = {}
 
-    def match(self, findings: Findings) -> None:
-        """Notes the findings that are recorded, with their package, and those that were made."""
+    def match(self, changes: Table) -> None:
+        """Notes the changes that are recorded, with their package, and those that were made."""
         may_have = None
-        if len(findings) > MAX_ASKED:
+        if len(changes) > MAX_ASKED:
             may_have = Sieve(self.records.known_paths()).may_have
-        for asked in _asked(findings, may_have):
-            self._match(findings, asked)
+        for asked in _asked(changes, may_have):
+            self._match(changes, asked)
 
-    def _match(self, findings: Findings, asked: Asked) -> None:
-        """Notes those of some findings that are recorded or were made, after the records were asked
+    def _match(self, changes: Table, asked: Asked) -> None:
+        """Notes those of some changes that are recorded or were made, after the records were asked
         for them, for the sources of compiled files and for the targets of links."""
         sources = {path: source for path in asked if (source := source_of(path)) is not None}
         wanted = {*asked, *map(self.usr, sources.values())}
-        for path, place in asked.items():
-            if place.is_link:
-                target = target_of(path, self.read(findings.finding(place.number)).new)
+        for path, row in asked.items():
+            if row.form == "link":
+                target = target_of(path, self.read(row).new)
                 if target is not None:
                     wanted.add(self.usr(target))
         self.members = self.records.members(wanted, self.usr)
-        self.changed = findings.among(sources.values())
-        for path, place in asked.items():
+        self.changed = changes.among(sources.values())
+        for path, row in asked.items():
             if path in self.members or path in sources:
-                finding = findings.finding(place.number)
-                matched = self._matched(finding)
-                if matched != finding:
-                    self._note(findings, place.number, matched)
+                self._note(changes, row)
 
-    def _note(self, findings: Findings, place: int, finding: Finding) -> None:
-        findings.note(place, finding)
-        if finding.standing is Standing.RECORDED:
-            self.kinds.setdefault(finding.package, set()).add(finding.kind)
-
-    def _matched(self, finding: Finding) -> Finding:
-        """The same finding with its package if it is recorded, or was made by that."""
-        change = self.read(finding)
-        if change.kind == "removed":
-            return finding
-        members = self.members.get(finding.path, [])
+    def _note(self, changes: Table, row: Row) -> None:
+        """Notes the package of a change, if it is recorded or was made by that."""
+        change = self.read(row)
+        members = self.members.get(row.path, [])
         for member in members:
             if self._has(change, member):
-                return finding._replace(standing=Standing.RECORDED, package=member.package)
-        package = ""
-        if finding.is_file:
-            package = self._maker(finding.path, members)
-        return finding._replace(is_made=bool(package), package=package)
+                changes.note(row.place, Standing.RECORDED, member.package)
+                self.kinds.setdefault(member.package, set()).add(row.kind)
+                return
+        if row.form == "file":
+            changes.note(row.place, Standing.OPEN, self._maker(row.path, members))
 
     def _maker(self, path: bytes, members: List[Member]) -> str:
         """The package whose scripts make a file, if one does: records know its path and no content,

@@ -9,7 +9,6 @@ from typing import Callable, Iterable, Iterator, Optional, Set
 from aide_compare.base.ending import Fault, Status, failing
 from aide_compare.base.processes import run
 from aide_compare.changes import packages
-from aide_compare.changes.finding import Findings
 from aide_compare.changes.packages import (
     Dpkg,
     Found,
@@ -20,6 +19,7 @@ from aide_compare.changes.packages import (
     Wanted,
     words_of,
 )
+from aide_compare.changes.table import Table
 
 RPM = "/usr/bin/rpm"
 RPM_DATABASES = ("/usr/lib/sysimage/rpm", "/var/lib/rpm")
@@ -89,7 +89,7 @@ class Rpm:
         for line in io.BytesIO(self.text):
             yield line.rstrip(b"\n")
 
-    def named(self, _findings: Findings, kinds: Kinds, _trusted: Optional[Set[bytes]]) -> Named:
+    def named(self, _changes: Table, kinds: Kinds, _trusted: Optional[Set[bytes]]) -> Named:
         """The packages of which each recorded path came. rpm keeps nothing of those that went."""
         named = Named()
         for name in sorted(name for name, found in kinds.items() if found == {"added"}):

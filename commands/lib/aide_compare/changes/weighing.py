@@ -34,8 +34,7 @@ class Known(NamedTuple):
 
     held: Held
     owner: Optional[int]  # See owner_of.
-    is_file: bool  # The new entry, or the one that went.
-    is_link: bool
+    form: str  # "file", "link" or "": of the new entry, or of the one that went.
     has_content: bool  # Whether records could say something, by the rights alone.
 
 
@@ -64,13 +63,19 @@ def may_be_content(old: Side, new: Side) -> bool:
     return has_same_rights(old, new)
 
 
+def form_of(rights: Side) -> str:
+    if rights is not None and rights.is_file:
+        return "file"
+    if rights is not None and rights.is_link:
+        return "link"
+    return ""
+
+
 def known_of(old: Side, new: Side) -> Known:
-    rights = new or old
     return Known(
         held=held_by(old, new),
         owner=owner_of(old, new),
-        is_file=rights is not None and rights.is_file,
-        is_link=rights is not None and rights.is_link,
+        form=form_of(new or old),
         has_content=may_be_content(old, new),
     )
 
@@ -104,7 +109,7 @@ class Scales:
             line_at,
             self.severity.weight(outline.path, known.held),
             known,
-            known.has_content and is_content(fields, known.is_link),
+            known.has_content and is_content(fields, known.form == "link"),
         )
 
     def _known(self, fields: Fields, size: int) -> Known:

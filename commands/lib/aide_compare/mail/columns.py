@@ -1,24 +1,12 @@
-"""Lines of at most 80 columns: texts, paths and commands."""
+"""Lines of at most 80 columns: texts and commands."""
 from __future__ import annotations
 
 import shlex
 from collections.abc import Sequence
 from textwrap import wrap
 
-from aide_compare.base.escapes import shown
 
 WIDTH = 80
-# A path of which the middle is left out keeps so many bytes at each end.
-MIN_END = 12
-
-
-def shortened_path(path: bytes, width: int) -> str:
-    """A path that is escaped, without its middle if it is longer than a line."""
-    text = shown(path, 4096)
-    if len(text) <= width:
-        return text
-    end = max(MIN_END, (width - len("...")) // 2)
-    return text[:end] + "..." + text[-end:]
 
 
 def wrapped(text: str) -> list[str]:

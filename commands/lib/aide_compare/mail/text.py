@@ -8,131 +8,39 @@ listed is counted.
 from __future__ import annotations
 
 import os
+from collections import Counter
 from collections.abc import Iterable, Iterator, Sequence
-from itertools import islice
 from textwrap import wrap
 from typing import NamedTuple
 
 from aide_compare.base.files import given_descriptor
 from aide_compare.base.words import KINDS, SEVERITIES, counted
-from aide_compare.changes.finding import Finding
 from aide_compare.changes.judged import Judged
-from aide_compare.changes.recorded import Read
 from aide_compare.compare.state import State
 from aide_compare.lines.change import Change, Counts
-from aide_compare.mail.columns import WIDTH, command_lines, shortened_path, wrapped
-from aide_compare.mail.packages import group_lines, named_lines
-from aide_compare.show.brief import entry_words
-from aide_compare.show.limits import Limits, Shares
-from aide_compare.show.listing import Listing, most_of
+from aide_compare.mail.columns import WIDTH, command_lines, wrapped
+from aide_compare.mail.packages import named_lines
+from aide_compare.show.digest import MAIL, digest, entry_line, in_directory, shortened_path
+from aide_compare.show.groups import group_lines
 
 MAX_LINES = 80
 MAX_NOTES = 6
-# How many lines the open changes of a severity have at least: those of root, of services, and of
-# all others.
-SHARES = {"high": (24, 4, 4), "medium": (6, 2, 2), "low": (1, 1, 1)}
-# Of changes that nobody has judged, so many paths of one directory, and of the tree below the first
-# two pieces of a path.
+MAX_GROUPS = 6  # Of packages.
+# Of changes that nobody has judged, so many paths of one directory.
 DIRECTORY_SHARE = 5
-TREE_SHARE = 15
 
 
-class Part(NamedTuple):
-    """Open changes of one severity and one group of owners: how many there are."""
-
-    level: int
-    owners: int
-    size: int
-
-    @property
-    def severity(self) -> str:
-        return SEVERITIES[self.level]
-
-    @property
-    def share(self) -> int:
-        return SHARES[self.severity][self.owners]
-
-
-def parts_of(listing: Listing) -> list[Part]:
-    """The parts that are not empty, the most severe first, and root's first in each severity."""
-    parts = []
-    for level, severity in enumerate(SEVERITIES):
-        for owners in range(len(SHARES[severity])):
-            size = listing.size(level, owners)
-            if size:
-                parts.append(Part(level, owners, size))
-    return parts
-
-
-def rooms_of(parts: Sequence[Part], limit: int) -> list[int]:
-    """How many lines each part has: its share, and then what the others leave, in their order."""
-    rooms = [0] * len(parts)
-    remaining = limit
-    for sizes in ([min(part.size, part.share) for part in parts], [part.size for part in parts]):
-        for place, size in enumerate(sizes):
-            more = max(0, min(remaining, size - rooms[place]))
-            rooms[place] += more
-            remaining -= more
-    return rooms
-
-
-def finding_line(finding: Finding, read: Read) -> str:
-    """As in "  changed  /usr/bin/ls: content, mode -rwxr-xr-x -> -rwsr-xr-x", with the words that
-    fit."""
-    line = f"  {finding.kind:<7}  "
-    line += shortened_path(finding.path, WIDTH - len(line))
-    separator = ": "
-    for word in entry_words(read(finding)).split(", "):
-        if not word or len(line) + len(separator) + len(word) > WIDTH:
-            break
-        line += separator + word
-        separator = ", "
-    return line
-
-
-def rest_line(listing: Listing, part: Part, listed: Sequence[int]) -> str:
-    """How many are not listed, and where most of them are."""
-    counts = listing.counts(1)
-    for place in listing.places(part.level, part.owners):
-        counts[listing.directories[place]] += 1
-    for place in listed:
-        counts[listing.directories[place]] -= 1
-    number, count = most_of(counts, 1, 1, listing.findings.directory).first[0]
-    line = f"  and {part.size - len(listed):,} more"
-    if count == part.size - len(listed):
-        line += " in "
-    else:
-        line += f", {count:,} of them in "
-    return line + shortened_path(listing.findings.directory(number), WIDTH - len(line))
-
-
-def part_lines(listing: Listing, part: Part, room: int, read: Read) -> Iterator[str]:
-    """So many lines for a part, of low severity a few for each directory; the last one counts what
-    is not listed."""
-    limit = room
-    if part.size > room:
-        limit = room - 1
-    order = listing.in_order(part.level, part.owners, part.severity == SEVERITIES[-1])
-    listed = list(islice(order, limit))
-    for place in listed:
-        yield finding_line(listing.findings.finding(place), read)
-    if part.size > len(listed):
-        yield rest_line(listing, part, listed)
-
-
-def open_lines(listing: Listing, read: Read, limit: int) -> Iterator[str]:
+def open_lines(judged: Judged, height: int) -> Iterator[str]:
     """At most so many lines for open changes, each severity under its title."""
-    parts = parts_of(listing)
-    titles = {part.severity for part in parts}
-    rooms = rooms_of(parts, limit - len(titles))
+    room = MAIL._replace(height=max(height - len(SEVERITIES), 1))
     last = ""
-    for part, room in zip(parts, rooms):
-        if not room:
-            continue
+    for part in digest(judged.table, room, in_directory):
         if part.severity != last:
             yield f"Open, severity {part.severity}:"
         last = part.severity
-        yield from part_lines(listing, part, room, read)
+        for row in part.rows:
+            yield entry_line(row, judged.read, "  ", WIDTH)
+        yield from (f"  {words}" for words in part.rest)
 
 
 def are(count: int) -> str:
@@ -201,15 +109,15 @@ class Mail(NamedTuple):
 
 def text_of_changes(mail: Mail, judged: Judged) -> list[str]:
     """The lines of a mail about changes."""
-    listing = Listing(judged.findings)
     head = [*sentence(judged.counts), *note_lines(mail.warnings), ""]
     named = named_lines(judged)
     if named:
         head += [*named, ""]
-    groups = group_lines(judged, listing)
+    groups = group_lines(judged, MAX_GROUPS, WIDTH)
+    if groups:
+        groups.append("")
     end = end_lines(mail)
-    limit = MAX_LINES - len(head) - len(groups) - len(end) - 1
-    lines = list(open_lines(listing, judged.read, limit))
+    lines = list(open_lines(judged, MAX_LINES - len(head) - len(groups) - len(end) - 1))
     if lines:
         lines.append("")
     return [*head, *lines, *groups, *end]
@@ -229,19 +137,14 @@ def end_lines(mail: Mail) -> list[str]:
 
 
 def first_paths(changes: Iterable[Change]) -> list[str]:
-    """The first paths of changes that nobody has judged, those that were removed or changed
-    first."""
-    shares = Shares()
+    """The first paths of changes that nobody has judged, those that were removed or changed first,
+    and of each directory a few."""
+    listed: Counter[tuple[str, bytes]] = Counter()
     lines: dict[str, list[str]] = {"changed": [], "removed": [], "added": []}
     for change in changes:
-        directory = change.path.rpartition(b"/")[0]
-        tree = b"/".join(change.path.split(b"/")[:3])
-        limits: Limits = [
-            (change.kind, MAX_LINES),
-            ((change.kind, directory), DIRECTORY_SHARE),
-            ((change.kind, "tree", tree), TREE_SHARE),
-        ]
-        if shares.takes(limits):
+        place = (change.kind, change.path.rpartition(b"/")[0])
+        if len(lines[change.kind]) < MAX_LINES and listed[place] < DIRECTORY_SHARE:
+            listed[place] += 1
             line = f"  {change.kind:<7}  "
             lines[change.kind].append(line + shortened_path(change.path, WIDTH - len(line)))
     return [line for each in lines.values() for line in each]

@@ -31,7 +31,7 @@ def judge(comparison: Comparison, is_of_host: bool = True) -> Reviewed:
     except Exception as error:  # A fault here must not cost the alarm.
         why = why_of(error)
     else:
-        if is_of_host and judged.findings:
+        if is_of_host and len(judged.table):
             comparison = _grouped(judged, comparison)
         progress.note_step("the changes are judged")
         return Reviewed(comparison._replace(standings=judged.counts), judged)

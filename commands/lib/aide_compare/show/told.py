@@ -23,7 +23,7 @@ PLAIN = "\033[0m"
 COLOURS = {"high": RED, "medium": YELLOW}
 HOSTS_SEVERITY = "    (high|medium)(?=, )"
 SEVERITY = "(?m)^  (high|medium) "
-TITLE = "(?m)^(Open|Recorded):$"
+TITLE = "(?m)^(Open|Recorded.*):$"
 
 
 def wants_colours(choice: str) -> bool:

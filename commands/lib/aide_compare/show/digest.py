@@ -1,0 +1,172 @@
+"""Which open changes a text lists if it has no room for all, and how it counts the others: one rule
+for the screen, for a mail, and for the report of many hosts.
+
+The order is that of changes/table.py. Each severity and each group of owners has a share of the
+lines, so that nobody but root pushes root's changes out of sight, and what some leave goes to the
+others, in their order. A party, which is a user, or a host of many, has a share too: what it has
+beyond that comes after all others. What is not listed is counted.
+"""
+from __future__ import annotations
+
+from collections import Counter
+from collections.abc import Callable, Iterator, Sequence
+from typing import NamedTuple
+
+from aide_compare.base.escapes import shown
+from aide_compare.base.paths import path_of
+from aide_compare.base.words import SEVERITIES
+from aide_compare.changes.table import LISTED, ORDER, Row, Table
+from aide_compare.lines.change import Change
+from aide_compare.show.entry import entry_words
+
+# Of each directory so many come before what all directories have more.
+FIRST_FEW = 5
+MAX_LETTERS = 400  # Of a path in a line of any width.
+# A path of which the middle is left out keeps so many bytes at each end.
+MIN_END = 12
+# What open changes of one severity and one group of owners have in common.
+PART = f"{LISTED} and level = ? and owners = ?"
+# The places of a part in their order, and whose they are: first the first few of each directory.
+TURN = f"row_number() over (partition by site order by {ORDER})"
+IN_ORDER = f"""
+select place, party from (select *, {TURN} as turn from changes where {PART})
+where turn <= ? order by turn > {FIRST_FEW}, {ORDER}
+"""
+
+Read = Callable[[Row], Change]
+# The words, in so many columns, for what the changes that are not listed are counted by.
+Names = Callable[[bytes, int], str]
+
+
+class Room(NamedTuple):
+    """What a text has room for."""
+
+    # How many lines the changes of a severity have at least: those of root, of services, and of all
+    # others.
+    shares: tuple[tuple[int, int, int], ...]
+    few: tuple[int, int, int]  # By severity, how many lines of one directory there are at most.
+    party: int  # How many lines a party has before all others.
+    named: int  # How many lines count what is not listed of one severity and one group.
+    height: int = 0  # How many lines there are; 0: those of the shares, and no more.
+    width: int = 0  # Of a line; 0: without a limit.
+
+
+SCREEN = Room(
+    shares=((2000, 100, 100), (200, 100, 100), (200, 100, 100)),
+    few=(2000, 20, 20),
+    party=50,
+    named=5,
+)
+MAIL = Room(
+    shares=((24, 4, 4), (6, 2, 2), (1, 1, 1)),
+    few=(80, 80, 5),
+    party=10,
+    named=1,
+    width=80,
+)
+
+
+class Part(NamedTuple):
+    """The open changes of one severity and one group of owners: those that are listed, and the
+    words that count the others."""
+
+    level: int
+    rows: list[Row]
+    rest: list[str]
+
+    @property
+    def severity(self) -> str:
+        return SEVERITIES[self.level]
+
+
+def rooms_of(sizes: Sequence[int], shares: Sequence[int], limit: int) -> list[int]:
+    """How much room each of some sizes has: its share, and of what all these leave the first ones
+    as much as they need."""
+    rooms = []
+    for size, share in zip(sizes, shares):
+        rooms.append(min(size, share, limit))
+        limit -= rooms[-1]
+    for place, size in enumerate(sizes):
+        more = min(limit, size - rooms[place])
+        rooms[place] += more
+        limit -= more
+    return rooms
+
+
+def in_directory(key: bytes, width: int) -> str:
+    """The words for a directory of which changes are counted."""
+    return f"in {shortened_path(path_of(key), width and width - len('in '))}"
+
+
+def digest(table: Table, room: Room, names: Names) -> Iterator[Part]:
+    """The parts of the open changes that there is room for."""
+    table.do("update changes set is_listed = false where is_listed")
+    question = f"select level, owners, count(*) from changes where {LISTED} group by 1, 2"
+    parts = list(table.ask(question))
+    sizes = [size for _, _, size in parts]
+    shares = [room.shares[level][owners] for level, owners, _ in parts]
+    height = room.height or sum(map(min, sizes, shares))
+    rooms = rooms_of(sizes, shares, height)
+    for (level, owners, size), lines in zip(parts, rooms):
+        if not lines:
+            continue
+        if size > lines:
+            lines = max(lines - room.named, 0)
+        places = chosen(table, level, owners, lines, room)
+        table.do_all("update changes set is_listed = true where place = ?", zip(places))
+        rest = rest_words(table, level, owners, room, names)
+        yield Part(level, [table.row(place) for place in places], list(rest))
+
+
+def chosen(table: Table, level: int, owners: int, limit: int, room: Room) -> list[int]:
+    """The places of the changes of a part that are listed, at most so many."""
+    places: list[int] = []
+    later: list[int] = []
+    spent: Counter[object] = Counter()
+    for place, party in table.ask(IN_ORDER, level, owners, room.few[level]):
+        if len(places) == limit:
+            break
+        if party is None or spent[party] < room.party:
+            spent[party] += 1
+            places.append(place)
+        elif len(later) < limit:
+            later.append(place)
+    return places + later[: limit - len(places)]
+
+
+def rest_words(table: Table, level: int, owners: int, room: Room, names: Names) -> Iterator[str]:
+    """How many changes of a part are not listed, and where most of them are, in a few lines."""
+    part = f"{PART} and not is_listed"
+    (left,) = next(table.ask(f"select count(*) from changes where {part}", level, owners))
+    most = f"select site, count(*) from changes where {part} group by 1 order by 2 desc, 1 limit ?"
+    for number, (site, count) in enumerate(table.ask(most, level, owners, room.named), 1):
+        if number < room.named or count == left:
+            words = f"and {count:,} more "
+        else:
+            words = f"and {left:,} more, {count:,} of them "
+        yield words + names(site, room.width and room.width - len("  ") - len(words))
+        left -= count
+
+
+def shortened_path(path: bytes, width: int) -> str:
+    """A path that is escaped, without its middle if it is longer than a line."""
+    text = shown(path, 4096)
+    width = width or MAX_LETTERS
+    if len(text) <= width:
+        return text
+    end = max(MIN_END, (width - len("...")) // 2)
+    return text[:end] + "..." + text[-end:]
+
+
+def entry_line(row: Row, read: Read, begin: str, width: int) -> str:
+    """As in "  changed  /usr/bin/ls: content, mode -rwxr-xr-x -> -rwsr-xr-x", after some beginning,
+    and with the words that fit."""
+    line = f"{begin}{row.kind:<7}  "
+    line += shortened_path(row.path, width and width - len(line))
+    separator = ": "
+    for word in entry_words(read(row)).split(", "):
+        if not word or 0 < width < len(line) + len(separator) + len(word):
+            break
+        line += separator + word
+        separator = ", "
+    return line

@@ -1,0 +1,125 @@
+"""What has changed of an entry, in the words of one line."""
+from __future__ import annotations
+
+import stat
+from typing import List, Optional
+
+from aide_compare.base.files import file_kind
+from aide_compare.base.words import date_of, minute_of
+from aide_compare.lines.attributes import STRENGTH
+from aide_compare.lines.change import Change, Values
+from aide_compare.lines.decoded import TYPES, kinds_of
+from aide_compare.lines.rights import ROOT
+
+TIMES_IN_ORDER = ("Mtime", "Ctime", "Atime")
+# What is named of an entry with its value of before and of now.
+PAIRS = {
+    "Type": "",
+    "Perm": "mode ",
+    "UID": "owner ",
+    "GID": "group ",
+    "Size": "size ",
+    "Linkcount": "links ",
+}
+OTHERS = {
+    "Lname": "target",
+    "ACL": "ACL",
+    "XAttrs": "extended attributes",
+    "SELinux": "SELinux",
+    "E2FSAttrs": "flags",
+    "Caps": "capabilities",
+}
+# What is named only if nothing else has changed.
+ALONE = {"Inode": "another inode", "Bcount": "blocks"}
+
+
+def _type_word(kind: Optional[str]) -> str:
+    """As in "directory"; "entry" if the type is not known."""
+    if kind not in TYPES:
+        return "entry"
+    return file_kind(TYPES[kind]).partition(" ")[2]
+
+
+def _value(values: Values, label: str, kind: Optional[str]) -> str:
+    """A value of an entry of this type as people read it: the mode as ls(1) prints it, such as
+    "-rwsr-xr-x"."""
+    if label == "Type":
+        return _type_word(kind)
+    value = values.get(label)
+    if value is None:
+        return "?"
+    if label == "Perm":
+        return stat.filemode(TYPES.get(kind or "", 0) | int(str(value), 8))
+    if value == ROOT and label in ("UID", "GID"):
+        return "root"
+    return str(value)
+
+
+def _seconds(values: Values, label: str) -> Optional[int]:
+    """A time of an entry; None if it has none."""
+    seconds = values.get(label)
+    return seconds if isinstance(seconds, int) else None
+
+
+def _when(old: Values, new: Values) -> List[str]:
+    """When an entry came or changed. The time of its inode comes first, since anybody can set the
+    other one back."""
+    for label in ("Ctime", "Mtime"):
+        seconds = _seconds(new, label)
+        if seconds is not None and _seconds(old, label) != seconds:
+            return [minute_of(seconds)]
+    return []
+
+
+def _one_side(values: Values, kind: Optional[str]) -> str:
+    """As in "-rwsr-xr-x root:root 1265648 bytes", without what was not measured."""
+    words = []
+    if "Perm" in values:
+        words.append(_value(values, "Perm", kind))
+    if "UID" in values or "GID" in values:
+        words.append(f"{_value(values, 'UID', kind)}:{_value(values, 'GID', kind)}")
+    if kind == "File" and "Size" in values:
+        words.append(f"{_value(values, 'Size', kind)} bytes")
+    return " ".join(words)
+
+
+def _time_words(old: Values, new: Values, label: str) -> str:
+    """As in "mtime 2026-11-24T06:00:00Z -> 2026-11-25T06:00:00Z"."""
+    dates = []
+    for values in (old, new):
+        seconds = _seconds(values, label)
+        dates.append("none" if seconds is None else date_of(seconds))
+    return f"{label.lower()} {dates[0]} -> {dates[1]}"
+
+
+def _changed_words(change: Change) -> str:
+    """As in "content, mode -rwxr-xr-x -> -rwsr-xr-x, 2026-11-25 06:00 UTC"."""
+    old, new = change.sides
+    old_kind, new_kind = kinds_of(change)
+    differ = {*old, *new}
+    words = []
+    if not differ.isdisjoint(STRENGTH):
+        words.append("content")
+    for label, word in PAIRS.items():
+        if label in differ:
+            before = _value(old, label, old_kind)
+            words.append(f"{word}{before} -> {_value(new, label, new_kind)}")
+    words += [word for label, word in OTHERS.items() if label in differ]
+    if not words:
+        words = [word for label, word in ALONE.items() if label in differ][:1]
+    if words:
+        return ", ".join(words + _when(old, new))
+    for label in TIMES_IN_ORDER:  # Only the first one that differs.
+        if label in differ:
+            return _time_words(old, new, label)
+    return ""
+
+
+def entry_words(change: Change) -> str:
+    """The words for an entry, by its line."""
+    if change.kind == "changed":
+        return _changed_words(change)
+    if change.kind == "removed":
+        return _one_side(change.old, change.type)
+    words = [_one_side(change.new, change.type), *_when({}, change.new)]
+    return ", ".join(word for word in words if word)

@@ -1,0 +1,76 @@
+"""What packages' records of this host have of the changes, package by package."""
+from __future__ import annotations
+
+from collections.abc import Iterator
+
+from aide_compare.base.escapes import guarded
+from aide_compare.base.words import counted
+from aide_compare.changes.judged import Judged
+from aide_compare.changes.table import MADE, RECORDED, Table
+from aide_compare.show.digest import MAX_LETTERS, shortened_path
+
+MAX_NAME = 40
+MAX_HIGH = 3  # Of each package so many paths of severity high are named.
+# The packages with recorded changes, those with most of severity high first; and those whose
+# scripts have made files.
+RECORDED_OF = (
+    f"select package, count(*), sum(level = 0) from changes where {RECORDED}"
+    " group by 1 order by 3 desc, 2 desc, 1"
+)
+MADE_OF = f"select package, count(*) from changes where {MADE} group by 1 order by 2 desc, 1"
+
+
+def files_words(count: int, high: int = 0) -> str:
+    files = counted(count, "file", ",")
+    if not high:
+        return files
+    return f"{files}, {high:,} of severity high"
+
+
+def high_line(table: Table, package: str, width: int) -> str:
+    """The paths of a package's changes of severity high."""
+    rows = table.rows(f"{RECORDED} and level = 0 and package = ?", package, order="place")
+    paths = [row.path for row in rows]
+    each = MAX_LETTERS
+    if width:
+        each = (width - len("    ") - 2 * len(paths)) // len(paths)
+    return "    " + ", ".join(shortened_path(path, each) for path in paths)
+
+
+def recorded_lines(table: Table, limit: int, width: int) -> Iterator[str]:
+    """A line for each package, as in "openssl 3.0.17-1: 41 files", and one for the paths of severity
+    high if they are few."""
+    packages = files = all_high = 0
+    for number, (package, count, high) in enumerate(table.ask(RECORDED_OF)):
+        if number < limit:
+            yield f"  {guarded(package)[:MAX_NAME]}: {files_words(count, high)}"
+            if 0 < high <= MAX_HIGH:
+                yield high_line(table, package, width)
+            continue
+        packages += 1
+        files += count
+        all_high += high
+    if packages:
+        yield f"  and {counted(packages, 'package')} more: {files_words(files, all_high)}"
+
+
+def made_lines(table: Table, limit: int) -> Iterator[str]:
+    """A line for each package whose scripts made files."""
+    files = 0
+    for number, (package, count) in enumerate(table.ask(MADE_OF)):
+        if number < limit:
+            yield f"  {guarded(package)[:MAX_NAME]}: {files_words(count)} made by its scripts"
+        else:
+            files += count
+    if files:
+        yield f"  and {files_words(files)} made by scripts of other packages"
+
+
+def group_lines(judged: Judged, limit: int, width: int) -> list[str]:
+    """The lines, with their title: of at most so many packages, and a third as many whose scripts
+    made files."""
+    table = judged.table
+    lines = [*recorded_lines(table, limit, width), *made_lines(table, limit // 3)]
+    if not lines:
+        return []
+    return [f"Recorded, as {judged.by} on this host says:", *lines]
