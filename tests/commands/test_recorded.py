@@ -260,7 +260,7 @@ class RecordedTest(CommandTest):
             LIB + b"fresh": "recorded fresh 1",
         }
         self.check("rpm's records", host, wanted)
-        line = "  tool 1:2-3: 2 files\n"
+        line = "  tool 1:2-3: 2 files, 1 of severity high\n"
         text = host.brief(self)
         self.assertIn(line, text, "their line")
         self.assertIn("\nNew packages: fresh 1\n", text, "one of which each path came")

@@ -32,7 +32,7 @@ def table(*rows: tuple[bytes, str, bool]) -> Table:
     for path, form, may_be_recorded in rows:
         known = Known(NOTHING_HELD, 0, form, True)
         key = key_of_path(path)
-        changes.add([Weighed("changed", key, 0, weight, known, may_be_recorded)])
+        changes.add([Weighed("changed", key, 0, 0, weight, known, may_be_recorded)])
     return changes
 
 
@@ -77,7 +77,7 @@ class RecordedTest(ModuleTest):
                 got = [len(asked) for asked in recorded._asked(table(*rows), None)]
             self.expect(f"{most} at once, of {size} bytes", got, counts)
         links = table((b"/a", "file", False), (b"/b", "link", True), (b"/c", "file", True))
-        every = {row.path: row for row in links.rows("place > 0")}
+        every = {b"/b": 1, b"/c": 2}
         self.expect("those of a content", list(recorded._asked(links, None)), [every])
         one = {b"/c": every[b"/c"]}
         self.expect("some", list(recorded._asked(links, b"/c".__eq__)), [one])

@@ -17,13 +17,13 @@ from aide_compare.lines.change import Counts, Standing
 from aide_compare.show.digest import MAIL, Room, digest, in_directory, rooms_of
 
 HELD = held_by(None, None)
-ONE_EACH = Room(shares=((1, 1, 1),) * 3, few=(9, 9, 9), party=1, named=1)
+ONE_EACH = Room(shares=((1, 1, 1),) * 3, few=(9, 9, 9), first=5, party=1, named=1)
 
 
 def change(path: bytes, level: str = "high", rank: int = 0, owner: Any = 0, **more: Any) -> Weighed:
     known = Known(HELD, owner, "file", False)
     kind = more.get("kind", "changed")
-    return Weighed(kind, key_of_path(path), 0, Weight(level, rank), known, False)
+    return Weighed(kind, key_of_path(path), 0, 0, Weight(level, rank), known, False)
 
 
 def table_of(*changes: Weighed) -> Table:
@@ -94,15 +94,17 @@ class TableTest(ModuleTest):
 
 class DigestTest(ModuleTest):
     def test_rooms(self) -> None:
-        for sizes, shares, limit, rooms in (
-            ([9, 9], [4, 2], 6, [4, 2]),
-            ([9, 9], [4, 2], 20, [9, 9]),
-            ([9, 9], [4, 2], 12, [9, 3]),
-            ([1, 9], [4, 2], 6, [1, 5]),
-            ([9, 9], [4, 2], 3, [3, 0]),
-            ([9], [4], 0, [0]),
+        """Its share of each comes before what the first ones need beyond it."""
+        for limit, shares, sizes, rooms in (
+            (6, [4, 2], [9, 9], [4, 2]),
+            (20, [4, 2], [9, 9], [9, 9]),
+            (12, [4, 2], [9, 9], [9, 3]),
+            (6, [1, 2], [1, 9], [1, 5]),
+            (3, [4, 2], [9, 9], [3, 0]),
+            (0, [4], [9], [0]),
         ):
-            self.gives(rooms, rooms_of, sizes, shares, limit)
+            self.gives(rooms, rooms_of, limit, shares, sizes)
+        self.gives([4, 3, 1], rooms_of, 8, [1, 1, 1], [2, 3, 1], [9, 9, 9])
 
     def test_few(self) -> None:
         """The first few of each directory come before what directories have more."""
@@ -123,8 +125,25 @@ class DigestTest(ModuleTest):
         room = ONE_EACH._replace(shares=((9, 9, 5),) * 3, party=2)
         wanted = [b"/a/0", b"/a/1", b"/b", b"/a/2"]
         self.expect("users", listed(table, room), [("high", wanted, ["and 6 more in /a"])])
+        flood = [change(b"/a/%d" % number, owner=None) for number in range(9)]
+        table = table_of(*flood, change(b"/b", rank=5))
+        wanted = [b"/a/0", b"/a/1", b"/b", *(b"/a/%d" % number for number in range(2, 9))]
+        room = room._replace(shares=((99, 9, 9),) * 3)
+        self.expect("an owner that was not measured", listed(table, room)[0][1], wanted)
         of_root = table_of(*(change(b"/a/%d" % number) for number in range(9)))
         self.expect("root", [len(part[1]) for part in listed(of_root, room)], [9])
+
+    def test_hosts(self) -> None:
+        """What some parts leave goes to the first changes of each host before all others."""
+        many = [change(b"/a/%d" % number) for number in range(9)]
+        table = table_of(*many, *(change(b"/%s" % name, "low") for name in (b"b", b"c", b"d")))
+        table.do("update changes set party = null, site = level")
+        room = ONE_EACH._replace(height=6, first=2, is_of_hosts=True)
+        parts = list(digest(table, room, lambda host, _: f"on {host}"))
+        self.expect("places", [part.places for part in parts], [[0, 1, 2], [9]])
+        self.expect(
+            "the rest", [part.rest for part in parts], [["and 6 more on 0"], ["and 2 more on 2"]]
+        )
 
     def test_rest(self) -> None:
         """What has no line is counted by directory, in as many lines as there are for it."""

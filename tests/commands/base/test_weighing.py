@@ -62,7 +62,7 @@ class WeighingTest(ModuleTest):
         self.assertLess(came.weight.rank, went.weight.rank)
         for side in (OLD, {**OLD, "Pad": "x" * MAX_LINE}):
             again = weighed(scales, fields_of(letters, old=side, new=set_id))
-            self.assertEqual(again[:5], came[:5], "known, or too long to be kept")
+            self.assertEqual(again.weight, came.weight, "known, or too long to be kept")
         self.assertEqual((came.line_at, came.known.owner, came.known.form), (7, 0, "file"))
 
     def test_differing(self) -> None:

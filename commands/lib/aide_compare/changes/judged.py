@@ -87,10 +87,13 @@ class Judged:
         self.by = records.by
         self.counts = self._counted()
 
+    def line(self, row: Row) -> bytes:
+        self.file.seek(row.line_at)
+        return self.file.read(row.line_size)
+
     def read(self, row: Row) -> Change:
         """The values of a change, as its line has them."""
-        self.file.seek(row.line_at)
-        return change_of(json.loads(self.file.readline()))
+        return change_of(json.loads(self.line(row)))
 
     def lines(self, reader: Reader) -> Iterator[JudgedLine]:
         """The lines of the same changes once more."""

@@ -9,6 +9,7 @@ from typing import Callable, Dict, Iterable, Iterator, List, Optional, Set
 
 from aide_compare.base.ending import Fault
 from aide_compare.base.files import BLOCK, open_regular
+from aide_compare.base.paths import path_of
 from aide_compare.changes.packages import Dpkg, Member, Members
 from aide_compare.changes.rpm import Rpm
 from aide_compare.changes.table import Row, Table
@@ -31,8 +32,8 @@ STRONG_BYTES = 32
 Read = Callable[[Row], Change]
 
 
-# Rows by their paths.
-Asked = Dict[bytes, Row]
+# The places of rows by their paths: some thousand are in memory at once.
+Asked = Dict[bytes, int]
 
 
 def digests_of(values: Values) -> Dict[str, bytes]:
@@ -138,10 +139,11 @@ def _asked(changes: Table, may_have: Optional[Callable[[bytes], bool]]) -> Itera
     """The changes that may be recorded, some thousand at once."""
     asked: Asked = {}
     size = 0
-    for row in changes.rows("may_be_recorded", order="place"):
-        path = row.path
+    question = "select place, path_key from changes where may_be_recorded order by place"
+    for place, key in changes.ask(question):
+        path = path_of(key)
         if may_have is None or may_have(path):
-            asked[path] = row
+            asked[path] = place
             size += len(path)
         if len(asked) >= MAX_ASKED or size > MAX_BYTES:
             yield asked
@@ -186,16 +188,16 @@ class Matcher:
         for them, for the sources of compiled files and for the targets of links."""
         sources = {path: source for path in asked if (source := source_of(path)) is not None}
         wanted = {*asked, *map(self.usr, sources.values())}
-        for path, row in asked.items():
-            if row.form == "link":
-                target = target_of(path, self.read(row).new)
-                if target is not None:
-                    wanted.add(self.usr(target))
+        links = "form = 'link' and place between ? and ?"
+        for row in changes.rows(links, min(asked.values()), max(asked.values())):
+            target = target_of(row.path, self.read(row).new)
+            if target is not None:
+                wanted.add(self.usr(target))
         self.members = self.records.members(wanted, self.usr)
         self.changed = changes.among(sources.values())
-        for path, row in asked.items():
+        for path, place in asked.items():
             if path in self.members or path in sources:
-                self._note(changes, row)
+                self._note(changes, changes.row(place))
 
     def _note(self, changes: Table, row: Row) -> None:
         """Notes the package of a change, if it is recorded or was made by that."""

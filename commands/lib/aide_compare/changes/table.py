@@ -19,11 +19,12 @@ from aide_compare.base.words import SEVERITIES
 from aide_compare.changes.importance import Importance
 from aide_compare.changes.weighing import Weighed
 from aide_compare.lines.change import Counts, Standing
+from aide_compare.lines.rights import ROOT
 
 # Bounds of a table: its rows, and the bytes of its file, in pages. A table of more is refused.
-MAX_ROWS = 200000
+MAX_ROWS = 1000000
 PAGE = 4096
-MAX_PAGES = (4 << 30) // PAGE
+MAX_PAGES = (16 << 30) // PAGE
 SETTINGS = (
     "journal_mode = off",
     "synchronous = off",
@@ -32,16 +33,18 @@ SETTINGS = (
     "cache_size = -2000",
 )
 MAX_NUMBER = (1 << 63) - 1  # Of SQLite.
+UNKNOWN = -1  # In place of the number of a user that was not measured.
 SLASH = b"\1"  # In a key.
 SCHEMA = """
 create table changes (
     place integer primary key, path_key blob, site blob, kind text, level integer, owners integer,
-    rank integer, party integer, form text, may_be_recorded integer, line_at integer, standing text,
-    package text, is_listed integer
+    hosts integer, rank integer, party integer, form text, may_be_recorded integer,
+    line_at integer, line_size integer, standing text, package text, is_listed integer
 )"""
-INSERT = f"insert into changes values ({', '.join(14 * '?')})"
-# What people read first, as in changes/importance.py. The path has the last word.
-ORDER = "level, owners, rank, kind = 'added', place"
+INSERT = f"insert into changes values ({', '.join(16 * '?')})"
+# What people read first, as in changes/importance.py, and what the fewest of many hosts have. The
+# path has the last word.
+ORDER = "level, owners, hosts, rank, kind = 'added', place"
 # What a list of open changes has. Files that a package's scripts made are told by their package.
 LISTED = "standing = 'open' and (package = '' or level = 0)"
 MADE = "standing = 'open' and package <> '' and level > 0"
@@ -53,15 +56,17 @@ class Row(NamedTuple):
 
     place: int  # In the order of paths.
     path_key: bytes
-    site: bytes  # The key of its directory.
+    site: bytes  # The key of its directory; the number of a host, of the changes of many.
     kind: str
     level: int  # The place of its severity in SEVERITIES.
     owners: int  # The group of its owner.
+    hosts: int  # How many hosts have it, of many.
     rank: int  # Within its severity: a smaller one is read first.
-    party: int | None  # The user who could have many changes; None for root.
+    party: int | None  # The user who may have many changes, or UNKNOWN; None for root.
     form: str  # "file", "link" or "".
     may_be_recorded: bool
     line_at: int  # Where its line begins.
+    line_size: int
     standing: str
     package: str  # The name and the version, of one that is recorded or was made by its scripts.
     is_listed: bool
@@ -143,9 +148,11 @@ class Table:
                 raise Fault(Status.DEVICE, text)
             known = change.known
             importance = change.importance
-            party = None
-            if importance.owners:
-                party = min(known.owner or 0, MAX_NUMBER)
+            party = known.owner
+            if party is None:
+                party = UNKNOWN
+            elif party == ROOT:
+                party = None
             yield (
                 place,
                 change.key,
@@ -153,15 +160,20 @@ class Table:
                 change.kind,
                 importance.level,
                 importance.owners,
+                1,
                 importance.rank,
-                party,
+                party and min(party, MAX_NUMBER),
                 known.form,
                 change.is_content,
                 change.line_at,
+                change.line_size,
                 Standing.OPEN.value,
                 "",
                 False,
             )
+
+    def count_rows(self) -> None:
+        (self.size,) = next(self.ask("select count(*) from changes"))
 
     def rows(self, condition: str = "true", *values: object, order: str = ORDER) -> Iterator[Row]:
         """Yields rows in an order, the one in which people read them if no other is given."""

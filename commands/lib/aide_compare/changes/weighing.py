@@ -44,6 +44,7 @@ class Weighed(NamedTuple):
     kind: str
     key: bytes
     line_at: int
+    line_size: int
     weight: Weight
     known: Known
     is_content: bool  # Whether nothing but a content came or changed.
@@ -107,6 +108,7 @@ class Scales:
             outline.kind,
             outline.key,
             line_at,
+            len(outline.line),
             self.severity.weight(outline.path, known.held),
             known,
             known.has_content and is_content(fields, known.form == "link"),

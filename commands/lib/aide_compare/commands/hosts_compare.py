@@ -1,7 +1,6 @@
 """aide-compare hosts compare: the databases of many hosts fetched and compared, some at a time."""
 from __future__ import annotations
 
-import json
 from contextlib import suppress
 from functools import partial
 from typing import Iterator, NamedTuple, Sequence
@@ -10,7 +9,6 @@ from aide_compare.base.ending import Fault, Status, fault_of, say, tell, write_a
 from aide_compare.base.escapes import guarded
 from aide_compare.base.files import copy_file, open_regular
 from aide_compare.base.directories import closed_after
-from aide_compare.base.line_sorter import LineSorter
 from aide_compare.base.kinds import duration, matching
 from aide_compare.base.options import (
     CONFIG,
@@ -28,11 +26,11 @@ from aide_compare.commands.defaults import exclusions_of
 from aide_compare.compare.state import State, is_alarm
 from aide_compare.hosts.canary import Run, failed_note, keep_run, trusted_pair, used_note
 from aide_compare.hosts.fetching import fetch
+from aide_compare.hosts.fleet import Fleet
 from aide_compare.hosts.host_comparison import MAX_JUDGED, MAX_KEPT, Settings, compare
 from aide_compare.hosts.hosts_read import hosts_of, read_host
 from aide_compare.hosts.hosts_text import WHY, not_listed
 from aide_compare.hosts.reported import HostCounts
-from aide_compare.hosts.shares import rank_of
 from aide_compare.hosts.store import (
     ERRORS,
     HOSTS_FILE,
@@ -41,8 +39,6 @@ from aide_compare.hosts.store import (
     share_of,
 )
 from aide_compare.hosts.workers import PAUSE, HostResult, Work, results, without_name
-from aide_compare.lines.change import Fields, change_of
-from aide_compare.lines.reader import ENCODE
 from aide_compare.show.changes import change_lines
 
 NAME = "aide-compare hosts compare"
@@ -159,18 +155,11 @@ def compare_all(request: HostsCompareRequest, hosts: Sequence[str]) -> int:
 def print_changes(name: str, store: str, seconds: int) -> None:
     """What the comparison of a single host has noted, its changes for people, the most severe
     first, and how to accept them."""
-    sorter = LineSorter()
-
-    def keep(fields: Fields) -> None:
-        level = rank_of(fields["severity"])
-        is_added = fields["kind"] == "added"
-        key = b"%d%d%05d%d" % (level, fields["owners"], fields["rank"], is_added)
-        sorter.put(b"%s\t%s\n" % (key, ENCODE(fields).encode()))
-
-    host = read_host(name, store, seconds, 0, keep)
-    for line in sorter.lines():
-        fields = json.loads(line.partition(b"\t")[2])
-        text = f"\n{fields['severity']} " + "".join(change_lines(change_of(fields)))
+    fleet = Fleet([name])
+    host = read_host(name, store, seconds, 0, partial(fleet.add, 0))
+    fleet.gather()
+    for row in fleet.table.rows():
+        text = f"\n{row.severity} " + "".join(change_lines(fleet.shared(row, 0).change))
         write_all(1, text.encode("utf-8", "backslashreplace"))
     with closed_after(open_regular(f"{store}/hosts/{name}/{ERRORS}")) as errors:
         copy_file(errors, 2)

@@ -2,7 +2,6 @@
 page or as a mail."""
 from __future__ import annotations
 
-import json
 import os
 import shlex
 from functools import partial
@@ -10,8 +9,6 @@ from typing import Iterable, Iterator, NamedTuple, Optional, Sequence
 
 from aide_compare.base import progress
 from aide_compare.base.ending import Fault, Status, write_blocks
-from aide_compare.base.files import private_file
-from aide_compare.base.line_sorter import LineSorter
 from aide_compare.base.options import (
     ATTACH_PAGE,
     HOST_STORE,
@@ -29,11 +26,11 @@ from aide_compare.base.words import counted
 from aide_compare.commands.mail import Heartbeat, count_quiet_run
 from aide_compare.commands.mail_request import with_days
 from aide_compare.hosts.canary import notes_of
-from aide_compare.hosts.host_changes import Found, SameChanges
+from aide_compare.hosts.fleet import Fleet
 from aide_compare.hosts.hosts_page import page
 from aide_compare.hosts.hosts_read import hosts_of, read_host
 from aide_compare.hosts.hosts_text import Report, headline, report_lines, short_lines
-from aide_compare.hosts.reported import CUT, UNREADABLE, Host, HostCounts, SharedChange, Summary
+from aide_compare.hosts.reported import CUT, UNREADABLE, HostCounts, Summary
 from aide_compare.hosts.store import HOSTS_FILE, share_of
 from aide_compare.lines.reader import ENCODE
 from aide_compare.mail.message import build, clean, within
@@ -96,39 +93,18 @@ def command_text(words: Iterable[str]) -> str:
     return "\n  ".join(lines)
 
 
-def read_hosts(names: Sequence[str], request: ReportRequest) -> tuple[list[Host], SameChanges]:
-    """All hosts, which are read one after the other, and their changes."""
-    changes = SameChanges()
-    hosts = []
-    for number, name in enumerate(names):
-        store = request.stores[share_of(name, len(request.stores)) - 1]
-        add = partial(changes.add, number)
-        hosts.append(read_host(name, store, request.seconds, request.max_age, add))
-    return hosts, changes
-
-
-def sort_key(found: Found) -> bytes:
-    """What a change is sorted by: its severity and its owner, how many hosts have it, and then as
-    for one host. Those with one key stay in the order of paths."""
-    place = found.place
-    row = (place.level, place.owners, found.hosts, place.rank, place.is_added)
-    return b"%d%d%012d%05d%d" % row
-
-
 class HostsReport:
-    """The report: the summary, the hosts, and the objects of the changes in a private file.
-
-    In that file each change has a line: the numbers of the hosts that may pay for it, a tab, and
-    its object.
-    """
+    """The report: the summary, the hosts, and their changes in one table."""
 
     def __init__(self, names: Sequence[str], request: ReportRequest) -> None:
-        self.hosts, same_changes = read_hosts(names, request)
+        self.fleet = Fleet(names)
+        self.hosts = []
+        for number, name in enumerate(names):
+            store = request.stores[share_of(name, len(request.stores)) - 1]
+            take = partial(self.fleet.add, number)
+            self.hosts.append(read_host(name, store, request.seconds, request.max_age, take))
+        self.fleet.gather()
         self.command = command_text(command_words(request))
-        self.body = private_file()
-        is_json = request.format == "json"
-        changes = same_changes.found(names, len(names) if is_json else MAX_NAMES)
-        count = self._sort(changes, is_by_path=is_json)
         self.worst = max(host.status for host in self.hosts)
         notes = notes_of(request.stores, self.hosts)
         # Silent differences are no reason for a mail.
@@ -145,41 +121,20 @@ class HostsReport:
             counts=counts,
             cut=sum(host.report == CUT for host in self.hosts),
             not_listed=sum(host.report == UNREADABLE for host in self.hosts),
-            changes=count,
+            changes=len(self.fleet.table),
             canary=notes.lines,
         )
 
-    def _sort(self, changes: Iterator[Found], is_by_path: bool) -> int:
-        """Writes the changes in the order of their paths, or first what matters most. Returns how
-        many."""
-        sorter = LineSorter()
-        count = 0
-        for found in changes:
-            key = b"" if is_by_path else sort_key(found)
-            numbers = ",".join(map(str, found.payers)).encode()
-            sorter.put(b"%s\t%s\t%s\n" % (key, numbers, ENCODE(found.fields).encode()))
-            count += 1
-        for line in sorter.lines():
-            self.body.write(line.partition(b"\t")[2])
-        self.body.flush()
-        return count
-
-    def changes(self) -> Iterator[SharedChange]:
-        self.body.seek(0)
-        for line in self.body:
-            numbers, _, text = line.partition(b"\t")
-            yield SharedChange(json.loads(text), [int(number) for number in numbers.split(b",")])
-
     def report(self) -> Report:
-        return Report(self.summary, self.hosts, self.changes, self.command)
+        shared = partial(self.fleet.shared, max_names=MAX_NAMES)
+        return Report(self.summary, self.hosts, self.fleet.table, shared, self.command)
 
     def json(self) -> Iterator[bytes]:
-        """Yields the lines of JSON."""
+        """Yields the lines of JSON, the changes in the order of paths."""
         for fields in (self.summary.fields(), *(host.fields() for host in self.hosts)):
             yield ENCODE(fields).encode() + b"\n"
-        self.body.seek(0)
-        for line in self.body:
-            yield line.partition(b"\t")[2]
+        for row in self.fleet.table.rows(order="place"):
+            yield ENCODE(self.fleet.shared(row, len(self.hosts)).fields).encode() + b"\n"
 
     def text(self, color: str) -> Iterator[bytes]:
         """Yields the lines of the whole text, with severities in colours."""

@@ -16,7 +16,7 @@ from aide_compare.compare.comparison import Comparison, Request
 from aide_compare.compare.exclusions import Exclusions
 from aide_compare.compare.state import State
 from aide_compare.compare.unpack import Copy, copy_database
-from aide_compare.hosts.findings import write_findings
+from aide_compare.hosts.kept_lines import write_kept
 from aide_compare.hosts.store import BASELINE, ERRORS, LINES, NEW, HostDirectory, write_cause
 from aide_compare.show.told import told_of
 
@@ -78,7 +78,7 @@ def keep_findings(
     """Keeps the changes that are not silent. Returns the comparison with their standings."""
     with closing(NewFile(directory.fd)) as part:
         limit = min(settings.max_kept, directory.room(settings.jobs))
-        standings = write_findings(part.fd, comparison, limit)
+        standings = write_kept(part.fd, comparison, limit)
         if standings is None:
             return comparison.doubtful("the changes are too many to be judged")
         part.put(LINES)

@@ -2,15 +2,22 @@
 the hosts that have it."""
 from __future__ import annotations
 
-from array import array
+from collections import Counter
 from html import escape
-from typing import Iterator, Sequence
+from typing import Iterator, NamedTuple, Sequence
 
 from aide_compare.base.escapes import shown_note
 from aide_compare.base.files import private_file
-from aide_compare.hosts.hosts_text import ORDER, Report, canary_lines, headline, host_lists
+from aide_compare.hosts.hosts_text import (
+    ORDER,
+    Report,
+    canary_lines,
+    headline,
+    host_lists,
+    room_of,
+)
 from aide_compare.hosts.reported import SharedChange
-from aide_compare.hosts.shares import Selection, rank_of
+from aide_compare.show.digest import digest
 from aide_compare.show.page_heading import MAX_PAGE, RESERVE, Beginning, CountRow
 from aide_compare.show.page_heading import counts_line, number
 from aide_compare.show.page_items import encoded, entry_of, head_of, item, table
@@ -18,7 +25,15 @@ from aide_compare.show.page_items import encoded, entry_of, head_of, item, table
 MAX_LIST = 1500000  # Of each list of hosts.
 MAX_CAUSE = 1000
 MAX_COMMAND = 4000
-SEVERITY_BITS = 60
+MIN_ITEM = 400  # So many bytes most items have at least.
+
+
+class Item(NamedTuple):
+    """Where an item is in a private file, and a number for its hosts."""
+
+    hosts: int
+    start: int
+    size: int
 
 
 def host_list(title: str, lines: Sequence[str]) -> str:
@@ -82,41 +97,37 @@ def item_of(shared: SharedChange, hosts: int) -> bytes:
     return item(encoded(head_of(entry, where)), encoded(inner))
 
 
-def group_of(shared: SharedChange) -> int:
-    """A number for the severity and the hosts of a change."""
-    hosts = hash((shared.hosts, *shared.names)) & (1 << SEVERITY_BITS) - 1
-    return rank_of(shared.severity) << SEVERITY_BITS | hosts
-
-
-def grouped(places: Sequence[int], groups: Sequence[int]) -> Iterator[int]:
-    """The places of one group together. Of one severity the smallest group comes first, so that
-    nothing that some hosts have many of stands before what others have."""
-    rows: dict[int, list[int]] = {}
-    for place in places:
-        rows.setdefault(groups[place], []).append(place)
-    for _, row in sorted(rows.items(), key=lambda item: (item[0] >> SEVERITY_BITS, len(item[1]))):
-        yield from row
+def grouped(items: list[Item]) -> Iterator[Item]:
+    """The items of a severity: those of the same hosts together, and the smallest group first, so
+    that nothing that some hosts have many of stands before what others have."""
+    sizes = Counter(item.hosts for item in items)
+    yield from sorted(items, key=lambda item: (sizes[item.hosts], item.hosts))
 
 
 def page(report: Report, limit: int = 0) -> Iterator[bytes]:
-    """Yields the page, of at most so many bytes. The most severe changes have room first; of one
-    severity those of the same hosts come together."""
-    count = report.summary.changes
+    """Yields the page, of at most so many bytes. The most severe changes have room first."""
+    total = report.summary.changes
     limit = limit or MAX_PAGE
-    room = max(limit - len(head(report, count, count)) - RESERVE, 0)
-    selection = Selection(room, report.summary.counts.differ)
+    limit -= len(head(report, total, total)) + RESERVE
     items = private_file()
-    ends = [0]
-    groups = array("Q")  # Of each change its severity, and a number for its hosts.
-    for shared in report.changes():
-        groups.append(group_of(shared))
-        text = item_of(shared, report.summary.counts.hosts)
-        selection.offer(shared.severity, shared.payers, len(text))
-        items.write(text)
-        ends.append(ends[-1] + len(text))
-    yield head(report, sum(selection.left_out.values()), selection.left_out["high"])
+    listed: dict[int, list[Item]] = {}
+    remaining = limit
+    for part in digest(report.table, room_of(report, max(limit // MIN_ITEM, 1)), lambda *_: ""):
+        for row in part.rows:
+            shared = report.shared(row)
+            text = item_of(shared, report.summary.counts.hosts)
+            remaining -= len(text)
+            if remaining < 0:
+                break
+            hosts = hash((shared.hosts, *shared.names))
+            listed.setdefault(row.level, []).append(Item(hosts, items.tell(), len(text)))
+            items.write(text)
+    (all_high,) = next(report.table.ask("select count(*) from changes where level = 0"))
+    left_out = total - sum(map(len, listed.values()))
+    yield head(report, left_out, all_high - len(listed.get(0, ())))
     yield b'<div id="content" tabindex="-1">\n<ul>\n'
-    for place in grouped(selection.in_order(), groups):
-        items.seek(ends[place])
-        yield items.read(ends[place + 1] - ends[place])
+    for level in sorted(listed):
+        for place in grouped(listed[level]):
+            items.seek(place.start)
+            yield items.read(place.size)
     yield b"</ul>\n</div>\n</main>\n</body>\n</html>\n"

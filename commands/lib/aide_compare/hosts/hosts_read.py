@@ -14,13 +14,12 @@ from aide_compare.base.files import open_regular, read_file, read_whole
 from aide_compare.base.directories import closed_after
 from aide_compare.base.words import SEVERITIES, age_in_words, date_of
 from aide_compare.compare.state import State, read_state
-from aide_compare.hosts.findings import Findings
+from aide_compare.hosts.kept_lines import KeptLines
 from aide_compare.hosts.reported import CUT, UNREADABLE, WHOLE, Host
 from aide_compare.hosts.store import LINES, HostDirectory, check_name
 from aide_compare.lines.change import Fields
-from aide_compare.lines.reader import Refused
+from aide_compare.lines.reader import Outline, Refused
 
-MEMBERS = frozenset("kind path path_hex summary type old new severity owners rank".split())
 MAX_LIST = 16 << 20
 # What a disk says of a place that is damaged, and a file system of the network of a file that is
 # gone there.
@@ -71,8 +70,7 @@ def host_in(directory: HostDirectory, max_age: int) -> Host:
 
 
 class KeptChanges:
-    """The changes in the lines that were kept of a host: by iteration the object of each, once;
-    then how many are `listed`, and what the lines are, as the `report` of a Host says it."""
+    """The changes in the lines that were kept of a host: by iteration each of them, once; then how many are `listed`, and what the lines are, as the `report` of a Host says it."""
 
     def __init__(self, directory: HostDirectory, host: Host) -> None:
         self.path = directory.file(LINES)
@@ -80,16 +78,16 @@ class KeptChanges:
         self.report = UNREADABLE
         self.listed = 0
 
-    def __iter__(self) -> Iterator[Fields]:
+    def __iter__(self) -> Iterator[tuple[Outline, Fields]]:
         try:
             with closed_after(open_regular(self.path)) as descriptor:
-                findings = Findings(descriptor)
-                for fields in findings:
-                    self.listed = findings.listed
-                    yield {name: value for name, value in fields.items() if name in MEMBERS}
-                if findings.told == self.told:  # Otherwise they are the lines of another run.
+                lines = KeptLines(descriptor)
+                for change in lines:
+                    self.listed = lines.listed
+                    yield change
+                if lines.told == self.told:  # Otherwise they are the lines of another run.
                     self.report = CUT
-                    if findings.listed == findings.told:
+                    if lines.listed == lines.told:
                         self.report = WHOLE
         except (Fault, Refused):
             pass
@@ -100,7 +98,7 @@ class KeptChanges:
 
 
 def read_host(
-    name: str, store: str, seconds: int, max_age: int, take: Callable[[Fields], None]
+    name: str, store: str, seconds: int, max_age: int, take: Callable[[Outline, Fields], None]
 ) -> Host:
     """Reads what a store keeps of a host, and gives each change to `take`. No run is at work on the
     host then."""
@@ -118,8 +116,8 @@ def read_host(
         if not host.differs:
             return host
         kept = KeptChanges(directory, host)
-        for fields in kept:
-            take(fields)
+        for outline, fields in kept:
+            take(outline, fields)
         return host._replace(report=kept.report, listed=kept.listed)
     finally:
         directory.close()

@@ -5,15 +5,15 @@ many lines and columns that people read it.
 """
 from __future__ import annotations
 
-from itertools import groupby
 from typing import Callable, Iterable, Iterator, NamedTuple, Sequence
 
 from aide_compare.base.escapes import guarded, shown
 from aide_compare.base.words import KINDS, SEVERITIES, counted
+from aide_compare.changes.table import Row, Table
 from aide_compare.hosts.reported import CUT, UNREADABLE, Host, SharedChange, Summary
-from aide_compare.hosts.shares import Selection, rank_of
-from aide_compare.lines.attributes import STRENGTH
+from aide_compare.lines.change import Change
 from aide_compare.show.changes import values_in
+from aide_compare.show.digest import MAIL, Room, digest, entry_line
 
 MAX_ROWS = 80
 MAX_COLUMNS = 80
@@ -23,27 +23,13 @@ MAX_MISSING = 12
 MAX_NOTES = 4
 MAX_CUT = 6
 NAMES_WIDTH = 18
-MAX_LETTERS = 400
+# A host has one of so many parts of the lines, or less if more of them have something to list.
+PARTS = 8
 WHY = {
     CUT: "its changes were cut",
     UNREADABLE: "its changes cannot be read, or are too many",
 }
 ORDER = "those on the fewest hosts first"
-# What has changed of an entry, in a word, by the attributes that differ.
-WORDS = {
-    "Type": "type",
-    "Lname": "target",
-    "Perm": "mode",
-    "UID": "owner",
-    "GID": "group",
-    "ACL": "ACL",
-    "Caps": "capabilities",
-    "XAttrs": "extended attributes",
-    "SELinux": "SELinux",
-    "E2FSAttrs": "flags",
-}
-# What is said only if nothing else is.
-LESSER_WORDS = {"Size": "size", "Linkcount": "links", "Inode": "inode", "Bcount": "blocks"}
 
 
 class Report(NamedTuple):
@@ -51,7 +37,8 @@ class Report(NamedTuple):
 
     summary: Summary
     hosts: list[Host]
-    changes: Callable[[], Iterable[SharedChange]]  # Each call begins anew.
+    table: Table  # The changes.
+    shared: Callable[[Row], SharedChange]
     command: str  # The command that prints the whole text.
 
 
@@ -154,8 +141,8 @@ def report_lines(report: Report) -> Iterator[str]:
     if summary.changes:
         yield f"{counted(summary.changes, 'different change')}, {ORDER}:"
         yield ""
-    for shared in report.changes():
-        yield from change_lines(shared, summary.counts.hosts)
+    for row in report.table.rows():
+        yield from change_lines(report.shared(row), summary.counts.hosts)
 
 
 def shortened(text: str, width: int) -> str:
@@ -189,41 +176,24 @@ def more_hosts(count: int) -> str:
     return f" +{count}"
 
 
-def what_changed(shared: SharedChange) -> str:
-    """What has changed of an entry, in few words; of one that came its mode."""
-    change = shared.change
-    if change.kind == "removed":
-        return ""
-    texts = {label: new for label, _, new in values_in(change, shared.various)}
-    if change.kind == "added":
-        return texts.get("Perm") or ""
-    words = [word for label, word in WORDS.items() if label in texts]
-    if any(label in texts for label in STRENGTH):
-        words.insert(0, "content")
-    words = words or [word for label, word in LESSER_WORDS.items() if label in texts]
-    return ", ".join(words) or "times"
+def grouped_lines(report: Report, rows: Iterable[Row]) -> Iterator[str]:
+    """The lines of some changes, with those of the same hosts together, of which only the first one
+    names them."""
+    groups: dict[tuple[str, ...], list[Row]] = {}
+    shared = {}
+    for row in rows:
+        change = report.shared(row)
+        shared[row.place] = change
+        groups.setdefault((*change.names, str(change.hosts)), []).append(row)
 
+    def read(row: Row) -> Change:
+        return shared[row.place].change
 
-def grouped_lines(changes: Iterable[SharedChange]) -> Iterator[str]:
-    """The lines of changes, those of the same hosts together. Only the first line names them."""
-    groups: dict[tuple[str, ...], list[SharedChange]] = {}
-    for shared in changes:
-        groups.setdefault((*shared.names, str(shared.hosts)), []).append(shared)
     for first, *others in groups.values():
-        yield short_line(first, short_names(first))
-        for shared in others:
-            yield short_line(shared, "")
-
-
-def short_line(shared: SharedChange, names: str) -> str:
-    """The line of a change in a short text."""
-    begin = f"  {names:<{NAMES_WIDTH}}  {shared.change.kind:<7}  "
-    width = MAX_COLUMNS - len(begin)
-    what = shortened(what_changed(shared), width // 2)
-    if what:
-        what = ": " + what
-    path = shown(shared.change.path, MAX_LETTERS)
-    return begin + shortened(path, width - len(what)) + what
+        names = short_names(shared[first.place])
+        yield entry_line(first, read, f"  {names:<{NAMES_WIDTH}}  ", MAX_COLUMNS)
+        for row in others:
+            yield entry_line(row, read, f"  {'':<{NAMES_WIDTH}}  ", MAX_COLUMNS)
 
 
 def short_list(title: str, lines: Sequence[str], rows: int) -> Iterator[str]:
@@ -241,32 +211,27 @@ def short_list(title: str, lines: Sequence[str], rows: int) -> Iterator[str]:
     yield ""
 
 
-def severity_of(shared: SharedChange) -> str:
-    """Its severity; the highest one if nobody knows it."""
-    return SEVERITIES[rank_of(shared.severity)]
+def room_of(report: Report, height: int) -> Room:
+    """The room of a text or a page with so many lines for changes: a host has an eighth, or less if
+    more hosts have something to list, before the others have more."""
+    share = max(height // max(PARTS, report.summary.counts.differ), 1)
+    return MAIL._replace(height=height, few=(height,) * 3, first=share, is_of_hosts=True)
 
 
-def selection_of(report: Report, rows: int) -> Selection:
-    """The Selection of a text that has so many rows for changes."""
-    selection = Selection(rows, report.summary.counts.differ)
-    for shared in report.changes():
-        selection.offer(shared.severity, shared.payers)
-    return selection
+def short_changes(report: Report, height: int) -> Iterator[str]:
+    """At most so many lines for changes, each severity under its title."""
 
+    def on_host(number: int, width: int) -> str:
+        return f"on {shortened(report.hosts[number].name, width - 3)}"
 
-def left_out_lines(report: Report, selection: Selection) -> Iterator[str]:
-    """How many changes a short text leaves out, by severity, and of which hosts most of them
-    are."""
-    total = sum(selection.left_out.values())
-    if not total:
-        return
-    counts = [
-        f"{selection.left_out[name]} {name}" for name in SEVERITIES if selection.left_out[name]
-    ]
-    yield f"Left out: {counted(total, 'more change')}, {', '.join(counts)}."
-    host = max(selection.left_out_by, key=selection.left_out_by.__getitem__)
-    name = shortened(report.hosts[host].name, MAX_COLUMNS - 30)
-    yield f"Of these {selection.left_out_by[host]} on {name}."
+    room = room_of(report, max(height - len(SEVERITIES), 1))
+    last = ""
+    for part in digest(report.table, room, on_host):
+        if part.severity != last:
+            yield f"Open, severity {part.severity}:"
+        last = part.severity
+        yield from grouped_lines(report, part.rows)
+        yield from (f"  {words}" for words in part.rest)
 
 
 def short_lines(report: Report) -> Iterator[str]:
@@ -277,17 +242,10 @@ def short_lines(report: Report) -> Iterator[str]:
     head += [headline(summary), summary.counts.others(), ""]
     head += short_list("Not compared", lists["Not compared"], MAX_MISSING)
     head += short_list("Not all listed", lists["Not all changes are listed"], MAX_CUT)
-    # A line for each severity with an empty one, what is left out, and the command at the end.
-    selection = selection_of(report, MAX_ROWS - len(head) - 2 * len(SEVERITIES) - 6)
-    places = selection.in_order()
-    wanted = set(places)
-    chosen = {place: shared for place, shared in enumerate(report.changes()) if place in wanted}
     yield from head
-    for severity, group in groupby((chosen[place] for place in places), key=severity_of):
-        yield f"{severity.capitalize()}:"
-        yield from grouped_lines(group)
-        yield ""
-    yield from left_out_lines(report, selection)
+    # An empty line, and the command at the end.
+    yield from short_changes(report, MAX_ROWS - len(head) - 6)
     if summary.changes:
+        yield ""
         yield "All changes with their values:"
         yield "  " + report.command

@@ -99,16 +99,14 @@ class Host(NamedTuple):
 
 
 class SharedChange:
-    """A change that `hosts` of all have: the `names` of the first ones, and the numbers of those
-    that may pay for its room.
+    """A change that `hosts` of all have: the `names` of the first ones.
 
     `various` are the attributes whose old values are not the same on all of them, `per_host` those
     whose values are of each host and are not kept.
     """
 
-    def __init__(self, fields: Fields, payers: Sequence[int]) -> None:
-        self._fields = fields
-        self.payers = payers
+    def __init__(self, fields: Fields) -> None:
+        self.fields = fields
         self.hosts: int = fields["hosts"]
         self.names: Sequence[str] = fields["names"]
         self.severity: str = fields.get("severity", "")
@@ -118,7 +116,7 @@ class SharedChange:
     @cached_property
     def change(self) -> Change:
         """The change itself, which is made only of those that are shown."""
-        return change_of(self._fields)
+        return change_of(self.fields)
 
     def names_text(self) -> str:
         """The hosts that have it, the first ones by their names."""

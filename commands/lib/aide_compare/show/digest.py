@@ -10,7 +10,7 @@ from __future__ import annotations
 
 from collections import Counter
 from collections.abc import Callable, Iterator, Sequence
-from typing import NamedTuple
+from typing import Any, NamedTuple
 
 from aide_compare.base.escapes import shown
 from aide_compare.base.paths import path_of
@@ -19,8 +19,6 @@ from aide_compare.changes.table import LISTED, ORDER, Row, Table
 from aide_compare.lines.change import Change
 from aide_compare.show.entry import entry_words
 
-# Of each directory so many come before what all directories have more.
-FIRST_FEW = 5
 MAX_LETTERS = 400  # Of a path in a line of any width.
 # A path of which the middle is left out keeps so many bytes at each end.
 MIN_END = 12
@@ -29,13 +27,22 @@ PART = f"{LISTED} and level = ? and owners = ?"
 # The places of a part in their order, and whose they are: first the first few of each directory.
 TURN = f"row_number() over (partition by site order by {ORDER})"
 IN_ORDER = f"""
-select place, party from (select *, {TURN} as turn from changes where {PART})
-where turn <= ? order by turn > {FIRST_FEW}, {ORDER}
+select place, party
+from (select place, party, level, owners, hosts, rank, kind, {TURN} as turn from changes where {PART})
+where turn <= ? order by turn > ?, {ORDER}
+"""
+SIZES = f"select level, owners, count(*), count(*) from changes where {LISTED} group by 1, 2"
+# The same, and how many of them are among the first of a host.
+SIZES_OF_HOSTS = f"""
+select level, owners, count(*), sum(turn <= ?)
+from (select level, owners, row_number() over (partition by level, owners, site) as turn
+    from changes where {LISTED})
+group by 1, 2
 """
 
 Read = Callable[[Row], Change]
-# The words, in so many columns, for what the changes that are not listed are counted by.
-Names = Callable[[bytes, int], str]
+# The words, in so many columns, for a site by which the changes that are not listed are counted.
+Names = Callable[[Any, int], str]
 
 
 class Room(NamedTuple):
@@ -45,8 +52,10 @@ class Room(NamedTuple):
     # others.
     shares: tuple[tuple[int, int, int], ...]
     few: tuple[int, int, int]  # By severity, how many lines of one directory there are at most.
+    first: int  # So many of each directory, or host, come before what all have more.
     party: int  # How many lines a party has before all others.
     named: int  # How many lines count what is not listed of one severity and one group.
+    is_of_hosts: bool = False  # What some leave goes to the first of each host before all others.
     height: int = 0  # How many lines there are; 0: those of the shares, and no more.
     width: int = 0  # Of a line; 0: without a limit.
 
@@ -54,12 +63,14 @@ class Room(NamedTuple):
 SCREEN = Room(
     shares=((2000, 100, 100), (200, 100, 100), (200, 100, 100)),
     few=(2000, 20, 20),
+    first=5,
     party=50,
     named=5,
 )
 MAIL = Room(
     shares=((24, 4, 4), (6, 2, 2), (1, 1, 1)),
     few=(80, 80, 5),
+    first=5,
     party=10,
     named=1,
     width=80,
@@ -71,7 +82,8 @@ class Part(NamedTuple):
     words that count the others."""
 
     level: int
-    rows: list[Row]
+    places: list[int]
+    rows: Iterator[Row]
     rest: list[str]
 
     @property
@@ -79,17 +91,15 @@ class Part(NamedTuple):
         return SEVERITIES[self.level]
 
 
-def rooms_of(sizes: Sequence[int], shares: Sequence[int], limit: int) -> list[int]:
-    """How much room each of some sizes has: its share, and of what all these leave the first ones
-    as much as they need."""
-    rooms = []
-    for size, share in zip(sizes, shares):
-        rooms.append(min(size, share, limit))
-        limit -= rooms[-1]
-    for place, size in enumerate(sizes):
-        more = min(limit, size - rooms[place])
-        rooms[place] += more
-        limit -= more
+def rooms_of(limit: int, *steps: Sequence[int]) -> list[int]:
+    """How much room each of some has, such as its share, and then its size: in each step the first
+    ones get as much as they need, if it is left."""
+    rooms = [0] * len(steps[0])
+    for step in steps:
+        for place, wanted in enumerate(step):
+            more = max(0, min(limit, wanted - rooms[place]))
+            rooms[place] += more
+            limit -= more
     return rooms
 
 
@@ -101,13 +111,15 @@ def in_directory(key: bytes, width: int) -> str:
 def digest(table: Table, room: Room, names: Names) -> Iterator[Part]:
     """The parts of the open changes that there is room for."""
     table.do("update changes set is_listed = false where is_listed")
-    question = f"select level, owners, count(*) from changes where {LISTED} group by 1, 2"
-    parts = list(table.ask(question))
-    sizes = [size for _, _, size in parts]
-    shares = [room.shares[level][owners] for level, owners, _ in parts]
-    height = room.height or sum(map(min, sizes, shares))
-    rooms = rooms_of(sizes, shares, height)
-    for (level, owners, size), lines in zip(parts, rooms):
+    if room.is_of_hosts:
+        parts = list(table.ask(SIZES_OF_HOSTS, room.first))
+    else:
+        parts = list(table.ask(SIZES))
+    sizes = [size for _, _, size, _ in parts]
+    shares = [min(size, room.shares[level][owners]) for level, owners, size, _ in parts]
+    height = room.height or sum(shares)
+    rooms = rooms_of(height, shares, [first for _, _, _, first in parts], sizes)
+    for (level, owners, size, _), lines in zip(parts, rooms):
         if not lines:
             continue
         if size > lines:
@@ -115,7 +127,7 @@ def digest(table: Table, room: Room, names: Names) -> Iterator[Part]:
         places = chosen(table, level, owners, lines, room)
         table.do_all("update changes set is_listed = true where place = ?", zip(places))
         rest = rest_words(table, level, owners, room, names)
-        yield Part(level, [table.row(place) for place in places], list(rest))
+        yield Part(level, places, map(table.row, places), list(rest))
 
 
 def chosen(table: Table, level: int, owners: int, limit: int, room: Room) -> list[int]:
@@ -123,7 +135,7 @@ def chosen(table: Table, level: int, owners: int, limit: int, room: Room) -> lis
     places: list[int] = []
     later: list[int] = []
     spent: Counter[object] = Counter()
-    for place, party in table.ask(IN_ORDER, level, owners, room.few[level]):
+    for place, party in table.ask(IN_ORDER, level, owners, room.few[level], room.first):
         if len(places) == limit:
             break
         if party is None or spent[party] < room.party:

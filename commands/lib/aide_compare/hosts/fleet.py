@@ -1,0 +1,144 @@
+"""The changes of all hosts, in one table: each change once, with the hosts that have it.
+
+Two hosts have the same change if path, kind and type are the same, and the new values too. Values
+that are of one host do not count: times, inodes, and what the file system makes of a file.
+"""
+from __future__ import annotations
+
+import hashlib
+import json
+from collections.abc import Iterable, Iterator, Sequence
+
+from aide_compare.base.words import SIDES
+from aide_compare.changes.table import ORDER, Row, Table
+from aide_compare.changes.weighing import Scales
+from aide_compare.hosts.reported import SharedChange
+from aide_compare.lines.attributes import FORMS
+from aide_compare.lines.change import Fields
+from aide_compare.lines.reader import ENCODE, Outline
+from aide_compare.lines.rights import differing
+
+OWN = frozenset(["Bcount", "Atime", "Mtime", "Ctime", "Inode", "Linkcount"])
+MEMBERS = frozenset("kind path path_hex summary type old new".split())
+# The changes of each host: what makes one the same as others, the digest of its old values, the
+# attributes that are of the host, and its line, which the first of those that are the same has.
+FOUND = """
+create table found (
+    host integer, path_key blob, same blob, kind text, level integer, owners integer, rank integer,
+    old blob, own text, line blob
+)"""
+INDEX = "create index found_same on found (same, host)"
+INSERT = """
+insert into found values (
+    ?1, ?2, ?3, ?4, ?5, ?6, ?7, ?8, ?9,
+    case when exists (select 1 from found where same = ?3) then null else ?10 end
+)"""
+LOADS = "create table loads as select host, count(*) as load from found group by host"
+# Each change once. It counts against the host that has the fewest changes of those that have it: in
+# the row this is the site, and `line_at` says which of the changes of a host it is.
+GATHER = """
+insert into changes
+select row_number() over (order by path_key, same) - 1, path_key, host, kind, level, owners, hosts,
+    rank, null, '', false, place, 0, 'open', '', false
+from (
+    select *, found.rowid as place, count(*) as hosts, min(load)
+    from found join loads using (host) group by same
+)"""
+SAME = """
+select host, old, own, line from found
+where same = (select same from found where rowid = ?) order by host"""
+
+
+def digest_of(*values: object) -> bytes:
+    return hashlib.sha256(ENCODE(values).encode()).digest()[:16]
+
+
+def label_of(name: str) -> str:
+    """The attribute that a member of a side is of."""
+    return name.removesuffix("_hex")
+
+
+def without(side: Fields, labels: Iterable[str]) -> Fields:
+    """A side without the values of some attributes."""
+    return {name: value for name, value in side.items() if label_of(name) not in labels}
+
+
+class Fleet:
+    """Takes the changes of all hosts, one host after the other, and finds those that are the
+    same."""
+
+    def __init__(self, names: Sequence[str]) -> None:
+        self.names = names
+        self.scales = Scales()
+        self.table = Table()
+        self.table.do(FOUND)
+        self.table.do(INDEX)
+
+    def add(self, host: int, outline: Outline, fields: Fields) -> None:
+        """Takes a change of the host with this number."""
+        importance = self.scales.weighed(outline, 0).importance
+        fields = differing(fields)
+        own = OWN
+        if fields.get("type") == "Directory":
+            own = OWN | {"Size"}  # The size of a directory is one of these values, too.
+        old = fields.get("old", {})
+        new = fields.get("new", {})
+        labels = {label_of(name) for name in (*old, *new)}
+        what = (outline.path.hex(), outline.kind, fields.get("type"), importance[:2])
+        row = (
+            host,
+            outline.key,
+            digest_of(what, sorted(labels - own), without(new, own)),
+            outline.kind,
+            importance.level,
+            importance.owners,
+            importance.rank,
+            digest_of(without(old, own)),
+            ",".join(labels & own),
+            outline.line,
+        )
+        self.table.do(INSERT, *row)
+
+    def gather(self) -> None:
+        """Makes one of the changes that are the same, when all were taken."""
+        self.table.do(LOADS)
+        self.table.do(GATHER)
+        self.table.count_rows()
+
+    def changes(self, max_names: int, order: str = ORDER) -> Iterator[SharedChange]:
+        """Yields all changes in an order, each with at most so many of the names of its hosts."""
+        return (self.shared(row, max_names) for row in self.table.rows(order=order))
+
+    def shared(self, row: Row, max_names: int) -> SharedChange:
+        """A change on some hosts. Values that are of one host are shown if there is only one; of old
+        values that are not the same, only the names of their attributes."""
+        hosts: list[int] = []
+        olds: set[bytes] = set()
+        owns: set[str] = set()
+        text = b""
+        for host, old, own, line in self.table.ask(SAME, row.line_at):
+            hosts.append(host)
+            olds.add(old)
+            owns.update(own.split(","))
+            text = line or text
+        whole = differing(json.loads(text))
+        fields: Fields = {name: value for name, value in whole.items() if name in MEMBERS}
+        fields["severity"] = row.severity
+        if len(hosts) > 1:
+            blend(fields, owns)
+            if len(olds) > 1:
+                fields["old_various"] = [label_of(name) for name in fields.pop("old")]
+        fields["hosts"] = len(hosts)
+        fields["names"] = [self.names[host] for host in hosts[:max_names]]
+        return SharedChange({"record": "change", **fields})
+
+
+def blend(fields: Fields, owns: set[str]) -> None:
+    """Takes the values that are of one host out of the object of a change on several."""
+    fields.pop("summary", None)
+    per_host = [label for label in FORMS if label in owns]
+    for side in SIDES:
+        if side in fields:
+            fields[side] = without(fields[side], per_host)
+    if per_host:
+        fields["per_host"] = per_host
