@@ -36,10 +36,11 @@ class HostsBriefTest(CommandTest):
         hosts.compared(texts)
         for text in (hosts.report("--format=brief").output, mailed(self, hosts)):
             self.assertRegex(text, r"evil1, good1 \+1 +changed +/etc/shadow")
-            left = re.search(r"Left out: (\d+) more changes, ", text)
+            left = re.findall(r"(?m)^  and ([\d,]+) more", text)
             listed = len(re.findall("(?m)^  (?:evil1)? +added +/etc/cron.d/", text))
-            self.assertEqual(listed + int(left.group(1) if left else 0), FLOOD, text)
-            self.assertIn("on evil1.", text, "whose are left out")
+            rest = sum(int(count.replace(",", "")) for count in left)
+            self.assertEqual(listed + rest, FLOOD, text)
+            self.assertIn("on evil1\n", text, "whose are left out")
 
     def test_crowd(self) -> None:
         """Ten hosts with floods of long names push nothing of the others out of the mail or the
@@ -65,13 +66,14 @@ class HostsBriefTest(CommandTest):
         texts = {host: (OLD, database(SHADOW, *both)) for host in ("good1", "good2")}
         texts["evil"] = (OLD, database(SHADOW, own))
         hosts.compared(texts)
-        rows = hosts.report("--format=brief").output.partition("High:\n")[2].split("\n")[:5]
-        found = [row.split() for row in rows]
+        text = hosts.report("--format=brief").output
+        rows = text.partition("Open, severity high:\n")[2].split("\n")[:5]
+        found = [row.partition(": ")[0].split() for row in rows]
         wanted = [
-            ["evil", "added", "/etc/cron.d/1a:", "-rw-r--r--"],
-            ["good1,", "good2", "added", "/etc/cron.d/0:", "-rw-r--r--"],
-            *(["added", f"/etc/cron.d/{number}:", "-rw-r--r--"] for number in (1, 2)),
-            ["good1,", "good2,", "evil", "changed", "/etc/shadow:", "content"],
+            ["evil", "added", "/etc/cron.d/1a"],
+            ["good1,", "good2", "added", "/etc/cron.d/0"],
+            *(["added", f"/etc/cron.d/{number}"] for number in (1, 2)),
+            ["good1,", "good2,", "evil", "changed", "/etc/shadow"],
         ]
         self.assertEqual(sorted(found), sorted(wanted), rows)
         at = found.index(wanted[1])
@@ -97,4 +99,4 @@ class HostsBriefTest(CommandTest):
         self.assertIsNotNone(missing, text)
         if missing is not None:
             self.assertEqual(int(missing.group(1)), int(missing.group(3)) + 11)
-        self.assertIn(": -rwsr-xr-x\n", text, "a mode")
+        self.assertIn(": -rwsr-xr-x", text, "a mode")

@@ -156,7 +156,7 @@ class SizesTest(MailTest):
         return done.returncode, 1 + counts.count("process"), counts.count("file")
 
     def test_weight(self) -> None:
-        """An alarm takes three processes and eight files without a name at the most, of any number
+        """An alarm takes three processes and seven files without a name at the most, of any number
         of changes, also as the unit of systemd asks for it: then the program is asked first which
         databases the configuration names.
         """
@@ -171,10 +171,10 @@ class SizesTest(MailTest):
         short = [*queue, "-A", "report_level=summary", "old.db", "new.db"]
         for label, words, wanted in (
             ("with a page", ["--attach-page", *queue, "old.db", "new.db"], (7, 2, 7)),
-            ("the unit's", [*unit, "-c", "conf"], (7, 3, 6)),
-            ("of a short report", short, (7, 2, 5)),
-            ("by sendmail", ["old.db", "new.db"], (7, 3, 4)),
-            ("a large one of the unit", [*unit, "-c", "large"], (4, 3, 6)),
-            ("without some paths", [*unit, "-c", "large", "--exclude", "/y"], (4, 3, 8)),
+            ("the unit's", [*unit, "-c", "conf"], (7, 3, 5)),
+            ("of a short report", short, (7, 2, 4)),
+            ("by sendmail", ["old.db", "new.db"], (7, 3, 3)),
+            ("a large one of the unit", [*unit, "-c", "large"], (4, 3, 5)),
+            ("without some paths", [*unit, "-c", "large", "--exclude", "/y"], (4, 3, 7)),
         ):
             self.assertEqual(self.weight_of(*words), wanted, "processes and files: " + label)

@@ -9,15 +9,12 @@ import signal
 import subprocess
 import sys
 from typing import Any
-from unittest import mock
 
 from tests.commands.base import TOP
 from tests.commands.sandbox import Answer, CommandTest
 from tests.lib.program_test import slow
 from tests.lib.waiting import until
 from tests.oracle.fields import decoded
-
-from aide_compare.base import line_sorter
 
 COMMAND = [os.path.join(TOP, "commands", "bin", "aide-compare"), "sort"]
 BEGIN, END = b"# c\n@@begin_db\n@@db_spec attr name size\n", b"@@end_db\nrest\n\nmore"
@@ -156,23 +153,6 @@ class SortingTest(CommandTest):
         limited = ["sh", "-c", 'ulimit -f 4096; exec "$@"', "sh"]
         answer = self.sort(gzip.compress(text), before=limited)
         self.expect("no room for the copy", answer, 18, b"", b"too large")
-
-    def test_merges(self) -> None:
-        """Runs of some lines, three of which become one, and three of these again: their order, and
-        that few files are open."""
-        pick = random.Random(7)
-        names = (b"a", b"a\x01b", b"a\x0bb")
-        with mock.patch.multiple(line_sorter, MAX_HELD=1000, MERGED=3):
-            for count in (0, 1, 5, 100, 1000, 3000):
-                lines = [b"%s\t%d\n" % (pick.choice(names), number) for number in range(count)]
-                sorter = line_sorter.LineSorter()
-                most = 0
-                for line in lines:
-                    sorter.put(line)
-                    most = max(most, len(sorter.runs))
-                wanted = sorted(lines, key=lambda line: line.split(b"\t")[0])
-                self.assertEqual(list(sorter.lines()), wanted)
-                self.assertLessEqual(most, 15, count)
 
     def measured(self, text: bytes, *words: str) -> Answer:
         """The answer of a command that takes no more than 64 MB."""

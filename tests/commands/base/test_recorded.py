@@ -17,22 +17,18 @@ from aide_compare.changes.recorded import (
     source_of,
     target_of,
 )
-from aide_compare.changes.severity import Weight, held_by
 from aide_compare.changes.table import Table
-from aide_compare.changes.weighing import Known, Weighed
+from aide_compare.changes.weighing import Weighed
 
-NOTHING_HELD = held_by(None, None)
 COMPILED = b"/a/__pycache__/b.cpython-311%s.pyc"
 
 
 def table(*rows: tuple[bytes, str, bool]) -> Table:
     """A table of changed entries with these paths and forms, and whether records are asked."""
     changes = Table()
-    weight = Weight("medium", 3)
     for path, form, may_be_recorded in rows:
-        known = Known(NOTHING_HELD, 0, form, True)
-        key = key_of_path(path)
-        changes.add([Weighed("changed", key, 0, 0, weight, known, may_be_recorded)])
+        row = ("changed", 1, 0, 3, None, form, may_be_recorded, 0, 0)
+        changes.add([Weighed(key_of_path(path), b"", *row)])
     return changes
 
 
@@ -77,7 +73,7 @@ class RecordedTest(ModuleTest):
                 got = [len(asked) for asked in recorded._asked(table(*rows), None)]
             self.expect(f"{most} at once, of {size} bytes", got, counts)
         links = table((b"/a", "file", False), (b"/b", "link", True), (b"/c", "file", True))
-        every = {b"/b": 1, b"/c": 2}
+        every = {b"/b": 2, b"/c": 3}
         self.expect("those of a content", list(recorded._asked(links, None)), [every])
         one = {b"/c": every[b"/c"]}
         self.expect("some", list(recorded._asked(links, b"/c".__eq__)), [one])

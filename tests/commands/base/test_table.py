@@ -8,28 +8,31 @@ from unittest import mock
 
 from tests.commands.base.calls import ModuleTest
 
+from aide_compare.base import rows
 from aide_compare.base.paths import key_of_path
+from aide_compare.base.words import SEVERITIES
 from aide_compare.changes import table as tables
-from aide_compare.changes.severity import Weight, held_by
-from aide_compare.changes.table import Table, directory_of
-from aide_compare.changes.weighing import Known, Weighed
+from aide_compare.changes.importance import group_of_owner
+from aide_compare.changes.table import Table
+from aide_compare.changes.weighing import Weighed, directory_of, party_of
 from aide_compare.lines.change import Counts, Standing
 from aide_compare.show.digest import MAIL, Room, digest, in_directory, rooms_of
 
-HELD = held_by(None, None)
 ONE_EACH = Room(shares=((1, 1, 1),) * 3, few=(9, 9, 9), first=5, party=1, named=1)
 
 
 def change(path: bytes, level: str = "high", rank: int = 0, owner: Any = 0, **more: Any) -> Weighed:
-    known = Known(HELD, owner, "file", False)
+    key = key_of_path(path)
     kind = more.get("kind", "changed")
-    return Weighed(kind, key_of_path(path), 0, 0, Weight(level, rank), known, False)
+    owners = group_of_owner(owner)
+    place = (SEVERITIES.index(level), owners, rank, party_of(owner))
+    return Weighed(key, directory_of(key), kind, *place, "file", False, 0, 0)
 
 
 def table_of(*changes: Weighed) -> Table:
     """A table of changes, which come in any order here."""
     table = Table()
-    table.add(sorted(changes, key=lambda each: each.key))
+    table.add(sorted(changes, key=lambda each: each.path_key))
     return table
 
 
@@ -67,8 +70,8 @@ class TableTest(ModuleTest):
     def test_notes(self) -> None:
         """What records say of a change, until it is forgotten."""
         table = table_of(change(b"/a"), change(b"/b", "low"), change(b"/c", "low"))
-        table.note(0, Standing.RECORDED, "tool 1")
-        table.note(1, Standing.OPEN, "tool 1")
+        table.note(1, Standing.RECORDED, "tool 1")
+        table.note(2, Standing.OPEN, "tool 1")
         wanted = Counts(recorded=1, recorded_high=1, open=2, open_low=2)
         self.expect("the counts", table.counts(), wanted)
         room = ONE_EACH._replace(shares=((9, 9, 9),) * 3)
@@ -82,9 +85,9 @@ class TableTest(ModuleTest):
         few = [change(b"/%d" % number) for number in range(3)]
         with mock.patch.object(tables, "MAX_ROWS", 2):
             self.fails(18, "there are more than 2 changes", table_of, *few)
-        with mock.patch.object(tables, "SETTINGS", ("max_page_count = 9",)):
+        with mock.patch.object(rows.Rows.__init__, "__defaults__", (9 * rows.PAGE,)):
             many = [change(b"/%d" % number + b"n" * 999) for number in range(99)]
-            self.fails(18, "cannot keep the changes in ", table_of, *many)
+            self.fails(18, "cannot keep rows in ", table_of, *many)
         table = table_of(*few)
         self.fails(18, "no such column", lambda: list(table.rows("odd")))
         self.fails(18, "no such table", table.do, "delete from odd")
@@ -140,7 +143,7 @@ class DigestTest(ModuleTest):
         table.do("update changes set party = null, site = level")
         room = ONE_EACH._replace(height=6, first=2, is_of_hosts=True)
         parts = list(digest(table, room, lambda host, _: f"on {host}"))
-        self.expect("places", [part.places for part in parts], [[0, 1, 2], [9]])
+        self.expect("places", [part.places for part in parts], [[1, 2, 3], [10]])
         self.expect(
             "the rest", [part.rest for part in parts], [["and 6 more on 0"], ["and 2 more on 2"]]
         )

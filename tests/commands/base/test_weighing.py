@@ -59,11 +59,11 @@ class WeighingTest(ModuleTest):
         letters = SAME[:4] + "p" + SAME[5:]
         came = weighed(scales, fields_of(letters, old=OLD, new=set_id))
         went = weighed(scales, fields_of(letters, old={**OLD, "Perm": "4755"}, new=NEW))
-        self.assertLess(came.weight.rank, went.weight.rank)
+        self.assertLess(came.rank, went.rank)
         for side in (OLD, {**OLD, "Pad": "x" * MAX_LINE}):
             again = weighed(scales, fields_of(letters, old=side, new=set_id))
-            self.assertEqual(again.weight, came.weight, "known, or too long to be kept")
-        self.assertEqual((came.line_at, came.known.owner, came.known.form), (7, 0, "file"))
+            self.assertEqual(again[:-1], came[:-1], "known, or too long to be kept")
+        self.assertEqual((came.line_at, came.party, came.form), (7, None, "file"))
 
     def test_differing(self) -> None:
         """A right whose letter says no difference is no value of the change; all others stay."""
@@ -118,4 +118,4 @@ class WeighingTest(ModuleTest):
             ("a mode that is not known", fields_of(old=old, new=unknown), False),
             ("another owner", fields_of(old=OLD, new={**NEW, "UID": 1}), False),
         ):
-            self.expect(label, weighed(scales, fields).is_content, is_it)
+            self.expect(label, weighed(scales, fields).may_be_recorded, is_it)

@@ -4,8 +4,6 @@ from __future__ import annotations
 
 from typing import NamedTuple, Optional
 
-from aide_compare.base.words import SEVERITIES
-from aide_compare.changes.severity import Weight
 from aide_compare.lines.rights import ROOT
 
 FIRST_USER = 1000  # The first number of a user who is no service, as in login.defs(5).
@@ -28,9 +26,3 @@ def group_of_owner(owner: Optional[int]) -> int:
     if owner < FIRST_USER:
         return 1
     return 2
-
-
-def importance_of(weight: Weight, owner: Optional[int], kind: str) -> Importance:
-    """The place of a change of this weight, of a file of this owner."""
-    level = SEVERITIES.index(weight.level)
-    return Importance(level, group_of_owner(owner), weight.rank, kind == "added")

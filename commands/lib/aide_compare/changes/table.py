@@ -1,47 +1,32 @@
-"""The changes that are not silent, as the rows of one table: in a temporary database of SQLite, of
-which little is in memory however many rows there are. Its file has no name, and is made only if the
-rows have no room in memory.
-
-Whatever people read of many changes is a question to this table, in the one order of ORDER.
-"""
+"""The changes that are not silent, as the rows of one table. Whatever people read of many changes is
+a question to it, in the one order of ORDER."""
 from __future__ import annotations
 
 from collections import Counter
 from collections.abc import Iterable, Iterator
-from contextlib import contextmanager
-from typing import Any, NamedTuple
+from itertools import islice
+from typing import NamedTuple
 
 from aide_compare.base.ending import Fault, Status
-from aide_compare.base.escapes import shown
-from aide_compare.base.files import NAME_ANOTHER, private_directory
 from aide_compare.base.paths import key_of_path, path_of
+from aide_compare.base.rows import Rows
 from aide_compare.base.words import SEVERITIES
 from aide_compare.changes.importance import Importance
 from aide_compare.changes.weighing import Weighed
 from aide_compare.lines.change import Counts, Standing
-from aide_compare.lines.rights import ROOT
 
-# Bounds of a table: its rows, and the bytes of its file, in pages. A table of more is refused.
+# A table of more rows is refused.
 MAX_ROWS = 1000000
-PAGE = 4096
-MAX_PAGES = (16 << 30) // PAGE
-SETTINGS = (
-    "journal_mode = off",
-    "synchronous = off",
-    f"page_size = {PAGE}",
-    f"max_page_count = {MAX_PAGES}",
-    "cache_size = -2000",
-)
-MAX_NUMBER = (1 << 63) - 1  # Of SQLite.
-UNKNOWN = -1  # In place of the number of a user that was not measured.
-SLASH = b"\1"  # In a key.
 SCHEMA = """
 create table changes (
     place integer primary key, path_key blob, site blob, kind text, level integer, owners integer,
-    hosts integer, rank integer, party integer, form text, may_be_recorded integer,
-    line_at integer, line_size integer, standing text, package text, is_listed integer
+    rank integer, party integer, form text, may_be_recorded integer, line_at integer,
+    line_size integer, hosts integer default 1, standing text default 'open',
+    package text default '', is_listed integer default false
 )"""
-INSERT = f"insert into changes values ({', '.join(16 * '?')})"
+INSERT = f"""
+insert into changes ({', '.join(Weighed._fields)})
+values ({', '.join('?' for _ in Weighed._fields)})"""
 # What people read first, as in changes/importance.py, and what the fewest of many hosts have. The
 # path has the last word.
 ORDER = "level, owners, hosts, rank, kind = 'added', place"
@@ -60,13 +45,13 @@ class Row(NamedTuple):
     kind: str
     level: int  # The place of its severity in SEVERITIES.
     owners: int  # The group of its owner.
-    hosts: int  # How many hosts have it, of many.
     rank: int  # Within its severity: a smaller one is read first.
-    party: int | None  # The user who may have many changes, or UNKNOWN; None for root.
+    party: int | None  # The user who may have many changes; None for root.
     form: str  # "file", "link" or "".
     may_be_recorded: bool
     line_at: int  # Where its line begins.
     line_size: int
+    hosts: int  # How many hosts have it, of many.
     standing: str
     package: str  # The name and the version, of one that is recorded or was made by its scripts.
     is_listed: bool
@@ -84,93 +69,23 @@ class Row(NamedTuple):
         return Importance(self.level, self.owners, self.rank, self.kind == "added")
 
 
-def directory_of(key: bytes) -> bytes:
-    """The key of the directory in which an entry is, by the key of its path; none for the root."""
-    above = key.rpartition(SLASH)[0]
-    if above or key == SLASH:
-        return above
-    return SLASH
-
-
-class Table:
+class Table(Rows):
     """Takes changes in the order of paths, and gives them in any order."""
 
     def __init__(self) -> None:
-        # 8 ms that a run without a difference does not need.
-        import sqlite3
-
-        self.error = sqlite3.Error
+        super().__init__(SCHEMA)
         self.size = 0
-        with self._failing():
-            self._database = sqlite3.connect("", isolation_level=None)
-        for setting in SETTINGS:
-            self.do(f"pragma {setting}")
-        self.do("begin")
-        self.do(SCHEMA)
-
-    @contextmanager
-    def _failing(self) -> Iterator[None]:
-        """Where a failure of SQLite, such as a full disk, is a Fault."""
-        try:
-            yield
-        except self.error as error:
-            where = shown(private_directory())
-            text = f"cannot keep the changes in {where}{NAME_ANOTHER}: {error}"
-            raise Fault(Status.DEVICE, text) from None
-
-    def do(self, statement: str, *values: object) -> None:
-        with self._failing():
-            self._database.execute(statement, values)
-
-    def do_all(self, statement: str, rows: Iterable[tuple[object, ...]]) -> None:
-        """Does the same for each row."""
-        with self._failing():
-            self._database.executemany(statement, rows)
-
-    def ask(self, question: str, *values: object) -> Iterator[Any]:
-        """Yields the rows of an answer."""
-        with self._failing():
-            yield from self._database.execute(question, values)
 
     def __len__(self) -> int:
         return self.size
 
     def add(self, changes: Iterable[Weighed]) -> None:
         """Takes changes in the order of paths; a Fault if they are too many."""
-        self.do_all(INSERT, self._values_of(changes))
-
-    def _values_of(self, changes: Iterable[Weighed]) -> Iterator[tuple[object, ...]]:
-        for change in changes:
-            place = self.size
-            self.size += 1
-            if self.size > MAX_ROWS:
-                text = f"there are more than {MAX_ROWS} changes that are not silent"
-                raise Fault(Status.DEVICE, text)
-            known = change.known
-            importance = change.importance
-            party = known.owner
-            if party is None:
-                party = UNKNOWN
-            elif party == ROOT:
-                party = None
-            yield (
-                place,
-                change.key,
-                directory_of(change.key),
-                change.kind,
-                importance.level,
-                importance.owners,
-                1,
-                importance.rank,
-                party and min(party, MAX_NUMBER),
-                known.form,
-                change.is_content,
-                change.line_at,
-                change.line_size,
-                Standing.OPEN.value,
-                "",
-                False,
-            )
+        self.do_all(INSERT, islice(changes, MAX_ROWS + 1))
+        self.count_rows()
+        if self.size > MAX_ROWS:
+            text = f"there are more than {MAX_ROWS} changes that are not silent"
+            raise Fault(Status.DEVICE, text)
 
     def count_rows(self) -> None:
         (self.size,) = next(self.ask("select count(*) from changes"))

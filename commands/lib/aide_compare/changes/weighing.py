@@ -7,12 +7,17 @@ import re
 from typing import Dict, NamedTuple, Optional
 
 from aide_compare.base.database import SET_ID
-from aide_compare.changes.importance import Importance, importance_of
-from aide_compare.changes.severity import Held, Severity, Weight, has_same_rights, held_by
+from aide_compare.base.words import SEVERITIES
+from aide_compare.changes.importance import group_of_owner
+from aide_compare.changes.severity import Held, Severity, has_same_rights, held_by
 from aide_compare.lines.change import Fields
 from aide_compare.lines.reader import Outline
-from aide_compare.lines.rights import Side, owner_of, rights_of
+from aide_compare.lines.rights import ROOT, Side, owner_of, rights_of
 
+SLASH = b"\1"  # In a key.
+LEVELS = {severity: level for level, severity in enumerate(SEVERITIES)}
+MAX_NUMBER = (1 << 63) - 1
+UNKNOWN = -1
 MAX_REMEMBERED = 1 << 10
 # The rights of longer lines are looked at each time, so that what is remembered has a bound.
 MAX_LINE = 1 << 11
@@ -33,25 +38,44 @@ class Known(NamedTuple):
     """What is the same of all changes of entries with the same rights on both sides."""
 
     held: Held
-    owner: Optional[int]  # See owner_of.
+    owners: int  # The group of its owner.
+    # The number of the user who may have many such changes; None for root.
+    party: Optional[int]
     form: str  # "file", "link" or "": of the new entry, or of the one that went.
     has_content: bool  # Whether records could say something, by the rights alone.
 
 
 class Weighed(NamedTuple):
-    """What a line says of a change: where it is in its file, and how much the change matters."""
+    """What a line says of a change: how much it matters, and where it is in its file."""
 
+    path_key: bytes
+    site: bytes  # The key of its directory.
     kind: str
-    key: bytes
+    level: int  # The place of its severity in SEVERITIES.
+    owners: int
+    rank: int
+    party: Optional[int]
+    form: str
+    may_be_recorded: bool  # Whether nothing but a content came or changed.
     line_at: int
     line_size: int
-    weight: Weight
-    known: Known
-    is_content: bool  # Whether nothing but a content came or changed.
 
-    @property
-    def importance(self) -> Importance:
-        return importance_of(self.weight, self.known.owner, self.kind)
+
+def directory_of(key: bytes) -> bytes:
+    """The key of the directory in which an entry is, by the key of its path; none for the root."""
+    above = key.rpartition(SLASH)[0]
+    if above or key == SLASH:
+        return above
+    return SLASH
+
+
+def party_of(owner: Optional[int]) -> Optional[int]:
+    """The number of a user but root, as SQLite has numbers; UNKNOWN if it was not measured."""
+    if owner == ROOT:
+        return None
+    if owner is None:
+        return UNKNOWN
+    return min(owner, MAX_NUMBER)
 
 
 def may_be_content(old: Side, new: Side) -> bool:
@@ -73,9 +97,11 @@ def form_of(rights: Side) -> str:
 
 
 def known_of(old: Side, new: Side) -> Known:
+    owner = owner_of(old, new)
     return Known(
         held=held_by(old, new),
-        owner=owner_of(old, new),
+        owners=group_of_owner(owner),
+        party=party_of(owner),
         form=form_of(new or old),
         has_content=may_be_content(old, new),
     )
@@ -104,14 +130,19 @@ class Scales:
         """A change by its line, which begins there."""
         fields = DECODE(outline.line.decode())
         known = self._known(fields, len(outline.line))
+        weight = self.severity.weight(outline.path, known.held)
         return Weighed(
-            outline.kind,
             outline.key,
+            directory_of(outline.key),
+            outline.kind,
+            LEVELS[weight.level],
+            known.owners,
+            weight.rank,
+            known.party,
+            known.form,
+            known.has_content and is_content(fields, known.form == "link"),
             line_at,
             len(outline.line),
-            self.severity.weight(outline.path, known.held),
-            known,
-            known.has_content and is_content(fields, known.form == "link"),
         )
 
     def _known(self, fields: Fields, size: int) -> Known:

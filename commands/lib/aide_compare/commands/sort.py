@@ -9,10 +9,10 @@ from aide_compare.base.database import MAX_LINE, Kind, Layout
 from aide_compare.base.ending import Fault, Status, say, write_blocks
 from aide_compare.base.escapes import shown
 from aide_compare.base.files import private_file
-from aide_compare.base.line_sorter import LineSorter
 from aide_compare.base.options import MAX_SIZE
 from aide_compare.base.parser import Parser
 from aide_compare.base.paths import path_of
+from aide_compare.base.rows import Rows
 from aide_compare.compare.unpack import Copy, copy_database
 
 BLOCK = 1 << 16
@@ -43,13 +43,12 @@ class SortRequest(NamedTuple):
 
 
 class Unsorted:
-    """A database that is read once: its entries are given to a sorter, the lines before them are
+    """A database that is read once: its entries go into a table, the lines before them are
     kept in `head`, and `end` is where its end line begins in `file`."""
 
-    def __init__(self, copy: Copy, sorter: LineSorter) -> None:
+    def __init__(self, copy: Copy, rows: Rows) -> None:
         self.file = open(copy.fd, "rb", buffering=BLOCK)
         self.file.seek(0)
-        self.sorter = sorter
         self.head = private_file()
         self.end = 0
         self.count = 0
@@ -57,15 +56,15 @@ class Unsorted:
         self.breaks = 0
         self._last_key = b""
         self.layout = Layout()
-        self._read()
+        rows.do_all("insert into lines values (?, ?)", self._entries())
 
-    def _read(self) -> None:
+    def _entries(self) -> Iterator[tuple[bytes, bytes]]:
         for number, line in enumerate(self._lines(), 1):
             kind = self.layout.kind_of(line)
             if kind is Kind.END:
                 return
             if kind is Kind.ENTRY:
-                self._read_entry(number, line)
+                yield self._key_of(number, line), line
             else:
                 self.head.write(line)
             self.end += len(line)
@@ -79,7 +78,7 @@ class Unsorted:
             yield line
             number += 1
 
-    def _read_entry(self, number: int, line: bytes) -> None:
+    def _key_of(self, number: int, line: bytes) -> bytes:
         if not self.layout.columns:
             text = f"line {number}: an entry before @@db_spec, or no column name"
             raise Fault(Status.DATABASE, text)
@@ -88,11 +87,11 @@ class Unsorted:
             raise Fault(Status.DATABASE, f"line {number}: no path")
         if not line.endswith(b"\n"):
             raise Fault(Status.DATABASE, "no @@end_db")
-        self.sorter.put(b"%s\t%s" % (key, line))
         self.count += 1
         if key < self._last_key:
             self.breaks += 1
         self._last_key = key
+        return key
 
 
 class RepeatedPaths:
@@ -122,15 +121,12 @@ class RepeatedPaths:
             say(f"more paths that stand twice: {more:,}")
 
 
-def sorted_blocks(
-    database: Unsorted, sorter: LineSorter, repeated: RepeatedPaths
-) -> Iterator[bytes]:
+def sorted_blocks(database: Unsorted, rows: Rows, repeated: RepeatedPaths) -> Iterator[bytes]:
     """Yields the whole database in path order."""
     database.head.seek(0)
     while block := database.head.read(BLOCK):
         yield block
-    for record in sorter.lines():
-        key, _, line = record.partition(b"\t")
+    for key, line in rows.ask("select path_key, line from lines order by path_key, rowid"):
         repeated.add(key)
         yield line
     database.file.seek(database.end)
@@ -141,9 +137,9 @@ def sorted_blocks(
 def sort(request: SortRequest) -> int:
     """Writes the database in path order, and says what was out of order. Returns the status."""
     repeated = RepeatedPaths()
-    sorter = LineSorter()
-    database = Unsorted(copy_database("given", request.path, request.max_size), sorter)
-    write_blocks(1, sorted_blocks(database, sorter, repeated))
+    rows = Rows("create table lines (path_key blob, line blob)", 4 * request.max_size)
+    database = Unsorted(copy_database("given", request.path, request.max_size), rows)
+    write_blocks(1, sorted_blocks(database, rows, repeated))
     progress.note_step("the lines are in order")
     if not request.is_quiet:
         say(f"out of order: {database.breaks:,} of {database.count:,} lines")

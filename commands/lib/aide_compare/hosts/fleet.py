@@ -37,13 +37,12 @@ LOADS = "create table loads as select host, count(*) as load from found group by
 # Each change once. It counts against the host that has the fewest changes of those that have it: in
 # the row this is the site, and `line_at` says which of the changes of a host it is.
 GATHER = """
-insert into changes
-select row_number() over (order by path_key, same) - 1, path_key, host, kind, level, owners, hosts,
-    rank, null, '', false, place, 0, 'open', '', false
+insert into changes (path_key, site, kind, level, owners, rank, line_at, hosts)
+select path_key, host, kind, level, owners, rank, place, hosts
 from (
     select *, found.rowid as place, count(*) as hosts, min(load)
     from found join loads using (host) group by same
-)"""
+) order by path_key, same"""
 SAME = """
 select host, old, own, line from found
 where same = (select same from found where rowid = ?) order by host"""
@@ -76,7 +75,7 @@ class Fleet:
 
     def add(self, host: int, outline: Outline, fields: Fields) -> None:
         """Takes a change of the host with this number."""
-        importance = self.scales.weighed(outline, 0).importance
+        weighed = self.scales.weighed(outline, 0)
         fields = differing(fields)
         own = OWN
         if fields.get("type") == "Directory":
@@ -84,15 +83,15 @@ class Fleet:
         old = fields.get("old", {})
         new = fields.get("new", {})
         labels = {label_of(name) for name in (*old, *new)}
-        what = (outline.path.hex(), outline.kind, fields.get("type"), importance[:2])
+        what = (outline.path.hex(), outline.kind, fields.get("type"), weighed.level, weighed.owners)
         row = (
             host,
             outline.key,
             digest_of(what, sorted(labels - own), without(new, own)),
             outline.kind,
-            importance.level,
-            importance.owners,
-            importance.rank,
+            weighed.level,
+            weighed.owners,
+            weighed.rank,
             digest_of(without(old, own)),
             ",".join(labels & own),
             outline.line,

@@ -2,7 +2,6 @@
 the hosts that have it."""
 from __future__ import annotations
 
-from collections import Counter
 from html import escape
 from typing import Iterator, NamedTuple, Sequence
 
@@ -100,8 +99,11 @@ def item_of(shared: SharedChange, hosts: int) -> bytes:
 def grouped(items: list[Item]) -> Iterator[Item]:
     """The items of a severity: those of the same hosts together, and the smallest group first, so
     that nothing that some hosts have many of stands before what others have."""
-    sizes = Counter(item.hosts for item in items)
-    yield from sorted(items, key=lambda item: (sizes[item.hosts], item.hosts))
+    groups: dict[int, list[Item]] = {}
+    for item in items:
+        groups.setdefault(item.hosts, []).append(item)
+    for group in sorted(groups.values(), key=len):
+        yield from group
 
 
 def page(report: Report, limit: int = 0) -> Iterator[bytes]:

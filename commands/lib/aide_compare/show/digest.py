@@ -24,13 +24,7 @@ MAX_LETTERS = 400  # Of a path in a line of any width.
 MIN_END = 12
 # What open changes of one severity and one group of owners have in common.
 PART = f"{LISTED} and level = ? and owners = ?"
-# The places of a part in their order, and whose they are: first the first few of each directory.
-TURN = f"row_number() over (partition by site order by {ORDER})"
-IN_ORDER = f"""
-select place, party
-from (select place, party, level, owners, hosts, rank, kind, {TURN} as turn from changes where {PART})
-where turn <= ? order by turn > ?, {ORDER}
-"""
+IN_ORDER = f"select place, party, site from changes where {PART} order by {ORDER}"
 SIZES = f"select level, owners, count(*), count(*) from changes where {LISTED} group by 1, 2"
 # The same, and how many of them are among the first of a host.
 SIZES_OF_HOSTS = f"""
@@ -132,18 +126,24 @@ def digest(table: Table, room: Room, names: Names) -> Iterator[Part]:
 
 def chosen(table: Table, level: int, owners: int, limit: int, room: Room) -> list[int]:
     """The places of the changes of a part that are listed, at most so many."""
-    places: list[int] = []
+    first: list[int] = []
+    more: list[int] = []
     later: list[int] = []
     spent: Counter[object] = Counter()
-    for place, party in table.ask(IN_ORDER, level, owners, room.few[level], room.first):
-        if len(places) == limit:
+    turns: Counter[object] = Counter()
+    for place, party, site in table.ask(IN_ORDER, level, owners):
+        if len(first) == limit:
             break
+        kept = later
         if party is None or spent[party] < room.party:
             spent[party] += 1
-            places.append(place)
-        elif len(later) < limit:
-            later.append(place)
-    return places + later[: limit - len(places)]
+            turns[site] += 1
+            if turns[site] > room.few[level]:
+                continue
+            kept = first if turns[site] <= room.first else more
+        if len(kept) < limit:
+            kept.append(place)
+    return [*first, *more, *later][:limit]
 
 
 def rest_words(table: Table, level: int, owners: int, room: Room, names: Names) -> Iterator[str]:

@@ -9,11 +9,12 @@ from collections import Counter
 from html import escape
 from io import BufferedRandom
 from itertools import groupby, islice
+from operator import itemgetter
 from typing import TYPE_CHECKING, Dict, Iterator, List, NamedTuple, Optional, Set, Tuple
 
 from aide_compare.base.escapes import shown_note
 from aide_compare.base.files import BLOCK, private_file
-from aide_compare.base.line_sorter import LineSorter
+from aide_compare.base.rows import Rows
 from aide_compare.base.words import KINDS, SEVERITIES
 from aide_compare.lines.change import Change, Counts, Standing
 from aide_compare.lines.reader import Reader
@@ -145,7 +146,7 @@ class Groups:
         # By standing and severity: the room for them, and how many there are.
         self.rooms: Dict[Tuple[str, str], Rooms] = {}
         self.standings: Counter[Tuple[str, str]] = Counter()
-        self.opened = LineSorter()
+        self.opened = Rows("create table opened (level, owners, rank, is_added, text)")
         # How many entries are listed, and how many of them with all their values.
         self.listed = 0
         self.valued = 0
@@ -159,7 +160,8 @@ class Groups:
         self.standings[part] += 1
         if importance is not None and entry.change.standing is Standing.OPEN:
             group.is_sorted = True
-            self.opened.put(b"%d %d %05d %d\t%s%s%s" % (*importance, text, VALUES, line))
+            row = (*importance, text + VALUES + line)
+            self.opened.do("insert into opened values (?, ?, ?, ?, ?)", *row)
             return
         rooms = self.rooms.get(part)
         if rooms is None:
@@ -210,7 +212,8 @@ class Groups:
         if self.size > limit // 2:
             for_tables = limit // 8
         rooms = Rooms(Room(limit - for_tables), Room(for_tables))
-        self.levels = groupby(self.opened.lines(), lambda line: line[:1])
+        question = "select level, text from opened order by level, owners, rank, is_added, rowid"
+        self.levels = groupby(self.opened.ask(question), itemgetter(0))
         for group, heading in zip(groups, headings):
             file.write(heading)
             self._write_list(file, group, rooms, max_elements)
@@ -252,8 +255,8 @@ class Groups:
         """Yields what is kept of the entries of a group. Those that a sorter has come severity by
         severity, as the groups do."""
         if group.is_sorted:
-            _, lines = next(self.levels)
-            yield from (line.partition(b"\t")[2] for line in lines)
+            _, rows = next(self.levels)
+            yield from (text for _, text in rows)
         here = -1
         for place in group.places:
             if place != here:
