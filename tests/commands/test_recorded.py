@@ -150,8 +150,8 @@ class RecordedTest(CommandTest):
         files = {LIB + b"python3/evil.py": TWO, LIB + b"python3/three.py": TWO}
         host.packages.append(Package("tool", "2", files))
         text = host.brief(self)
-        made = "  python 2: 2 files made by its scripts\n"
-        self.assertEqual(text.count(made), 1, ("one line for a package", text))
+        by_path = "\nOpen, of packages by path, their contents in no record:\n  python 2: 2 files\n"
+        self.assertEqual(text.count(by_path), 1, ("one line for a package", text))
         for name in (*compiled_files, LIB + b"python3/evil.py"):
             line = f"  medium  changed  {name.decode()}: content"
             self.assertEqual(text.count(line), 1, (f"a line of its own: {name!r}", text))
@@ -173,7 +173,7 @@ class RecordedTest(CommandTest):
         host.write(self)
         words = ("--trusted", "trusted-old.db", "trusted-new.db", "host-old.db", "host-new.db")
         text = self.call("aide-compare", *words).output.decode()
-        self.assertIn("  python 2: 1 file made by its scripts\n", text)
+        self.assertIn("contents in no record:\n  python 2: 1 file\n", text)
         self.assertIn("  medium  changed  /usr/lib/python3/__pycache__/evil.cpython-311.pyc", text)
         self.assertEqual(text.count("one.cpython"), 0, text)
 

@@ -200,7 +200,7 @@ class Matcher:
                 self._note(changes, changes.row(place))
 
     def _note(self, changes: Table, row: Row) -> None:
-        """Notes the package of a change, if it is recorded or was made by that."""
+        """Notes the package of a change, if records have its content, or its path alone."""
         change = self.read(row)
         members = self.members.get(row.path, [])
         for member in members:
@@ -212,8 +212,8 @@ class Matcher:
             changes.note(row.place, Standing.OPEN, self._maker(row.path, members))
 
     def _maker(self, path: bytes, members: List[Member]) -> str:
-        """The package whose scripts make a file, if one does: records know its path and no content,
-        or its source, which is another one now too."""
+        """The package of a file of which records know the path and no content, or the source, which
+        is another one now too. Mostly its scripts have made the file; nothing says so."""
         source = source_of(path)
         if source and (source in self.changed or self.accounted.has(source)):
             members = self.members.get(self.usr(source)) or members

@@ -30,7 +30,7 @@ values ({', '.join('?' for _ in Weighed._fields)})"""
 # What people read first, as in changes/importance.py, and what the fewest of many hosts have. The
 # path has the last word.
 ORDER = "level, owners, hosts, rank, kind = 'added', place"
-# What a list of open changes has. Files that a package's scripts made are told by their package.
+# What a list of open changes has. Files known by their path alone are told by their package.
 LISTED = "standing = 'open' and (package = '' or level = 0)"
 MADE = "standing = 'open' and package <> '' and level > 0"
 RECORDED = "standing = 'recorded'"
@@ -53,7 +53,7 @@ class Row(NamedTuple):
     line_size: int
     hosts: int  # How many hosts have it, of many.
     standing: str
-    package: str  # The name and the version, of one that is recorded or was made by its scripts.
+    package: str  # Its name and version, of a recorded change or one known by its path alone.
     is_listed: bool
 
     @property

@@ -11,8 +11,8 @@ from aide_compare.show.digest import MAX_LETTERS, shortened_path
 
 MAX_NAME = 40
 MAX_HIGH = 3  # Of each package so many paths of severity high are named.
-# The packages with recorded changes, those with most of severity high first; and those whose
-# scripts have made files.
+# The packages with recorded changes, those with most of severity high first; and those with files
+# that records know by their path alone.
 RECORDED_OF = (
     f"select package, count(*), sum(level = 0) from changes where {RECORDED}"
     " group by 1 order by 3 desc, 2 desc, 1"
@@ -55,22 +55,27 @@ def recorded_lines(table: Table, limit: int, width: int) -> Iterator[str]:
 
 
 def made_lines(table: Table, limit: int) -> Iterator[str]:
-    """A line for each package whose scripts made files."""
+    """A line for each package with files that records know by their path alone."""
     files = 0
     for number, (package, count) in enumerate(table.ask(MADE_OF)):
         if number < limit:
-            yield f"  {guarded(package)[:MAX_NAME]}: {files_words(count)} made by its scripts"
+            yield f"  {guarded(package)[:MAX_NAME]}: {files_words(count)}"
         else:
             files += count
     if files:
-        yield f"  and {files_words(files)} made by scripts of other packages"
+        yield f"  and {files_words(files)} of other packages"
 
 
 def group_lines(judged: Judged, limit: int, width: int) -> list[str]:
-    """The lines, with their title: of at most so many packages, and a third as many whose scripts
-    made files."""
+    """The lines, each part under its title: of at most so many packages, and a third as many with
+    files that records know by their path alone."""
     table = judged.table
-    lines = [*recorded_lines(table, limit, width), *made_lines(table, limit // 3)]
-    if not lines:
-        return []
-    return [f"Recorded, as {judged.by} on this host says:", *lines]
+    by_path = list(made_lines(table, limit // 3))
+    if by_path:
+        by_path.insert(0, "Open, of packages by path, their contents in no record:")
+    recorded = list(recorded_lines(table, limit, width))
+    if recorded:
+        recorded.insert(0, f"Recorded, as {judged.by} on this host says:")
+    if by_path and recorded:
+        by_path.append("")
+    return by_path + recorded
