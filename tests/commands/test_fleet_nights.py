@@ -202,13 +202,13 @@ class FleetNightsTest(CommandTest):
             self.assertEqual((said.status, said.output), (15, ""), words)
 
 
-def program(path: str, sha256: bytes = b"", sha512: bytes = b"") -> str:
+def program(path: str, sha256: bytes = b"", sha512: bytes = b"", owner: int = 0) -> str:
     """The line of a set-ID program of which AIDE has measured the digests of these contents."""
     texts = {"sha256": sha256, "sha512": sha512}
     fields = []
     for name, text in texts.items():
         fields.append(base64_of(hashlib.new(name, text).digest()) if text else "0")
-    return f"{path} 104755 0 0 9 MQ== 5 1 {' '.join(fields)}\n"
+    return f"{path} 104755 {owner} 0 9 MQ== 5 1 {' '.join(fields)}\n"
 
 
 def measured(*lines: str) -> bytes:
@@ -248,6 +248,16 @@ class ListedOnceTest(CommandTest):
         other = (measured(weak, program("/sbin/x", b"another")), measured(weak))
         found = self.opened({"www": went, "db1": other, "db2": went})
         self.assertEqual(found, {"www": "/sbin/x", "db1": "/sbin/x"}, "another file was removed")
+
+    def test_whole_entry(self) -> None:
+        """An entry counts as a whole: where the canary changed in its owner alone, that is listed,
+        and a host that had another content comes to the same entry in silence."""
+        before, after = program("/bin/su", b"weak"), program("/bin/su", b"weak", owner=7)
+        db1 = (measured(program("/bin/su", b"hard", owner=7)), measured(after))
+        found = self.opened({"www": (measured(before), measured(after)), "db1": db1})
+        self.assertEqual(found, {"www": "/bin/su"})
+        found = self.opened({"www": (measured(after), measured(after)), "db1": db1})
+        self.assertEqual(found, {"db1": "/bin/su"})
 
     def test_digests(self) -> None:
         """A canary cannot add a digest of another content to an entry that stays the same by those
