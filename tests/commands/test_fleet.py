@@ -230,7 +230,7 @@ class FleetTest(CommandTest):
         """What people see of a host's bytes, and a process that ends without an answer."""
         failed = "Host key verification failed. (ssh ended with 255); "
         unknown = failed + "is its key in known_hosts?"
-        changed = failed + "its key is another one than in known_hosts"
+        changed = failed + "its key differs from the one in known_hosts"
         coloured = r"a\033[31mb\302\233c (ssh ended with 1)"
         causes = {"unknown": unknown, "changed": changed, "coloured": coloured}
         for host, told in causes.items():

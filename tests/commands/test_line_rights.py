@@ -65,6 +65,16 @@ class LineRightsTest(CommandTest):
         words += "extended attributes, SELinux, capabilities"
         self.assertIn(f"changed  /srv/file: {words}\n", brief)
 
+    def test_new_entry(self) -> None:
+        """The line of an entry that came or went names the capabilities for which it is high."""
+        host = Host()
+        host.old.file(b"/opt/gone", b"one", 0o100755, **VALUES)
+        host.new.file(b"/opt/helper", b"one", 0o100755, **VALUES).file(b"/opt/plain", b"one")
+        brief = host.brief(self)
+        self.assertIn("added    /opt/helper: -rwxr-xr-x root:root 3 bytes, capabilities", brief)
+        self.assertIn("removed  /opt/gone: -rwxr-xr-x root:root 3 bytes, capabilities\n", brief)
+        self.assertEqual(brief.count("capabilities"), 2, brief)
+
     def test_fleet(self) -> None:
         """One change on two hosts is one, whatever their other rights are."""
         hosts = Hosts(self)

@@ -119,11 +119,11 @@ class SortingTest(CommandTest):
     def test_twice(self) -> None:
         lines = [b"1 /b\\ 1", b"2 /a 2", b"3 /b%5C 3", b"4 /b\\ 4"]
         answer = self.sort(text_of(lines))
-        said = b"aide-compare sort: stands twice: /b\\134\n"
+        said = b"aide-compare sort: appears twice: /b\\134\n"
         wanted = text_of([lines[1], lines[0], *lines[2:]])
         self.expect("a path twice", answer, 24, wanted, said)
         many = [b"1 /%04d 1" % (number // 2) for number in range(400)]
-        said_of = [b"/0099\n", b"more paths that stand twice: 100\n"]
+        said_of = [b"/0099\n", b"more paths that appear twice: 100\n"]
         self.expect("200 paths twice", self.sort(text_of(many)), 24, None, said_of)
 
     def test_refused(self) -> None:

@@ -39,7 +39,7 @@ Open:
 Recorded, as dpkg on this host says:
   tool 2: 1 file
 
-1 change is silent: 1 same
+Silent: 1 same
 
 """
 COUNTS = {
@@ -128,7 +128,7 @@ class StandingsTest(mail.MailTest):
         equal = [b"both databases are equal, byte for byte"]
         self.expect("no difference", answer, 0, b"no differences in 7 entries", equal)
         self.assertEqual(self.state().get("open"), "0", ("its state", self.state()))
-        want = "1 change, all silent\n\n1 change is silent: 1 same\n\n"
+        want = "1 change, all silent\n\nSilent: 1 same\n\n"
         self.assertEqual(silent().brief(self), want, "all is silent")
 
     def test_unexplained(self) -> None:

@@ -196,7 +196,7 @@ class TrustedTest(mail.MailTest):
         counts = json.loads(answer.output)
         self.assertEqual([counts[name] for name in ("same", "trusted", "open")], [1, 3, 3])
         answer = self.call(TOOL, *PAIR, *BOTH)
-        self.assertIn(b"4 changes are silent: 1 same, 3 trusted\n", answer.output)
+        self.assertIn(b"\nSilent: 1 same, 3 trusted\n", answer.output)
         page = self.call(TOOL + " page", *PAIR, *BOTH)
         self.expect("a page", page, 7, b"<dt>trusted</dt><dd>3</dd>")
 

@@ -93,7 +93,7 @@ class HandsTest(RecipesTest):
         self.write("/tmp/mixed.db", mixed.replace("/a-b", "/%61"))
         done = self.recipe("order")
         self.assertEqual(done[0], 24)
-        self.assertIn("stands twice: /a\n", done[2])
+        self.assertIn("appears twice: /a\n", done[2])
 
     def test_mail(self) -> None:
         self.put_databases(OLD, NEW)

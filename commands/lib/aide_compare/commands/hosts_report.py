@@ -47,8 +47,8 @@ COLUMNS = 78
 DESCRIPTION = """\
 Reports what differs on the hosts of HOSTS-FILE, as aide-compare hosts compare found it:
 which hosts were not compared, and each change once with the hosts that have it."""
-EPILOG = """Status: the greatest of all hosts: 0; up to 7 if there are differences and each host
-was compared; more if a host was not. 15, 18 or 22 if the command itself fails."""
+EPILOG = """Exit status, the highest of all hosts: 0 no difference, 1 to 7 differences, above 7
+some host was not compared. 15, 18 or 22 if the command itself fails."""
 
 
 class ReportRequest(NamedTuple):

@@ -88,7 +88,7 @@ class JsonForm(NamedTuple):
 def main(arguments: Sequence[str]) -> int:
     parser = parser_of_changes(NAME, DESCRIPTION, EPILOG)
     parser.add(
-        Option("--full", "each line says host, times, status and both digests"),
+        Option("--full", "each line says host, times and both digests"),
         Option(
             "--with",
             "an additional member for each line, such as site=berlin",

@@ -115,10 +115,10 @@ class RepeatedPaths:
 
     def say(self) -> None:
         for name in self._names:
-            say(f"stands twice: {name}")
+            say(f"appears twice: {name}")
         more = self.count - len(self._names)
         if more:
-            say(f"more paths that stand twice: {more:,}")
+            say(f"more paths that appear twice: {more:,}")
 
 
 def sorted_blocks(database: Unsorted, rows: Rows, repeated: RepeatedPaths) -> Iterator[bytes]:

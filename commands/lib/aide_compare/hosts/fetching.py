@@ -72,7 +72,7 @@ def cause_of(errors: bytes, status: int) -> str:
         text = shown(lines[-1], 200)
     hints = "".join(f"; {hint}" for words, hint in HINTS if words in text)
     if UNKNOWN_KEY in text and CHANGED_KEY in errors:
-        hints = "; its key is another one than in known_hosts"
+        hints = "; its key differs from the one in known_hosts"
     return f"{text} (ssh ended with {status}){hints}"
 
 

@@ -5,7 +5,6 @@ from __future__ import annotations
 from collections.abc import Iterator
 from textwrap import wrap
 
-from aide_compare.base.words import counted
 from aide_compare.changes.judged import Judged
 from aide_compare.lines.change import Counts, Standing
 from aide_compare.show.digest import SCREEN, digest, entry_line, in_directory
@@ -26,13 +25,12 @@ def open_lines(judged: Judged) -> Iterator[str]:
 
 
 def silent_words(counts: Counts) -> str:
-    """As in "468 changes are silent: 460 same, 8 trusted"; "" if none is."""
+    """As in "Silent: 460 same, 8 trusted"; "" if no change is."""
     silent = (Standing.SAME, Standing.TRUSTED)
     parts = [f"{counts.of(each)} {each.value}" for each in silent if counts.of(each)]
     if not parts:
         return ""
-    are = "is" if counts.silent == 1 else "are"
-    return f"{counted(counts.silent, 'change')} {are} silent: {', '.join(parts)}"
+    return f"Silent: {', '.join(parts)}"
 
 
 def package_lines(judged: Judged) -> Iterator[str]:

@@ -83,6 +83,15 @@ def _one_side(values: Values, kind: Optional[str]) -> str:
     return " ".join(words)
 
 
+def _side_words(values: Values, kind: Optional[str]) -> List[str]:
+    """The words for an entry that came or went. A program may be of severity high for its
+    capabilities alone."""
+    words = [_one_side(values, kind)]
+    if values.get("Caps"):
+        words.append(OTHERS["Caps"])
+    return words
+
+
 def _time_words(old: Values, new: Values, label: str) -> str:
     """As in "mtime 2026-11-24T06:00:00Z -> 2026-11-25T06:00:00Z"."""
     dates = []
@@ -120,6 +129,7 @@ def entry_words(change: Change) -> str:
     if change.kind == "changed":
         return _changed_words(change)
     if change.kind == "removed":
-        return _one_side(change.old, change.type)
-    words = [_one_side(change.new, change.type), *_when({}, change.new)]
+        words = _side_words(change.old, change.type)
+    else:
+        words = _side_words(change.new, change.type) + _when({}, change.new)
     return ", ".join(word for word in words if word)
