@@ -5,6 +5,9 @@ mailed.
 For each machine: `aide-compare setup`, then one night after the other. A night is an event,
 Debian's own daily check, and the units of the package. DIR keeps one file for each night, and the
 databases. It needs root, mmdebstrap and systemd-nspawn.
+
+Each night is accepted by `aide-compare accept`, and all commands have to say the same numbers of
+it.
 """
 from __future__ import annotations
 
@@ -16,12 +19,16 @@ import time
 from pathlib import Path
 
 from tools.lib.arguments import parser_of
+from tests.nights.answers import COMMANDS, QUICK, answers, texts_of_mail
 from tests.nights.machine import MAILERS, SUITES, Machine, make_base
 
 HERE = Path(__file__).parent
 NEW = "/var/lib/aide/aide.db.new"
 BASELINE = "/var/lib/aide/aide.db"
-QUEUE = "/var/tmp/mail"
+ROOT_IS_ANNA = "root: anna"
+PROGRAM = "/var/cache/example/program"
+PROGRAMS = f"programs(made anew each night, for a trial) {PROGRAM}"
+STOCK = "s/^Checksums = H$/Checksums = sha256/"
 COUNTS = ("added", "removed", "changed", "same", "trusted", "recorded", "open", "open_high")
 LOG_IN = (
     "ssh -q -i /root/.ssh/id_ed25519 -o StrictHostKeyChecking=no -o UserKnownHostsFile=/dev/null"
@@ -58,22 +65,30 @@ EVENTS = {
     "install": f"apt-get install -y {INSTALL}",
     "upgrade": "unattended-upgrade -v",
     "kernel": f"apt-get install -y {KERNEL}",
+    # The list names this program as one that changes.
+    "program": f"echo true >> {PROGRAM}",
 }
 # The first boot comes before anything else that an administrator does after `apt install aide`.
 NIGHTS = (
-    "first boot idle rotation rotation boot idle login session install upgrade kernel idle".split()
-)
+    "first boot idle rotation rotation boot program login session install idle upgrade idle kernel"
+    " idle"
+).split()
 DEBS = "var/cache/apt/archives"
 MAIL_SECONDS = 60
+QUIET_SECONDS = 10
 
 
 class Nights:
     """The nights of one machine, and what came of them."""
 
-    def __init__(self, machine: Machine, results: Path, with_intruder: bool) -> None:
+    def __init__(
+        self, machine: Machine, results: Path, with_intruder: bool, is_stock: bool
+    ) -> None:
         self.machine = machine
         self.results = results
         self.with_intruder = with_intruder
+        self.is_stock = is_stock
+        self.met: set[str] = set()  # Events that had their twin.
         results.mkdir(parents=True, exist_ok=True)
 
     def prepare(self, package: Path, debian: str) -> None:
@@ -90,7 +105,6 @@ class Nights:
         self.download("kernel", "install", *KERNEL.split())
         shutil.copyfile(package, machine.root / "var/tmp/aide-compare.deb")
         machine.chroot("ssh-keygen", "-q", "-t", "ed25519", "-N", "", "-f", "/root/.ssh/id_ed25519")
-        (machine.root / QUEUE[1:]).mkdir()
         for home, owner in (("root", "root"), ("home/anna", "anna")):
             key = (machine.root / "root/.ssh/id_ed25519.pub").read_text()
             machine.write(f"{home}/.ssh/authorized_keys", key, 0o600)
@@ -104,8 +118,9 @@ class Nights:
 
     def download(self, event: str, *words: str) -> None:
         """Keeps the packages of an event away from the machine until they are wanted there."""
+        if self.debs(event).exists():
+            return
         self.machine.chroot("apt-get", words[0], "-y", "-d", *words[1:])
-        shutil.rmtree(self.debs(event), ignore_errors=True)
         self.debs(event).mkdir()
         for path in (self.machine.root / DEBS).glob("*.deb"):
             shutil.move(path, self.debs(event))
@@ -133,9 +148,12 @@ class Nights:
 
     def set_up(self) -> None:
         self.install()
-        # One digest instead of eleven: a check takes seconds then, and says as much.
-        stock = "s/^Checksums = H$/Checksums = sha256/"
-        self.machine.inside("sed", "-i", stock, "/etc/aide/aide.conf")
+        if not self.is_stock:
+            # One digest instead of eleven: a check takes seconds then, and says as much.
+            self.machine.inside("sed", "-i", STOCK, "/etc/aide/aide.conf")
+        # As Debian's installer and the last lines of setup have it.
+        self.machine.shell(f"echo '{ROOT_IS_ANNA}' >> /etc/aliases; newaliases; true")
+        self.add_program()
         # What a machine does on its first day, and never again. Without a network it waits.
         unit = "apt-listchanges.service"
         self.machine.shell(f"timeout 60 systemctl start {unit}; systemctl stop {unit}")
@@ -143,6 +161,12 @@ class Nights:
         (self.results / "setup.txt").write_bytes(done.stdout + done.stderr)
         if done.returncode:
             raise RuntimeError(f"setup ended with {done.returncode}: {done.stderr!r}")
+
+    def add_program(self) -> None:
+        """A program in a cache, which a line of the list names with its reason."""
+        self.machine.write(PROGRAM[1:], "#!/bin/sh\n", 0o755)
+        with self.path("/etc/aide-compare/without").open("a") as file:
+            file.write(f"{PROGRAMS}\n")
 
     def night(self, number: int, event: str) -> None:
         """One night, and its twin with an intruder; then the clean night is the baseline."""
@@ -154,12 +178,14 @@ class Nights:
         self.shell(name, EVENTS[event])
         self.report(name, self.check())
         clean = self.keep_database(name)
-        if self.with_intruder and event != "first":
+        if self.with_intruder and event not in {"first", *self.met}:
             marks = self.machine.inside("/root/intruder.sh", "plant").stdout.decode().split()
             self.report(f"{name}-intruder", self.check(), marks)
             self.keep_database(f"{name}-intruder")
             self.machine.inside("/root/intruder.sh", "undo")
-        self.path(BASELINE).write_bytes(clean)
+        self.met.add(event)
+        self.path(NEW).write_bytes(clean)
+        self.accept(name)
 
     def keep_database(self, name: str) -> bytes:
         """Keeps the database that AIDE has just written, by gzip, and returns it."""
@@ -167,16 +193,26 @@ class Nights:
         (self.results / f"{name}.db.gz").write_bytes(database)
         return database
 
+    def accept(self, name: str) -> None:
+        """Accepts the new database as a mail says it."""
+        text = f"zcat -f {NEW} | sha256sum | cut -c1-64"
+        digest = self.machine.shell(text).stdout.decode().strip()
+        words = ["aide-compare", "accept", "--sha256", digest, NEW, BASELINE]
+        done = self.machine.inside(*words)
+        if done.returncode:
+            raise RuntimeError(f"{name} was not accepted: {done.stderr!r}")
+
     def path(self, name: str) -> Path:
         return self.machine.root / name[1:]
 
     def check(self) -> dict[str, str]:
-        """Debian's daily check, the comparison, and its mail. Returns the state as words."""
+        """Debian's daily check, and the units of the package. Returns the state as words."""
         inside = self.machine.inside
         inside("systemctl", "reset-failed")  # A check may start once in two hours.
         if inside("systemctl", "start", "dailyaidecheck.service").returncode:
             log = inside("journalctl", "--unit=dailyaidecheck", "--lines=20", "--output=cat").stdout
             raise RuntimeError(f"AIDE's daily check has failed: {log.decode()}")
+        texts_of_mail(self.machine)
         inside("systemctl", "start", "aide-compare.service")
         time.sleep(3)
         limit = time.monotonic() + MAIL_SECONDS
@@ -187,28 +223,65 @@ class Nights:
         text = self.path("/var/lib/aide-compare/daily/state").read_text()
         return dict(line.split("=", 1) for line in text.splitlines() if "=" in line)
 
+    def mail(self, is_wanted: bool) -> list[str]:
+        """The mails that came. A mail system may take a moment, or keep them in its queue."""
+        limit = time.monotonic() + (MAIL_SECONDS if is_wanted else QUIET_SECONDS)
+        while time.monotonic() < limit:
+            texts = texts_of_mail(self.machine)
+            if texts:
+                return texts
+            time.sleep(2)
+        return []
+
     def report(self, name: str, state: dict[str, str], marks: list[str] | None = None) -> None:
         """Keeps the changes as lines and as the mail, and prints one line."""
-        inside = self.machine.inside
-        (self.results / f"{name}.json").write_bytes(inside("aide-compare", "json").stdout)
-        status = inside("aide-compare", "mail", "--queue", QUEUE).returncode
-        texts = sorted(self.path(QUEUE).glob("*.mail"))
-        text = texts[-1].read_text().partition("\n\n")[2] if texts else ""
-        for path in texts:
-            path.unlink()
-        (self.results / f"{name}.mail").write_text(text)
+        if state["status"] != "0":
+            lines = self.machine.inside("aide-compare", "json").stdout
+            (self.results / f"{name}.json").write_bytes(lines)
+        texts = self.mail((state["open"], state["recorded"]) != ("0", "0"))
+        (self.results / f"{name}.mail").write_text("\n\n".join(texts))
+        body = texts[-1].partition("\n\n")[2].splitlines() if texts else []
         counts = {key: state[key] for key in COUNTS if state.get(key, "0") not in ("", "0")}
-        lines = len(text.splitlines())
-        said = f"{self.machine.name} {name}: {json.dumps(counts)}, mail {status}, {lines} lines"
+        said = f"{self.machine.name} {name}: {json.dumps(counts)}"
+        said += f", {len(texts)} mails, {len(body)} lines, "
+        said += truth(self.machine, state, marks is not None)
         if marks is not None:
-            first = "\n".join(text.splitlines()[:40])
-            missing = [
-                mark for mark in marks if not re.search(re.escape(mark) + r"(?![\w/.])", first)
-            ]
-            said += (
-                f", {len(marks)} marks, not in the first 40 lines: {' '.join(missing) or 'none'}"
-            )
+            said += f", {len(marks)} marks, not in the first 40 lines: "
+            said += " ".join(missing(marks, body[:40])) or "none"
+            said += f", the last of them in line {line_of_last(marks, body)}"
         print(said, flush=True)
+
+
+def truth(machine: Machine, state: dict[str, str], is_twin: bool) -> str:
+    """Whether all commands say the numbers of the timer, and which do not."""
+    is_short = is_twin or state["status"] == "0"
+    said = answers(machine, state, QUICK if is_short else COMMANDS)
+    expected = said["timer"]
+    assert expected is not None
+    others = [
+        f"{name} {None if counts is None else tuple(counts)}"
+        for name, counts in said.items()
+        if counts is None or not counts.agrees(expected)
+    ]
+    return f"not as the timer: {'; '.join(others)}" if others else f"all {len(said)} agree"
+
+
+def names(line: str, mark: str) -> bool:
+    """Whether a line names this path, and not only one below it."""
+    return re.search(re.escape(mark) + r"(?![\w/.])", line) is not None
+
+
+def missing(marks: list[str], lines: list[str]) -> list[str]:
+    return [mark for mark in marks if not any(names(line, mark) for line in lines)]
+
+
+def line_of_last(marks: list[str], lines: list[str]) -> int:
+    """The number of the line that names the last one of those marks that are named."""
+    last = 0
+    for mark in marks:
+        numbers = [number for number, line in enumerate(lines, 1) if names(line, mark)]
+        last = max([last, *numbers[:1]])
+    return last
 
 
 def main() -> int:
@@ -217,13 +290,14 @@ def main() -> int:
     parser.add_argument("--package", type=Path, required=True, help="the package of aide-compare")
     parser.add_argument("--debian", choices=SUITES, required=True)
     parser.add_argument("--mailer", choices=MAILERS, required=True)
-    parser.add_argument("--intruder", action="store_true", help="each night has a twin")
+    parser.add_argument("--intruder", action="store_true", help="each event has a twin")
+    parser.add_argument("--stock", action="store_true", help="all digests of AIDE's stock rules")
     parser.add_argument("--nights", nargs="+", choices=EVENTS, default=NIGHTS)
     args = parser.parse_args()
     make_base(args.work / f"base-{args.debian}", args.debian)
     name = f"d{args.debian}-{args.mailer}"
     machine = Machine(args.work / name, name)
-    nights = Nights(machine, args.work / "results" / name, args.intruder)
+    nights = Nights(machine, args.work / "results" / name, args.intruder, args.stock)
     machine.make(args.work / f"base-{args.debian}", args.mailer)
     try:
         nights.prepare(args.package, args.debian)
@@ -233,7 +307,6 @@ def main() -> int:
             nights.night(number, event)
     finally:
         machine.power_off()
-        shutil.rmtree(machine.root, ignore_errors=True)
     return 0
 
 
