@@ -65,7 +65,7 @@ RIGHTS = [
     ("a mode without a type", b"644", 0, b"0", True, True),
 ]
 
-# What the shipped list leaves out: logs of every mail system, and what programs note below /run.
+# What the shipped list leaves out: logs, locks of Postfix, and what programs note below /run.
 HIDDEN = """
     /var/log/syslog /var/log/apt/history.log /var/log/nginx/access.log.1 /var/log/syslog.2.gz
     /var/log/exim4/mainlog /var/log/exim4/paniclog /var/log/exim4/rejectlog.1 /var/log/cups/access_log
@@ -79,6 +79,7 @@ HIDDEN = """
     /run/crond.pid /run/exim4/exim.pid /run/agetty.reload /run/sudo /run/sudo/ts
     /run/systemd/sessions/1 /run/systemd/journal/kernel-seqnum /run/udev/data/b8:0
     /run/host/inaccessible/blk /run/systemd/inaccessible/chr
+    /var/spool/postfix/pid/unix.bounce /var/spool/postfix/pid/inet.smtp
 """
 # Accounts, keys, programs, settings of aide-compare, what apt runs as root or a program loads from
 # /var/cache, what is in homes there, and what something below /run obeys.
@@ -98,6 +99,7 @@ SEEN = """
     /var/cache/man/.forward /var/cache/man/.ssh/authorized_keys /var/cache/man/de/.x/index.db
     /var/backups/.forward /var/backups/shadow.bak /var/backups/.ssh/authorized_keys
     /var/lib/aide-compare/hosts/www/aide.db /var/lib/aide-compare/daily
+    /var/spool/postfix/pid/x /var/spool/postfix/pid /var/spool/postfix/private/bounce
     /var/log/.x /var/log/apt/.x/y /dev/shm/.x /run/.x.pid /run/user/0/gnupg/.x
     /root/.bashrc /root/.profile /root/.vimrc /root/.lesskey /home/anna/.ssh/rc /home/anna/.bash_logout
     /home/anna/x/.bash_history
