@@ -1,6 +1,6 @@
 #!/usr/bin/env python3
 """The ways to come back of persistence.txt, on a real night, by hand: in which line a mail names
-each, if it is the only one, and if all are there at once.
+each, if a few are there, and if all are there at once.
 
 DIR is what nights.py kept of a night: `baseline`, `signed.db`, `without` and `dpkg`. It needs root,
 in a place of its own for mounts: `unshare -m python3 -m tests.nights.persist ..`.
@@ -18,7 +18,7 @@ from typing import Any, Dict, List, Tuple
 from urllib.parse import unquote_to_bytes
 
 from tests.commands.made_up import Night, base64_of
-from tests.commands.test_persistence import EVIL, LEFT, ONE, Mark, marks, names
+from tests.commands.test_persistence import EVIL, LEFT, ONE, Mark, marks, names, rounds
 from tools.lib.arguments import parser_of
 
 FIRST = 40
@@ -130,12 +130,18 @@ def line_of(body: List[str], mark: Mark) -> int:
     return 0
 
 
-def tell(title: str, wanted: List[Mark], numbers: List[int]) -> None:
-    first = sum(1 for number in numbers if 0 < number <= FIRST)
-    named = sum(1 for number in numbers if number)
+def tell(size: int, lines: List[Tuple[Mark, int]]) -> None:
+    """How many marks are named in the first lines, and which are not."""
+    late = [(mark, line) for mark, line in lines if not 0 < line <= FIRST]
+    named = sum(1 for _, line in lines if line)
     print(
-        f"{title}: {first} of {len(wanted)} in the first {FIRST} lines, {named} named", flush=True
+        f"{size} at once: {len(lines) - len(late)} of {len(lines)} in the first {FIRST} lines,"
+        f" {named} named",
+        flush=True,
     )
+    if size < len(lines):
+        for mark, line in late:
+            print(f"  {mark.path.decode()} {mark.form}: line {line or 'none'}", flush=True)
 
 
 def main() -> int:
@@ -143,22 +149,19 @@ def main() -> int:
     parser.add_argument("--night", type=Path, required=True, metavar="DIR")
     parser.add_argument("--new", type=Path, required=True, help="the new database of the night")
     parser.add_argument("--command", required=True, help="aide-compare")
-    parser.add_argument("--each", action="store_true", help="also each mark alone")
+    parser.add_argument("--at-once", type=int, default=5, help="how many marks a mail has")
     args = parser.parse_args()
     records = args.night / "dpkg"
     subprocess.run(["mount", "--bind", str(records), "/var/lib/dpkg"], check=True)
     wanted = [mark for mark in marks() if mark.severity != LEFT]
     with tempfile.TemporaryDirectory() as work:
         trial = Trial(args.night, args.new, args.command, Path(work))
-        body = trial.body(wanted)
-        tell("all at once", wanted, [line_of(body, mark) for mark in wanted])
-        if args.each:
-            numbers = []
-            for mark in wanted:
-                numbers.append(line_of(trial.body([mark]), mark))
-                if not 0 < numbers[-1] <= FIRST:
-                    print(f"  {mark.path.decode()} {mark.form}: line {numbers[-1]}", flush=True)
-            tell("each alone", wanted, numbers)
+        for size in (len(wanted), args.at_once):
+            lines = []
+            for some in rounds(wanted, size):
+                body = trial.body(some)
+                lines += [(mark, line_of(body, mark)) for mark in some]
+            tell(size, lines)
     return 0
 
 
