@@ -253,6 +253,8 @@ class SeverityTest(ModuleTest):
             table.of(b"/etc/group", entry(FILE), entry(FILE)).rank,
             table.of(b"/etc/cron.d/x", None, entry(FILE)).rank,
             table.of(b"/usr/bin/x", None, entry(PROGRAM)).rank,
+            table.of(b"/var/log/x", None, entry(PROGRAM)).rank,
+            table.of(b"/etc/alternatives/x", None, entry(0o120777)).rank,
             table.of(b"/var/lib/dpkg/info/x.postinst", None, entry(PROGRAM)).rank,
             table.of(b"/srv/x", None, entry(FILE)).rank,
             table.of(b"/var/log/x", None, entry(FILE)).rank,
