@@ -54,7 +54,7 @@ class MailPackagesTest(mail.MailTest):
                 host.new.file(path, TWO)
         lines = self.lines(host)
         self.assertEqual(lines[0], "6 changes are open, 0 of severity high.")
-        at = lines.index("Open, of packages by path, their contents in no record:")
+        at = lines.index("Open, compiled of changed sources, their contents in no record:")
         wanted = ["  one 1: 2 files", "  three 1: 2 files", "  and 2 files of other packages", ""]
         self.assertEqual(lines[at + 1 : at + 5], wanted, lines)
         self.assertNotIn("Recorded", "\n".join(lines))

@@ -148,14 +148,16 @@ class RecordedTest(CommandTest):
             host.old.file(name, ONE)
             host.new.file(name, EVIL)
         files = {LIB + b"python3/evil.py": TWO, LIB + b"python3/three.py": TWO}
-        host.packages.append(Package("tool", "2", files))
+        host.old.file(LIB + b"cache", ONE)
+        host.new.file(LIB + b"cache", EVIL)
+        host.packages.append(Package("tool", "2", files, listed=(LIB + b"cache",)))
         text = host.brief(self)
-        by_path = "\nOpen, of packages by path, their contents in no record:\n  python 2: 2 files\n"
+        by_path = "\nOpen, compiled of changed sources, their contents in no record:\n  python 2: 2 files\n"
         self.assertEqual(text.count(by_path), 1, ("one line for a package", text))
-        for name in (*compiled_files, LIB + b"python3/evil.py"):
+        for name in (*compiled_files, LIB + b"python3/evil.py", LIB + b"cache"):
             line = f"  medium  changed  {name.decode()}: content"
             self.assertEqual(text.count(line), 1, (f"a line of its own: {name!r}", text))
-        self.holds("compiled files are open", text.startswith("6 open, 2 recorded of 8"), text)
+        self.holds("compiled files are open", text.startswith("7 open, 2 recorded of 9"), text)
 
     def test_made_beside_pair(self) -> None:
         """The same of a compiled file whose source is as in a trusted pair."""
@@ -228,8 +230,7 @@ class RecordedTest(CommandTest):
             self.expect(f"damaged records, {number}", answer, 4, b"1 ")
             self.assertNotIn(b"a fault of", answer.errors)
             self.write(f"dpkg/{name}", files[name])
-        self.set_names("changes.packages", PIECE=16)
-        self.write("dpkg/info/tool.list", b"x" * (1 << 21))  # One line, which came in pieces.
+        self.write("dpkg/info/tool.list", b"x" * (1 << 21))  # One line.
         before = "resource.setrlimit(resource.RLIMIT_CPU, (9, 9))"
         self.answered(4, b"1 ", None, "aide-compare", "host-old.db", "host-new.db", before=before)
 

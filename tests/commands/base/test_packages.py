@@ -43,9 +43,6 @@ class PackagesTest(ModuleTest):
         for path, found in members.items():
             kinds = [(member.package, member.column) for member in found]
             self.expect(f"of {path!r}", kinds, [("tool 2", ""), ("tool 2", "md5")])
-        self.write("dpkg/info/tool.list", b"/usr/bin/tool\n")
-        known = {path for paths in self.dpkg().known_paths() for path in paths}
-        self.expect("all paths", asked - known, {b"/etc/none"})
 
     def test_others(self) -> None:
         """No record is read that others can write, and none but a regular file."""

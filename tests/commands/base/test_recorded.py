@@ -13,7 +13,6 @@ from aide_compare.changes.packages import Member
 from aide_compare.changes.recorded import (
     Contents,
     Matcher,
-    Sieve,
     source_of,
     target_of,
 )
@@ -45,21 +44,6 @@ class RecordedTest(ModuleTest):
             self.gives(target, target_of, b"/a/b", {"Lname": link})
         self.gives(None, target_of, b"/a/b", {})
 
-    def test_sieve(self) -> None:
-        """No path of the records is lost; of the others, few come through."""
-        paths = [b"/bin/%d" % number for number in range(1000)]
-        sieve = Sieve([paths[:500], paths[500:]])
-        self.expect("its size", len(sieve.bits), 1 << 20)
-        self.expect(
-            "its bits", 990 < sum(bin(byte).count("1") for byte in sieve.bits) <= 1000, True
-        )
-        for start, others in ((b"", b"/etc"), (b"/usr", b"/usr/bin")):
-            self.expect("found", all(sieve.may_have(start + path) for path in paths), True)
-            lost = [sieve.may_have(others + path) for path in paths]
-            self.expect("not found", sum(lost) < 9, True)
-        self.gives(False, sieve.may_have, b"/bin/1x")
-        self.gives(True, sieve.may_have, COMPILED % b"")
-
     def test_asked(self) -> None:
         """At most so many, or so many bytes of them, at once; only those of a content."""
         rows = [(b"/%d" % number, "file", True) for number in range(5)]
@@ -70,28 +54,20 @@ class RecordedTest(ModuleTest):
             (5, 99, [5]),
         ):
             with mock.patch.multiple(recorded, MAX_ASKED=most, MAX_BYTES=size):
-                got = [len(asked) for asked in recorded._asked(table(*rows), None)]
+                got = [len(asked) for asked in recorded._asked(table(*rows))]
             self.expect(f"{most} at once, of {size} bytes", got, counts)
         links = table((b"/a", "file", False), (b"/b", "link", True), (b"/c", "file", True))
         every = {b"/b": 2, b"/c": 3}
-        self.expect("those of a content", list(recorded._asked(links, None)), [every])
-        one = {b"/c": every[b"/c"]}
-        self.expect("some", list(recorded._asked(links, b"/c".__eq__)), [one])
+        self.expect("those of a content", list(recorded._asked(links)), [every])
         self.expect("the bounds", (recorded.MAX_ASKED, recorded.MAX_BYTES), (5000, 2 << 20))
 
     def test_match(self) -> None:
-        """All records are read for many findings only, and a finding only if they have its path."""
-        for count, is_many in ((1, False), (2, True)):
-            records = mock.Mock()
-            records.known_paths.return_value = [[b"/a"]]
-            records.members.return_value = {}
-            changes = table(*[(b"/a", "file", True), (b"/b", "file", True)][:count])
-            read = mock.Mock()
-            with mock.patch.object(recorded, "MAX_ASKED", 1):
-                Matcher(records, mock.Mock(), read).match(changes)
-            self.expect("all records", records.known_paths.called, is_many)
-            self.expect("what is asked for", records.members.call_args[0][0], {b"/a"})
-            read.assert_not_called()
+        """No change is read whose path the records do not have."""
+        records, read = mock.Mock(), mock.Mock()
+        records.members.return_value = {}
+        Matcher(records, mock.Mock(), read).match(table((b"/a", "file", True)))
+        self.expect("what is asked for", records.members.call_args[0][0], {b"/a"})
+        read.assert_not_called()
 
     def test_contents(self) -> None:
         """A content that only the file on this machine says is read, as long as there is room."""

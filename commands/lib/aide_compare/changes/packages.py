@@ -7,12 +7,12 @@ from __future__ import annotations
 import os
 import re
 import stat
+from collections.abc import Callable, Iterator
 from contextlib import suppress
 from functools import cached_property
-from os.path import commonprefix
-from typing import Callable, Dict, Iterable, Iterator, List, NamedTuple, Optional, Set, Tuple
+from typing import NamedTuple
 
-from aide_compare.base.ending import Fault, Status, failing, reason
+from aide_compare.base.ending import Fault, Status, failing
 from aide_compare.base.escapes import shown
 from aide_compare.base.files import open_regular
 from aide_compare.base.directories import LISTING, closed_after, open_directory
@@ -28,15 +28,13 @@ MAX_FILES = 200000
 MAX_COMPARED = 500
 # Of all paths that are asked for at once. Each takes some 120 bytes of memory.
 MAX_MEMBERS = 500000
-MAX_STARTS = 3
-PIECE = 1 << 16
 READ_ONLY = os.O_RDONLY | os.O_NOFOLLOW | os.O_NONBLOCK | os.O_CLOEXEC
 PARAGRAPH = rb"(?m)^(Package|Status|Architecture|Version|Conffiles):[ \t]*(.*(?:\n[ \t].*)*)"
-NAME = rb"(?m)^Package:(.*)"
+NAME = rb"(?m)^Package:[ \t]*([^ \t\n]+)"
+GONE = (b"not-installed", b"config-files")
 LIST = ".list"
-INSTALLED = b"\nStatus: install ok installed\n"
 CONFFILE = rb"(?m)^ ?(/.*?) ([0-9a-f]{32})(?: [a-z-]+)*$"
-SUM = rb"(?m)^([0-9a-f]{32})  ?(.+)$"
+SUM = re.compile(rb"([0-9a-f]{32})  ?(.+)")
 INFO_DIRECTORY = b"/var/lib/dpkg/info"
 INFO = rb"(/var/lib/dpkg/info/([A-Za-z0-9][A-Za-z0-9+.-]*)(?::[a-z0-9-]+)?)\.(list|md5sums)"
 SUMS = b"md5sums"
@@ -50,16 +48,16 @@ class Member(NamedTuple):
     package: str
     column: str = ""
     digest: bytes = b""
-    link: Optional[bytes] = None
+    link: bytes | None = None
 
 
 # By the paths that are asked for.
-Members = Dict[bytes, List[Member]]
-Wanted = Set[bytes]
+Members = dict[bytes, list[Member]]
+Wanted = set[bytes]
 # Of a paragraph of dpkg's status.
-Fields = Dict[bytes, bytes]
+Fields = dict[bytes, bytes]
 # The kinds of the recorded changes of each package.
-Kinds = Dict[str, Set[str]]
+Kinds = dict[str, set[str]]
 
 
 class Found:
@@ -83,14 +81,14 @@ class Named:
 
     def __init__(self) -> None:
         # New or changed, and not as in the trusted pair.
-        self.unsigned: List[str] = []
-        self.downgraded: List[str] = []
-        self.came: List[str] = []
+        self.unsigned: list[str] = []
+        self.downgraded: list[str] = []
+        self.came: list[str] = []
         # New, and as in the trusted pair.
-        self.signed: List[str] = []
-        self.removed: List[str] = []
+        self.signed: list[str] = []
+        self.removed: list[str] = []
 
-    def add_new(self, words: str, sums: bytes, trusted: Optional[Set[bytes]]) -> None:
+    def add_new(self, words: str, sums: bytes, trusted: set[bytes] | None) -> None:
         """Takes a new package, by the path of its digests."""
         if trusted is None:
             self.came.append(words)
@@ -99,7 +97,7 @@ class Named:
         else:
             self.unsigned.append(words)
 
-    def titled(self) -> List[Tuple[str, List[str]]]:
+    def titled(self) -> list[tuple[str, list[str]]]:
         """What is not empty, each with its title, in the order in which people read it."""
         rows = [
             ("Unsigned packages", self.unsigned),
@@ -118,165 +116,87 @@ class Dpkg:
 
     def __init__(self, path: str = DPKG) -> None:
         self.remaining = MAX_ALL
-        self.owners = (0, os.geteuid())  # Who may own the files.
         self.words = f"dpkg's records in {shown(path)}"
         with open_directory(path) as directory, failing(f"cannot read {self.words}"):
             if directory.others:
                 raise Fault(Status.DEVICE, f"other users can write {self.words}")
             self.fd = os.open(".", LISTING, dir_fd=directory.fd)
-        # What each says of a package is read when a path of that package is asked for.
-        self.paragraphs = self._read("status").split(b"\n\n")
-
-    @cached_property
-    def _present(self) -> Dict[bytes, List[bytes]]:
-        """The paragraphs of packages that are there, by their names."""
-        present: Dict[bytes, List[bytes]] = {}
-        for paragraph in self.paragraphs:
+        # Of each name there may be one for each architecture.
+        self.paragraphs: dict[bytes, list[bytes]] = {}
+        for paragraph in b"".join(self._lines("status")).split(b"\n\n"):
             match = re.search(NAME, paragraph)
-            if match and (INSTALLED in paragraph or is_there(fields_of(paragraph))):
-                present.setdefault(match.group(1).strip(), []).append(paragraph)
-        return present
+            if match:
+                self.paragraphs.setdefault(match.group(1), []).append(paragraph)
 
-    def _read(self, name: str) -> bytes:
-        """The bytes of a file; none if it is not there."""
-        return b"".join(self._pieces(name, self.fd))
+    def _lines(self, name: str) -> Iterator[bytes]:
+        """The lines of a file with their ends; none if it is not there."""
+        words = f"{self.words}: {shown(name)}"
+        with failing(f"cannot read {words}"), suppress(FileNotFoundError):
+            with open(os.open(name, READ_ONLY, dir_fd=self.fd), "rb") as file:
+                status = os.fstat(file.fileno())
+                is_own = status.st_uid in (0, os.geteuid()) and not status.st_mode & 0o022
+                if not stat.S_ISREG(status.st_mode) or not is_own:
+                    raise Fault(Status.DEVICE, f"other users can write {words}")
+                limit = min(MAX_FILE, self.remaining)
+                if status.st_size > limit:
+                    raise Fault(Status.DEVICE, f"{words} has more than {limit} bytes")
+                self.remaining -= status.st_size
+                yield from file
 
-    @cached_property
-    def _info(self) -> int:
-        """The directory of what dpkg keeps of each package."""
-        with failing(f"cannot read {self.words}"):
-            return os.open("info", READ_ONLY | os.O_DIRECTORY, dir_fd=self.fd)
-
-    def _pieces(self, name: str, directory: int) -> Iterator[bytes]:
-        """The bytes of a file in pieces of whole lines; none if it is not there."""
-        try:
-            yield from self._read_pieces(name, directory)
-        except FileNotFoundError:
-            return
-        except OSError as error:
-            text = f"cannot read {self.words}: {shown(name)}: {reason(error)}"
-            raise Fault(Status.DEVICE, text) from None
-
-    def _read_pieces(self, name: str, directory: int) -> Iterator[bytes]:
-        """The same, and a failure as the system tells it. It makes nothing that only a failure
-        needs: there are some hundred lists, each of a few kilobytes."""
-        file = os.open(name, READ_ONLY, dir_fd=directory)
-        try:
-            size = self._size_of(file, name)
-            limit = min(MAX_FILE, self.remaining)
-            remaining = self.remaining - limit
-            rest = bytearray()
-            while size > 0 and (block := os.read(file, PIECE)):
-                size -= len(block)
-                self.remaining -= len(block)
-                if self.remaining < remaining:
-                    raise Fault(Status.DEVICE, f"{self.words} has more than {limit} bytes")
-                end = block.rfind(b"\n") + 1
-                if end:
-                    yield bytes(rest) + block[:end]
-                    rest.clear()
-                rest += block[end:]
-            if rest:
-                yield bytes(rest)
-        finally:
-            os.close(file)
-
-    def _size_of(self, file: int, name: str) -> int:
-        status = os.fstat(file)
-        is_own = status.st_uid in self.owners and not status.st_mode & 0o022
-        if not stat.S_ISREG(status.st_mode) or not is_own:
-            raise Fault(Status.DEVICE, f"other users can write {self.words}: {shown(name)}")
-        return status.st_size
-
-    def _version_of(self, base: bytes) -> Optional[bytes]:
-        """The version of a package, by its name, or by that with its architecture; None if it is
-        not there."""
+    def _package(self, base: bytes) -> Fields | None:
+        """What the status says of a package, by its name, or by that with its architecture; None if
+        it is not there, or only its configuration."""
         name, _, architecture = base.partition(b":")
-        version: Optional[bytes] = None
-        for paragraph in self._present.get(name, ()):
-            fields = fields_of(paragraph)
-            if architecture in (b"", fields.get(b"Architecture", b"").strip()):
-                version = fields.get(b"Version", b"").strip()
-        return version
+        for paragraph in self.paragraphs.get(name, ()):
+            fields = dict(re.findall(PARAGRAPH, paragraph))
+            is_there = not fields.get(b"Status", b"").endswith(GONE)
+            if is_there and architecture in (b"", fields.get(b"Architecture", b"").strip()):
+                return fields
+        return None
 
     def members(self, wanted: Wanted, usr: Callable[[bytes], bytes]) -> Members:
         """What the records say of the wanted paths. A diversion moves a file of another package."""
         self.remaining = MAX_ALL
-        lines = self._read("diversions").split(b"\n")
-        diverted = {usr(path): usr(to) for path, to in zip(lines[::3], lines[1::3])}
+        lines = [usr(line.rstrip(b"\n")) for line in self._lines("diversions")]
+        diverted = dict(zip(lines[::3], lines[1::3]))
+        moved = {old for old, to in diverted.items() if to in wanted}
+        asked = {path + b"\n" for path in _spellings(wanted | moved)}
         found = Found()
-
-        def take(path: bytes, member: Member) -> None:
-            path = usr(path)
-            for place in {path, diverted.get(path, path)} & wanted:
-                found.add(place, member)
-
-        asked = _spellings({*wanted, *(old for old, to in diverted.items() if to in wanted)})
-        for base, listed in self._lists_with(asked):
-            version = self._version_of(base)
-            if version is None:
+        for base in self._bases():
+            listed = {line[:-1] for line in asked.intersection(self._lines(f"info/{base}{LIST}"))}
+            fields = self._package(os.fsencode(base)) if listed else None
+            if fields is None:
                 continue
-            package = words_of(base.partition(b":")[0], version)
-            for path in listed:
-                take(path, Member(package))
-            for path, digits in self._sums_of(base, listed):
-                take(path, Member(package, "md5", bytes.fromhex(digits.decode())))
-        for package, path, digits in self._conffiles_with(asked):
-            take(path, Member(package, "md5", bytes.fromhex(digits.decode())))
+            package = words_of(fields[b"Package"].strip(), _version_in(fields))
+            members = [(path, Member(package)) for path in listed]
+            for path, digest in self._digests(base, fields, listed).items():
+                members.append((path, Member(package, "md5", digest)))
+            for path, member in members:
+                path = usr(path)
+                for place in {path, diverted.get(path, path)} & wanted:
+                    found.add(place, member)
         return found.members
 
-    def known_paths(self) -> Iterator[Iterable[bytes]]:
-        """All paths of which the records say something, some at once."""
-        self.remaining = MAX_ALL
-        yield self._read("diversions").split(b"\n")
-        for name in self._lists():
-            for piece in self._pieces(name, self._info):
-                yield piece.split(b"\n")
-        for paragraph in self.paragraphs:
-            if b"Conffiles:" in paragraph:
-                yield [path for path, _ in re.findall(CONFFILE, paragraph)]
+    def _digests(self, base: str, fields: Fields, paths: Wanted) -> dict[bytes, bytes]:
+        """The digests that a package has of some paths, those of configuration files too."""
+        sums = map(SUM.match, self._lines(f"info/{base}.md5sums"))
+        pairs = ((b"/" + match.group(2), match.group(1)) for match in sums if match)
+        digests = {path: digits for path, digits in pairs if path in paths}
+        for path, digits in re.findall(CONFFILE, fields.get(b"Conffiles", b"")):
+            if path in paths:
+                digests[path] = digits
+        return {path: bytes.fromhex(digits.decode()) for path, digits in digests.items()}
 
-    def _lists_with(self, asked: Wanted) -> Iterator[Tuple[bytes, Wanted]]:
-        """The beginnings of the names of the lists that have paths that are asked for, each with
-        these. There are some hundred thousand lines on a machine."""
-        starts = _starts_of(asked)
-        for name in self._lists():
-            listed: Wanted = set()
-            for piece in self._pieces(name, self._info):
-                if any(map(piece.__contains__, starts)):
-                    listed |= asked.intersection(piece.split(b"\n"))
-            if listed:
-                yield os.fsencode(name[: -len(LIST)]), listed
-
-    def _sums_of(self, base: bytes, paths: Wanted) -> Iterator[Tuple[bytes, bytes]]:
-        """The digests of some paths, each with its path before it."""
-        for piece in self._pieces(f"{os.fsdecode(base)}.md5sums", self._info):
-            for digits, name in re.findall(SUM, piece):
-                path = b"/" + name
-                if path in paths:
-                    yield path, digits
-
-    def _conffiles_with(self, asked: Wanted) -> Iterator[Tuple[str, bytes, bytes]]:
-        """The configuration files among some paths, each with its package before it and its digest
-        after it."""
-        starts = _starts_of(asked)
-        for paragraph in self.paragraphs:
-            if not any(map(paragraph.__contains__, starts)):
-                continue
-            fields = fields_of(paragraph)
-            files = re.findall(CONFFILE, fields.get(b"Conffiles", b""))
-            if is_there(fields) and any(path in asked for path, _ in files):
-                package = words_of(name_in(fields), fields.get(b"Version", b"").strip())
-                for path, digits in files:
-                    yield package, path, digits
-
-    def _lists(self) -> List[str]:
-        """The names of the lists of packages, also of those of which only configuration is left."""
+    def _bases(self) -> list[str]:
+        """The names of packages as those of their lists begin, also of those of which only
+        configuration is left."""
         with failing(f"cannot read {self.words}"):
-            names = [name for name in os.listdir(self._info) if name.endswith(LIST)]
-        return sorted(names)[:MAX_FILES]
+            info = os.open("info", READ_ONLY | os.O_DIRECTORY, dir_fd=self.fd)
+            with closed_after(info):
+                names = [name for name in os.listdir(info) if name.endswith(LIST)]
+        return [name[: -len(LIST)] for name in sorted(names)[:MAX_FILES]]
 
-    def named(self, changes: Table, _kinds: Kinds, trusted: Optional[Set[bytes]]) -> Named:
+    def named(self, changes: Table, _kinds: Kinds, trusted: set[bytes] | None) -> Named:
         """The packages whose list came or went, those of which dpkg's log says that their last
         change was to an older version, and those that are not as in a trusted pair: `trusted` are
         the paths of the digests that are, None without a pair."""
@@ -287,7 +207,7 @@ class Dpkg:
             if match is None:
                 continue
             start, name, ending = match.groups()
-            version = self._version_of(name) or b""
+            version = _version_in(self._package(name) or {})
             words = words_of(name, version)
             if ending == SUMS:
                 if row.kind != "removed" and trusted is not None:
@@ -304,9 +224,9 @@ class Dpkg:
         return named
 
     @cached_property
-    def _versions_before(self) -> Dict[bytes, bytes]:
+    def _versions_before(self) -> dict[bytes, bytes]:
         """The version that each package had before its last upgrade, as far as the log has that."""
-        versions: Dict[bytes, bytes] = {}
+        versions: dict[bytes, bytes] = {}
         for path in (DPKG_LOG + ".1", DPKG_LOG):
             with suppress(Fault, OSError), closed_after(open_regular(path)) as log:
                 start = max(os.fstat(log).st_size - MAX_LOG, 0)
@@ -315,33 +235,8 @@ class Dpkg:
         return versions
 
 
-def fields_of(paragraph: bytes) -> Fields:
-    """The fields of a paragraph of dpkg's status that somebody asks for."""
-    return dict(re.findall(PARAGRAPH, paragraph))
-
-
-def name_in(fields: Fields) -> bytes:
-    return fields.get(b"Package", b"").strip()
-
-
-def is_there(fields: Fields) -> bool:
-    """Whether a package is there, and not only its configuration."""
-    is_gone = fields.get(b"Status", b"").endswith((b"not-installed", b"config-files"))
-    return bool(name_in(fields)) and not is_gone
-
-
-def _starts_of(paths: Wanted) -> List[bytes]:
-    """What a text has if it has one of some paths: the beginning of some of them. A few are looked
-    for, however many paths there are."""
-    directories = sorted({path[: path.rfind(b"/") + 1] for path in paths})
-    size = -(-len(directories) // MAX_STARTS)
-    starts: List[bytes] = []
-    for at in range(0, len(directories), max(size, 1)):
-        group = directories[at : at + size]
-        start = os.fsencode(commonprefix([group[0], group[-1]]))
-        if not (starts and start.startswith(starts[-1])):
-            starts.append(start)
-    return starts
+def _version_in(fields: Fields) -> bytes:
+    return fields.get(b"Version", b"").strip()
 
 
 def _spellings(paths: Wanted) -> Wanted:

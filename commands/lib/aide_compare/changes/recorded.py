@@ -4,8 +4,8 @@ from __future__ import annotations
 
 import os
 import re
+from collections.abc import Callable, Collection, Iterator
 from contextlib import suppress
-from typing import Callable, Dict, Iterable, Iterator, List, Optional, Set
 
 from aide_compare.base.ending import Fault
 from aide_compare.base.files import BLOCK, open_regular
@@ -21,7 +21,6 @@ MAX_CONTENT = 2 << 30
 # So many findings, and so many bytes of their paths, are asked for at once.
 MAX_ASKED = 5000
 MAX_BYTES = 1 << 21
-SIEVE_BYTES = 1 << 20
 COMPILED = re.compile(rb"(/.*)/__pycache__/([^/]+)\.cpython-[0-9]+(?:\.opt-[12])?\.pyc")
 
 # Two files with one digest of less than 256 bits may be made on purpose, so that it does not say
@@ -33,10 +32,10 @@ Read = Callable[[Row], Change]
 
 
 # The places of rows by their paths: some thousand are in memory at once.
-Asked = Dict[bytes, int]
+Asked = dict[bytes, int]
 
 
-def digests_of(values: Values) -> Dict[str, bytes]:
+def digests_of(values: Values) -> dict[str, bytes]:
     """The digests of a side, by their columns."""
     return {
         column: bytes.fromhex(str(values[label]))
@@ -45,12 +44,12 @@ def digests_of(values: Values) -> Dict[str, bytes]:
     }
 
 
-def has_strong(digests: Dict[str, bytes]) -> bool:
+def has_strong(digests: dict[str, bytes]) -> bool:
     """Whether one of these digests says what a content is."""
     return any(len(digest) >= STRONG_BYTES for digest in digests.values())
 
 
-def link_of(values: Values) -> Optional[bytes]:
+def link_of(values: Values) -> bytes | None:
     """Where a symbolic link points to; None if that is not known."""
     link = values.get("Lname")
     if link is None or isinstance(link, int):
@@ -64,7 +63,7 @@ class Contents:
     def __init__(self) -> None:
         self.remaining = MAX_CONTENT
 
-    def fits(self, path: bytes, known: Dict[str, bytes], member: Member) -> bool:
+    def fits(self, path: bytes, known: dict[str, bytes], member: Member) -> bool:
         """Whether these digests of an entry are those of a member. Without a digest of this kind,
         the file on this machine has to have both that and those of the entry."""
         if member.column in known:
@@ -94,7 +93,7 @@ class Contents:
             raise OSError("no more may be read")
 
 
-def source_of(path: bytes) -> Optional[bytes]:
+def source_of(path: bytes) -> bytes | None:
     """The path of the source of a compiled file of Python; None for any other file."""
     match = COMPILED.fullmatch(path)
     if match is None:
@@ -102,7 +101,7 @@ def source_of(path: bytes) -> Optional[bytes]:
     return b"%s/%s.py" % match.groups()
 
 
-def target_of(path: bytes, values: Values) -> Optional[bytes]:
+def target_of(path: bytes, values: Values) -> bytes | None:
     """The path to which a symbolic link points, as it is written, without following others."""
     link = link_of(values)
     if not link:
@@ -111,40 +110,14 @@ def target_of(path: bytes, values: Values) -> Optional[bytes]:
     return b"/" + joined.lstrip(b"/")
 
 
-class Sieve:
-    """Which paths may be among many, in a megabyte: of a hundred others it takes two for one of
-    them if these are as many as a machine has files of packages."""
-
-    def __init__(self, batches: Iterable[Iterable[bytes]] = ()) -> None:
-        self.bits = bytearray(SIEVE_BYTES)
-        for batch in batches:
-            self.add(batch)
-
-    def add(self, paths: Iterable[bytes]) -> None:
-        for mark in map(hash, paths):
-            self.bits[mark >> 3 & SIEVE_BYTES - 1] |= 1 << (mark & 7)
-
-    def has(self, path: bytes) -> bool:
-        mark = hash(path)
-        return bool(self.bits[mark >> 3 & SIEVE_BYTES - 1] >> (mark & 7) & 1)
-
-    def may_have(self, path: bytes) -> bool:
-        """Whether records may have a path, which they may write without /usr."""
-        if self.has(path) or source_of(path) is not None:
-            return True
-        return path.startswith(b"/usr/") and self.has(path[len(b"/usr") :])
-
-
-def _asked(changes: Table, may_have: Optional[Callable[[bytes], bool]]) -> Iterator[Asked]:
+def _asked(changes: Table) -> Iterator[Asked]:
     """The changes that may be recorded, some thousand at once."""
     asked: Asked = {}
     size = 0
     question = "select place, path_key from changes where may_be_recorded order by place"
     for place, key in changes.ask(question):
-        path = path_of(key)
-        if may_have is None or may_have(path):
-            asked[path] = place
-            size += len(path)
+        asked[path_of(key)] = place
+        size += len(key)
         if len(asked) >= MAX_ASKED or size > MAX_BYTES:
             yield asked
             asked = {}
@@ -163,24 +136,21 @@ class Matcher:
         records: Dpkg | Rpm,
         usr: Callable[[bytes], bytes],
         read: Read,
-        accounted: Optional[Sieve] = None,
+        accounted: Collection[bytes] = (),
     ) -> None:
         self.records = records
         self.usr = usr
         self.read = read
-        self.accounted = accounted or Sieve()
+        self.accounted = accounted
         self.contents = Contents()
         self.members: Members = {}
-        self.changed: Set[bytes] = set()
+        self.changed: set[bytes] = set()
         # Of each package with a recorded change: the kinds of these.
-        self.kinds: Dict[str, Set[str]] = {}
+        self.kinds: dict[str, set[str]] = {}
 
     def match(self, changes: Table) -> None:
         """Notes the changes that are recorded, with their package, and those that were made."""
-        may_have = None
-        if len(changes) > MAX_ASKED:
-            may_have = Sieve(self.records.known_paths()).may_have
-        for asked in _asked(changes, may_have):
+        for asked in _asked(changes):
             self._match(changes, asked)
 
     def _match(self, changes: Table, asked: Asked) -> None:
@@ -209,16 +179,15 @@ class Matcher:
                 self.kinds.setdefault(member.package, set()).add(row.kind)
                 return
         if row.form == "file":
-            changes.note(row.place, Standing.OPEN, self._maker(row.path, members))
+            changes.note(row.place, Standing.OPEN, self._maker(row.path))
 
-    def _maker(self, path: bytes, members: List[Member]) -> str:
-        """The package of a file of which records know the path and no content, or the source, which
-        is another one now too. Mostly its scripts have made the file; nothing says so."""
+    def _maker(self, path: bytes) -> str:
+        """The package whose scripts compile a file, if records know its source, which is another
+        one now too."""
         source = source_of(path)
-        if source and (source in self.changed or self.accounted.has(source)):
-            members = self.members.get(self.usr(source)) or members
-        elif any(member.digest for member in members):
+        if source is None or not (source in self.changed or source in self.accounted):
             return ""
+        members = self.members.get(self.usr(source))
         return members[0].package if members else ""
 
     def _has(self, change: Change, member: Member) -> bool:

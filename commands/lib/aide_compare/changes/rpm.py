@@ -4,7 +4,7 @@ from __future__ import annotations
 import io
 import os
 import time
-from typing import Callable, Iterable, Iterator, Optional, Set
+from collections.abc import Callable
 
 from aide_compare.base.ending import Fault, Status, failing
 from aide_compare.base.processes import run
@@ -68,8 +68,8 @@ class Rpm:
         found = Found()
         package = ""
         column = ""
-        for line in self._lines():
-            fields = line.split(b"\t")
+        for line in io.BytesIO(self.text):
+            fields = line.rstrip(b"\n").split(b"\t")
             if fields[0] == b"P" and len(fields) == 4:
                 package = words_of(fields[1], fields[2])
                 column = ALGORITHMS.get(fields[3], "")
@@ -80,16 +80,7 @@ class Rpm:
                 found.add(usr(fields[1]), member)
         return found.members
 
-    def known_paths(self) -> Iterator[Iterable[bytes]]:
-        """All paths of which rpm has said something."""
-        yield (line.split(b"\t")[1] for line in self._lines() if line.startswith(b"F\t"))
-
-    def _lines(self) -> Iterator[bytes]:
-        """The lines that rpm has written."""
-        for line in io.BytesIO(self.text):
-            yield line.rstrip(b"\n")
-
-    def named(self, _changes: Table, kinds: Kinds, _trusted: Optional[Set[bytes]]) -> Named:
+    def named(self, _changes: Table, kinds: Kinds, _trusted: set[bytes] | None) -> Named:
         """The packages of which each recorded path came. rpm keeps nothing of those that went."""
         named = Named()
         for name in sorted(name for name, found in kinds.items() if found == {"added"}):
@@ -97,7 +88,7 @@ class Rpm:
         return named
 
 
-def records_of_host() -> Optional[Dpkg | Rpm]:
+def records_of_host() -> Dpkg | Rpm | None:
     """The records of this machine; None if it has neither dpkg's nor rpm's."""
     if os.path.lexists(packages.DPKG + "/status"):
         return Dpkg()

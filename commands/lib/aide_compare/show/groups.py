@@ -72,7 +72,7 @@ def group_lines(judged: Judged, limit: int, width: int) -> list[str]:
     table = judged.table
     by_path = list(made_lines(table, limit // 3))
     if by_path:
-        by_path.insert(0, "Open, of packages by path, their contents in no record:")
+        by_path.insert(0, "Open, compiled of changed sources, their contents in no record:")
     recorded = list(recorded_lines(table, limit, width))
     if recorded:
         recorded.insert(0, f"Recorded, as {judged.by} on this host says:")
