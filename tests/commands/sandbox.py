@@ -6,6 +6,7 @@ import contextlib
 import functools
 import gzip
 import hashlib
+import json
 import os
 import shutil
 import subprocess
@@ -95,6 +96,17 @@ Texts = Optional[Union[bytes, "list[bytes]"]]
 
 def sha256(text):
     return hashlib.sha256(text).hexdigest()
+
+
+def texts_of_state(text):
+    """The values of a state file as texts, an empty one if it is not known."""
+    try:
+        fields = json.loads(text)
+    except ValueError:
+        return {}
+    words = {key: " ".join(value) for key, value in fields.items() if isinstance(value, list)}
+    unknown = {key: "" for key, value in fields.items() if value is None}
+    return {key: str(value) for key, value in {**fields, **words, **unknown}.items()}
 
 
 class Answer:
@@ -272,9 +284,14 @@ class CommandTest(ScratchTest):
             self.skipTest("it needs root")
 
     def state(self, name="state"):
-        """A state file as a map, which keeps the order of its lines; nothing where there is
+        """A state file as a map of texts, those of lists with blanks; nothing where there is
         none."""
         if not os.path.exists(self.path(name)):
             return {}
-        lines = self.read(name).decode("utf-8", "surrogateescape").split("\n")
-        return dict(line.split("=", 1) for line in lines if "=" in line)
+        return texts_of_state(self.read(name))
+
+    def change_state(self, name, **values):
+        """A state file has other values, or is of so many seconds later."""
+        fields = json.loads(self.read(name))
+        fields["time"] += values.pop("seconds", 0)
+        self.write(name, json.dumps({**fields, **values}))

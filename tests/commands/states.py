@@ -1,27 +1,12 @@
 """State files that the tests write, of which commands then tell."""
 from __future__ import annotations
 
+import json
 import time
 from typing import Any
 
 from .sandbox import Answer, CommandTest
 
-FORM = """format=2
-status=%(status)s
-time=%(time)s
-date=2026-11-23T16:30:00Z
-added=%(added)s
-removed=%(removed)s
-changed=%(changed)s
-old_sha256=
-new_sha256=%(digest)s
-old=%(old)s
-new=%(new)s
-old_written=
-new_written=
-error=%(error)s
-later=unknown
-"""
 ZERO: dict[str, Any] = {
     "status": 0,
     "added": 0,
@@ -30,7 +15,13 @@ ZERO: dict[str, Any] = {
     "old": "/o",
     "new": "/n",
 }
-NOTHING: dict[str, Any] = {"added": "", "removed": "", "changed": ""}
+NOTHING: dict[str, Any] = {"added": None, "removed": None, "changed": None}
+
+
+def state_text(**values: Any) -> bytes:
+    """A state file with these values, and one of which nobody knows."""
+    known = {"format": 3, **ZERO, "old_sha256": "", "new_sha256": "", "error": "", **values}
+    return json.dumps({**known, "later": "unknown"}).encode() + b"\n"
 
 
 class StateTest(CommandTest):
@@ -39,8 +30,9 @@ class StateTest(CommandTest):
     def put(self, age: int = 60, **more: Any) -> str:
         """Writes a state of so many seconds ago. Returns its path."""
         now = int(time.time())
-        given = {**ZERO, "error": "", "digest": "a" * 64, "time": now - age, **more}
-        return self.write("state", (FORM % given).encode("utf-8", "surrogateescape"))
+        return self.write(
+            "state", state_text(**{"new_sha256": "a" * 64, "time": now - age, **more})
+        )
 
     def ask(self, tool: str, *words: str, **more: Any) -> Answer:
         return self.call(tool, "--state", "state", *words, **more)

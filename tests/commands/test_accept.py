@@ -12,11 +12,13 @@ from tests.lib.waiting import until, waits
 
 from .accepting import DIGEST, DONE, FILES, OLDER, TOOL, AcceptingTest, contents, fresh
 from .sandbox import AS_NOBODY, END, HEAD, NEW, NOBODY, OLD, UMASK, sha256
+from .states import state_text
 
-STATE = (
-    "format=2\nstatus=7\ntime=1764000000\ndate=x\nadded=1\nremoved=1\nchanged=2\nold_sha256=%s\nnew_sha256=%s\n"
-    "old=o\nnew=n\nold_written=\nnew_written=\nerror=\n"
-)
+
+def state_of(old: bytes, new: bytes) -> bytes:
+    """The state of a comparison of two databases."""
+    counts = {"status": 7, "added": 1, "removed": 1, "changed": 2}
+    return state_text(**counts, time=1764000000, old_sha256=sha256(old), new_sha256=sha256(new))
 
 
 class AcceptTest(AcceptingTest):
@@ -69,7 +71,7 @@ class AcceptTest(AcceptingTest):
             (OLD, OLDER, [b"no counts are known", b", written 20"]),
         ):
             fresh(self)
-            self.write("state", STATE % (sha256(old), sha256(new)))
+            self.write("state", state_of(old, new))
             self.accepts(told, DIGEST, "--state", "state")
 
     def test_unreadable(self) -> None:
@@ -84,7 +86,7 @@ class AcceptTest(AcceptingTest):
     def test_refusals(self) -> None:
         told = [sha256(OLD).encode(), DIGEST.encode(), b"refused: base/aide.db.new"]
         self.refuses(24, told, sha256(OLD))
-        self.write("state", STATE % (sha256(OLD), DIGEST))
+        self.write("state", state_of(OLD, NEW))
         self.refused(15, b"--sha256", TOOL, "--state", "state", *FILES)
         self.write("odd", "format=1\nstatus=0\nnew_sha256=%s\n" % DIGEST)
         name = b"aide-compare accept: "

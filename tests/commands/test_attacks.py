@@ -12,13 +12,10 @@ from typing import Any
 from tests.lib.program_test import slow
 
 from .sandbox import AS_NOBODY, Answer, CommandTest, DIFFER, NEW, NOBODY, OLD, UMASK, sha256
+from .states import state_text
 
 TOOL = "aide-compare compare --report"
 LIMITED = "resource.setrlimit(resource.RLIMIT_%s, (%d, %d))"
-FINE = (
-    "format=2\nstatus=0\ntime=%d\ndate=x\nadded=0\nremoved=0\nchanged=0\nold_sha256=\nnew_sha256=\nold=o\nnew=n\n"
-    "old_written=\nnew_written=\nerror=\n"
-)
 BEFORE = b"as before\n"
 MINIMAL = b"AIDE found differences between the two databases.\n"
 
@@ -187,7 +184,7 @@ class AttacksTest(CommandTest):
         /dev/null is: a command with a bug that ran as root would replace that of the machine."""
         self.needs_root()
         place, number = self.path("devices"), os.makedev(1, 3)
-        self.write("fine", FINE % int(time.time()))
+        self.write("fine", state_text(time=int(time.time())))
         self.stub("sendmail", "cat > /dev/null")
         for words in (
             ("aide-compare", "old.db", "new.db", "--state", "devices/null"),

@@ -73,18 +73,22 @@ class CheckTest(StateTest):
             ("nothing", ""),
             ("half", whole[:40]),
             ("no end", whole[:-7]),
-            ("another format", whole.replace("format=2", "format=1")),
+            ("another format", whole.replace('"format": 3', '"format": 2')),
             ("other keys", whole.replace("added", "x")),
-            ("no number", whole.replace("removed=0", "removed=x")),
-            ("a sum", whole.replace("status=0", "status=3-3")),
-            ("no status", whole.replace("status=0", "status=")),
-            ("a large number", whole.replace("status=0", "status=" + "9" * 30)),
-            ("counts that are not of the status", whole.replace("added=0", "added=1")),
-            ("a large file", whole + "x" * 70000),
+            ("no number", whole.replace('"removed": 0', '"removed": "0"')),
+            ("no status", whole.replace('"status": 0', '"status": null')),
+            ("a large number", whole.replace('"status": 0', '"status": ' + "9" * 30)),
+            ("counts that are not of the status", whole.replace('"added": 0', '"added": 1')),
+            ("deep", "[" * 60000),
+            ("a list", "[]"),
+            ("a number", "3"),
             ("NUL", whole.replace("status", "\0")),
         ):
+            self.assertNotEqual(text, whole, label)
             self.write("state", text)
             self.check("a state that is " + label, 3, "is no state file")
+        self.write("state", whole + "x" * 70000)
+        self.check("a large state", 3, "has more than 65536 bytes")
         os.remove(state)
         self.check("no state", 3, "there is no state")
         os.makedirs(state)

@@ -53,7 +53,7 @@ class ColumnsTest(CommandTest):
         told = b"the column new of the new database is not compared"
         self.answered(0, None, [NOTE, told], TOOL, "o.db", "more.db")
         self.call(TOOL, *STATE, "old.db", "new.db")
-        self.assertEqual([key for key in self.state() if "skipped" in key], [], "no column, no key")
+        self.assertEqual(self.state()["skipped_old"] + self.state()["skipped_new"], "", "no column")
 
     def test_status(self) -> None:
         """Each form of the status has the names."""
@@ -75,7 +75,7 @@ class ColumnsTest(CommandTest):
             gauges = [b'\naide_compare_skipped_column{name="%s"} 1\n' % label for label in labels]
             self.answered(0, gauges, b"", STATUS + "prometheus", *STATE)
             whole = json.loads(self.call(STATUS + "json", *STATE).output)
-            self.assertEqual(whole["skipped"], {"old": names, "new": names})
+            self.assertEqual((whole["skipped_old"], whole["skipped_new"]), (names, names))
         self.call(TOOL, *STATE, "o.db", "odd.db")
         for tool in (LINE, CHECK, STATUS + "text"):
             text = self.call(tool, *STATE).output

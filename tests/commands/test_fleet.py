@@ -120,8 +120,9 @@ class Fleet:
         return self.compare(*words, "--one", host, before=before)
 
     def state(self, host: str) -> str:
-        path = "store/states/" + host
-        return self.sandbox.read(path).decode() if os.path.exists(self.sandbox.path(path)) else ""
+        """The values of a state file, a line each; nothing if there is none."""
+        values = self.sandbox.state("store/states/" + host)
+        return "".join(f"{key}={value}\n" for key, value in values.items())
 
     def not_compared(self, told: str, said: Said, host: str, status: int = 18) -> None:
         """A host was not compared, which its line and its state say with this text."""

@@ -224,7 +224,7 @@ class FrontTest(CommandTest):
         found = json.loads(self.call(tool, "--format", "json", *words).output)
         values = (found["status"], found["added"], found["error"], found["new_sha256"])
         self.assertEqual(values, (7, 1, "", sha256(NEW)))
-        self.assertEqual(set(self.state()) - {"format", "date"}, set(found))
+        self.assertEqual(set(self.state()), set(found))
         changed = b"\naide_compare_changed_entries 2\n"
         self.answered(0, changed, b"", tool, "--format", "prometheus", *words)
         for faulty in (

@@ -251,8 +251,7 @@ class HostsReportTest(CommandTest):
         names = ("good1", "unknown", "stale", "ahead", "odd", "busy", "linked")
         hosts.compared(dict.fromkeys(names, (OLD, NEW)))
         for name, seconds in (("stale", -27 * 3600), ("ahead", 7200)):
-            then = "\ntime=%d" % (time.time() + seconds)
-            self.write("store/states/" + name, re.sub("\ntime=.*", then, hosts.state(name)))
+            self.change_state("store/states/" + name, seconds=seconds)
         self.write("store/states/odd", "status=0\n")
         os.rename(self.path("store/hosts/linked/lines"), self.path("elsewhere"))
         os.symlink(self.path("elsewhere"), self.path("store/hosts/linked/lines"))

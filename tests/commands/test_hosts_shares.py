@@ -135,8 +135,7 @@ class HostsSharesTest(CommandTest):
 
     def set_back(self, name: str) -> None:
         """A state is that of the day before."""
-        then = "\ntime=%d\n" % (int(self.state(name)["time"]) - DAY)
-        self.write(name, re.sub("\ntime=[0-9]+\n", then, self.read(name).decode()))
+        self.change_state(name, seconds=-DAY)
 
     def check_missing(self) -> None:
         """A store that is not there, and stores in another order."""

@@ -221,7 +221,7 @@ class Nights:
                 break
             time.sleep(1)
         text = self.path("/var/lib/aide-compare/daily/state").read_text()
-        return dict(line.split("=", 1) for line in text.splitlines() if "=" in line)
+        return {key: str(value) for key, value in json.loads(text).items()}
 
     def mail(self, is_wanted: bool) -> list[str]:
         """The mails that came. A mail system may take a moment, or keep them in its queue."""

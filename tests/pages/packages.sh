@@ -217,7 +217,7 @@ try_ansible() {
     sed -i 's/^[0-9]* [0-9]* \* \* \*/* * * * */' /etc/cron.d/aide-compare-fleet
     rm -f /var/lib/aide-compare/states/www
     check "the playbook's cron job runs" wait_for 75 test -s /var/lib/aide-compare/states/www
-    check "the playbook's cron job compares" grep -qx status=0 /var/lib/aide-compare/states/www
+    check "the playbook's cron job compares" grep -q '"status": 0,' /var/lib/aide-compare/states/www
 }
 
 if ! make_machine > "$folder.log" 2>&1; then

@@ -2,6 +2,7 @@
 from __future__ import annotations
 
 import gzip
+import json
 import os
 
 from tests.pages.blocks import RECIPES, Block, blocks_of
@@ -104,8 +105,7 @@ class RecipesTest(MachineTest):
         ]
 
     def state(self) -> dict[str, str]:
-        lines = self.read(STATE).splitlines()
-        return dict(line.split("=", 1) for line in lines if "=" in line)
+        return {key: str(value) for key, value in json.loads(self.read(STATE)).items()}
 
     def put_host(self, name: str, text: str | bytes, baseline: str | None) -> None:
         """What a host sends, and its baseline."""

@@ -2,6 +2,7 @@
 from __future__ import annotations
 
 import gzip
+import json
 import os
 import subprocess
 
@@ -65,10 +66,10 @@ class HostsTest(RecipesTest):
         for name, (_, wanted, text) in SENT.items():
             self.assertEqual(told[name][0], str(wanted), told[name])
             self.assertRegex(told[name][1], text)
-            state = self.read(f"{STORE}/states/{name}")
-            self.assertIn(f"\nstatus={wanted}\n", state)
+            state = json.loads(self.read(f"{STORE}/states/{name}"))
+            self.assertEqual(state["status"], wanted)
             if wanted > 7:
-                self.assertRegex(state, f"(?m)^error=.*({text})")
+                self.assertRegex(state["error"], text)
         for name in REFUSED:
             self.assertEqual(told[name.replace(" ", "\\040")][0], "15")
         self.assertEqual(

@@ -9,11 +9,7 @@ from tests.commands.base.calls import OTHER, PlacesTest
 
 from aide_compare.base.files import in_memory
 from aide_compare.compare import outputs
-
-STATE = (
-    b"format=2\nstatus=%d\ntime=1764000000\ndate=x\nadded=0\nremoved=0\nchanged=0\nold_sha256=\n"
-    b"new_sha256=\nold=o\nnew=n\nold_written=\nnew_written=\nerror=\n"
-)
+from aide_compare.compare.state import State
 
 
 def status_in(text: bytes, status: int) -> int:
@@ -77,9 +73,10 @@ class OutputsTest(PlacesTest):
 
     def test_states(self) -> None:
         """What a child hands over is a whole state of the status with which it has ended."""
-        self.gives(0, status_in, STATE % 0, 0)
-        failed = (STATE % 18).replace(b"=0\n", b"=\n")
-        longest = failed[:-1].ljust(65535, b"x") + b"\n"
+        good = State(0, 1764000000, 0, 0, 0).text()
+        failed = State(18, 1764000000).text()
+        longest = failed[:-1].ljust(65535) + b"\n"
+        self.gives(0, status_in, good, 0)
         self.gives(18, status_in, longest, 18)
-        for text, status in ((STATE % 0, 1), (longest + b"x", 18), (b"", 0)):
+        for text, status in ((good, 1), (longest + b"x", 18), (b"", 0)):
             self.fails(18, "left no whole result", status_in, text, status)

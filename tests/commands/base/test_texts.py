@@ -17,7 +17,7 @@ from aide_compare.base import ending, escapes, kinds, words
 from aide_compare.base.parser import Parser
 from aide_compare.compare import configuration, state
 from aide_compare.lines import attributes, reader
-from aide_compare.lines.change import Change, Values, change_of
+from aide_compare.lines.change import Change, Counts, Values, change_of
 from aide_compare.show import entry
 
 ESCAPED: tuple[tuple[str | bytes, str], ...] = (
@@ -151,40 +151,49 @@ class TextsTest(ModuleTest):
         self.assertEqual(VERSION, read("VERSION").strip())
 
     def test_state(self) -> None:
-        good = state.State(
-            7, 1795602777, 1, 2, 3, "a" * 64, "b" * 64, "o\\012", "n", 5, None, "", {"weekly": "3"}
-        )
+        counts = Counts(open=6, open_low=6)
+        digests = ("a" * 64, "b" * 64)
+        good = state.State(7, 1795602777, 1, 2, 3, *digests, "o\\012", "n", 5, standings=counts)
+        good = good._replace(skipped_old=["x"], trusted_old="t")
         data = good.text()
-        read_again = state.parse_state(data)
-        self.assertEqual(read_again.text(), data)
-        self.assertEqual(read_again.more, {"weekly": "3"}, "further keys")
-        first = b"format=2\nstatus=7\ntime=1795602777\ndate=2026-11-25T10:32:57Z\n"
-        self.assertEqual(data[: len(first)], first)
-        for written in (-(1 << 63), -(10**18), 1 - 10**18, (1 << 63) - 1):
+        self.assertEqual(state.parse_state(data), good)
+        fields = json.loads(data)
+        first = {"format": 3, "date": "2026-11-25T10:32:57Z", "status": 7, "open": 6}
+        self.assertEqual({**fields, **first}, fields)
+        for written in (-(10**18), (1 << 63) - 1, None):
             early = state.State(0, 1, 0, 0, 0, old_written=written).text()
             self.assertEqual(state.parse_state(early).old_written, written)
         text = state.State(ending.Status.DEVICE, 1, error="a\nb").text()
-        self.assertEqual(text.count(b"\n"), 14, "a newline in a value")
-        self.assertIn(b"\nstatus=18\n", text, "a status by its name")
-        for old, new in (
-            ("format=2", "format=3"),
-            ("status=7", "status=5"),
-            ("status=7", "status="),
-            ("status=7", "status=0"),
-            ("added=1", "added="),
-            ("added=1", "added=x"),
-            ("added=1", "added=-1"),
-            ("error=", "error"),
-            ("error=", "old=x\nerror="),
-            ("removed=2\n", ""),
-            ("a" * 64, "a" * 63),
-            ("a" * 64, "A" * 64),
-            ("time=1795602777", "time=" + "9" * 30),
-            ("weekly=3\n", "weekly=3"),
-            ("weekly=3", "weekly=" + "3" * 65536),
+        self.assertEqual(text.count(b"\n"), 1, "a newline in a value")
+        self.assertEqual(state.parse_state(text).error, "a\\012b")
+        self.assertIn(b'"status": 18,', text, "a status by its name")
+        for key, value in (
+            ("format", 2),
+            ("status", 5),
+            ("status", None),
+            ("status", 0),
+            ("status", True),
+            ("added", None),
+            ("added", "1"),
+            ("added", -1),
+            ("added", 1.0),
+            ("error", None),
+            ("error", 5),
+            ("old_sha256", "a" * 63),
+            ("old_sha256", "A" * 64),
+            ("time", 10**30),
+            ("open", 5),
+            ("open_low", None),
+            ("recorded", -1),
+            ("skipped_old", "x"),
+            ("told_columns", [1]),
         ):
-            with self.subTest(old=old, new=new[:40]), self.assertRaises((ValueError, KeyError)):
-                state.parse_state(data.replace(old.encode(), new.encode(), 1))
+            with self.subTest(key=key, value=value), self.assertRaises(ValueError):
+                state.parse_state(json.dumps({**fields, key: value}).encode())
+        for key in ("format", "status", "removed", "same"):
+            others = {name: value for name, value in fields.items() if name != key}
+            with self.subTest(key), self.assertRaises(ValueError):
+                state.parse_state(json.dumps(others).encode())
 
     def test_statuses(self) -> None:
         counts = ((0, 0, 0), (9, 0, 0), (0, 9, 0), (0, 0, 9), (1, 1, 1))

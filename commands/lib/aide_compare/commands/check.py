@@ -5,7 +5,7 @@ from __future__ import annotations
 import os
 from collections.abc import Sequence
 from enum import IntEnum
-from typing import NamedTuple, Optional
+from typing import NamedTuple
 
 from aide_compare.base.ending import Done, Fault, tell, why_of
 from aide_compare.base.escapes import guarded, shown
@@ -48,8 +48,8 @@ class CheckRequest(NamedTuple):
 
     state: str
     max_age: int
-    warning: Optional[AlarmLimit]
-    critical: Optional[AlarmLimit]
+    warning: AlarmLimit | None
+    critical: AlarmLimit | None
 
 
 class Answer(NamedTuple):
@@ -60,23 +60,14 @@ class Answer(NamedTuple):
     numbers: str = ""
 
 
-def is_reached(limit: AlarmLimit, counts: Counts) -> bool:
+def is_reached(limit: AlarmLimit | None, counts: Counts, usual: int) -> bool:
+    """Whether changes reach a limit; without one, whether there are any of the usual ones."""
+    if limit is None:
+        return usual > 0
     if limit.severity:
         severities = SEVERITIES[: SEVERITIES.index(limit.severity) + 1]
         return any(counts.of_severity(severity) for severity in severities)
     return counts.told >= limit.changes
-
-
-def is_critical(request: CheckRequest, counts: Counts) -> bool:
-    if request.critical is not None:
-        return is_reached(request.critical, counts)
-    return counts.open_high > 0
-
-
-def is_warning(request: CheckRequest, counts: Counts) -> bool:
-    if request.warning is not None:
-        return is_reached(request.warning, counts)
-    return counts.told > 0
 
 
 def level_of(request: CheckRequest, state: State) -> Level:
@@ -88,9 +79,9 @@ def level_of(request: CheckRequest, state: State) -> Level:
         return Level.UNKNOWN
     if counts is None:
         return Level.WARNING if state.status == ONLY_ADDED else Level.CRITICAL
-    if is_critical(request, counts):
+    if is_reached(request.critical, counts, counts.open_high):
         return Level.CRITICAL
-    if is_warning(request, counts):
+    if is_reached(request.warning, counts, counts.told):
         return Level.WARNING
     return Level.OK
 

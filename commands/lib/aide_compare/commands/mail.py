@@ -153,7 +153,7 @@ def told_columns(request: MailRequest) -> Told:
     if isinstance(request.comparison, Fault) or not request.state:
         return None
     with suppress(Fault):
-        return read_state(request.state).told
+        return read_state(request.state).told_columns
     return []
 
 
@@ -179,10 +179,10 @@ def compare_and_mail(request: MailRequest) -> int:
             lambda mail: deliver(way, short_mail(request, mail.subject, mail.text)),
         )
     # This mail is on its way now: one that is lost has told nothing.
-    names = [name for name in told or () if state.status > 7 or name in state.skipped_names]
+    names = [name for name in told or () if state.status > 7 or name in state.skipped]
     names += unknown_columns(told, state)
     if names:
-        outcome.keep(state.with_told(names))
+        outcome.keep(state._replace(told_columns=names))
     if request.sent_is_success:
         return Status.OK
     return state.status

@@ -29,7 +29,7 @@ def unknown_columns(told: Told, state: State) -> list[str]:
     """The columns that are not compared, and that no earlier mail can have told."""
     if told is None:
         return []
-    return [name for name in state.skipped_names if name not in told]
+    return [name for name in state.skipped if name not in told]
 
 
 def message_of(

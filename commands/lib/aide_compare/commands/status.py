@@ -5,7 +5,7 @@ from __future__ import annotations
 import os
 import re
 from collections.abc import Sequence
-from typing import Optional
+from typing import NamedTuple
 
 from aide_compare.base.ending import Fault, Status, tell, write_all
 from aide_compare.base.escapes import guarded, shown
@@ -14,8 +14,7 @@ from aide_compare.base.replacement import replace
 from aide_compare.base.options import RESULT_AGE, STATE, STORE, Option
 from aide_compare.base.parser import Parser, defaults_for
 from aide_compare.base.words import SEVERITIES, date_of, minute_of
-from aide_compare.compare.state import DAILY, KEYS, NUMBER, State, not_compared, read_state
-from aide_compare.lines.change import Counts
+from aide_compare.compare.state import DAILY, State, not_compared, read_state
 from aide_compare.show.result import kind_counts, known_counts, result_text, time_text
 from aide_compare.show.told import BOLD, in_colour
 
@@ -34,6 +33,7 @@ STDOUT = "-"
 # The baseline of one of many hosts, which has a command of its own.
 HOST_BASELINE = r"(/.*)/hosts/([A-Za-z0-9][A-Za-z0-9._:@-]*)/aide\.db"
 FORMATS = ("text", "line", "json", "prometheus")
+PREFIX = "aide_compare_"
 # What Prometheus is told of each standing and of the entries.
 ENTRIES = {
     "status": "Sum of 1 added, 2 removed and 4 changed; above 7 nothing was compared.",
@@ -51,39 +51,16 @@ CHANGES = {
 }
 
 
-class StatusRequest:
+class StatusRequest(NamedTuple):
     """What the options ask for."""
 
-    def __init__(
-        self,
-        state: str,
-        max_age: int,
-        format: str,
-        output: str,
-        is_quiet: bool,
-        color: str,
-        is_daily: bool,
-    ) -> None:
-        self.state = state
-        self.max_age = max_age
-        self.format = format  # One of FORMATS.
-        self.output = output  # Of prometheus: a file, or STDOUT.
-        self.is_quiet = is_quiet
-        self.color = color
-        self.is_daily = is_daily  # The state is that of the job of each day.
-
-
-class Metric:
-    """A number for Prometheus; None if it is not known."""
-
-    def __init__(self, name: str, help: str, value: Optional[int]) -> None:
-        self.name = name
-        self.help = help
-        self.value = value
-
-    def text(self) -> str:
-        name = f"aide_compare_{self.name}"
-        return f"# HELP {name} {self.help}\n# TYPE {name} gauge\n{name} {self.value}\n"
+    state: str
+    max_age: int
+    format: str  # One of FORMATS.
+    output: str  # Of prometheus: a file, or STDOUT.
+    is_quiet: bool
+    color: str
+    is_daily: bool  # The state is that of the job of each day.
 
 
 def line_of(state: State, max_age: int) -> str:
@@ -96,7 +73,7 @@ def line_of(state: State, max_age: int) -> str:
     counts = f"added={kinds.added} removed={kinds.removed} changed={kinds.changed}"
     counts = f"status={state.status} {counts}"
     if state.skipped:
-        counts += f" ({not_compared(state.skipped_names)})"
+        counts += f" ({not_compared(state.skipped)})"
     if state.status == 0:
         return f"no difference: {counts}"
     if state.standings:
@@ -198,43 +175,41 @@ def write_text(request: StatusRequest) -> int:
 
 
 def write_json(request: StatusRequest) -> int:
-    """What is not known is null, and a number is a number."""
-    import json
-
-    state = read_state(request.state)
-    values: dict[str, object] = {key: getattr(state, key) for key in KEYS}
-    for key, text in state.more.items():
-        is_count = key.startswith("left_out_") or key in Counts._fields
-        values[key] = int(text) if is_count and re.fullmatch(NUMBER, text) else text
-    if state.skipped:
-        values["skipped"] = state.skipped
-    tell(json.dumps(values, sort_keys=True))
+    """The object of the state file. What is not known is null."""
+    write_all(1, read_state(request.state).text())
     return Status.OK
 
 
-def metrics_of(state: State) -> list[Metric]:
+def metric_lines(name: str, help: str, value: int | None) -> str:
+    """The lines of a number for Prometheus; none if it is not known."""
+    if value is None:
+        return ""
+    return f"# HELP {PREFIX}{name} {help}\n# TYPE {PREFIX}{name} gauge\n{PREFIX}{name} {value}\n"
+
+
+def metrics_of(state: State) -> str:
+    """The text that the node exporter reads."""
     values = (state.status, state.added, state.removed, state.changed, state.time)
-    metrics = [Metric(name, text, value) for (name, text), value in zip(ENTRIES.items(), values)]
     counts = known_counts(state.standings)
-    metrics += [Metric(f"{word}_changes", text, counts.get(word)) for word, text in CHANGES.items()]
-    return metrics
+    rows = [(name, text, value) for (name, text), value in zip(ENTRIES.items(), values)]
+    rows += [(f"{word}_changes", text, counts.get(word)) for word, text in CHANGES.items()]
+    lines = [metric_lines(*row) for row in rows]
+    column = f"{PREFIX}skipped_column"
+    if state.skipped:
+        lines.append(f"# HELP {column} A column that is not compared.\n# TYPE {column} gauge\n")
+    for name in state.skipped:
+        import json
+
+        lines.append(f"{column}{{name={json.dumps(name, ensure_ascii=False)}}} 1\n")
+    return "".join(lines)
 
 
 def write_metrics(request: StatusRequest) -> int:
-    """The text that the node exporter reads. A count that is not known is left out."""
-    state = read_state(request.state)
-    text = "".join(metric.text() for metric in metrics_of(state) if metric.value is not None)
-    column = "aide_compare_skipped_column"
-    if state.skipped:
-        text += f"# HELP {column} A column that is not compared.\n# TYPE {column} gauge\n"
-    for name in state.skipped_names:
-        import json
-
-        text += f"{column}{{name={json.dumps(name, ensure_ascii=False)}}} 1\n"
+    text = metrics_of(read_state(request.state)).encode()
     if request.output == STDOUT:
-        write_all(1, text.encode())
+        write_all(1, text)
     else:
-        replace(request.output, text.encode(), what="the metrics", makes_directory=False)
+        replace(request.output, text, what="the metrics", makes_directory=False)
     return Status.OK
 
 

@@ -4,7 +4,7 @@ from __future__ import annotations
 import os
 from collections.abc import Mapping, Sequence
 from types import MappingProxyType
-from typing import TYPE_CHECKING, NamedTuple
+from typing import TYPE_CHECKING, Any, NamedTuple
 
 from aide_compare.base.ending import Fault, ReaderGone, Status, fault_of
 from aide_compare.base.escapes import shown, shown_lines
@@ -146,7 +146,7 @@ class Comparison(NamedTuple):
             old_written=written.get("old"),
             new_written=written.get("new"),
             error=self._first_error()[:MAX_ERROR],
-            more=self._further_keys(),
+            **self._further_values(),
         )
         if self.lines is None or self.has_failed:
             return state
@@ -163,18 +163,19 @@ class Comparison(NamedTuple):
                     return line
         return ""
 
-    def _further_keys(self) -> dict[str, str]:
-        more = {f"left_out_{side}": str(each.total) for side, each in self.left_out.items()}
+    def _further_values(self) -> dict[str, Any]:
+        values: dict[str, Any] = {
+            f"left_out_{side}": of.total for side, of in self.left_out.items()
+        }
         for side, names in self.skipped.items():
-            more[f"skipped_{side}"] = " ".join(names)
+            values[f"skipped_{side}"] = list(names)
         for side in TRUSTED_SIDES:
             if side in self.copies:
-                more[side] = shown(self.copies[side].name, MAX_NAME)
-                more[f"{side}_sha256"] = self.copies[side].sha256
-        if self.standings and not self.has_failed:
-            for key, count in self.standings._asdict().items():
-                more[key] = str(count)
-        return more
+                values[side] = shown(self.copies[side].name, MAX_NAME)
+                values[f"{side}_sha256"] = self.copies[side].sha256
+        if not self.has_failed:
+            values["standings"] = self.standings
+        return values
 
 
 def _seconds(written: float | None) -> int | None:

@@ -96,7 +96,7 @@ def owner_of(baseline: str) -> int | None:
 def state_in(descriptor: int, status: int) -> State:
     """The whole State that a child has written, of a run that ended with this status; a Fault if
     there is none."""
-    with suppress(ValueError, KeyError):
+    with suppress(ValueError):
         state = parse_state(os.pread(descriptor, MAX_BYTES + 1, 0))
         if state.status == status:
             return state

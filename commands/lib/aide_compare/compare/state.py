@@ -1,38 +1,26 @@
-"""The result of a run, with the counts of all standings, and the state file that keeps it all."""
+"""The result of a run, with the counts of all standings, and the state file that keeps it all: one
+object of JSON, which `aide-compare status --format json` prints."""
 from __future__ import annotations
 
-import os
+import json
 import re
 import time
-from collections.abc import Iterable, Mapping
-from types import MappingProxyType
-from typing import NamedTuple
+from typing import Any, NamedTuple
 
-from aide_compare.base.directories import closed_after
-from aide_compare.base.ending import Fault, Status, failing
+from aide_compare.base.ending import Fault, Status
 from aide_compare.base.escapes import guarded, shown
-from aide_compare.base.files import open_regular
-from aide_compare.base.words import KINDS, SIDES, date_of, status_of_counts
+from aide_compare.base.files import read_file
+from aide_compare.base.words import date_of, status_of_counts
 from aide_compare.lines.change import Counts
 
-FORMAT = "2"
+FORMAT = 3
 MAX_BYTES = 65536
-MAX_TOLD = 3
+MAX_NAMES = 3
 # The state of the daily run, and how much the clocks of two machines that share a file may differ.
 DAILY = "/var/lib/aide-compare/daily/state"
 AHEAD = 300
-NEEDED = ("status", "time")
-NUMBERS = (*NEEDED, *KINDS, "old_written", "new_written")
-DIGESTS = ("old_sha256", "new_sha256")
-KEYS = (*NEEDED, *KINDS, *DIGESTS, "old", "new", "old_written", "new_written", "error")
-NUMBER = "-?[0-9]{1,19}"
-COUNT = "[0-9]{1,18}"
-LINE = "(?s)([^=]+)=(.*)"
+MAX_NUMBER = 1 << 63
 DIGEST = "(?:[0-9a-f]{64})?"
-# The further key that has the columns which mails have told.
-TOLD = "told_columns"
-
-NOTHING_MORE: Mapping[str, str] = MappingProxyType({})
 
 
 class State(NamedTuple):
@@ -51,7 +39,16 @@ class State(NamedTuple):
     old_written: int | None = None  # None if it is unknown.
     new_written: int | None = None
     error: str = ""  # The first error line.
-    more: Mapping[str, str] = NOTHING_MORE  # Further keys with their texts.
+    left_out_old: int | None = None  # None if nothing was to be left out.
+    left_out_new: int | None = None
+    trusted_old: str = ""
+    trusted_old_sha256: str = ""
+    trusted_new: str = ""
+    trusted_new_sha256: str = ""
+    skipped_old: list[str] = []  # The columns that were not compared.
+    skipped_new: list[str] = []
+    told_columns: list[str] = []  # Those that mails have told already.
+    standings: Counts | None = None  # None if nobody has judged the changes.
 
     @property
     def counts(self) -> tuple[int, int, int] | None:
@@ -61,61 +58,24 @@ class State(NamedTuple):
         return self.added, self.removed, self.changed
 
     @property
-    def standings(self) -> Counts | None:
-        """The Counts of the standings, or None. A ValueError if there are only some, or one that is
-        no number."""
-        texts = {key: self.more[key] for key in Counts._fields if key in self.more}
-        if not texts or not self.counts:
-            return None
-        are_numbers = all(re.fullmatch(COUNT, text) for text in texts.values())
-        if len(texts) != len(Counts._fields) or not are_numbers:
-            raise ValueError("only some counts of standings, or no numbers")
-        return Counts(*map(int, texts.values()))
-
-    @property
     def age(self) -> int | None:
         """How many seconds ago the run ended; None if it ended after now, so that one of the clocks
         is wrong."""
         age = int(time.time()) - self.time
         return None if age < -AHEAD else max(age, 0)
 
-    def _names(self, key: str) -> list[str]:
-        return [name for name in self.more.get(key, "").split(" ") if name]
-
     @property
-    def skipped(self) -> dict[str, list[str]]:
-        """By side the columns that were not compared, as far as there are any."""
-        names = {side: self._names(f"skipped_{side}") for side in SIDES}
-        return {side: names[side] for side in SIDES if names[side]}
-
-    @property
-    def skipped_names(self) -> list[str]:
-        """The names of these columns, each once."""
-        return list(dict.fromkeys(name for names in self.skipped.values() for name in names))
-
-    @property
-    def told(self) -> list[str]:
-        """The names of those that mails have told already."""
-        return self._names(TOLD)
-
-    def with_told(self, names: Iterable[str]) -> State:
-        return self._replace(more={**self.more, TOLD: " ".join(names)})
+    def skipped(self) -> list[str]:
+        """The columns that were not compared, each once."""
+        return list(dict.fromkeys([*self.skipped_old, *self.skipped_new]))
 
     def text(self) -> bytes:
         """The bytes of the file."""
         values = self._asdict()
-        more = values.pop("more")
-        first = {
-            "format": FORMAT,
-            "status": values.pop("status"),
-            "time": values.pop("time"),
-            "date": date_of(self.time),
-        }
-        lines = []
-        for key, value in {**first, **values, **more}.items():
-            text = "" if value is None else str(value)
-            lines.append(f"{guarded(key)}={guarded(text)}\n")
-        return "".join(lines).encode("utf-8", "backslashreplace")
+        del values["standings"]
+        if self.standings:
+            values.update(self.standings._asdict())
+        return json.dumps({"format": FORMAT, "date": date_of(self.time), **values}).encode() + b"\n"
 
     def fault(self) -> str:
         """What does not fit in it; "" if it can be the state of a run."""
@@ -150,69 +110,55 @@ def not_compared(names: list[str]) -> str:
         return ""
     if len(names) == 1:
         return f"the column {names[0]} is not compared"
-    listed = ", ".join(names[:MAX_TOLD])
-    if len(names) > MAX_TOLD:
-        listed += f" and {len(names) - MAX_TOLD} more"
+    listed = ", ".join(names[:MAX_NAMES])
+    if len(names) > MAX_NAMES:
+        listed += f" and {len(names) - MAX_NAMES} more"
     return f"the columns {listed} are not compared"
 
 
-def _values_of(data: bytes) -> dict[str, str]:
-    """The texts of a state file by their keys; a ValueError if the bytes have another form."""
-    lines = data.decode("utf-8", "surrogateescape").split("\n")
-    if len(data) > MAX_BYTES or lines[0] != f"format={FORMAT}" or lines[-1]:
-        raise ValueError("another beginning or end")
-    values: dict[str, str] = {}
-    for line in lines[:-1]:
-        match = re.fullmatch(LINE, line)
-        if match is None or match.group(1) in values:
-            raise ValueError("a line without a key, or one key twice")
-        values[match.group(1)] = guarded(match.group(2))
-    return values
+def _checked(key: str, value: object) -> object:
+    """A value of a state file; a ValueError if it is of another type than this key has: that of its
+    default, and otherwise a number or null."""
+    default = State._field_defaults.get(key)
+    if isinstance(default, list):
+        if isinstance(value, list) and all(isinstance(name, str) for name in value):
+            return [guarded(name) for name in value]
+    elif isinstance(default, str):
+        if isinstance(value, str):
+            return guarded(value)
+    elif value is None or (type(value) is int and abs(value) <= MAX_NUMBER):
+        return value
+    raise ValueError(f"another value of {key}")
 
 
-def _number_of(key: str, text: str) -> int | None:
-    """A number that stands in a state file; None where it may be missing and is."""
-    if not text and key not in NEEDED:
-        return None
-    if not re.fullmatch(NUMBER, text):
-        raise ValueError(f"no number: {shown(text, 50)}")
-    return int(text)
-
-
-def parse_state(data: bytes) -> State:
-    """The State that the bytes of a file say; a ValueError or a KeyError if they are no state."""
-    values = _values_of(data)
-    del values["format"]
-    del values["date"]
-    texts = {key: values.pop(key) for key in KEYS}
-    numbers = {key: _number_of(key, texts.pop(key)) for key in NUMBERS}
-    state = State(
-        status=numbers["status"] or 0,
-        time=numbers["time"] or 0,
-        added=numbers["added"],
-        removed=numbers["removed"],
-        changed=numbers["changed"],
-        old_sha256=texts["old_sha256"],
-        new_sha256=texts["new_sha256"],
-        old=texts["old"],
-        new=texts["new"],
-        old_written=numbers["old_written"],
-        new_written=numbers["new_written"],
-        error=texts["error"],
-        more=values,
-    )
+def _state_of(fields: dict[str, Any]) -> State:
+    """The State that an object says. What its keys lack is a TypeError or a LookupError."""
+    if fields["format"] != FORMAT:
+        raise ValueError("another format")
+    keys = (*State._fields[:-1], *Counts._fields)
+    values: dict[str, Any] = {key: _checked(key, fields[key]) for key in keys if key in fields}
+    counts = [values.pop(key) for key in Counts._fields if key in values]
+    if counts:
+        values["standings"] = Counts._make(counts)
+    state = State(**values)
     fault = state.fault()
     if fault:
         raise ValueError(f"{fault}, so somebody has changed it")
     return state
 
 
+def parse_state(data: bytes) -> State:
+    """The State that the bytes of a file say; a ValueError if they are no state."""
+    try:
+        return _state_of(json.loads(data))
+    except (TypeError, LookupError, RecursionError):
+        raise ValueError("no state") from None
+
+
 def read_state(path: str) -> State:
     """Reads a state file; a Fault if there is none, or if it is none."""
-    with closed_after(open_regular(path, "the state file ")) as file:
-        with failing(f"cannot read the state file {shown(path)}"):
-            data = os.read(file, MAX_BYTES + 1)
+    data = read_file(path, MAX_BYTES, "the state file ")
     try:
         return parse_state(data)
-    except (ValueError, KeyError):
+    except ValueError:
         raise Fault(Status.DEVICE, f"{shown(path)} is no state file of aide-compare") from None

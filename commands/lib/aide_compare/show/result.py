@@ -1,28 +1,26 @@
 """The result of a comparison in words, as its state file has it."""
 from __future__ import annotations
 
-from typing import Optional
+from typing import NamedTuple
 
 from aide_compare.base.words import SEVERITIES, age_in_words, minute_of
 from aide_compare.compare.state import State, not_compared
 from aide_compare.lines.change import Counts, Standing
 
 
-class KindCounts:
+class KindCounts(NamedTuple):
     """How many entries were added, removed and changed, as a text each."""
 
-    def __init__(self, added: str, removed: str, changed: str) -> None:
-        self.added = added
-        self.removed = removed
-        self.changed = changed
+    added: str
+    removed: str
+    changed: str
 
 
 def kind_counts(state: State, unknown: str) -> KindCounts:
     """The counts of the kinds, each as the text `unknown` if there are none."""
     if state.counts is None:
         return KindCounts(unknown, unknown, unknown)
-    added, removed, changed = state.counts
-    return KindCounts(str(added), str(removed), str(changed))
+    return KindCounts(*map(str, state.counts))
 
 
 def result_text(state: State) -> str:
@@ -36,7 +34,7 @@ def result_text(state: State) -> str:
         if state.standings:
             text = f"{state.standings.words()}: {text}"
     if state.skipped:
-        text += f"; {not_compared(state.skipped_names)}"
+        text += f"; {not_compared(state.skipped)}"
     return text
 
 
@@ -64,7 +62,7 @@ def time_text(state: State, max_age: int) -> str:
     return text
 
 
-def known_counts(counts: Optional[Counts]) -> dict[str, int]:
+def known_counts(counts: Counts | None) -> dict[str, int]:
     """The numbers of all standings and severities by their words; none if nobody has judged the
     changes."""
     if counts is None:
