@@ -153,7 +153,7 @@ class HostsAddTest(CommandTest):
         for part in (
             f"    {PRINT} (ssh-ed25519)\n",
             f"    {sha256(OLD)}\n",
-            "    ssh-keygen -lf /etc/ssh/ssh_host_ed25519_key.pub\n",
+            "    cat /etc/ssh/ssh_host_*_key.pub | ssh-keygen -lf -\n",
             "    zcat -f /var/lib/aide/aide.db.new | sha256sum\n",
         ):
             self.assertIn(part, before)

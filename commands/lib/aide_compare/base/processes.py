@@ -24,7 +24,6 @@ from aide_compare.base.files import BLOCK
 
 MAX_RESULT = 1 << 20
 MAX_FILE = 256 << 20
-PAUSE = 0.25
 STOP_SECONDS = 10
 NOT_STARTED = 127
 PR_SET_PDEATHSIG = 1
@@ -33,8 +32,6 @@ PR_SET_PDEATHSIG = 1
 Taker = Callable[[bytes], object]
 # What a child does; it answers with a few bytes.
 Work = Callable[[], bytes]
-# By the number of a child, what is called now and then while it runs.
-Watch = Callable[[int], Callable[[], None]]
 # A program and its arguments.
 Words = Sequence[Union[str, bytes]]
 NO_DESCRIPTORS: Mapping[int, int] = MappingProxyType({})
@@ -152,13 +149,12 @@ def run(
     descriptors: Mapping[int, int] = NO_DESCRIPTORS,
     environment: Mapping[str, str] = os.environ,
     deadline: float = math.inf,
-    watch: Watch | None = None,
 ) -> int:
     """Runs a program to its end. Returns its exit code, negative for a signal; NOT_STARTED if there
     is no such program. One that was not over by the deadline is killed, and that is an OverTime.
 
     What it writes to a descriptor with a taker goes there through a pipe. `descriptors` are its
-    other ones, by their numbers. Meanwhile it calls now and then what `watch(child)` gives.
+    other ones, by their numbers.
     """
     places = dict(descriptors)
     readings = {}
@@ -175,7 +171,7 @@ def run(
                 return NOT_STARTED
         status = None
         try:
-            if pump(readings, deadline, watch(process.pid) if watch else None):
+            if pump(readings, deadline):
                 status = _status_of(process, deadline)
         finally:
             if status is None:
@@ -269,11 +265,7 @@ def _answer_of(work: Work, seconds: float, needed: Container[int]) -> bytes:
         return b"!%d %s" % (fault.status, fault.text.encode("utf-8", "backslashreplace"))
 
 
-def pump(
-    takers: Mapping[int, Taker],
-    deadline: float = math.inf,
-    tell: Callable[[], None] | None = None,
-) -> bool:
+def pump(takers: Mapping[int, Taker], deadline: float = math.inf) -> bool:
     """Gives what comes from each descriptor to its taker until all have ended; False if the time is
     over before that."""
     waiting = dict(takers)
@@ -281,14 +273,13 @@ def pump(
         remaining = deadline - time.monotonic()
         if remaining <= 0:
             return False
-        for descriptor in select.select(list(waiting), [], [], min(remaining, PAUSE))[0]:
+        timeout = None if remaining == math.inf else remaining
+        for descriptor in select.select(list(waiting), [], [], timeout)[0]:
             block = os.read(descriptor, BLOCK)
             if block:
                 waiting[descriptor](block)
             else:
                 del waiting[descriptor]
-        if tell:
-            tell()
     return True
 
 

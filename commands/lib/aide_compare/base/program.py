@@ -128,12 +128,10 @@ def run_program(
     """Runs the program. A Fault unless its status is one of its own. `descriptors` are those of the
     databases, 3 and 4, and of the configuration, 5. What it writes goes to `take`."""
     errors = bytearray()
-    databases = [descriptors[place] for place in (OLD, NEW) if place in descriptors]
     takers = {1: take, 2: Drain(MAX_ERRORS, errors.extend).take}
     environment = {**os.environ, "LC_ALL": "C"}
-    watch = progress.watching(databases)
     try:
-        status = run([program, *words], takers, descriptors, environment, watch=watch)
+        status = run([program, *words], takers, descriptors, environment)
     except OSError as error:
         raise Fault(Status.DEVICE, f"cannot run {shown(program)}: {reason(error)}")
     progress.note_step("the program has run")

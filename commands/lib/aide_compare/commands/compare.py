@@ -5,7 +5,6 @@ import os
 from collections.abc import Iterator, Sequence
 from typing import TYPE_CHECKING, Optional
 
-from aide_compare.base import progress
 from aide_compare.base.ending import Fault, Status, failing, say, write_all, write_blocks
 from aide_compare.base.escapes import guarded, shown
 from aide_compare.base.files import copy_file
@@ -90,7 +89,6 @@ class Printer(Reporter):
 
     def print(self, comparison: Comparison, judged: Optional[Judged]) -> None:
         """Prints what was asked for. A comparison that fails meanwhile prints nothing."""
-        progress.end()
         if comparison.has_failed:
             return
         text = self._brief(comparison, judged) if self.form == BRIEF else b""
@@ -108,7 +106,6 @@ class Printer(Reporter):
 
     def conclude(self, comparison: Comparison, judged: Optional[Judged]) -> bytes:
         """Says why nothing was compared, or what was said of it before the report."""
-        progress.end()
         if comparison.has_failed or not self.has_told:
             tell_comparison(comparison, self.request.is_quiet, self.request.is_verbose)
         return b""
@@ -166,8 +163,6 @@ def task_of(arguments: Sequence[str]) -> tuple[Task, Printer]:
     it."""
     request = request_with_defaults(arguments)
     printer = Printer(request, arguments)
-    if not request.is_quiet:
-        progress.begin(2)
     judges = request.state is not None or printer.form == BRIEF
     return Task(printer.task_request, judges), printer
 

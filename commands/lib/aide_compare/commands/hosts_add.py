@@ -5,7 +5,8 @@ from __future__ import annotations
 import os
 from contextlib import closing
 from functools import partial
-from typing import NamedTuple, Sequence
+from collections.abc import Sequence
+from typing import NamedTuple
 
 from aide_compare.base.ending import Fault, Status, status_of, tell
 from aide_compare.base.replacement import NewFile
@@ -13,14 +14,9 @@ from aide_compare.base.options import HOST_STORE, HOST_TIME, Option
 from aide_compare.base.parser import Parser
 from aide_compare.base.processes import limit_memory
 from aide_compare.base.terminal import answer_to
-from aide_compare.base.words import counted
 from aide_compare.hosts import adding
-from aide_compare.hosts.store import (
-    BASELINE,
-    HOSTS_FILE,
-    MAX_MEMORY,
-    HostDirectory,
-)
+from aide_compare.hosts.fetching import DATABASE, NOT_ALLOWED
+from aide_compare.hosts.store import BASELINE, HOSTS_FILE, MAX_MEMORY, HostDirectory
 
 NAME = "aide-compare hosts add"
 DESCRIPTION = """\
@@ -54,22 +50,21 @@ def request_of(arguments: Sequence[str]) -> AddRequest:
 
 def tell_offer(host: str, offer: adding.Offer) -> None:
     """Says what the host has answered with, and where the true values are."""
+    commands = [f"    zcat -f {DATABASE} | sha256sum"]
     if offer.key:
         tell(f"{host} has this key, which was not known here:")
         tell(f"    {adding.key_words(offer.key)}")
+        commands.insert(0, "    cat /etc/ssh/ssh_host_*_key.pub | ssh-keygen -lf -")
     else:
         tell(f"{host} has the key that is known here.")
     tell("Its database has this SHA-256:", f"    {offer.sha256}", "")
-    commands = adding.commands_on_host(offer.key)
-    these = "this" if len(commands) == 1 else "these"
-    tell(f"Compare with what {these} {counted(len(commands), 'command')} on {host} say:")
-    tell(*(f"    {command}" for command in commands))
+    tell(f"Compare with what this says on {host}:", *commands)
 
 
 def way_in(fault: Fault, settings: adding.SshSettings) -> list[str]:
     """What helps if the host does not let the caller in. A line for its authorized_keys goes to
     standard output, where nothing stands before it."""
-    if not adding.is_refusal(fault):
+    if NOT_ALLOWED not in fault.text:
         return []
     line = adding.line_for_key(settings)
     if not line:

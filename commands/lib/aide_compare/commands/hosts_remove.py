@@ -11,7 +11,7 @@ from aide_compare.base.files import read_file
 from aide_compare.base.options import HOST_STORE, HOST_TIME, Option
 from aide_compare.base.parser import Parser
 from aide_compare.base.replacement import ANYBODY_READS, replace
-from aide_compare.hosts.adding import MAX_HOSTS_FILE, is_listed
+from aide_compare.hosts.adding import MAX_FILE
 from aide_compare.hosts.hosts_read import directory_of
 from aide_compare.hosts.store import HOSTS_FILE, check_name
 
@@ -26,10 +26,12 @@ Status: 0 removed; 15 bad arguments; 18 there is no such host, or something coul
 
 def remove_from_list(host: str, path: str) -> bool:
     """Takes a host out of a file of hosts. Whether it was there."""
-    if not is_listed(host, path):
+    if not os.path.lexists(path):
         return False
-    lines = read_file(path, MAX_HOSTS_FILE, "the file of hosts ").split(b"\n")
+    lines = read_file(path, MAX_FILE, "the file of hosts ").split(b"\n")
     kept = [line for line in lines if line.strip() != host.encode()]
+    if kept == lines:
+        return False
     replace(path, b"\n".join(kept), ANYBODY_READS, "the file of hosts")
     return True
 

@@ -6,7 +6,7 @@ import os
 import re
 from collections.abc import Iterator, Mapping
 
-from aide_compare.base.database import MAX_LINE, Kind, Layout, fields_in
+from aide_compare.base.database import MAX_LINE, Kind, Layout
 from aide_compare.base.escapes import shown
 from aide_compare.base.files import reopened
 from aide_compare.base.rights import entry_of
@@ -18,7 +18,6 @@ OPENING = (
     rb"aide: (?:cannot open the ((?:trusted )?(?:old|new)) database"
     rb"|the ((?:trusted )?(?:old|new)) database changed)"
 )
-COLUMN = rb".* in column (\d+)$"
 SKIPPED = rb"(?m)^aide: (old|new) database: column ([0-9]{1,2}) skipped$"
 UNREADABLE = r"(?a)cannot open the (old|new) database ([\w/.+-]+): Permission denied"
 # The comment in which AIDE dates a database, before its first entry; the zone since 0.19.
@@ -59,24 +58,19 @@ NOT_SUPPORTED = (
     "OLD and NEW (no configuration is needed then), or write a short one, as in "
     "aide-compare.conf(5)"
 )
-# Bytes that no text has.
-BINARY = rb"[\x00-\x08\x0b\x0c\x0e-\x1a\x1c-\x1f]"
+# Bytes that no text has, and how packed ones begin, which would hide the lines around them.
+BINARY = rb"[\x00-\x08\x0b\x0c\x0e-\x1a\x1c-\x1f]|^(?:\xfd7zXZ|\x28\xb5\x2f\xfd|BZh|\xef\xbb\xbf|\xff\xfe)"
 
 
-def _start_of_line(descriptor: int, number: int, layout: Layout) -> bytes:
-    """The beginning of a line of a database; nothing if there is no such line. The layout has read
-    all lines before it. Memory does not grow with the file."""
+def _start_of_line(descriptor: int, number: int) -> bytes:
+    """The beginning of a line of a database; nothing if there is no such line. Memory does not grow
+    with the file."""
     count = 1
-    is_new = True
     with open(reopened(descriptor, os.O_RDONLY), "rb", BLOCK) as file:
         while part := file.readline(MAX_LINE):
-            if count == number and is_new:
+            if count == number:
                 return part.rstrip(b"\n")
-            if is_new:
-                layout.kind_of(part)
-            is_new = part.endswith(b"\n")
-            if is_new:
-                count += 1
+            count += part.endswith(b"\n")
     return b""
 
 
@@ -88,26 +82,6 @@ def _beginning_hint(head: bytes) -> str:
     return UNKNOWN_BEGINNING
 
 
-def _can_be_shown(line: bytes) -> bool:
-    """Whether a line is a text. Bytes that no text has, or that begin a packed file, would hide the
-    lines around it."""
-    if not line or re.search(BINARY, line):
-        return False
-    return not any(line.startswith(beginning) for beginning, _ in BEGINNINGS)
-
-
-def _field_hints(words: bytes, line: bytes, layout: Layout) -> Iterator[str]:
-    """The name and the field of the column that an error line names by its number."""
-    match = re.match(COLUMN, words)
-    if match is None:
-        return
-    number = int(match.group(1))
-    fields = fields_in(line)
-    if 0 < number <= min(len(layout.columns), len(fields)):
-        name = shown(layout.columns[number - 1], 200)
-        yield f"column {number} is {name}: {shown(fields[number - 1], 200)}"
-
-
 def _database_hints(side: str, number: int, words: bytes, copy: Copy) -> Iterator[str]:
     name = f"the {side} is {shown(copy.name)}"
     if words == b"no @@begin_db" and copy.size:
@@ -115,24 +89,14 @@ def _database_hints(side: str, number: int, words: bytes, copy: Copy) -> Iterato
     yield name
     if not copy.size:
         yield "it is empty: does AIDE run now? It fills its new database at its end"
-    layout = Layout()
-    line = _start_of_line(copy.fd, number, layout)
-    if _can_be_shown(line):
+    line = _start_of_line(copy.fd, number)
+    if line and not re.search(BINARY, line):
         yield f"line {number}: {shown(line, 200)}"
-    yield from _field_hints(words, line, layout)
     yield from CAUSES.get(words, ())
 
 
-def line_of(text: bytes, number: int) -> bytes:
-    """A line of a text; nothing if there is no such line."""
-    lines = text.split(b"\n")
-    if not 0 < number <= len(lines):
-        return b""
-    return lines[number - 1]
-
-
 def _configuration_hints(number: int, words: bytes, text: bytes) -> Iterator[str]:
-    line = line_of(text, number)
+    line = dict(enumerate(text.split(b"\n"), 1)).get(number, b"")
     if line.strip():
         yield f"line {number}: {shown(line, 200)}"
     name = shown(line.partition(b"=")[0].strip(b" \t"), 200)
@@ -150,18 +114,13 @@ def _configuration_hints(number: int, words: bytes, text: bytes) -> Iterator[str
         yield LEVELS
 
 
-def _side_of(words: str) -> str:
-    """The side of the words that error lines have for it."""
-    return words.replace(" ", "_")
-
-
 def _opening_hints(errors: bytes, copies: Mapping[str, Copy]) -> list[str]:
     """Which database could not be opened, or changed while it was read."""
     match = re.match(OPENING, errors)
     if match is None:
         return []
     words = (match.group(1) or match.group(2)).decode()
-    copy = copies.get(_side_of(words))
+    copy = copies.get(words.replace(" ", "_"))
     if copy is None:
         return []
     return [f"the {words} database is {shown(copy.name)}"]
@@ -177,16 +136,17 @@ def hints_of(errors: bytes, texts: Texts, path: str, copies: Mapping[str, Copy])
     number = int(match.group(2))
     words = match.group(3)
     if where.endswith(" database"):
-        copy = copies.get(_side_of(where.removesuffix(" database")))
+        copy = copies.get(where.removesuffix(" database").replace(" ", "_"))
         if copy is None:
             return []
         return list(_database_hints(where, number, words, copy))
-    if where == "before":
-        return ["this is the text of -B", *_configuration_hints(number, words, texts.before)]
-    if where == "after":
-        return ["this is the text of -A", *_configuration_hints(number, words, texts.after)]
-    name = f"the configuration is {shown(path)}"
-    return [name, *_configuration_hints(number, words, texts.config)]
+    places = {
+        "before": ("this is the text of -B", texts.before),
+        "after": ("this is the text of -A", texts.after),
+        "config": (f"the configuration is {shown(path)}", texts.config),
+    }
+    name, text = places[where]
+    return [name, *_configuration_hints(number, words, text)]
 
 
 def hint_for_owner(text: str) -> Iterator[str]:

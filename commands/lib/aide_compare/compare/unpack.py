@@ -42,7 +42,6 @@ class Opened:
         self.words = f"the {words_of_side(side)} database {shown(path)}"
         # When its file was last modified; None for a pipe.
         self.written = status.st_mtime if stat.S_ISREG(status.st_mode) else None
-        self.size = status.st_size
 
     def too_large(self, limit: int) -> Fault:
         return Fault(Status.DEVICE, f"{self.words} has more than {limit} bytes unpacked")
@@ -107,7 +106,6 @@ def _raw_blocks(opened: Opened, limit: int) -> Iterator[bytes]:
         count += len(block)
         if count > 2 * limit + (1 << 20):
             raise opened.too_large(limit)
-        progress.update(f"reading the {words_of_side(opened.side)} database", count, opened.size)
         yield block
 
 

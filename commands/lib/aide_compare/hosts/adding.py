@@ -4,32 +4,29 @@ from __future__ import annotations
 import base64
 import os
 import re
-import shlex
 from contextlib import suppress
 from hashlib import sha256
 from typing import NamedTuple
 
-from aide_compare.base.ending import Fault, Status, failing, write_all
+from aide_compare.base.ending import Fault, Status
 from aide_compare.base.escapes import shown
-from aide_compare.base.files import read_file, refuse_other_kinds, reopened
-from aide_compare.base.replacement import NewFile
-from aide_compare.base.directories import closed_after, open_directory
+from aide_compare.base.files import read_file, reopened
+from aide_compare.base.replacement import NewFile, replace
 from aide_compare.base.processes import run
 from aide_compare.compare.soundness import refuse_unsound
 from aide_compare.compare.unpack import Opened, copy_opened
-from aide_compare.hosts.fetching import COMMAND, DATABASE, MAX_SENT, NOT_ALLOWED, transfer
+from aide_compare.hosts.fetching import COMMAND, DATABASE, MAX_SENT, transfer
 from aide_compare.hosts.store import BASELINE, CAUSE, NEW, HostDirectory, write_cause
 
 # Where ssh writes the key of a host that it did not know, in the directory of the host.
 NEW_KEY = "known_hosts.new"
 MAX_ANSWER = 1 << 16
 MAX_KEY = 1 << 16
-MAX_HOSTS_FILE = 16 << 20
+MAX_FILE = 16 << 20
 NO_FILE = "none"  # What ssh says if its configuration says so.
+IDENTITY = "identityfile"
 # A line of known_hosts as ssh writes it: whose key it is, its kind, and the key.
 KEY_LINE = re.compile(r"([!-~]+) ([a-z0-9@.-]+) ([A-Za-z0-9+/]+=*)")
-APPEND = os.O_RDWR | os.O_CREAT | os.O_APPEND | os.O_NOFOLLOW | os.O_NONBLOCK | os.O_CLOEXEC
-HOST_KEYS = {"ssh-ed25519": "ed25519", "ssh-rsa": "rsa"}
 
 
 class SshSettings(NamedTuple):
@@ -61,15 +58,10 @@ def ssh_settings(host: str) -> SshSettings:
         raise Fault(
             Status.DEVICE, f"ssh -G {host} has failed; is ssh there, and its configuration?"
         )
-    known_hosts: list[str] = []
-    identities: list[str] = []
-    for line in answer.decode("utf-8", "surrogateescape").split("\n"):
-        name, _, value = line.partition(" ")
-        if name == "userknownhostsfile":
-            known_hosts += [path for path in value.split(" ") if path != NO_FILE]
-        elif name == "identityfile":
-            identities.append(os.path.expanduser(value))
-    return SshSettings(known_hosts, identities)
+    words = [line.split(" ") for line in answer.decode("utf-8", "surrogateescape").split("\n")]
+    named = [path for name, *paths in words if name == "userknownhostsfile" for path in paths]
+    identities = [os.path.expanduser(" ".join(paths)) for name, *paths in words if name == IDENTITY]
+    return SshSettings([path for path in named if path != NO_FILE], identities)
 
 
 def quoted(path: str) -> str:
@@ -116,12 +108,6 @@ def key_words(key: str) -> str:
     return f"SHA256:{base64.b64encode(digest).decode().rstrip('=')} ({match.group(2)})"
 
 
-def key_file(key: str) -> str:
-    """The file that has this key on the host."""
-    kind = key.split(" ")[1]
-    return f"/etc/ssh/ssh_host_{HOST_KEYS.get(kind, 'ecdsa')}_key.pub"
-
-
 def line_for_key(settings: SshSettings) -> str:
     """The line for authorized_keys of the host that lets the caller in; "" without a key."""
     for path in settings.identities:
@@ -131,33 +117,16 @@ def line_for_key(settings: SshSettings) -> str:
     return ""
 
 
-def ends_with_newline(descriptor: int) -> bool:
-    """Whether a new line can follow the last one of a file; also if there is none."""
-    size = os.fstat(descriptor).st_size
-    return size == 0 or os.pread(descriptor, 1, size - 1) == b"\n"
-
-
-def append_line(path: str, line: str, mode: int) -> None:
-    """Adds a line at the end of a file, which is made if it is missing. No link is followed."""
-    with failing(f"cannot write {shown(path)}"):
-        with open_directory(os.path.dirname(path) or ".", make=True) as directory:
-            if not directory.is_safe():
-                raise OSError(0, "another user can write in its directory or above it")
-            name = os.path.basename(path)
-            with closed_after(os.open(name, APPEND, mode, dir_fd=directory.fd)) as descriptor:
-                refuse_other_kinds(os.fstat(descriptor).st_mode)
-                if not ends_with_newline(descriptor):
-                    write_all(descriptor, b"\n")
-                write_all(descriptor, os.fsencode(f"{line}\n"))
-                os.fsync(descriptor)
-
-
-def is_listed(host: str, path: str) -> bool:
-    """Whether a file of hosts has a name already."""
-    if not os.path.lexists(path):
-        return False
-    lines = read_file(path, MAX_HOSTS_FILE, "the file of hosts ").split(b"\n")
-    return host.encode() in [line.strip() for line in lines]
+def add_line(path: str, line: str, mode: int) -> None:
+    """Adds a line at the end of a file that does not have it. The file is made if it is missing."""
+    text = b""
+    if os.path.lexists(path):
+        text = read_file(path, MAX_FILE)
+    lines = text.split(b"\n")
+    if os.fsencode(line) not in map(bytes.strip, lines):
+        if lines[-1]:
+            text += b"\n"
+        replace(path, text + os.fsencode(f"{line}\n"), mode)
 
 
 def keep(directory: HostDirectory, offer: Offer, settings: SshSettings, hosts_file: str) -> None:
@@ -166,9 +135,8 @@ def keep(directory: HostDirectory, offer: Offer, settings: SshSettings, hosts_fi
     if offer.key:
         if not settings.known_hosts:
             raise Fault(Status.DEVICE, "ssh keeps no keys of hosts (UserKnownHostsFile)")
-        append_line(settings.known_hosts[0], offer.key, 0o600)
-    if not is_listed(directory.host, hosts_file):
-        append_line(hosts_file, directory.host, 0o644)
+        add_line(settings.known_hosts[0], offer.key, 0o600)
+    add_line(hosts_file, directory.host, 0o644)
     keep_first(directory, offer.part)
 
 
@@ -184,16 +152,3 @@ def keep_first(directory: HostDirectory, part: NewFile | None = None) -> None:
         raise directory.fault("has a baseline already; nothing was accepted", Status.DATABASE)
     except OSError as error:
         raise directory.fault(f"cannot keep its baseline: {write_cause(error)}")
-
-
-def is_refusal(fault: Fault) -> bool:
-    """Whether the host does not let the caller in."""
-    return NOT_ALLOWED in fault.text
-
-
-def commands_on_host(key: str) -> list[str]:
-    """The commands that print on the host what it should have answered with."""
-    commands = [f"zcat -f {DATABASE} | sha256sum"]
-    if key:
-        commands.insert(0, f"ssh-keygen -lf {shlex.quote(key_file(key))}")
-    return commands
