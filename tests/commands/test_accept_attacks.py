@@ -35,7 +35,6 @@ class AcceptAttacksTest(AcceptingTest):
     def at_all_calls(
         self,
         kind: str,
-        child: int,
         ways: tuple[int, ...] = (FOR_THE_CALL, FOR_GOOD),
         allowed: tuple[int, ...] = (0, 18),
     ) -> set[int]:
@@ -48,7 +47,7 @@ class AcceptAttacksTest(AcceptingTest):
         while settings and swapped and number < MOST_CALLS:
             number += 1
             for way in ways:
-                options = {"AT_NUMBER": number, "AT_WAY": way, "AT_CHILD": child}
+                options = {"AT_NUMBER": number, "AT_WAY": way}
                 done, found, swapped = self.at_call(kind, **settings, **options)
                 self.assertEqual(found, [], (kind, options, done))
                 self.assertIn(done.status, allowed if swapped else (0,), (kind, options, done))
@@ -81,18 +80,15 @@ class AcceptAttacksTest(AcceptingTest):
         self.assertGreater(refused, 0, told)
 
     def test_baseline_at_calls(self) -> None:
-        for child in (0, 1):
-            self.assertEqual(self.at_all_calls("baseline", child), {0, 18}, child)
+        self.assertEqual(self.at_all_calls("baseline"), {0, 18})
 
     def test_folder_at_calls(self) -> None:
-        for child in (0, 1):
-            self.assertEqual(self.at_all_calls("folder", child), {0, 18}, child)
+        self.assertEqual(self.at_all_calls("folder"), {0, 18})
 
     def test_moved_folder(self) -> None:
-        """The folder gets another name: the bytes go where it goes. It is told if that happens
-        while the child works."""
-        self.at_all_calls("moved folder", 0, (FOR_GOOD,))
-        self.at_all_calls("moved folder", 1, (FOR_GOOD,), (18,))
+        """The folder gets another name: the bytes go where it goes, and that is told if the path
+        leads elsewhere at the end."""
+        self.at_all_calls("moved folder", (FOR_GOOD,))
 
     def test_baseline_in_a_loop(self) -> None:
         self.in_a_loop("baseline")

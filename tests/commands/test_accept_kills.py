@@ -2,7 +2,6 @@
 on the disk when."""
 from __future__ import annotations
 
-import fcntl
 import os
 
 from tests.lib.program_test import slow
@@ -41,18 +40,14 @@ class AcceptKillsTest(AcceptingTest):
         self.needs_root()
         self.kill_everywhere(NOBODY)
 
-    def test_child(self) -> None:
-        self.needs_root()
-        self.kill_everywhere(NOBODY, child=1)
-
-    def kill_everywhere(self, owner: int | None, child: int = 0, old: int = 0) -> None:
+    def kill_everywhere(self, owner: int | None, old: int = 0) -> None:
         settings = library(self)
         os.mkdir(self.path("marks"))
         os.chmod(self.path("marks"), 0o777)
         number = 1
         while settings and number < MOST_CALLS:
             fresh(self, owner)
-            options = {"AT_NUMBER": number, "AT_CHILD": child, "AT_OLD": old}
+            options = {"AT_NUMBER": number, "AT_OLD": old}
             if not self.is_killed(settings, options):
                 break
             number += 1
@@ -65,8 +60,7 @@ class AcceptKillsTest(AcceptingTest):
         done = accept_at(self, settings, AT_WAY=KILLED, AT_MARK=mark, **options)
         if not os.path.isdir(mark):
             return False
-        self.wait_for_child()
-        self.assertEqual(done.status, 18 if options["AT_CHILD"] else -9, (options, done))
+        self.assertEqual(done.status, -9, (options, done))
         baseline, former, new, _ = contents(self)
         self.assertIn(baseline, (OLD, NEW), options)
         self.assertEqual(new, NEW, options)
@@ -76,10 +70,3 @@ class AcceptKillsTest(AcceptingTest):
         again = accept_at(self, settings, AT_NUMBER=0)
         self.assertEqual((again.status, contents(self)), (0, DONE), (options, again))
         return True
-
-    def wait_for_child(self) -> None:
-        """A child that works with the rights of another user holds the lock of the folder until it
-        ends."""
-        folder = os.open(self.path("base"), os.O_RDONLY)
-        fcntl.flock(folder, fcntl.LOCK_EX)
-        os.close(folder)

@@ -1,8 +1,7 @@
 /* Loaded before the C library (LD_PRELOAD), this lets something happen right before one call of a command that opens,
    makes, changes, names or removes a file: before the call with the number AT_NUMBER, counted from the first that opens
    a folder by O_PATH. AT_WAY says what happens: the process is killed, or the names AT_ONE and AT_OTHER change places,
-   for that call or for good. Only calls of the first process are counted, or with AT_CHILD only
-   those of its children. AT_OLD makes the file system an old one, without files that have no name and without an
+   for that call or for good. Only calls of the first process are counted. AT_OLD makes the file system an old one, without files that have no name and without an
    exchange of names. AT_NOTES is a descriptor that gets the name of each call that is counted. AT_MARK is a folder that
    is made when it happens. */
 #include "preload.h"
@@ -23,14 +22,13 @@ extern long syscall(long, ...);
 extern int mkdir(const char *, unsigned);
 extern unsigned long strlen(const char *);
 
-static long chosen, way, in_child, is_old, notes, count, begun, first_process;
+static long chosen, way, is_old, notes, count, begun, first_process;
 static const char *one, *other, *mark;
 
 __attribute__((constructor)) static void begin(void)
 {
     chosen = number("AT_NUMBER");
     way = number("AT_WAY");
-    in_child = number("AT_CHILD");
     is_old = number("AT_OLD");
     notes = number("AT_NOTES");
     one = getenv("AT_ONE");
@@ -48,7 +46,7 @@ static void exchange(void)
 static int before(const char *name)
 {
     int error = *__errno_location(), back = 0;
-    if (!begun || (in_child != 0) == (getpid() == first_process))
+    if (!begun || getpid() != first_process)
         return 0;
     if (notes) {
         syscall(SYS_WRITE, notes, name, strlen(name));

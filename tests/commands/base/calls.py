@@ -7,7 +7,7 @@ from typing import Any
 
 from tests.lib.program_test import ScratchTest
 
-from aide_compare.base.ending import Fault
+from aide_compare.base.ending import Fault, fault_of
 
 OTHER = 65534
 
@@ -17,6 +17,28 @@ def outcome(work: Callable[..., Any], *given: Any, **more: Any) -> Any:
         return work(*given, **more)
     except Fault as fault:
         return int(fault.status), fault.text
+
+
+def in_child(work: Callable[[], bytes]) -> bytes:
+    """What some work gives in a child; a Fault of it is one here."""
+    reading, writing = os.pipe()
+    child = os.fork()
+    if child == 0:
+        try:
+            answer = b"=" + work()
+        except BaseException as error:
+            fault = fault_of(error)
+            answer = b"%d %s" % (fault.status, fault.text.encode("utf-8", "backslashreplace"))
+        os.write(writing, answer)
+        os._exit(0)
+    os.close(writing)
+    with open(reading, "rb") as file:
+        answer = file.read()
+    os.waitpid(child, 0)
+    if answer.startswith(b"="):
+        return answer[1:]
+    status, _, text = answer.decode().partition(" ")
+    raise Fault(int(status), text)
 
 
 class ModuleTest(ScratchTest):

@@ -55,11 +55,3 @@ class AcceptWorkTest(ModuleTest):
         self.expect(
             "what is read", refuse.mock_calls, [mock.call(new, mock.ANY), mock.call(merged)]
         )
-
-    def test_owner(self) -> None:
-        """With another user's rights a comparison has six hours."""
-        request: Any = SimpleNamespace()
-        baseline: Any = SimpleNamespace(path="old.db", user=1)
-        with mock.patch.object(accept_work, "in_child", return_value=b"") as child:
-            self.assertEqual(list(accept_work._open_keys(request, baseline, {})), [])
-        self.assertEqual(child.call_args[0][2], 6 * 3600)

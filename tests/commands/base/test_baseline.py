@@ -12,11 +12,9 @@ from collections.abc import Callable, Iterator
 from typing import Any
 from unittest import mock
 
-from tests.commands.base.calls import OTHER, ModuleTest
+from tests.commands.base.calls import OTHER, ModuleTest, in_child
 
-from aide_compare.base.ending import Fault
 from aide_compare.base.files import in_memory
-from aide_compare.base.processes import in_child
 from aide_compare.compare import baseline
 from aide_compare.compare.baseline import CHANGED, Baseline, Owners
 
@@ -87,19 +85,21 @@ class BaselineTest(ModuleTest):
             self.expect("the new one", self.rights(NAME), (0o644, *owner))
             self.expect("the former one", self.rights(KEPT), (0o4755, *owner))
 
+    def replace_as_other(self) -> bytes:
+        """Replaces the baseline with the rights of another user: who owns it then."""
+        os.setgroups([12346])
+        os.setresgid(OTHER, OTHER, OTHER)
+        os.setresuid(OTHER, OTHER, OTHER)
+        return repr(replace(self.base, self.source)[:]).encode()
+
     @unittest.skipUnless(os.getuid() == 0, "it needs root")
     def test_anothers(self) -> None:
         self.fresh(base=b"old")
         os.chown(self.root, OTHER, OTHER)
-        self.gives((OTHER, OTHER), replace, self.base, self.source)
+        self.fails(18, "belongs to another user", replace, self.base, self.source)
+        self.gives(repr((OTHER, OTHER)).encode(), in_child, self.replace_as_other)
         self.expect("the texts", self.texts(), {NAME: b"new", KEPT: b"old"})
         self.expect("the new one", self.rights(NAME), (0o644, OTHER, OTHER))
-        large = in_memory(b"")
-        self.addCleanup(os.close, large)
-        os.ftruncate(large, 50_000_000)
-        with mock.patch.object(baseline, "with_rights_of", side_effect=Fault(18, "late")) as call:
-            self.fails(18, "late", replace, self.base, large)
-        self.expect("the seconds that it may take", call.call_args[0][2], 70)
         os.mkdir(self.path("second"))
         os.chown(self.path("second"), 1, 1)
         self.fails(18, "more than one user", replace, self.path("second/aide.db"), self.source)
@@ -107,20 +107,12 @@ class BaselineTest(ModuleTest):
     @unittest.skipUnless(os.getuid() == 0, "it needs root")
     def test_group(self) -> None:
         """Who is not root keeps the group of the former one, in his own directory only."""
-
-        def replace_as_other() -> bytes:
-            os.setgroups([12346])
-            os.setresgid(OTHER, OTHER, OTHER)
-            os.setresuid(OTHER, OTHER, OTHER)
-            return repr(replace(self.base, self.source)[:]).encode()
-
         self.fresh(base=b"old")
         os.chown(self.base, OTHER, 12346)
-        given = ("it", replace_as_other, 60, [self.source])
         os.chown(self.root, 1, 1)
-        self.fails(18, "belongs to another user", in_child, *given)
+        self.fails(18, "belongs to another user", in_child, self.replace_as_other)
         os.chown(self.root, OTHER, OTHER)
-        self.gives(b"(%d, 12346)" % OTHER, in_child, *given)
+        self.gives(b"(%d, 12346)" % OTHER, in_child, self.replace_as_other)
         self.expect("the new one", self.rights(NAME), (0o644, OTHER, 12346))
 
     def test_names(self) -> None:

@@ -10,10 +10,11 @@ from collections.abc import Callable
 from typing import Any, List, Tuple
 from unittest import mock
 
-from tests.commands.base.calls import OTHER, PlacesTest
+from tests.commands.base.calls import OTHER, PlacesTest, in_child
 
 from aide_compare.base import files, replacement
 from aide_compare.base.directories import closed_after, open_directory
+from aide_compare.base.rights import become_owner
 
 Replaced = Tuple[bytes, int, int, List[str]]
 
@@ -109,11 +110,19 @@ class ReplacementTest(PlacesTest):
         self.assertTrue(stat.S_ISFIFO(os.lstat(self.path("own/late")).st_mode), "it stays")
         self.assertEqual(replaced(self.path("sticky/state"), b"x")[:3], (b"x", 0o644, me))
         if me == 0:
-            self.assertEqual(replaced(self.path("his/state"), b"x")[:3], (b"x", 0o644, OTHER))
-            told = "Permission denied (with"
-            self.fails(18, told, begun, self.path("his/roots/state"))
+            self.fails(18, "other users", begun, self.path("his/state"))
+            his = repr((b"x", 0o644, OTHER)).encode()
+            self.gives(his, in_child, lambda: self.replaced_as_owner("his/state"))
+            self.fails(
+                18, "Permission denied", in_child, lambda: self.replaced_as_owner("his/roots/state")
+            )
             os.chown(self.path("his/roots"), 1, 1)
             self.fails(18, "other users", begun, self.path("his/roots/state"))
+
+    def replaced_as_owner(self, name: str) -> bytes:
+        """Becomes the owner of a directory, and replaces a file there."""
+        become_owner(self.path(name))
+        return repr(replaced(self.path(name), b"x")[:3]).encode()
 
     def test_short_ways(self) -> None:
         replacement.replace(self.path("made/state"), b"x")
@@ -125,7 +134,7 @@ class ReplacementTest(PlacesTest):
         self.gives((b"y", os.getuid()), copied_over, self.path("made/state"), b"y")
         self.fails(18, "No such file", copied_over, self.path("none/state"), b"y")
         if os.getuid() == 0:
-            self.gives((b"z", OTHER), copied_over, self.path("his/state"), b"z")
+            self.fails(18, "other users", copied_over, self.path("his/state"), b"z")
 
     def test_exchange(self) -> None:
         self.write("one", b"1")

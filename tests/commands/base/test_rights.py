@@ -1,23 +1,18 @@
-"""The rights of another user: what root gives up for good, and what a child does with them."""
+"""The rights of another user: what root gives up for good, and for whom."""
 from __future__ import annotations
 
-import ctypes
 import os
 import pwd
-import signal
-import time
 import unittest
 from collections.abc import Callable
 from typing import Any
 from unittest import mock
 
-from tests.commands.base.calls import OTHER, ModuleTest
+from tests.commands.base.calls import OTHER, ModuleTest, PlacesTest, in_child
 
 from aide_compare.base import files, rights
-from aide_compare.base.processes import in_child
 
 UNKNOWN = 4000000000
-PR_GET_PDEATHSIG = 2
 
 
 def user(uid: int, gid: int, home: str = "") -> pwd.struct_passwd:
@@ -44,7 +39,7 @@ def identity_after(work: Callable[..., object], *given: Any) -> str:
         work(*given)
         return identity().encode()
 
-    return in_child("it", work_and_look, 60).decode()
+    return in_child(work_and_look).decode()
 
 
 def give_up_as_other(name: str) -> None:
@@ -53,40 +48,12 @@ def give_up_as_other(name: str) -> None:
     rights.give_up(name)
 
 
-def status_with_rights() -> int:
-    """9 if this process has the rights of the other user, and ends with its parent."""
-    number = ctypes.c_int()
-    ctypes.CDLL(None).prctl(PR_GET_PDEATHSIG, ctypes.byref(number))
-    return 9 if (number.value, os.geteuid()) == (signal.SIGKILL, OTHER) else 10
-
-
 @unittest.skipUnless(os.getuid() == 0, "it needs root")
 class RightsTest(ModuleTest):
     def setUp(self) -> None:
         super().setUp()
         self.addCleanup(os.setgroups, os.getgroups())
         os.setgroups([0, 4])
-
-    def test_work(self) -> None:
-        def look() -> bytes:
-            with open("/proc/self/status") as file:
-                lines = [line.split() for line in file if line.startswith(("CapEff", "CapPrm"))]
-            held = [line[1] for line in lines]
-            descriptors = len(os.listdir("/proc/self/fd"))
-            return repr((os.getresuid(), os.getgroups(), held, descriptors)).encode()
-
-        want = repr(((OTHER,) * 3, [], ["0" * 16] * 2, 5)).encode()
-        self.gives(want, rights.with_rights_of, OTHER, look)
-        begun = time.monotonic()
-        for work, part in (
-            (lambda: files.open_regular("/etc/shadow"), "ermission denied"),
-            (lambda: files.open_regular("/etc/shadow"), " (with the privileges of "),
-            (lambda: 1 // 0, "division"),
-            (lambda: os._exit(0), "without an answer"),
-            (lambda: time.sleep(60), "more than 1 seconds"),
-        ):
-            self.fails(18, part, rights.with_rights_of, OTHER, work, 1)
-        self.assertLess(time.monotonic() - begun, 50)
 
     def test_become(self) -> None:
         root = pwd.getpwuid(0)
@@ -120,5 +87,52 @@ class RightsTest(ModuleTest):
         self.gives("root", rights.name_of, 0)
         self.gives(f"the user {UNKNOWN}", rights.name_of, UNKNOWN)
 
-    def test_run_as(self) -> None:
-        self.gives(9, rights.run_as, OTHER, status_with_rights)
+    def test_nothing_is_left(self) -> None:
+        """Whoever has become a user has no capability, and opens no file of root's."""
+
+        def look() -> bytes:
+            rights.become(user(OTHER, OTHER))
+            with open("/proc/self/status") as file:
+                lines = [line.split() for line in file if line.startswith(("CapEff", "CapPrm"))]
+            return repr([line[1] for line in lines]).encode()
+
+        def read_secret() -> bytes:
+            rights.become(user(OTHER, OTHER))
+            return b"%d" % files.open_regular("/etc/shadow")
+
+        self.gives(repr(["0" * 16] * 2).encode(), in_child, look)
+        self.fails(18, "ermission denied", in_child, read_secret)
+
+
+class OwnersTest(PlacesTest):
+    def test_owner(self) -> None:
+        """Whose rights a comparison has: those of the one other user who can write there."""
+        self.addCleanup(os.chdir, os.getcwd())
+        os.chdir(self.path("own"))
+        names = ["file", *(self.path(name) for name in ("own/x", "sticky/x", "group/x"))]
+        for name in (*names, "/dev/fd/3", "-", self.path("none/x")):
+            self.gives(None, rights.owner_of, name)
+            self.gives(None, rights.become_owner, name)
+        if os.getuid() == 0:
+            self.gives(OTHER, rights.owner_of, self.path("his/x"))
+            self.as_owner()
+            os.chown(self.path("his/roots"), 1, 1)
+            self.gives(None, rights.owner_of, self.path("his/roots/x"))
+            os.chdir(self.path("his"))
+            self.gives(OTHER, rights.owner_of, "x")
+            self.gives(None, rights.owner_of, "-")
+        self.assertIn("of root, whose", rights.rights_hint(0))
+
+    def as_owner(self) -> None:
+        """Root becomes the one owner of all these files; of several it wants to know which."""
+        os.mkdir(self.path("hers"))
+        os.chown(self.path("hers"), 1, 1)
+        his = (self.path("his/x"), self.path("own/x"), "-")
+
+        def become_and_look() -> bytes:
+            user = rights.become_owner(*his)
+            return repr((user, os.getresuid(), rights.become_owner(*his))).encode()
+
+        self.gives(repr((OTHER, (OTHER,) * 3, None)).encode(), in_child, become_and_look)
+        both = (*his, self.path("hers/x"))
+        self.fails(15, "choose one by --user", rights.become_owner, *both)

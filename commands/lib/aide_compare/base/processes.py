@@ -11,18 +11,17 @@ import select
 import signal
 import subprocess
 import time
-from collections.abc import Callable, Container, Iterable, Mapping, Sequence
+from collections.abc import Callable, Mapping, Sequence
 from contextlib import ExitStack, suppress
 from functools import partial
 from types import MappingProxyType
 from typing import Union
 
-from aide_compare.base.ending import Fault, Status, fault_of, write_all
-from aide_compare.base.escapes import guarded, shown
+from aide_compare.base.ending import Fault, Status
+from aide_compare.base.escapes import shown
 from aide_compare.base.directories import closed_after
 from aide_compare.base.files import BLOCK
 
-MAX_RESULT = 1 << 20
 MAX_FILE = 256 << 20
 STOP_SECONDS = 10
 NOT_STARTED = 127
@@ -30,8 +29,6 @@ PR_SET_PDEATHSIG = 1
 
 # What takes the bytes that come from a descriptor, as they come.
 Taker = Callable[[bytes], object]
-# What a child does; it answers with a few bytes.
-Work = Callable[[], bytes]
 # A program and its arguments.
 Words = Sequence[Union[str, bytes]]
 NO_DESCRIPTORS: Mapping[int, int] = MappingProxyType({})
@@ -239,32 +236,6 @@ def start_child(work: Callable[[], int]) -> int:
         os._exit(status)
 
 
-def _close_all_but(needed: Container[int]) -> None:
-    """Closes the descriptors of this process, but for some. Standard ones become /dev/null."""
-    null = os.open("/dev/null", os.O_RDWR)
-    for number in sorted(map(int, os.listdir("/proc/self/fd"))):
-        if number <= 2:
-            os.dup2(null, number)
-        elif number not in needed:
-            with suppress(OSError):
-                os.close(number)
-
-
-def _answer_of(work: Work, seconds: float, needed: Container[int]) -> bytes:
-    """What a child answers with: "=" and the result, or "!", the status of a Fault and its text. It
-    holds only what it needs. The alarm ends it if its parent was killed, which the kernel no longer
-    does when the work takes other rights."""
-    try:
-        signal.signal(signal.SIGPIPE, signal.SIG_IGN)
-        signal.signal(signal.SIGALRM, signal.SIG_DFL)
-        signal.setitimer(signal.ITIMER_REAL, seconds + 5)
-        _close_all_but(needed)
-        return b"=" + work()
-    except BaseException as error:
-        fault = fault_of(error)
-        return b"!%d %s" % (fault.status, fault.text.encode("utf-8", "backslashreplace"))
-
-
 def pump(takers: Mapping[int, Taker], deadline: float = math.inf) -> bool:
     """Gives what comes from each descriptor to its taker until all have ended; False if the time is
     over before that."""
@@ -306,47 +277,3 @@ def stop(child: int) -> int | None:
     itself after some seconds."""
     kill_group(child)
     return ended(child, time.monotonic() + STOP_SECONDS)
-
-
-def in_child(
-    what: str, work: Work, seconds: float, keep: Iterable[int] = (), beside: str = ""
-) -> bytes:
-    """The bytes that `work()` gives in a child with these descriptors. A Fault of the work, with
-    the text `beside` after it, or the end of its time is a Fault here."""
-    reading, writing = os.pipe()
-    needed = {*keep, writing}
-
-    def answer_in_child() -> int:
-        write_all(writing, _answer_of(work, seconds, needed))
-        return 0
-
-    child = start_child(answer_in_child)
-    os.close(writing)
-    answer = bytearray()
-
-    def take(block: bytes) -> None:
-        answer.extend(block)
-        if len(answer) > MAX_RESULT:
-            raise OverflowError
-
-    is_whole = False
-    try:
-        with closed_after(reading), suppress(OverflowError):
-            is_whole = pump({reading: take}, time.monotonic() + seconds)
-    finally:
-        stop(child)
-    if not is_whole:
-        raise Fault(Status.DEVICE, f"{what} took more than {seconds:.0f} seconds")
-    if answer.startswith(b"="):
-        return bytes(answer[1:])
-    raise _fault_in(bytes(answer), beside) or Fault(
-        Status.DEVICE, f"{what} ended without an answer"
-    )
-
-
-def _fault_in(answer: bytes, beside: str) -> Fault | None:
-    """The Fault that the answer of a child says, if it says one."""
-    status, _, text = answer[1:].decode("utf-8", "replace").partition(" ")
-    if answer.startswith(b"!") and status.isdigit() and 8 <= int(status) <= 127:
-        return Fault(int(status), guarded(text) + beside)
-    return None

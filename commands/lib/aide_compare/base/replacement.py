@@ -5,10 +5,10 @@ import errno
 import os
 import time
 import zlib
-from collections.abc import Callable, Sequence
+from collections.abc import Callable
 from contextlib import closing, suppress
 
-from aide_compare.base.directories import ANYBODY, LISTING, Directory, closed_after, failure
+from aide_compare.base.directories import LISTING, Directory, closed_after, failure
 from aide_compare.base.directories import open_directory
 from aide_compare.base.ending import Fault, Status, why_of, write_all
 from aide_compare.base.escapes import shown
@@ -79,8 +79,8 @@ class NewFile:
 
 class Replacement:
     """A file that is replaced in one step: others see the former one or the whole new one. Where
-    another user can write in the directory, or in one above it, the work is done with the rights of
-    that user, who gains nothing from what he puts there."""
+    another user can write in the directory, or in one above it, nothing is written: a command
+    becomes that user before."""
 
     def __init__(
         self,
@@ -113,9 +113,7 @@ class Replacement:
 
     def commit_copy(self, source: int) -> None:
         """The same of the bytes of an open file."""
-        self._do(
-            lambda directory: self._put(directory, lambda part: copy_file(source, part)), [source]
-        )
+        self._do(lambda directory: self._put(directory, lambda part: copy_file(source, part)))
 
     def close(self) -> None:
         for part in self.waiting:
@@ -126,32 +124,16 @@ class Replacement:
         text = f"cannot write {self.what} {shown(self.path)}: {why_of(error)}"
         return Fault(Status.DEVICE, text)
 
-    def _do(self, work: Callable[[Directory], None], needed: Sequence[int] = ()) -> None:
-        """Does the work, which needs these descriptors, with the rights that the directory asks
-        for."""
+    def _do(self, work: Callable[[Directory], None]) -> None:
+        """Does the work where nobody else can interfere."""
         if os.path.isdir(self.path):
             raise Fault(Status.USAGE, f"{self.what} is a directory: {shown(self.path)}")
         try:
-            if self.directory.is_safe():
-                work(self.directory)
-            else:
-                self._do_as_other(work, needed)
+            if not self.directory.is_safe():
+                raise Fault(Status.DEVICE, "other users can write in its directory or above it")
+            work(self.directory)
         except (Fault, OSError) as error:
             raise self._fault(error)
-
-    def _do_as_other(self, work: Callable[[Directory], None], needed: Sequence[int]) -> None:
-        """Does the work with the rights of the one user who can write there too. With more of them
-        nobody's will do."""
-        directory = self.directory
-        if len(directory.others) > 1 or ANYBODY in directory.others or os.geteuid() != 0:
-            raise Fault(Status.DEVICE, "other users can write in its directory or above it")
-        from aide_compare.base.rights import with_rights_of
-
-        def work_there() -> bytes:
-            work(directory)
-            return b""
-
-        with_rights_of(min(directory.others), work_there, keep=(directory.fd, *needed))
 
     def _reserve(self, directory: Directory) -> None:
         part = self._new_file(directory)

@@ -4,11 +4,13 @@ from __future__ import annotations
 
 import os
 import pwd
-from collections.abc import Callable, Iterable, Sequence
+from collections.abc import Callable, Sequence
+from contextlib import suppress
 
-from aide_compare.base.ending import Fault, Status, failing, status_of
+from aide_compare.base.directories import ANYBODY, open_directory
+from aide_compare.base.ending import Fault, Status, failing
 from aide_compare.base.escapes import shown
-from aide_compare.base.processes import Work, end_with, in_child, start_child
+from aide_compare.base.files import given_descriptor
 
 MAX_NAME = 100
 
@@ -73,28 +75,35 @@ def give_up(user: str) -> None:
     become(entry)
 
 
-def with_rights_of(uid: int, work: Work, seconds: float = 60, keep: Iterable[int] = ()) -> bytes:
-    """The bytes that `work()` gives in a child that has the rights of a user, these descriptors,
-    and nothing else."""
+def owner_of(path: str) -> int | None:
+    """The user, neither root nor the caller, who alone can write in the directory of a file; None
+    if there is none, or several, or if the file is what the caller has opened."""
+    if given_descriptor(path) is not None:
+        return None
+    with suppress(Fault), open_directory(os.path.dirname(path) or ".") as directory:
+        if len(directory.others) == 1 and ANYBODY not in directory.others:
+            return min(directory.others)
+    return None
 
-    def become_and_work() -> bytes:
-        _become(entry_of(uid), [])
-        return work()
 
-    whose = f"with the privileges of {name_of(uid)}"
-    return in_child(f"the work {whose}", become_and_work, seconds, keep, f" ({whose})")
+def become_owner(*paths: str) -> int | None:
+    """Root becomes for good the user in whose directories these files are, so that what this user
+    puts there is read and written with no more than the user's rights. Returns the user; None if
+    this process stays who it is."""
+    if os.geteuid() != 0:
+        return None
+    users = {user for user in map(owner_of, paths) if user is not None}
+    if not users:
+        return None
+    if len(users) > 1:
+        names = " and ".join(map(name_of, sorted(users)))
+        raise Fault(Status.USAGE, f"the files are in directories of {names}: choose one by --user")
+    user = min(users)
+    become(entry_of(user))
+    return user
 
 
-def run_as(user: int, work: Callable[[], int]) -> int:
-    """The status with which `work()` ends in a child that has become a user for good. It has all
-    that this process has open, and is ended if this process ends."""
-    parent = os.getpid()
-
-    def become_and_work() -> int:
-        become(entry_of(user))
-        if not end_with(parent):  # Which the kernel has forgotten with the other rights.
-            raise Fault(Status.DEVICE, "the command was ended")
-        return work()
-
-    child = start_child(lambda: status_of(become_and_work))
-    return os.waitstatus_to_exitcode(os.waitpid(child, 0)[1])
+def rights_hint(user: int) -> str:
+    """Why a file may be closed to a command that root has called."""
+    whose = f"this was done with the privileges of {name_of(user)}, whose directory the file is in"
+    return f"{whose}; --user root keeps root's"

@@ -10,12 +10,11 @@ from typing import TYPE_CHECKING, NamedTuple, Optional
 
 from aide_compare.base.ending import Fault, Status, write_all
 from aide_compare.base.escapes import shown
-from aide_compare.base.files import BLOCK, copy_file, nameless, reopened
+from aide_compare.base.files import BLOCK, nameless, reopened
 from aide_compare.base.directories import closed_after
 from aide_compare.base.options import MAX_REPORT_BYTES
 from aide_compare.base.paths import Pattern, key_of_path
-from aide_compare.base.processes import in_child
-from aide_compare.base.rights import become, entry_of
+from aide_compare.base.rights import become_owner
 from aide_compare.base.words import TRUSTED_SIDES, counted
 from aide_compare.compare.baseline import Baseline, Owners, owners
 from aide_compare.compare.comparison import NO_COPIES, Request
@@ -37,8 +36,6 @@ from aide_compare.show.told import told_of
 
 if TYPE_CHECKING:
     from aide_compare.compare.exclusions import Exclusions
-
-SECONDS_TO_COMPARE = 6 * 3600
 
 # Databases by their sides.
 Copies = dict[str, Copy]
@@ -64,11 +61,10 @@ class Offer:
     """The new database: a private copy of its file, of which all is taken, and the Copy of what it
     unpacks to."""
 
-    def __init__(self, path: str, max_size: int) -> None:
-        opened = open_database("new", path)
+    def __init__(self, opened: Opened, max_size: int) -> None:
         packed = copy_packed(opened, max_size)
         self.fd = reopened(packed, os.O_RDONLY)
-        copy = copy_opened(Opened("new", path, packed), max_size)
+        copy = copy_opened(Opened("new", opened.path, packed), max_size)
         self.copy = copy.written_at(opened.written)
         self.sha256 = self.copy.sha256
 
@@ -148,31 +144,10 @@ def _write_open_keys(request: AcceptRequest, copies: Copies, target: int) -> byt
     return f"{told_of(comparison)}aide-compare: {silent}\n".encode("utf-8", "replace")
 
 
-def _own_copy(copy: Copy) -> Copy:
-    """The same database in a file of this process's user: the program could not open another."""
-    descriptor = nameless()
-    copy_file(copy.fd, descriptor)
-    return Copy(descriptor, copy.name, copy.written)
-
-
-def _open_keys(request: AcceptRequest, baseline: Baseline, copies: Copies) -> Iterator[bytes]:
-    """The keys, in path order, of the changes that are not silent, found with the rights of the
-    baseline's owner."""
+def _open_keys(request: AcceptRequest, copies: Copies) -> Iterator[bytes]:
+    """The keys, in path order, of the changes that are not silent."""
     target = nameless()
-    owner = baseline.user
-
-    def find_as_owner() -> bytes:
-        assert owner is not None
-        become(entry_of(owner))
-        own = {side: _own_copy(copy) for side, copy in copies.items()}
-        return _write_open_keys(request, own, target)
-
-    if owner is None:
-        lines = _write_open_keys(request, copies, target)
-    else:
-        descriptors = [target, *(copy.fd for copy in copies.values())]
-        lines = in_child("the comparison", find_as_owner, SECONDS_TO_COMPARE, descriptors)
-    write_all(2, lines)
+    write_all(2, _write_open_keys(request, copies, target))
     with open(target, "rb") as file:
         file.seek(0)
         for line in file:
@@ -195,7 +170,7 @@ def merge(request: AcceptRequest, offer: Offer, baseline: Baseline) -> Merged:
         copies = {"old": old, "new": offer.copy, **request.trusted_copies}
         for side, path in zip(TRUSTED_SIDES, request.trusted):
             copies[side] = copy_database(side, path, request.max_size)
-        listed = Listed(_open_keys(request, baseline, copies))
+        listed = Listed(_open_keys(request, copies))
 
     def stays_open(key: bytes) -> bool:
         # Both are asked for each key, since both count what they are asked for.
@@ -211,8 +186,12 @@ def merge(request: AcceptRequest, offer: Offer, baseline: Baseline) -> Merged:
 
 
 def accept(request: AcceptRequest) -> Accepted:
-    """Makes the new database the baseline. A database that is not meant is a Fault of status 24."""
-    offer = Offer(request.new, request.max_size)
+    """Makes the new database the baseline. A database that is not meant is a Fault of status 24.
+    Root opens the new one, and then becomes for good the user in whose directory the baseline
+    is."""
+    opened = open_database("new", request.new)
+    become_owner(request.baseline)
+    offer = Offer(opened, request.max_size)
     if not offer.sha256.startswith(request.digest):
         raise Fault(
             Status.DATABASE,

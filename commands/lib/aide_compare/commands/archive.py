@@ -14,7 +14,7 @@ from aide_compare.base.parser import Parser
 from aide_compare.base.paths import key_of_path, path_of
 from aide_compare.base.processes import limit_memory, limit_time
 from aide_compare.base.replacement import replace_by_copy
-from aide_compare.base.rights import give_up
+from aide_compare.base.rights import become_owner, give_up
 from aide_compare.base.words import counted
 from aide_compare.changes.applied import INFO, KEPT, FieldsByColumn, Upgrades
 from aide_compare.changes.applied import content_of, fits, upgraded
@@ -218,6 +218,8 @@ def main(arguments: Sequence[str]) -> int:
     request = request_of(arguments)
     if request.user:
         give_up(request.user)
+    elif request.output:
+        become_owner(request.output)
     limit_memory(MAX_MEMORY)
     limit_time(MAX_SECONDS)
     old = copy_database("old", request.old, request.max_size)

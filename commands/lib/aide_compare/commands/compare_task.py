@@ -1,14 +1,12 @@
 """A comparison as the options of a command line ask for it, and what is written of it."""
 from __future__ import annotations
 
-import os
-from collections.abc import Callable, Sequence
+from collections.abc import Sequence
 from contextlib import suppress
 from typing import TYPE_CHECKING, NamedTuple, Optional
 
-from aide_compare.base.ending import Fault, Status, write_all
+from aide_compare.base.ending import Fault, Status
 from aide_compare.base.escapes import shown
-from aide_compare.base.files import nameless
 from aide_compare.base.options import (
     AFTER,
     BEFORE,
@@ -25,12 +23,11 @@ from aide_compare.base.options import (
     Option,
 )
 from aide_compare.base.parser import Defaults, Parser
-from aide_compare.base.program import KNOWN
 from aide_compare.base.replacement import ANYBODY_READS
-from aide_compare.base.rights import name_of, run_as
+from aide_compare.base.rights import become_owner, rights_hint
 from aide_compare.commands.defaults import comparison_defaults, exclusions_of
 from aide_compare.compare.comparison import Comparison, Request
-from aide_compare.compare.outputs import Output, open_output, owner_of, rights_hint, state_in
+from aide_compare.compare.outputs import Output, open_output
 from aide_compare.compare.state import State
 from aide_compare.compare.unpack import Opened
 from aide_compare.compare.work import FAILURES, Work, failed_comparison
@@ -45,9 +42,8 @@ the most severe first; with --report the report as AIDE does."""
 TRY = "try: aide-compare compare --help"
 EPILOG = """\
 Times are as in 90s, 15m, 26h or 3d; a plain number is seconds. Sizes are in bytes, or as in
-500k, 20M or 1G. If another user can write in the directory of the state file, or above it, the
-file is written with that user's privileges. Root compares with the privileges of the user in whose
-directory the baseline is, unless --user names another one.
+500k, 20M or 1G. Root becomes the user in whose directory the baseline and the state file are,
+unless --user names another one.
 
 Status: that of aide-compare-program(8). 0 no difference, 1 to 7 differences, above 7 no
 comparison."""
@@ -167,6 +163,7 @@ def keep_failure(path: Optional[str], error: Exception) -> None:
     if path is None:
         return
     with suppress(Fault, OSError):
+        become_owner(path)
         state = failed_comparison(error).state()
         open_output(path, "the state file", ANYBODY_READS).commit(state.text())
 
@@ -200,35 +197,51 @@ class Task:
     def __init__(
         self, request: CompareRequest, judges: bool = True, wants_state: bool = False
     ) -> None:
-        self.may_be_child = os.geteuid() == 0 and not request.user
         self.judges = judges
         self.request = work_request(request)._replace(wants_lines=judges)
+        self.path = request.state
+        self.is_of_user = bool(request.user)
         self.output: Optional[Output] = None
-        if request.state:
-            self.output = open_output(request.state, "the state file", ANYBODY_READS)
-        self.wants_state = wants_state or self.output is not None
+        self.wants_state = wants_state or request.state is not None
 
     def carry_out(self, reporter: Reporter) -> Ended:
-        """Compares, judges, and writes what is wanted. Root does it with the rights of the user in
-        whose directory the baseline is."""
+        """Compares, judges, and writes what is wanted. Root opens the databases, and then becomes
+        for good the user in whose directory the baseline and the state file are."""
         work = Work(self.request)
+        opened: Sequence[Opened] = ()
+        failure = None
         try:
             opened = work.open_databases()
-            user = owner_of(work.databases.old) if self.may_be_child else None
         except FAILURES as error:
-            return self._end(work.failed(error), reporter, self.keep)
+            failure = error
+        user = None
+        if not self.is_of_user:
+            user = become_owner(*filter(None, (work.databases.old, self.path)))
+        self.output = self._open_output(user)
+        if failure is not None:
+            return self._end(work.failed(failure), reporter)
+        comparison = work.compare(opened)
         if user is not None:
-            return self._compare_as(user, work, opened, reporter)
-        return self._end(work.compare(opened), reporter, self.keep)
+            comparison = comparison.explained(rights_hint(user))
+        return self._end(comparison, reporter)
+
+    def _open_output(self, user: Optional[int]) -> Optional[Output]:
+        """The place of the state file, if one is wanted, as this user may write it."""
+        if not self.path:
+            return None
+        try:
+            return open_output(self.path, "the state file", ANYBODY_READS)
+        except Fault as fault:
+            if user is None:
+                raise
+            raise Fault(fault.status, fault.text, *fault.more, rights_hint(user))
 
     def keep(self, state: State) -> None:
         """Writes the state where the options want it."""
         if self.output:
             self.output.commit(state.text())
 
-    def _end(
-        self, comparison: Comparison, reporter: Reporter, keep: Callable[[State], None]
-    ) -> Ended:
+    def _end(self, comparison: Comparison, reporter: Reporter) -> Ended:
         """Judges a comparison, prints it, keeps its state, and says the rest."""
         judged = None
         try:
@@ -247,34 +260,6 @@ class Task:
         state = None
         if self.wants_state:
             state = comparison.state()
-            keep(state)
+            self.keep(state)
         message = reporter.conclude(comparison, judged)
         return Ended(comparison.status, state, message)
-
-    def _compare_as(
-        self, user: int, work: Work, opened: Sequence[Opened], reporter: Reporter
-    ) -> Ended:
-        """Compares in a child with the rights of a user, and keeps what it has written."""
-        state_file = nameless()
-        message_file = nameless()
-
-        def compare() -> int:
-            comparison = work.compare(opened).explained(rights_hint(user))
-            ended = self._end(
-                comparison, reporter, lambda state: write_all(state_file, state.text())
-            )
-            write_all(message_file, ended.message)
-            return ended.status
-
-        try:
-            status = run_as(user, compare)
-            if status not in KNOWN:
-                whose = f"the comparison with {name_of(user)}'s privileges"
-                raise Fault(Status.DEVICE, f"{whose} ended with {status}")
-            state = state_in(state_file, status) if self.wants_state else None
-        except Fault as fault:
-            return self._end(work.failed(fault), reporter, self.keep)
-        if state is not None:
-            self.keep(state)
-        message = os.pread(message_file, os.fstat(message_file).st_size, 0)
-        return Ended(status, state, message)

@@ -15,6 +15,7 @@ from aide_compare.base.files import read_file
 from aide_compare.base.kinds import UNIT_NAME
 from aide_compare.base.options import DAYS
 from aide_compare.base.replacement import Replacement
+from aide_compare.base.rights import become_owner, give_up
 from aide_compare.base.words import counted
 from aide_compare.commands.compare_task import Reporter, Task, keep_failure
 from aide_compare.commands.mail_message import Told, message_of, unknown_columns
@@ -223,9 +224,9 @@ def empty_queue(request: MailRequest, directory: str) -> int:
 def main(arguments: Sequence[str]) -> int:
     request = request_of(arguments)
     if request.user:
-        from aide_compare.base.rights import give_up
-
         give_up(request.user)
+    else:
+        become_owner(*(f"{path}/" for path in (request.queue, request.send_queue) if path))
     if request.send_queue:
         return empty_queue(request, request.send_queue)
     if request.is_test:

@@ -11,6 +11,7 @@ from aide_compare.base.ending import Fault, Status, tell, write_all
 from aide_compare.base.escapes import guarded, shown
 from aide_compare.base.files import given_descriptor
 from aide_compare.base.replacement import replace
+from aide_compare.base.rights import become_owner
 from aide_compare.base.options import RESULT_AGE, STATE, STORE, Option
 from aide_compare.base.parser import Parser, defaults_for
 from aide_compare.base.words import SEVERITIES, date_of, minute_of
@@ -23,8 +24,8 @@ DESCRIPTION = """\
 Prints the result of the last comparison: for people, as one line for logger(1), for the node
 exporter of Prometheus, or as an object of JSON. The check for Nagios is check_aide_compare."""
 EPILOG = """\
-A directory in which another user can write, as Debian's user prometheus can in its own, is
-written with that user's privileges.
+In a directory in which another user can write, as Debian's user prometheus can in its own, root
+writes as that user.
 
 Status: 0 written; 15 bad arguments; 18 the state cannot be read, or the result cannot be
 written."""
@@ -209,6 +210,7 @@ def write_metrics(request: StatusRequest) -> int:
     if request.output == STDOUT:
         write_all(1, text)
     else:
+        become_owner(request.output)
         replace(request.output, text, what="the metrics", makes_directory=False)
     return Status.OK
 

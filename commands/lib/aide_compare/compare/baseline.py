@@ -1,13 +1,12 @@
 """The baseline in its directory, which is locked against other runs, and how another file takes its
-place: no former one is lost. Where another user can write in the directory, or above it, every
-change is made with the rights of that user."""
+place: no former one is lost. Where another user can write in the directory, or above it, nothing
+is changed: a command becomes that user before."""
 from __future__ import annotations
 
 import errno
 import os
 import stat
 import time
-from collections.abc import Callable
 from contextlib import suppress
 from typing import NamedTuple
 
@@ -18,13 +17,11 @@ from aide_compare.base.escapes import shown
 from aide_compare.base.files import copy_file, is_locked, new_file, refuse_other_kinds, reopened
 from aide_compare.base.files import unlink
 from aide_compare.base.replacement import exchange
-from aide_compare.base.rights import entry_of, with_rights_of
+from aide_compare.base.rights import entry_of
 
 FILE_MODES = 0o666
 FIRST_MODE = 0o600
 SECONDS_FOR_LOCK = 60
-SECONDS_FOR_WORK = 60
-BYTES_A_SECOND = 5_000_000
 CHANGED = "another process has changed it meanwhile"
 
 
@@ -59,18 +56,14 @@ def owners(status: os.stat_result) -> Owners:
     return Owners(status.st_uid, status.st_gid)
 
 
-def _user_for(directory: Directory) -> int | None:
-    """The user with whose rights a directory is changed; None for the caller's own."""
-    if not directory.others:
-        return None
+def _refuse_other_users(directory: Directory) -> None:
+    """Refuses a directory in which somebody else can write."""
     if ANYBODY in directory.others or len(directory.others) > 1:
         why = "more than one user can write in its directory, or above it; only its owner should"
         raise failure(errno.EPERM, why)
-    if os.geteuid() != 0:
-        why = "its directory, or one above it, belongs to another user"
-        why += "; run this as that user or as root"
+    if directory.others:
+        why = "its directory, or one above it, belongs to another user; run this as that user"
         raise failure(errno.EPERM, why)
-    return min(directory.others)
 
 
 class Former:
@@ -101,7 +94,7 @@ class Baseline:
         self.spare = f".{self.name}.former"
         self.place = os.path.dirname(path) or "."
         with open_directory(self.place) as directory, failing(self.words):
-            self.user = _user_for(directory)
+            _refuse_other_users(directory)
             with failing(f"{self.words}: its directory"):
                 self.directory = os.open(".", LISTING, dir_fd=directory.fd)
                 self._lock()
@@ -129,32 +122,23 @@ class Baseline:
     def replace(self, source: int) -> Owners:
         """Makes a copy of an open file the baseline. Returns to whom it belongs."""
         try:
-            answer = self._with_rights(lambda: self._replace(source), source)
-            device, inode, user, group = map(int, answer.split())
+            written = self._replace(source)
             # It could have been renamed: the path has to lead to the new baseline.
             with open_directory(self.place) as directory:
                 status = os.stat(self.name, dir_fd=directory.fd, follow_symlinks=False)
-            if identity(status) != Identity(device, inode):
+            if identity(status) != identity(written):
                 raise Fault(Status.DEVICE, CHANGED)
         except (Fault, OSError) as error:
             raise Fault(Status.DEVICE, f"{self.words}: {why_of(error)}")
-        return Owners(user, group)
+        return owners(written)
 
     def settle(self) -> None:
         """Ends what a run has left that was killed while the names changed."""
         if any(self._identity(name) for name in (self.part, self.mark, self.spare)):
             with failing(self.words):
-                self._with_rights(self._settle, self.directory)
+                self._settle()
 
-    def _with_rights(self, work: Callable[[], bytes], source: int) -> bytes:
-        """Does work in the directory over an open file, with the rights that the directory asks
-        for."""
-        if self.user is None:
-            return work()
-        seconds = SECONDS_FOR_WORK + os.fstat(source).st_size // BYTES_A_SECOND
-        return with_rights_of(self.user, work, seconds, (self.directory, source))
-
-    def _replace(self, source: int) -> bytes:
+    def _replace(self, source: int) -> os.stat_result:
         """The work in the directory. From here on only names in the open directory and descriptors
         are used."""
         self._refuse_directory()
@@ -165,7 +149,7 @@ class Baseline:
         finally:
             self._settle()
         os.fsync(self.directory)
-        return b"%d %d %d %d" % (*identity(status), *owners(status))
+        return status
 
     def _refuse_directory(self) -> None:
         """A directory with the name of the former baseline would be in its way when the new one is
@@ -175,7 +159,7 @@ class Baseline:
             if stat.S_ISDIR(status.st_mode):
                 raise failure(errno.EISDIR, f"{shown(self.previous)} is a directory")
 
-    def _settle(self) -> bytes:
+    def _settle(self) -> None:
         """If the new file is the baseline, the former one becomes the copy that is kept, wherever
         it is. Otherwise all is as before. So the former baseline is found again whatever ends a
         run."""
@@ -186,7 +170,6 @@ class Baseline:
                 self._rename(name, self.previous)
             unlink(name, self.directory)
         unlink(self.mark, self.directory)
-        return b""
 
     def _is_another_file(self, name: str) -> bool:
         """Whether a name has a file, and that is not the baseline."""
