@@ -41,7 +41,7 @@ class LineRightsTest(CommandTest):
         )
         brief = host.brief(self)
         self.assertRegex(brief, r"(?m)^  high    changed  /srv/file: content, size 3 -> 5$")
-        words = ("--plain", "host-old.db", "host-new.db")
+        words = ("host-old.db", "host-new.db")
         page = self.call("aide-compare page", *words).output.decode()
         shown = set(re.findall('<th scope="row">([A-Za-z0-9]+)', page))
         self.assertEqual(shown & RIGHTS, set())

@@ -51,8 +51,6 @@ class OrderTest(mail.MailTest):
         self.assertEqual(named(mail.body(mail.sent(self)).decode()), WANTED)
 
     def test_page(self) -> None:
-        """The page too, with a script and without."""
         night().write(self)
-        for words in ((), ("--plain",)):
-            page = self.call("aide-compare page", *words, "host-old.db", "host-new.db").output
-            self.assertEqual(named(" ".join(re.findall("<code>([^<]*)<", page.decode()))), WANTED)
+        page = self.call("aide-compare page", "host-old.db", "host-new.db").output
+        self.assertEqual(named(" ".join(re.findall("<code>([^<]*)<", page.decode()))), WANTED)

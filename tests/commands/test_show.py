@@ -96,7 +96,7 @@ class ShowTest(CommandTest):
         for tool, *words in (
             ["aide-compare"],
             [TOOL, "/" + escaped + plain],
-            ["aide-compare page", "--plain"],
+            ["aide-compare page"],
         ):
             text = self.call(tool, *words, *pair).output.decode()
             self.assertTrue(text, tool)

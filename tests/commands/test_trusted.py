@@ -109,8 +109,7 @@ class TrustedTest(mail.MailTest):
         wanted = {**dict.fromkeys(WATCHERS, "open"), **dict.fromkeys(NO_WATCHERS, "trusted")}
         self.assertEqual({path: found.get(path) for path in wanted}, wanted)
         self.assertEqual(objects[-1]["standings"]["open"], len(WATCHERS))
-        lines = self.call("aide-compare json", *PAIR, *BOTH).output
-        self.answered(0, b"Open, severity", b"", "aide-compare page", "--plain", "-", text=lines)
+        self.assertIn(b"Open, severity", self.call("aide-compare page", *PAIR, *BOTH).output)
         digest = sha256(self.read("host-new.db"))
         words = ("--sha256", digest, "--trusted-only", *PAIR, "host-new.db", "host-old.db")
         self.assertEqual(self.call(TOOL + " accept", *words).status, 0)

@@ -5,7 +5,6 @@ The definitions compute from the two databases what the lines have to say.
 from __future__ import annotations
 
 import io
-import json
 import os
 import random
 import tempfile
@@ -19,9 +18,9 @@ from tests.oracle.configuration import BOOL_OPTIONS, DEFAULTS, LEVELS, SET_OPTIO
 from tests.oracle.database import database_of, first_fault
 from tests.oracle.lines import lines_of as lines_of_databases
 from tests.program.random_texts.databases import random_pair
-from tests.commands.viewers import HTML, JSON, deep, hostile, looks, texts
+from tests.commands.viewers import deep, hostile, looks, texts
 from tests.commands.viewers.expected import faults_of
-from tests.commands.viewers.lines import Fields, lines_of, objects_of, page_of, proved_lines, run
+from tests.commands.viewers.lines import Fields, lines_of, objects_of, page_of, proved_lines
 from tests.commands.viewers.pages import bytes_shown, contrast_faults, page_faults
 from tests.commands.viewers.refused import LINE_EDITS, rich_lines
 from tests.commands.viewers.schema import Validator, schema_of_lines
@@ -31,17 +30,15 @@ from aide_compare.lines import reader
 from aide_compare.lines.reader import Reader, Refused
 from aide_compare.show.page import script_of
 from aide_compare.show.page_heading import part_of
-from aide_compare.show.page_items import entries_of
 
-REFUSED, USAGE, DEVICE = 65, 15, 18
 # Letters by their class, and yet nothing is seen of them: the Hangul fillers and the empty Braille
 # pattern.
 BLANKS_THAT_ARE_LETTERS = "\u115f\u1160\u2800\u3164\uffa0"
 PAIRS = 20 if os.environ.get(QUICK) else 40
 
 
-def read_for_page(lines: bytes) -> None:
-    for _ in entries_of(Reader(io.BytesIO(lines))):
+def read_all(lines: bytes) -> None:
+    for _ in Reader(io.BytesIO(lines)):
         pass
 
 
@@ -75,80 +72,6 @@ def configuration_of(settings: dict[str, Any]) -> str:
 
 
 class ViewersTest(ProgramTest):
-    def test_commands(self) -> None:
-        """The command lines: statuses, error lines, and that nothing is written if something is
-        wrong."""
-        proved = rich_lines()
-        lines = lines_of(objects_of(proved))
-        early = proved[: proved.rindex(b"\n", 0, -1) + 1]
-        trials: list[tuple[list[str], bytes, int, bytes]] = [
-            ([*JSON, "-"], proved, 0, b""),
-            ([*JSON, "-"], lines, 0, b""),
-            ([*JSON, "-"], b"", REFUSED, b"nothing was given: "),
-            (
-                [*JSON, "-"],
-                b"@@begin_db\n",
-                REFUSED,
-                b"line 1: this is not a line of aide-compare json",
-            ),
-            (
-                [*JSON, "-"],
-                b'{"record":"summary","format":1}\n',
-                REFUSED,
-                b"line 1: the first line is the summary, of format 4",
-            ),
-            (
-                [*JSON, "-"],
-                proved[:-1],
-                REFUSED,
-                b"line %d: this is not a line" % proved.count(b"\n"),
-            ),
-            ([*JSON, "-"], early, REFUSED, b"this ends too early: the last line is missing"),
-            ([*JSON, "--full", "-"], lines, 0, b""),
-            ([*JSON, "--full", "-"], early, REFUSED, b"this ends too early: the last line is"),
-            ([*JSON, "--full", "-"], proved[:-1], REFUSED, b"this is not a line"),
-            ([*HTML, "-"], lines, 0, b""),
-            ([*HTML, "-"], b"", REFUSED, b"page: nothing was given: "),
-            ([*HTML, "-"], b"@@begin_db\n", REFUSED, b"line 1: "),
-            ([*HTML, "-"], lines[:-1], REFUSED, b"line "),
-            ([*HTML, "-"], lines + b"\n", REFUSED, b"line "),
-        ]
-        for tool in (JSON, HTML):
-            trials.append(([*tool, "--other"], b"", USAGE, b" --help"))
-            trials.append(([*tool, "/nowhere"], b"", DEVICE, b"cannot open /nowhere: "))
-            trials.append(([*tool, "/"], b"", DEVICE, b"cannot open"))
-            trials.append(([*tool, "--exclude", "/x", "-"], lines, USAGE, b"name two databases"))
-        for words, text, wanted, beginning in trials:
-            status, output, errors = run(words, text)
-            with self.subTest(words=words[1:]):
-                self.assertEqual((status, bool(errors)), (wanted, bool(wanted)), errors)
-                self.assertEqual(bool(output), not wanted)
-                self.assertIn(beginning, errors)
-                self.assertNotIn(b"Traceback", errors)
-
-    def test_file_and_title(self) -> None:
-        with tempfile.NamedTemporaryFile() as file:
-            file.write(rich_lines())
-            file.flush()
-            status, lines, errors = run([*JSON, file.name])
-        self.assertEqual((status, errors), (0, b""))
-        _, output, _ = run([*HTML, "--plain", "--title", "<b>&\u202e", "-"], lines)
-        self.assertIn(b"<h1>&lt;b&gt;&amp;\\342\\200\\256</h1>", output)
-
-    def test_streams(self) -> None:
-        """A full device and closed streams are no success, and leave nothing half said."""
-        proved = rich_lines()
-        for words, text in ((JSON, proved), (HTML, lines_of(objects_of(proved)))):
-            with open("/dev/full", "wb") as full:
-                status, _, errors = run([*words, "-"], text, stdout=full)
-            self.assertEqual((status, b"No space left" in errors), (DEVICE, True), errors)
-            status, output, _ = run([*words, "--help"])
-            self.assertEqual((status, b"usage: aide-compare " in output), (0, True), output)
-            for closed in (">&-", "<&-", ">&- 2>&-"):
-                status, output, errors = run(["sh", "-c", '"$0" "$1" - ' + closed, *words], text)
-                found = (status, output, b"Traceback" in errors)
-                self.assertEqual(found, (DEVICE, b"", False), (closed, errors))
-
     def test_styles_and_script(self) -> None:
         self.assertEqual(contrast_faults(part_of("page.css")), [])
         deep.try_script(script_of(), self)
@@ -165,7 +88,6 @@ class ViewersTest(ProgramTest):
 
     def test_looks(self) -> None:
         looks.try_blank_ends(self)
-        looks.try_times(self)
         looks.try_heading(self)
         looks.try_new_file(self)
         looks.try_nothing(self)
@@ -174,7 +96,7 @@ class ViewersTest(ProgramTest):
     def test_cuts(self) -> None:
         """Lines that are cut at any byte are refused."""
         lines = rich_lines()
-        for work in (objects_of, read_for_page):
+        for work in (objects_of, read_all):
             kept = [end for end in range(len(lines)) if not is_refused(work, lines[:end])]
             self.assertEqual(kept, [])
             work(lines)
@@ -186,7 +108,7 @@ class ViewersTest(ProgramTest):
             other = edit(lines)
             with self.subTest(name):
                 self.assertNotEqual(other, lines)
-                self.assertRaises(Refused, read_for_page, other)
+                self.assertRaises(Refused, read_all, other)
 
     def test_bounds(self) -> None:
         """A line is no longer than it may be, and a stream has an end."""
@@ -248,19 +170,15 @@ class ViewersTest(ProgramTest):
             while any(first_fault(text) for text in pair):
                 pair = random_pair(pick)
             with self.subTest(seed=seed, number=number):
-                self.check_pair(pick, pair, ["--plain"] if number % 2 else [])
+                self.check_pair(pick, pair, number % 2 == 1)
 
-    def check_pair(self, pick: random.Random, pair: list[bytes], plain: list[str]) -> None:
+    def check_pair(self, pick: random.Random, pair: list[bytes], is_plain: bool) -> None:
         with tempfile.TemporaryDirectory() as folder:
             settings = random_settings(pick, folder)
             for name, text in zip(("old", "new"), pair):
                 with open(os.path.join(folder, name), "wb") as file:
                     file.write(text)
             proved = proved_lines(self.program, configuration_of(settings))
-        status, output, errors = run([*JSON, "-"], proved)
-        self.assertEqual((status, errors), (0, b""))
-        objects = [json.loads(line) for line in output.splitlines()]
+        objects = objects_of(proved)
         self.check_lines(objects, *map(database_of, pair), pair, settings)
-        status, page, errors = run([*HTML, *plain, "-"], output)
-        self.assertEqual((status, errors), (0, b""))
-        self.assertEqual(page_faults(page.decode(), objects, bool(plain)), [])
+        self.assertEqual(page_faults(page_of(objects, is_plain), objects, is_plain), [])

@@ -1,20 +1,19 @@
-"""aide-compare json and page of two databases: where and when, what --full and --with put into the
-lines, and what the schema says of all lines."""
+"""aide-compare json and page of two databases: what is in the lines beside what is proved, and what
+the schema says of all lines."""
 from __future__ import annotations
 
 import json
 import os
-import re
-import socket
+import shlex
+import subprocess
 from typing import Any
 
-from tests.commands.sandbox import HERE, Answer, CommandTest, sha256
+from tests.commands.sandbox import HERE, Answer, CommandTest
 from tests.commands.viewers.lines import proved_lines
 from tests.commands.viewers.schema import Validator, schema_of_lines
 
 from aide_compare.lines.rights import RIGHTS
 
-DATE = re.compile("[0-9]{4}-[0-9]{2}-[0-9]{2}T[0-9]{2}:[0-9]{2}:[0-9]{2}Z")
 USAGE, CONFIGURATION, DEVICE = 15, 17, 18
 # Databases of AIDE 0.18.3 with access control lists, extended attributes, flags and capabilities.
 OLD, NEW = (
@@ -50,30 +49,44 @@ class OccasionTest(CommandTest):
         text = f"@@begin_db\n@@db_spec name {columns}\n%s\n@@end_db\n"
         return self.write("one.db", text % old), self.write("other.db", text % new)
 
-    def added_to(self, lines: bytes, *words: str) -> list[Fields]:
-        """What json makes of lines."""
-        answer = self.answered(0, None, b"", "aide-compare json", *words, "-", text=lines)
-        return objects_of(answer)
-
     def test_two(self) -> None:
         """The lines are those of the proved program, with the names of both, the severity of each
         change, and the counts of standings."""
         rights = f"report_force_attrs={'+'.join(RIGHTS)}"
-        given, wanted = self.compared(), self.added_to(self.lines_over(more=rights))
+        given = self.compared()
+        wanted = [json.loads(line) for line in self.lines_over(more=rights).splitlines()]
         levels = [change.pop("severity") for change in given[1:-1]]
         self.assertLessEqual(set(levels), {"high", "medium", "low"})
         self.assertEqual((given[-1].pop("standings")["open"], len(levels)), (7, 7))
-        self.assertIn("_text", json.dumps(wanted))
+        self.assertIn("_text", json.dumps(given))
+        for change in given[1:-1]:
+            self.assertEqual(change.pop("standing"), "open")
+            texts = [change.pop(f"{side}_text", {}) for side in ("old", "new")]
+            self.assertFalse({"Atime", "Mtime", "Ctime"} & {*texts[0], *texts[1]}, texts)
         wanted[0].update(old=OLD, new=NEW)
         self.assertEqual(given, wanted)
 
     def test_page(self) -> None:
         said = [OLD.encode(), b"-rw-r--r--", b"Open, severity ", b"<h1>File changes on "]
-        self.answered(7, said, b"", "aide-compare page", "--plain", OLD, NEW)
+        self.answered(7, said, b"", "aide-compare page", OLD, NEW)
+
+    def test_streams(self) -> None:
+        """A full device and closed streams are no success, and leave nothing half said."""
+        for tool in ("aide-compare json", "aide-compare page"):
+            with open("/dev/full", "wb") as full:
+                answer = self.call(tool, OLD, NEW, stdout=full)
+            self.expect("a full device", answer, DEVICE, None, b"No space left")
+            for closed in (">&-", ">&- 2>&-"):
+                command = shlex.join(self.command(tool, OLD, NEW))
+                run = ["sh", "-c", f"{command} {closed}"]
+                answer = subprocess.run(run, env=self.environment(), capture_output=True)
+                found = (answer.returncode, answer.stdout, b"Traceback" in answer.stderr)
+                self.assertEqual(found, (DEVICE, b"", False), (closed, answer.stderr))
 
     def test_refused(self) -> None:
         for status, errors, words in (
-            (USAGE, b"name two databases", ["-c", "/dev/null", OLD]),
+            (USAGE, b"name two databases", [OLD]),
+            (USAGE, b"name two databases", ["-"]),
             (USAGE, b"name two databases", [OLD, NEW, OLD]),
             (DEVICE, b"cannot open the new database /nowhere", [OLD, "/nowhere"]),
             (CONFIGURATION, b"aide: after:1: line not understood", ["-A", "x", OLD, NEW]),
@@ -81,47 +94,6 @@ class OccasionTest(CommandTest):
         ):
             for tool in ("aide-compare json", "aide-compare page"):
                 self.refused(status, errors, tool, *words)
-
-    def test_full(self) -> None:
-        objects = self.compared("--full", "--with", "site=berlin", "--with", "a.b=\u00e9")
-        digests = []
-        for name in (OLD, NEW):
-            with open(name, "rb") as file:
-                digests.append(sha256(file.read())[:16])
-        wanted = {"host": socket.gethostname(), "site": "berlin", "a.b": "\u00e9"}
-        wanted.update(old_digest=digests[0], new_digest=digests[1])
-        for fields in objects:
-            for name in ("@timestamp", "old_time", "new_time"):
-                self.assertRegex(fields.pop(name), DATE)
-            self.assertEqual({name: fields.pop(name, None) for name in wanted}, wanted)
-        self.assertEqual(objects, self.compared(), "nothing else is other")
-
-    def test_full_without_times(self) -> None:
-        """Nobody knows the time of a pipe, nor that of what lines were made of."""
-        with open(OLD, "rb") as file:
-            text = file.read()
-        answer = self.answered(7, None, b"", "aide-compare json", "--full", "-", NEW, text=text)
-        first = objects_of(answer)[0]
-        self.assertIsNone(first["old_time"])
-        self.assertRegex(first["new_time"], DATE)
-        digest = sha256(text)[:16]
-        for fields in self.added_to(self.lines_over(), "--full", "--with", "host=www"):
-            self.assertEqual((fields["host"], fields["old_time"]), ("www", None))
-            self.assertEqual(fields["old_digest"], digest)
-            self.assertRegex(fields["@timestamp"], DATE)
-
-    def test_full_of_many(self) -> None:
-        """The digests of lines are known before the others are read, also if the last line is long
-        and if there is no other."""
-        lines = [b'{"format":4,"old":"o","new":"n"}', self.lines_over(OLD, OLD).splitlines()[-1]]
-        more = [word for number in range(60) for word in ("--with", f"a{number}={'x' * 4000}")]
-        text = b"\n".join(lines) + b"\n"
-        none: list[str] = []
-        for words in (more, none):
-            first, last = self.added_to(text, "--full", *words)
-            self.assertEqual(first["old_digest"], last["old"]["sha256"][:16])
-            text = json.dumps(first).encode() + b"\n" + json.dumps(last).encode() + b"\n"
-        self.assertGreater(len(text), 400000)
 
     def test_names_of_databases(self) -> None:
         """A name that is not UTF-8 is there in hexadecimal digits."""
@@ -131,21 +103,12 @@ class OccasionTest(CommandTest):
         self.assertEqual(first["old"], OLD)
         self.assertEqual((first["new_hex"], "new" in first), (name.hex(), False))
 
-    def test_names_of_users(self) -> None:
-        pair = self.put_pair("uid gid size", "/a 0 0 0", "/a 4000000000 1 0")
-        root = {"UID": "root", "GID": "root"}
-        texts: list[tuple[list[str], object]] = [(["--names"], root), ([], None)]
-        for words, names in texts:
-            entry = self.added_to(self.lines_over(*pair), *words)[1]
-            self.assertEqual(entry["old"], {"UID": 0, "GID": 0})
-            self.assertEqual(entry["new"], {"UID": 4000000000, "GID": 1})
-            self.assertEqual(entry.get("old_text"), names)
-
     def test_one_text(self) -> None:
         """Two values with one text, such as a list with and without its last newline: the text
         would hide the change."""
         values = ("/a POSIX,dXNlcjo6cnctCg==,0 16", "/a POSIX,dXNlcjo6cnct,0 0016")
-        entry = self.added_to(self.lines_over(*self.put_pair("acl e2fsattrs", *values)))[1]
+        pair = self.put_pair("acl e2fsattrs", *values)
+        entry = objects_of(self.call("aide-compare json", *pair))[1]
         self.assertEqual(set(entry["new"]), {"ACL", "E2FSAttrs"})
         self.assertFalse({"old_text", "new_text"} & set(entry))
 
@@ -156,7 +119,7 @@ class OccasionTest(CommandTest):
             ("", ["-rw-r--r--", "drwxrwxrwt"]),
             ("report_ignore_changed_attrs=ftype", ["rw-r--r--", "rwxrwxrwt"]),
         ):
-            entry = self.added_to(self.lines_over(*pair, more=more))[1]
+            entry = objects_of(self.call("aide-compare json", "-A", more, *pair))[1]
             modes = [entry[side]["Perm"] for side in ("old_text", "new_text")]
             self.assertEqual((entry["path"], modes), ("/a", wanted))
 
@@ -168,18 +131,10 @@ class OccasionTest(CommandTest):
         self.assertGreater(min(counts.values()), 0)
         self.assertFalse([fields for fields in objects[1:] if "left_out" in fields])
 
-    def test_members(self) -> None:
-        """Members that lines have already, or that are none."""
-        lines = self.lines_over()
-        members = ["path=/x", "status=x", "standing=x", "a", "=x", "a b=x", 'a"=x', "a=\udcff"]
-        words = [["--with", member] for member in (*members, "a=" + 5000 * "x")]
-        for more in (*words, ["--with", "a=x", "--with", "a=y"], ["--format", "xml"]):
-            self.refused(USAGE, b"aide-compare json: ", "aide-compare json", *more, text=lines)
-
     def test_schema(self) -> None:
         """Good lines fit the schema, and lines with one fault each do not."""
         validator = Validator(schema_of_lines())
-        objects = self.compared("--full", "--with", "site=x")
+        objects = self.compared()
         summary, end = objects[0], objects[-1]
         entry = next(each for each in objects if each.get("kind") == "changed")
         recorded = changed(entry, standing="recorded", severity="high", package="openssl 3.0.15")
@@ -272,8 +227,6 @@ class OccasionTest(CommandTest):
             changed(entry, new={"ACL_hex": "0"}),
             changed(entry, new_text={"Perm": 5}),
             changed(entry, more=3),
-            changed(entry, old_digest="0"),
-            changed(entry, **{"@timestamp": "today"}),
             changed(end, added="1"),
             changed(end, others=...),
             changed(end, standings={"open": 1}),

@@ -32,8 +32,8 @@ def write_pages(folder: str) -> dict[str, str]:
     demo, hostile = demo_lines(), hostile_lines()
     texts = {
         "demo": page_of(demo),
-        "simple": page_of(lines_of(demo_changes()), "--title", "Changes"),
-        "plain": page_of(demo, "--plain"),
+        "simple": page_of(lines_of(demo_changes())),
+        "plain": page_of(demo, True),
         "hostile": page_of(hostile),
         "split": split_page_of(demo),
         "odd": split_page_of(hostile),

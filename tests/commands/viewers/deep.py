@@ -2,13 +2,13 @@
 work and memory."""
 from __future__ import annotations
 
+import io
 import random
 import re
-import subprocess
 import unittest
 from collections.abc import Callable
 
-from tests.commands.viewers import HTML, JSON, lines
+from tests.commands.viewers import lines
 from tests.commands.viewers.hostile import Database
 from tests.commands.viewers.work import (
     MeasuredOf,
@@ -20,6 +20,9 @@ from tests.commands.viewers.work import (
 )
 from tests.oracle.configuration import DEFAULTS
 from tests.oracle.lines import lines_of as proved_lines_of
+
+from aide_compare.lines.reader import Reader
+from aide_compare.show.page import page
 
 MOST_BYTES = 20000000
 LONG = 100000
@@ -54,7 +57,7 @@ def many(count: int) -> bytes:
 
 
 def lines_of(proved: bytes) -> bytes:
-    return subprocess.run([*JSON, "-"], input=proved, stdout=subprocess.PIPE, check=True).stdout
+    return lines.lines_of(lines.objects_of(proved))
 
 
 def pages_over(lines_of_size: LinesOf) -> MeasuredOf:
@@ -123,12 +126,11 @@ def try_sizes(test: unittest.TestCase) -> None:
         ("1,000 nested folders", lines_of(nested(1000)), False),
         ("2,200 long entries", long_lines(2200, 9000), True),
     ):
-        for words in ([*HTML, "-"], [*HTML, "--plain", "-"]):
-            with test.subTest(label, words=words[1:]):
-                status, page, errors = lines.run(words, text)
-                test.assertEqual(status, 0, errors)
-                test.assertIn(len(page), range(1000, MOST_BYTES + 1))
-                test.assertEqual(bool(CUT.search(page)), is_cut)
+        for is_plain in (False, True):
+            with test.subTest(label, is_plain=is_plain):
+                whole = b"".join(page(Reader(io.BytesIO(text)), "", is_plain))
+                test.assertIn(len(whole), range(1000, MOST_BYTES + 1))
+                test.assertEqual(bool(CUT.search(whole)), is_cut)
 
 
 def try_script(script: str, test: unittest.TestCase) -> None:

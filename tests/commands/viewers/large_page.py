@@ -4,14 +4,15 @@ from __future__ import annotations
 import json
 import os
 import random
-import subprocess
 import time
 
-from tests.commands.viewers import HTML
 from tests.commands.viewers.browser import Browser
 from tests.commands.viewers.in_browser import Trial
 from tests.commands.viewers.lines import Fields, stand
 from tests.lib.tally import Tally
+
+from aide_compare.lines.reader import Reader
+from aide_compare.show.page import page
 
 MOST_BYTES, MOST_SECONDS, MOST_ANSWER = 20000000, 3, 0.2
 FIRST = 1700000000
@@ -68,7 +69,7 @@ def try_large(browser: Browser, count: int, folder: str, tally: Tally) -> None:
     lines, path = os.path.join(folder, "lines"), os.path.join(folder, "large.html")
     write_lines(lines, count)
     with open(path, "wb") as file:
-        subprocess.run([*HTML, lines], stdout=file, check=True)
+        file.writelines(page(Reader(open(lines, "rb")), "", False))
     size = os.path.getsize(path)
     tally.holds("a large page", size <= MOST_BYTES, f"{size} bytes")
     browser.open("/proc/version")

@@ -9,23 +9,19 @@ from typing import Any
 
 from tests.lib.programs import lines_program_of
 
+from aide_compare.base.ending import Fault, Status
+from aide_compare.compare.work import failed_comparison
 from aide_compare.lines.reader import Reader
 from aide_compare.show.added import added_lines
 from aide_compare.show.page import page
 
 Fields = dict[str, Any]
+# A comparison that knows nothing beside its lines.
+NAMELESS = failed_comparison(Fault(Status.DEVICE, "no databases"))
 # What proves a standing that is silent, and all names of counts.
 PROOFS = {"same": "old", "trusted": "trusted"}
 STANDINGS = ("same", "trusted", "recorded", "open")
 SEVERE = [f"{name}_{each}" for name in ("open", "recorded") for each in ("high", "medium", "low")]
-
-
-def run(words: list[str], text: bytes = b"", **more: Any) -> tuple[int, bytes, bytes]:
-    """Status, output and error lines of a command."""
-    environment = {**os.environ, "PYTHONDONTWRITEBYTECODE": ""}
-    streams: dict[str, Any] = {"stdout": subprocess.PIPE, "stderr": subprocess.PIPE, **more}
-    done = subprocess.run(words, input=text, timeout=120, env=environment, check=False, **streams)
-    return done.returncode, done.stdout, done.stderr
 
 
 def proved_lines(program: bytes, configuration: str) -> bytes:
@@ -35,9 +31,10 @@ def proved_lines(program: bytes, configuration: str) -> bytes:
 
 
 def objects_of(text: bytes) -> list[Fields]:
-    """The objects of proved lines, as aide-compare json writes them."""
-    lines = added_lines(Reader(io.BytesIO(text)), None, {})
-    return [json.loads(line) for line in lines]
+    """The objects of proved lines, as aide-compare json writes them, with the names that they
+    have."""
+    _, *lines = added_lines(Reader(io.BytesIO(text)), NAMELESS, None)
+    return [json.loads(line) for line in (text.partition(b"\n")[0], *lines)]
 
 
 def changes_of(objects: list[Fields]) -> list[Fields]:

@@ -4,7 +4,6 @@ from __future__ import annotations
 import random
 import re
 import unittest
-from html import escape
 from typing import Any
 from unittest import mock
 
@@ -35,10 +34,6 @@ def with_standings(objects: list[Fields], pick: random.Random) -> list[Fields]:
     texts += ["openssl 3.0.15-1~deb12u1", "libc6 2.36"]
     for fields in changes_of(objects):
         stand(fields, pick.choice(STANDINGS), pick.choice(SEVERITIES), pick.choice(texts))
-        for label in fields.get("new", {}):
-            if pick.random() < 0.3:
-                text = pick.choice(NAMES).decode("utf-8", "surrogateescape")
-                fields.setdefault("new_text", {})[label] = text
     return with_counts(objects)
 
 
@@ -85,16 +80,6 @@ def try_blank_ends(test: unittest.TestCase) -> None:
         test.assertIn(shown, text)
 
 
-def try_times(test: unittest.TestCase) -> None:
-    """What stands in place of a time is text, also if it is markup."""
-    entry: Fields = {"kind": "changed", "path": "/l", "summary": "f                 "}
-    entry.update(old={"Mtime": 1}, new={"Mtime": 2})
-    for note in ("</noscript><meta http-equiv=refresh>", "2026-11-25T12:00:00Z<b>"):
-        text = page_of(one_change({**entry, "new_text": {"Mtime": note}}), True)
-        test.assertIn(escape(note), text)
-        test.assertNotIn(note, text)
-
-
 def try_nothing(test: unittest.TestCase) -> None:
     """A page without a change says so, names both databases, and has nothing else to look at."""
     head, *_, end = objects_of(rich_lines())
@@ -133,9 +118,8 @@ def try_new_file(test: unittest.TestCase) -> None:
     """A new file is shown with its mode and owner, and a value that has a text with both."""
     objects = objects_of(rich_lines())
     entry = next(fields for fields in objects if fields.get("kind") == "added")
-    entry["new"] = {"Size": 18344, "Perm": "4755", "UID": 0, "GID": 50, "ACL": "POSIX,dXNl"}
-    entry["new_text"] = {"Perm": "-rwsr-xr-x", "ACL": "user::rw-<"}
+    entry["new"] = {"Size": 18344, "Perm": "4755", "UID": 0, "GID": 50, "Caps": "Y2FwX2E9ZXA="}
     for is_plain in (False, True):
         text = page_of(objects, is_plain)
         test.assertIn("> -rwsr-xr-x  0:50  18344 bytes</i>", text)
-        test.assertIn("<summary>user::rw-&lt;</summary>POSIX,dXNl<", text)
+        test.assertIn("<summary>cap_a=ep</summary>Y2FwX2E9ZXA=<", text)

@@ -5,11 +5,10 @@ from __future__ import annotations
 import io
 import json
 import random
-import subprocess
 from typing import Any
 from unittest import mock
 
-from tests.commands.viewers import HTML, JSON, hostile, lines
+from tests.commands.viewers import hostile, lines
 from tests.commands.viewers.lines import changes_of, stand, with_counts
 from tests.oracle.configuration import DEFAULTS
 from tests.oracle.lines import lines_of as proved_lines_of
@@ -112,20 +111,17 @@ def hostile_lines() -> bytes:
     names = ["<img src=x onerror=alert(1)>", "</script>", script, "\u202etxt.exe", "\ud800"]
     for number, fields in enumerate(changes_of(objects)):
         stand(fields, "recorded" if number % 2 else "open", "high", names[number % 5])
-        fields["new_text"] = dict.fromkeys(fields.get("new", ()), names[number % 5])
     more = {"@timestamp": names[2], "<b>": names[3], "left_out": {"old": 3, "new": 0}}
     objects[0].update(host=names[0], **more)
     return lines.lines_of(with_counts(objects))
 
 
 def lines_of(proved: bytes) -> bytes:
-    return subprocess.run([*JSON, "-"], input=proved, stdout=subprocess.PIPE, check=True).stdout
+    return lines.lines_of(lines.objects_of(proved))
 
 
-def page_of(text: bytes, *words: str) -> bytes:
-    return subprocess.run(
-        [*HTML, *words, "-"], input=text, stdout=subprocess.PIPE, check=True
-    ).stdout
+def page_of(text: bytes, is_plain: bool = False) -> bytes:
+    return b"".join(page(Reader(io.BytesIO(text)), "", is_plain))
 
 
 def split_page_of(text: bytes) -> bytes:

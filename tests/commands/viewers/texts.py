@@ -216,8 +216,6 @@ def wanted_text(label: str, value: Any, kind: str | None) -> str | None:
     if label == "Perm":
         text = stat.filemode(TYPES.get(kind or "", stat.S_IFREG) | int(value, 8))
         return text if kind in TYPES else text[1:]  # So ls prints it, without an unknown type.
-    if label in ("Atime", "Mtime", "Ctime"):
-        return local_text(int(value))
     return None
 
 

@@ -14,6 +14,7 @@ from types import FrameType
 from typing import Any
 
 from tests.commands.viewers import COMMANDS  # It puts the modules of the commands in reach.
+from tests.commands.viewers.lines import NAMELESS
 
 from aide_compare.lines.reader import Reader
 from aide_compare.show.added import added_lines
@@ -72,7 +73,7 @@ def additions_to(lines: bytes) -> Work:
     """A call that reads proved lines and adds texts to them."""
 
     def work() -> None:
-        for _ in added_lines(Reader(io.BytesIO(lines)), None, {}):
+        for _ in added_lines(Reader(io.BytesIO(lines)), NAMELESS, None):
             pass
 
     return work

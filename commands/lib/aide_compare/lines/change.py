@@ -72,14 +72,6 @@ def values_of(fields: Fields, side: str) -> Values:
     return values
 
 
-def texts_in(fields: Fields, key: str) -> Texts:
-    """The texts for people that a line has for a side; a ValueError if they are none."""
-    texts: Texts = fields.get(key, {})
-    if not isinstance(texts, dict) or not all(isinstance(text, str) for text in texts.values()):
-        raise ValueError("texts of another form")
-    return texts
-
-
 class Change(NamedTuple):
     """An entry that came, went or changed. Of a changed one there are only values that people asked
     for: a line also has rights that did not differ."""
@@ -93,10 +85,6 @@ class Change(NamedTuple):
     standing: Standing
     severity: str  # One of SEVERITIES; "" if it is silent, or if nobody has judged it.
     package: str  # The name and the version of a recorded one's package.
-    # The texts for people that its line has already, and whether it says the standing in a word.
-    old_texts: Texts
-    new_texts: Texts
-    says_standing: bool
 
     @property
     def sides(self) -> Tuple[Values, Values]:
@@ -156,9 +144,6 @@ def change_of(fields: Fields) -> Change:
         standing=standing_of(fields, path),
         severity=severity,
         package=_text_of(fields, "package", ""),
-        old_texts=texts_in(fields, "old_text"),
-        new_texts=texts_in(fields, "new_text"),
-        says_standing="standing" in fields,
     )
 
 

@@ -7,25 +7,20 @@ value stands beside it.
 from __future__ import annotations
 
 import base64
-import grp
-import pwd
 import re
 import stat
 import time
 from contextlib import suppress
 from functools import lru_cache
-from typing import Dict, Iterator, List, NamedTuple, Optional, Sequence, Tuple
+from typing import AbstractSet as Set, Dict, Iterator, List, NamedTuple, Optional, Sequence, Tuple
 
 from aide_compare.base.escapes import shown
 from aide_compare.base.paths import unescaped
-from aide_compare.base.words import SIDES
-from aide_compare.lines.change import Change, Fields, Texts, Value, Values, values_of
-from aide_compare.lines.rights import differing
+from aide_compare.lines.change import Change, Texts, Value, Values
 
 # A text for people has at most so many characters; a longer one is cut, and ends with "...".
 MAX_TEXT = 4000
 MAX_NAME = 300
-MAX_USER = 100
 # Texts of values up to this length are kept, since most files of a system share theirs.
 MAX_KEPT = 600
 # The types of files in words, as reports name them.
@@ -63,9 +58,9 @@ TIMES = ("Atime", "Mtime", "Ctime")
 # The attributes that are texts of their own in a database.
 ENCODED = ("ACL", "XAttrs", "SELinux", "E2FSAttrs", "Caps")
 # The attributes that may have texts for people.
-NOTED = frozenset((*ENCODED, *TIMES, "Perm", "UID", "GID"))
-# The members of a line with such values, and with the type, which they depend on.
-NOTED_NAMES = frozenset(("Type", *NOTED, *(f"{label}_hex" for label in NOTED)))
+NOTED = frozenset((*ENCODED, *TIMES, "Perm"))
+# Those of which programs get texts too: any of them can make one of a time.
+NOTED_BESIDE_TIMES = NOTED.difference(TIMES)
 
 
 class SideTexts(NamedTuple):
@@ -251,16 +246,6 @@ def decoded(label: str, value: Value, kind: Optional[str] = None) -> Optional[st
     return _DECODERS[label](data) or None
 
 
-@lru_cache(maxsize=10000)
-def name_text(label: str, number: int) -> Optional[str]:
-    """The name that this host has for the number of a user (UID) or of a group (GID)."""
-    with suppress(KeyError, OverflowError, OSError, ValueError):
-        if label == "UID":
-            return shown(pwd.getpwuid(number).pw_name, MAX_USER)
-        return shown(grp.getgrgid(number).gr_name, MAX_USER)
-    return None
-
-
 def kinds_of(change: Change) -> Sequence[Optional[str]]:
     """The types of both sides in words: an old entry has that of the new one, unless the letters
     say that it changed."""
@@ -272,41 +257,21 @@ def kinds_of(change: Change) -> Sequence[Optional[str]]:
     return kinds
 
 
-def _side_texts(values: Values, kind: Optional[str], has_names: bool) -> Iterator[Tuple[str, str]]:
+def _side_texts(values: Values, kind: Optional[str], labels: Set[str]) -> Iterator[Tuple[str, str]]:
     """Each label of a side that has a text, and the text."""
     for label, value in values.items():
-        text = None
-        if has_names and label in ("UID", "GID") and isinstance(value, int):
-            text = name_text(label, value)
-        elif label in NOTED:
+        if label in labels:
             text = decoded(label, value, kind)
-        if text is not None:
-            yield label, text
+            if text is not None:
+                yield label, text
 
 
-def texts_of(change: Change, has_names: bool = False) -> SideTexts:
-    """The texts of the values of both sides, with `has_names` also the names that users and groups
-    have on this host."""
+def texts_of(change: Change, labels: Set[str] = NOTED) -> SideTexts:
+    """The texts of the values of both sides that have these labels."""
     old_kind, new_kind = kinds_of(change)
-    old: Dict[str, str] = dict(_side_texts(change.old, old_kind, has_names))
-    new: Dict[str, str] = dict(_side_texts(change.new, new_kind, has_names))
+    old: Dict[str, str] = dict(_side_texts(change.old, old_kind, labels))
+    new: Dict[str, str] = dict(_side_texts(change.new, new_kind, labels))
     return _that_differ(SideTexts(old, new), change.sides)
-
-
-def texts_of_line(fields: Fields, has_names: bool = False) -> SideTexts:
-    """The same of the object of a line of aide_lines, in which only the values that may have texts
-    are looked at."""
-    fields = differing(fields)
-    kind = None if fields["summary"].startswith("!") else fields.get("type", "Entry")
-    sides = []
-    texts: List[Texts] = []
-    for side in SIDES:
-        noted = {name: value for name, value in fields.get(side, {}).items() if name in NOTED_NAMES}
-        values = values_of({side: noted}, side)
-        own = values.get("Type", kind)
-        texts.append(dict(_side_texts(values, own if isinstance(own, str) else None, has_names)))
-        sides.append(values)
-    return _that_differ(SideTexts(*texts), sides)
 
 
 def _that_differ(texts: SideTexts, sides: Sequence[Values]) -> SideTexts:

@@ -1,5 +1,4 @@
-"""Reads the lines of aide_lines, which are also those of aide-compare json: the names of the
-databases, a line for each change in the order of paths, and an end that says what was read of each
+"""Reads the lines of aide_lines: the names of the databases, a line for each change in the order of paths, and an end that says what was read of each
 database, and all counts. Lines without their end were cut, and are not believed."""
 from __future__ import annotations
 
@@ -22,8 +21,6 @@ LINE_LIMIT = 1 << 25
 DIGEST_BYTES = 32
 MAX_COLUMN = 64
 HEX = "_hex"  # At the end of the name of a text in base 16.
-# So many bytes are read first for the last line. Only members of --with make it longer.
-TAIL = 1 << 12
 NO_END = "this ends too early: the last line is missing"
 # What a member of another type, or one that is missing, raises.
 ODD = (ValueError, KeyError, TypeError, AttributeError)
@@ -128,29 +125,14 @@ def _is_summary(fields: Fields) -> bool:
         return False
 
 
-def last_line_of(file: BinaryIO) -> bytes:
-    """The last line of a file; of one that is longer than a line may be, the end."""
-    end = file.seek(0, os.SEEK_END)
-    size = TAIL
-    while True:
-        start = max(end - size, 0)
-        file.seek(start)
-        text = file.read(end - start)
-        line = text[text[:-1].rfind(b"\n") + 1 :]
-        if len(line) < len(text) or start == 0 or size >= LINE_LIMIT:
-            return line
-        size = min(2 * size, LINE_LIMIT)
-
-
 class Reader:
     """The lines of a file: the `summary` of the first one; by iteration each change as its line and
-    its value, once; then what the last line says, as `end_line`, `end` and `counts`. `end` is its
+    its value, once; then what the last line says, as `end` and `counts`. `end` is its
     object with what was there before."""
 
     def __init__(self, file: BinaryIO) -> None:
         self.file = file
         self.number = 0
-        self.end_line = b""
         self.end: Fields = {}
         self.counts = NOTHING_COUNTED
         # By the kind, and by what a proof accounts for the change with.
@@ -167,7 +149,7 @@ class Reader:
             line = self._line()
             fields = self._object_of(line)
             if "end" in fields:
-                self._read_end(fields, line)
+                self._read_end(fields)
                 return
             change = self._change_of(fields)
             last = self._key_after(last, change.path)
@@ -188,7 +170,7 @@ class Reader:
             else:
                 fields = self._object_of(line)
                 if "end" in fields:
-                    self._read_end(fields, line)
+                    self._read_end(fields)
                     return
                 change = self._change_of(fields)
                 kind = change.kind
@@ -198,23 +180,10 @@ class Reader:
             self._count(kind, proof)
             yield Outline(kind, path, silent_by(proof, path), last, line)
 
-    def end_before(self) -> Fields:
-        """The object of the last line, before the others are read; the file has to be one on disk.
-        Only by iteration the counts are compared with the lines."""
-        here = self.file.tell()
-        try:
-            fields: Fields = json.loads(last_line_of(self.file))
-            end_of(fields)
-        except (*ODD, RecursionError):
-            raise Refused(0, NO_END) from None
-        finally:
-            self.file.seek(here)
-        return fields
-
     def _count(self, kind: str, proof: Optional[str]) -> None:
         self._counts[kind, proof] = self._counts.get((kind, proof), 0) + 1
 
-    def _read_end(self, fields: Fields, line: bytes) -> None:
+    def _read_end(self, fields: Fields) -> None:
         """Takes the last line, of which all counts are those of the lines before it."""
         try:
             self.counts = end_of(fields)
@@ -230,7 +199,6 @@ class Reader:
             raise Refused(self.number, text) from None
         if self.file.read(1):
             raise Refused(self.number + 1, "this is after the end")
-        self.end_line = line
         self.end = {**fields, **self.end}
 
     def _line(self, missing: str = NO_END) -> bytes:
@@ -245,7 +213,7 @@ class Reader:
         with suppress(ValueError, RecursionError):
             fields = json.loads(line)
         if not line.endswith(b"\n") or not isinstance(fields, dict):
-            raise Refused(self.number, "this is not a line of aide-compare json")
+            raise Refused(self.number, "this is no line of changes")
         return fields
 
     def _change_of(self, fields: Fields) -> Change:

@@ -3,7 +3,6 @@ that opens."""
 from __future__ import annotations
 
 import json
-import re
 from functools import lru_cache
 from html import escape
 from typing import (
@@ -21,7 +20,7 @@ from aide_compare.base.words import counted
 from aide_compare.lines.attributes import FORMS, STRENGTH
 from aide_compare.lines.change import Change, Standing, Texts, Value, Values, change_of
 from aide_compare.lines.decoded import MAX_TEXT, NOTED, SideTexts, exact_bytes, texts_of
-from aide_compare.lines.reader import Reader, Refused
+from aide_compare.lines.reader import Reader
 from aide_compare.show.added import judged_changes
 
 if TYPE_CHECKING:
@@ -42,8 +41,6 @@ class Various(str):
 VARIOUS = Various("various")
 # The standings in the order in which a page has them.
 STANDINGS = tuple(reversed(Standing))
-LETTERS = re.compile("[A-Za-z?!<>=:.+ -]{18}")
-PERMISSIONS = re.compile("[0-7]{4}")
 COLUMNS = '<table><tr><th scope="col">Attribute<th scope="col">Old<th scope="col">New'
 
 
@@ -84,21 +81,9 @@ def encoded(text: str) -> bytes:
     return text.encode("utf-8", "backslashreplace")
 
 
-def check_values(values: Values) -> None:
-    """Refuses values that no line of a comparison has."""
-    if not values.keys() <= FORMS.keys():
-        raise Refused(0, "an attribute is unknown")
-    permissions = values.get("Perm")
-    if permissions and not PERMISSIONS.fullmatch(str(permissions)):
-        raise Refused(0, "permissions are four digits")
-
-
 def entry_of(change: Change, various: Iterable[str] = ()) -> PageEntry:
     """The PageEntry of a change. `various` are the attributes whose old values were not the same on
-    all hosts. All values are judged here, since what is shown of them is made only if there is
-    room."""
-    check_values(change.old)
-    check_values(change.new)
+    all hosts."""
     old = change.old
     if various:
         old = {**old, **dict.fromkeys(various, VARIOUS)}
@@ -111,12 +96,7 @@ def entries_of(
     """Yields each line of a change, and its PageEntry, with the standing and the place of Judged if
     there is one."""
     for line, change, importance in judged_changes(reader, judged):
-        try:
-            if not LETTERS.fullmatch(change.letters):
-                raise Refused(0, "a summary string has 18 letters")
-            yield line, entry_of(change), importance
-        except Refused as refused:
-            raise Refused(reader.number, refused) from None
+        yield line, entry_of(change), importance
 
 
 def _shown_texts(texts: Texts) -> Texts:
@@ -124,12 +104,8 @@ def _shown_texts(texts: Texts) -> Texts:
 
 
 def texts_in_place(entry: PageEntry) -> SideTexts:
-    """What people read in place of the values of both sides: what the lines say, or else what the
-    values mean."""
-    change = entry.change
-    texts = SideTexts(change.old_texts, change.new_texts)
-    if not any(texts):
-        texts = texts_of(change._replace(old=entry.old))
+    """What people read in place of the values of both sides."""
+    texts = texts_of(entry.change._replace(old=entry.old))
     return SideTexts(_shown_texts(texts.old), _shown_texts(texts.new))
 
 
