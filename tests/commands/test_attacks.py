@@ -222,9 +222,9 @@ class AttacksTest(CommandTest):
         self.refused(18, b"cannot write the state file", *words)
 
     def test_long_report(self) -> None:
-        told = b"the report has more than 100 bytes; --max-report allows more"
-        self.refused(18, told, TOOL, "--max-report", "100", "old.db", "new.db", state="state")
-        self.compared("--max-report", "10k", "old.db", "new.db")
+        self.set_names("base.options", MAX_REPORT_BYTES=100)
+        told = b"the report has more than 100 bytes"
+        self.refused(18, told, TOOL, "--report", "old.db", "new.db", state="state")
 
     def test_closed_pipes(self) -> None:
         """A command whose reader has ended says nothing, and did not compare."""
@@ -272,6 +272,4 @@ class AttacksTest(CommandTest):
         plain = self.answered(0, quiet, equal, TOOL, "-c", "one", "new.db", "new.db.gz")
         self.assertNotIn(note, plain.errors)
         self.answered(0, quiet, note, TOOL, "-v", "-c", "one", "new.db", "new.db.gz")
-        told = [b"aide: before:2: bad value\n", b"line 2: report_level=x\n"]
-        self.refused(17, told, TOOL, "-c", "conf", "-B", "# @@{HOSTNAME}\nreport_level=x")
         self.compared("-c", "conf", "old.db", "new.db", before=UMASK % 0o77)

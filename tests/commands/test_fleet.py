@@ -246,7 +246,7 @@ class FleetTest(CommandTest):
 
     def test_wrong(self) -> None:
         hosts = self.fleet.list_hosts("good1")
-        of_one = ("--one --share 1/2", "--one --canary good1")
+        of_one = ("--one --canary good1",)
         for words in ("--same-for 08x", "--same-for 31d", "--time -1", "--max-size 1T", *of_one):
             said = self.fleet.compare(*words.split(), hosts)
             self.assertEqual((said.status, said.output), (15, ""), words)

@@ -293,16 +293,3 @@ class ListedOnceTest(CommandTest):
 
     def put_mail(self) -> None:
         self.stub("sendmail", f'cat > "{self.root}/mail"')
-
-    def test_share(self) -> None:
-        """A canary is a host of its share: the report reads it in the store of that share only."""
-        fleet = Fleet(self)
-        fleet.send(NAMES)
-        statuses = set()
-        for part in (1, 2):
-            said = fleet.compare("--canary", CANARY, "--share", f"{part}/2", self.path("hosts"))
-            statuses.add(said.status)
-            if said.status == 15:
-                self.assertIn("is not among the hosts of this share", said.errors)
-        self.assertIn(15, statuses)
-        self.assertEqual(len(statuses), 2, statuses)

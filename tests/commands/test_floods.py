@@ -169,7 +169,8 @@ class FloodsTest(CommandTest):
         mail.prepare(self)
         long = b"/home/anna/" + b"n" * 200
         self.write_night([entry(long + b"%04d" % number, owner=1000) for number in range(5000)])
-        text = self.mailed("--max-report", "1M")
+        self.set_names("base.options", MAX_REPORT_BYTES=1 << 20)
+        text = self.mailed()
         # The lines of the flood come first, and those that follow were cut.
         for path in ROOTS:
             if path.startswith(b"/etc"):

@@ -218,9 +218,7 @@ class FrontTest(CommandTest):
         tool, words = "aide-compare status", ("--state", "state")
         counts = b"\n4 open of 4 changes: 1 added, 1 removed, 2 changed.\n"
         self.answered(0, counts, b"", tool, *words)
-        counts = b"differences: open=4 recorded=0 trusted=0 same=0 high=0 medium=4 low=0 status=7 added=1 "
-        line = self.answered(0, counts, b"", tool, "--format", "line", *words).output
-        self.answered(0, line, b"", tool, "--format", "json", "--format=line", *words)
+        self.answered(0, counts, b"", tool, "--format", "json", "--format=text", *words)
         found = json.loads(self.call(tool, "--format", "json", *words).output)
         values = (found["status"], found["added"], found["error"], found["new_sha256"])
         self.assertEqual(values, (7, 1, "", sha256(NEW)))

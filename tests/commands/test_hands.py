@@ -40,7 +40,7 @@ class HandsTest(CommandTest):
         left out."""
         mail.prepare(self)
         standings.prepare(self)
-        self.write("etc/defaults", "# What all have in common\n\n--max-report 1G\n%s" % lines)
+        self.write("etc/defaults", "# What all have in common\n\n--max-size 1024G\n%s" % lines)
         self.write("etc/without", "/srv/*\n")
 
     def mails(self, status: int, *words: str) -> Any:

@@ -76,11 +76,11 @@ class HintsTest(CommandTest):
             b"odd conf:7: " + group % (b"databases", b"database"),
         ]
         nine = "".join("report_%d=p\n" % number for number in range(9))
-        unknown = b"-B:1: report_xxxxxxxxxxxx is no option, but a group\n"
+        unknown = b"-A:1: report_xxxxxxxxxxxx is no option, but a group\n"
         for more, errors, count in (
             ((), b"", 2),
             (("-A", "\nreport_levl=p"), b"-A:2: " + group % (b"report_levl", b"report_level"), 3),
-            (("-B", "report_xxxxxxxxxxxx=p"), unknown, 3),
+            (("-A", "report_xxxxxxxxxxxx=p"), unknown, 3),
             (("-A", nine), b"6 more such groups\n", 5),
         ):
             wanted = told + [errors] if errors else told
@@ -114,10 +114,5 @@ class HintsTest(CommandTest):
             answer = self.refused(17, errors, TOOL, "-c", "odd conf", "old.db", "new.db")
             if "lvel" not in text:
                 self.assertNotRegex(answer.errors, b"(lvel|attrs) is not an option")
-        for option, name in (("-A", b"after"), ("-B", b"before")):
-            told = [
-                b"aide: " + name + b":2: bad value\n",
-                b"the text of " + option.encode(),
-                b"line 2: report_level=x\n",
-            ]
-            self.refused(17, told, TOOL, "old.db", "new.db", option, "\nreport_level=x")
+        told = [b"aide: after:2: bad value\n", b"the text of -A", b"line 2: report_level=x\n"]
+        self.refused(17, told, TOOL, "old.db", "new.db", "-A", "\nreport_level=x")

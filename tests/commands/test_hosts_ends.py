@@ -86,7 +86,7 @@ class HostsEndsTest(CommandTest):
         shutil.rmtree(self.path("store"))
         said = hosts.report()
         self.assertEqual(said.status, 18)
-        missing = said.output.count(": its share is missing: there is no directory ")
+        missing = said.output.count(": there is no directory ")
         self.assertEqual(missing, 5, said)
         self.assertFalse(os.path.exists(self.path("store")))
 

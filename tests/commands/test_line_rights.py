@@ -104,17 +104,13 @@ class LineRightsTest(CommandTest):
         host = host_with()
         rows: List[Tuple[Tuple[str, ...], Set[str]]] = [
             (("-A", "report_force_attrs=n"), {"Linkcount"}),
-            (("-B", "report_force_attrs=n"), {"Linkcount"}),
-            (("-B", "report_url=stdout"), set()),
+            (("-A", "report_url=stdout"), set()),
             (("-A", "my=n\nreport_force_attrs=my-p"), {"Linkcount"}),
         ]
         for words, more in rows:
             answer, objects = host.ask(self, *words)
             self.assertEqual((answer.status, answer.errors), (4, b""), answer)
             self.assertLessEqual(RIGHTS | more, objects[1]["new"].keys(), words)
-        for words, line in ((("-B", "\nodd"), 2), (("-B", "# HOSTNAME\nodd"), 2)):
-            answer, _ = host.ask(self, *words)
-            self.assertIn(b"aide: before:%d: line not understood" % line, answer.errors)
 
     def test_frozen(self) -> None:
         """A text that forces other attributes before it names its report leaves rights out: then

@@ -57,11 +57,12 @@ class SizesTest(MailTest):
         self.write("large.db", HEAD + lines + END)
         # Without a judgement nobody knows what matters: the first paths of each directory, and how
         # many there are.
-        for words, rest in (
-            ((), b"  and %s more, 20 of them in /d"),
-            (("--max-report", "1M"), b"  and %s more\n"),
+        for limit, rest in (
+            (1 << 30, b"  and %s more, 20 of them in /d"),
+            (1 << 20, b"  and %s more\n"),
         ):
-            answer = call(self, "empty.db", "large.db", *words)
+            self.set_names("base.options", MAX_REPORT_BYTES=limit)
+            answer = call(self, "empty.db", "large.db")
             message = sent(self)
             text = body(message)
             self.assertEqual(answer.status, 1, answer)
@@ -69,10 +70,10 @@ class SizesTest(MailTest):
             count = text.count(b"  added    /d0")
             self.assertGreater(count, 40, text)
             self.assertIn(rest % format(60000 - count, ",").encode(), text)
-            if not words:
+            if limit > 1 << 20:
                 self.assertIn("60000 open", subject(message))
         self.assertIn(b"60,000 added", text)
-        self.assertIn(b"--max-report allows more", text, "why it was not judged")
+        self.assertIn(b"its lines have more than 1048576 bytes", text, "why it was not judged")
 
     def test_low(self) -> None:
         """Of severity low a few are listed of each directory, and the others are counted."""

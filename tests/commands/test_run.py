@@ -123,10 +123,8 @@ class RunTest(CommandTest):
         self.expect("a newline in a path", answer, 3, b": /a\\012b c\n")
 
     def test_configurations(self) -> None:
-        """The databases that a configuration names, with the lines of -A and -B."""
+        """The databases that a configuration names, with the lines of -A."""
         both, root = self.named("old.db.gz", "new.db.gz"), self.root
-        by_variable = "database_in=file:@@{D}/old.db\ndatabase_new=file:@@{D}/new.db"
-        in_block = f"@@ifdef X\ndatabase_in=file:/no\n@@else\n{both}@@endif\n"
         old, unread = (
             self.path("old.db"),
             "# database_in=file:/no\n/etc R\n!/database_in=file:/no\n",
@@ -144,8 +142,6 @@ class RunTest(CommandTest):
                 both + "database_in=file:/no",
                 ("-A", f"database_in=file:{old}"),
             ),
-            ("a variable of -B", by_variable, ("-B", "@@define D " + root)),
-            ("two in blocks, and one of -B", in_block, ("-B", "database_in=file:/other")),
             ("databases of -A", "database_in=file:/no\ndatabase_new=file:/no", ("-A", both)),
             ("a rule and a comment", unread + both, ()),
         ]
@@ -198,7 +194,6 @@ class RunTest(CommandTest):
             ["-A=" + option],
             ["--after", option],
             ["--after=" + option],
-            ["-B", option],
         ):
             answer = self.run_tool(*words)
             self.assertEqual((answer.status, answer.output), (7, MINIMAL), (words, answer))
@@ -211,7 +206,7 @@ class RunTest(CommandTest):
         ):
             self.write("-A", OLD)
             self.write("--json", OLD)
-            answer = self.call(TOOL, "-B", option, *operands, text=text)
+            answer = self.call(TOOL, "-A", option, *operands, text=text)
             self.assertEqual((answer.status, answer.output), (7, MINIMAL), (operands, answer))
         answer = self.call(TOOL, "-", "-", text=OLD)
         self.expect("standard input twice", answer, 15, b"", b"only one database")
@@ -227,14 +222,13 @@ class RunTest(CommandTest):
             ["--", "-c", "x"],
             ["-A"],
             ["-A", "a", "--after=b"],
-            ["-B", "a", "-Bb"],
             ["--max-size"],
             ["--max-size", "1x"],
             ["--max-size", "-1"],
             ["--max-size", "9" * 16],
-            ["--max-report", ""],
             ["--user", "no such user"],
             ["--state", ""],
+            ["--state", "-"],
             ["--odd"],
         ):
             self.expect("%s" % words, self.run_tool(*words), 15, b"", b"aide-compare: ")
@@ -297,7 +291,6 @@ class RunTest(CommandTest):
             (["-c", "fixed"], "2"),
             (["-c", "named"], "2"),
             (["-A", "report_level=minimal\nreport_url=stdout"], "2"),
-            (["-B", "report_level=minimal\nreport_url=stdout"], "2"),
             (["-A", "report_ignore_changed_attrs=s"], "1"),
             (["-A", "report_level=added_removed_entries\nreport_base16=yes"], "2"),
         ):

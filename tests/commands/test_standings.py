@@ -15,7 +15,7 @@ ONE, TWO = b"one", b"two, of the upgraded package"
 # Options that compare had, with a value for those that took one.
 GONE = (
     "--packages=x --packages-now=x --archive=x --keyring=x --rules=x --severity=x --json=x --page=x "
-    "--reasons --brief --format"
+    "--reasons --brief --format --before=x --max-report=1G"
 )
 SAMPLE = {
     b"/srv/gone": "open medium",
@@ -166,15 +166,13 @@ class StandingsTest(mail.MailTest):
         self.assertIn("<span>tool 2</span>: 1 entry", text)
 
     def test_monitoring(self) -> None:
-        """A log, Nagios, Prometheus and JSON read the same counts."""
+        """Nagios, Prometheus and JSON read the same counts."""
         prepare(self)
         self.call(TOOL, "-q", "--state", "state", "o.db", "n.db")
         status = "aide-compare status --state state --format"
-        line = self.call(status, "line").output
-        want = b"differences: open=4 recorded=1 trusted=0 same=1 high=1 medium=4 low=0 status=7"
-        self.assertEqual(line[: len(want)], want)
+        want = "open=4 recorded=1 trusted=0 same=1 high=1 medium=4 low=0"
         text = self.call(status, "prometheus").output.decode()
-        for name, count in re.findall(r"(\w+)=(\d+)", want.decode())[:-1]:
+        for name, count in re.findall(r"(\w+)=(\d+)", want):
             self.assertIn(f"\naide_compare_{name}_changes {count}\n", text)
         found = json.loads(self.call(status, "json").output)
         numbers = {name: int(count) for name, count in COUNTS.items()}

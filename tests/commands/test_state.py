@@ -1,4 +1,4 @@
-"""What reads the state file: the text for people, the metrics and the line for the log."""
+"""What reads the state file: the text for people, and the metrics."""
 from __future__ import annotations
 
 import json
@@ -8,11 +8,11 @@ import sys
 import time
 from typing import Any
 
-from .sandbox import AS_NOBODY, HERE, NOBODY, UMASK
+from .sandbox import AS_NOBODY, NOBODY, UMASK
 from .states import NOTHING, StateTest
 
 STATUS = "aide-compare status"
-LINE, METRICS = STATUS + " --format line", STATUS + " --format prometheus"
+METRICS = STATUS + " --format prometheus"
 # The owner of a folder puts links in the place of every name there, in a loop.
 LINKS = f"""import os, sys
 {AS_NOBODY}
@@ -35,15 +35,6 @@ class StatusTest(StateTest):
         answer = self.ask(STATUS, *words)
         self.assertEqual((answer.status, answer.errors), (0, b""), answer)
         return str(answer.output.decode("utf-8", "replace")).splitlines()
-
-    def log(self, **state: Any) -> str:
-        """The one line for the log of a state."""
-        self.put(**state)
-        answer = self.ask(LINE)
-        status = 18 if state.get("time") == "x" else 0
-        self.assertEqual((answer.status, answer.errors), (status, b""), answer)
-        self.assertEqual((answer.output.count(b"\n"), answer.output[-1:]), (1, b"\n"), answer)
-        return str(answer.output.decode("utf-8", "replace"))
 
     def test_metrics(self) -> None:
         self.put(status=5, added=1, changed=4)
@@ -129,10 +120,10 @@ class StatusTest(StateTest):
     def test_forms(self) -> None:
         """Each form says if there is no state; no file's name is taken for another command; and
         the numbers of JSON are numbers."""
-        for form in ("text", "line", "json", "prometheus"):
+        for form in ("text", "json", "prometheus"):
             answer = self.call(STATUS, "--format", form, "--state", "none")
             self.assertEqual(answer.status, 18, (form, answer))
-            self.assertIn(b"none", answer.output if form == "line" else answer.errors)
+            self.assertIn(b"none", answer.errors)
         os.rename(self.put(status=1, added=1), self.path("nagios"))
         answer = self.call(STATUS, "--state", "nagios")
         self.expect("a state that is called nagios", answer, 0, b"Last comparison: ")
@@ -163,51 +154,6 @@ class StatusTest(StateTest):
             before = self.read("state")
             self.ask("aide-compare", "--odd", "old.db", "new.db")
             self.assertEqual(self.read("state"), before, "a wrong command changes no state")
-
-    def test_log(self) -> None:
-        digest, old = "a" * 64, "no comparison: the last one ended at "
-        rows: list[tuple[dict[str, Any], str]] = [
-            ({}, "no difference: status=0 added=0 removed=0 changed=0\n"),
-            (
-                {"status": 5, "added": 1, "changed": 4},
-                f"differences: status=5 added=1 removed=0 changed=4 new_sha256={digest} old=/o new=/n\n",
-            ),
-            (
-                {"status": 24, "error": "aide: x\x01y", **NOTHING},
-                "no comparison: status=24 error=aide: x\\001y\n",
-            ),
-            ({"time": 1795000000 - 10**8}, old + "2023-09-18T01:20:00Z\n"),
-            ({"time": 4000000000}, old + "2096-10-02T07:06:40Z\n"),
-            (
-                {"time": "x"},
-                "no comparison: state cannot be read, or is no state file of aide-compare\n",
-            ),
-        ]
-        for state, want in rows:
-            self.assertEqual(self.log(**state), want, state)
-        self.put(age=100)
-        self.expect("an old line", self.ask(LINE, "--max-age", "50"), 0, old.encode(), b"")
-
-    def test_rules(self) -> None:
-        """The rule for logcheck ignores the line without a difference, and no other."""
-        rules = os.path.join(HERE, "contrib", "logcheck", "aide-compare")
-        lines = [
-            self.log(),
-            self.log(status=1, added=1),
-            self.log(age=93700),
-            self.log(status=18, error="no difference: status=0", **NOTHING),
-            self.log()[:-1] + " more\n",
-        ]
-        for head in (
-            "Nov  3 16:46:19 www1.example aide-compare: ",
-            "2026-11-23T16:46:19.123456+00:00 www1 aide-compare[12]: ",
-            "x2026-11-23T16:46:19.123456+00:00 www1 aide-compare[12]: ",
-        ):
-            words = ["grep", "-E", "-v", "-f", rules]
-            text = "".join(head + line for line in lines)
-            left = subprocess.run(words, input=text, stdout=subprocess.PIPE, text=True).stdout
-            told = lines if head.startswith("x") else lines[1:]
-            self.assertEqual(left, "".join(head + line for line in told))
 
     def test_links(self) -> None:
         """The owner of the folder of the metrics puts links to a file of root in place of every

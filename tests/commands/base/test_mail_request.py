@@ -55,7 +55,7 @@ class MailRequestTest(ModuleTest):
         nothing is mailed."""
         for words, why in (
             ("--weekly o n", "--weekly needs --state"),
-            ("--state -", "--state needs a file"),
+            ("--state -", "--state: needs a file"),
             ("--unit-failed x", "--unit-failed needs --send-queue"),
             ("--unit-failed x/y --send-queue q", "needs the name of a unit"),
             ("--unit-failed= --send-queue q", "needs the name of a unit"),
@@ -93,7 +93,7 @@ class MailRequestTest(ModuleTest):
             *("--user root", "--queue q", "--json x", "-c x", "o.db", "--"),
             *("--attach-page yes", "--max-age", "--odd", "--to"),
         ):
-            self.write("defaults", b"# x\n\n--max-report 1G\n%s\n" % line.encode())
+            self.write("defaults", b"# x\n\n--max-size 1G\n%s\n" % line.encode())
             with self.subTest(line):
                 self.fails(15, "defaults, line 4: ", defaults_for, COMPARISON_DEFAULTS, ())
 

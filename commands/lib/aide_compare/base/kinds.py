@@ -74,6 +74,7 @@ def _bounded_size(text: str) -> int:
 
 
 some_text = matching("(?s).+", "a value that is not empty", str)
+file_path = matching("(?s)(?!-$).+", "a file", str)
 address = matching(r"(?!-)[ -~]+", "an address", str)
 size = matching(
     "[0-9]{1,15}[kMG]?", "a number of bytes, as in 4000000, 500k, 20M or 1G", _bounded_size

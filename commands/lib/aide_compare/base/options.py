@@ -13,6 +13,7 @@ from aide_compare.base.kinds import (
     any_text,
     digest_digits,
     duration,
+    file_path,
     matching,
     pattern,
     size,
@@ -70,16 +71,13 @@ AFTER = Option(
     letter="-A",
     is_single=True,
 )
-BEFORE = Option(
-    "--before",
-    "lines to read before it",
-    metavar="TEXT",
-    kind=any_text,
-    letter="-B",
-    is_single=True,
+STATE = Option(
+    "--state",
+    "the state file, with the result of a comparison",
+    metavar="FILE",
+    kind=file_path,
 )
-STATE = Option("--state", "the state file, with the result of a comparison", metavar="FILE")
-# The most bytes of a database unpacked, and of a report, unless an option says another number.
+# The most bytes of a database unpacked, unless an option says another number, and of a report.
 MAX_DATABASE_BYTES = 1 << 40
 MAX_REPORT_BYTES = 1 << 30
 MAX_SIZE = Option(
@@ -88,13 +86,6 @@ MAX_SIZE = Option(
     metavar="SIZE",
     kind=size,
     default=MAX_DATABASE_BYTES,
-)
-MAX_REPORT = Option(
-    "--max-report",
-    "refuse a longer report (1G)",
-    metavar="SIZE",
-    kind=size,
-    default=MAX_REPORT_BYTES,
 )
 # Of databases; a result has an age too, with an option of the same name.
 MAX_AGE = Option(
@@ -200,7 +191,7 @@ NO_DEFAULTS = Option("--no-defaults", "do not read the defaults in /etc/aide-com
 
 # The options of a comparison that may stand in the file of defaults, those of them that are for the
 # databases of this machine only, those of a mail, and those of a check.
-COMPARISON_DEFAULTS = (CONFIG, MAX_SIZE, MAX_REPORT, MAX_AGE, EXCLUDE_FROM, EXCLUDE, TRUSTED, STATE)
+COMPARISON_DEFAULTS = (CONFIG, MAX_SIZE, MAX_AGE, EXCLUDE_FROM, EXCLUDE, TRUSTED, STATE)
 MACHINES_DEFAULTS = (TRUSTED, STATE)
 MAIL_DEFAULTS = (TO, MAIL_TIME, ATTACH_PAGE, WEEKLY)
 CHECK_DEFAULTS = (WARNING, CRITICAL, STATE)

@@ -5,13 +5,12 @@ import os
 from collections.abc import Iterator, Sequence
 from typing import TYPE_CHECKING, Optional
 
-from aide_compare.base.ending import Fault, Status, failing, say, write_all, write_blocks
+from aide_compare.base.ending import Fault, failing, say, write_all, write_blocks
 from aide_compare.base.escapes import guarded, shown
 from aide_compare.base.files import copy_file
 from aide_compare.base.rights import give_up
 from aide_compare.base.words import date_of, words_of_side
 from aide_compare.commands.compare_task import (
-    TRY,
     CompareRequest,
     Reporter,
     Task,
@@ -33,7 +32,6 @@ from aide_compare.show.told import (
 if TYPE_CHECKING:
     from aide_compare.changes.judged import Judged
 
-STDOUT = ("-", "/dev/stdout", "/dev/fd/1")
 NAME_LINES = (b"Old database: ", b"New database: ")
 # People compare digests in base 16.
 BASE16 = "report_base16=yes"
@@ -47,14 +45,10 @@ NOTHING = ""
 
 
 def form_of(request: CompareRequest) -> str:
-    """What standard output gets: nothing with -q, or if it is the file of another output."""
-    has_state = request.state in STDOUT
-    if has_state and request.wants_report:
-        text = "only one of --state and --report can be on standard output"
-        raise Fault(Status.USAGE, text, TRY)
-    if has_state or request.is_quiet:
+    """What standard output gets: nothing with -q."""
+    if request.is_quiet:
         return NOTHING
-    if request.wants_report or "report_" in request.after + request.before:
+    if request.wants_report or "report_" in request.after:
         return REPORT
     return BRIEF
 
@@ -82,10 +76,9 @@ class Printer(Reporter):
     @property
     def task_request(self) -> CompareRequest:
         """What is compared so that it can be printed."""
-        if self.form != REPORT or not os.isatty(1):
+        if self.form != REPORT or self.request.configuration or not os.isatty(1):
             return self.request
-        lines = [line for line in (BASE16, self.request.before) if line]
-        return self.request._replace(before="\n".join(lines))
+        return self.request._replace(after=f"{BASE16}\n{self.request.after}")
 
     def print(self, comparison: Comparison, judged: Optional[Judged]) -> None:
         """Prints what was asked for. A comparison that fails meanwhile prints nothing."""

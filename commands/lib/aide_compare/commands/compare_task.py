@@ -9,12 +9,10 @@ from aide_compare.base.ending import Fault, Status
 from aide_compare.base.escapes import shown
 from aide_compare.base.options import (
     AFTER,
-    BEFORE,
     CONFIG,
     EXCLUDE,
     EXCLUDE_FROM,
     MAX_AGE,
-    MAX_REPORT,
     MAX_SIZE,
     NO_DEFAULTS,
     STATE,
@@ -27,7 +25,7 @@ from aide_compare.base.replacement import ANYBODY_READS
 from aide_compare.base.rights import become_owner, rights_hint
 from aide_compare.commands.defaults import comparison_defaults, exclusions_of
 from aide_compare.compare.comparison import Comparison, Request
-from aide_compare.compare.outputs import Output, open_output
+from aide_compare.compare.outputs import FileOutput, Output
 from aide_compare.compare.state import State
 from aide_compare.compare.unpack import Opened
 from aide_compare.compare.work import FAILURES, Work, failed_comparison
@@ -49,7 +47,7 @@ Status: that of aide-compare-program(8). 0 no difference, 1 to 7 differences, ab
 comparison."""
 REPORT = Option(
     "--report",
-    "print the report as AIDE does, as with an option report_* in -A or -B",
+    "print the report as AIDE does, as with an option report_* in -A",
 )
 
 
@@ -58,11 +56,9 @@ class CompareRequest(NamedTuple):
 
     databases: Sequence[str]  # The paths of both, or none if the configuration names them.
     configuration: Optional[str]
-    before: str
     after: str
     state: Optional[str]
     max_size: int
-    max_report: int
     max_age: int
     exclude_from: Sequence[str]
     exclude: Sequence[str]
@@ -82,8 +78,8 @@ def own_parser() -> Parser:
     parser = Parser(NAME, DESCRIPTION, quiet, epilog=EPILOG, usage=usage)
     databases = "the databases, - for standard input; without them the configuration names both"
     parser.add_operand("databases", "OLD NEW", databases, nargs="*")
-    state = "write the status, the time, the counts and both SHA-256 to FILE; - is standard output"
-    parser.add(CONFIG, AFTER, BEFORE, STATE._replace(help=state), MAX_SIZE, MAX_REPORT, MAX_AGE)
+    state = "write the status, the time, the counts and both SHA-256 to FILE"
+    parser.add(CONFIG, AFTER, STATE._replace(help=state), MAX_SIZE, MAX_AGE)
     parser.add(EXCLUDE_FROM, EXCLUDE, TRUSTED, REPORT, USER, NO_DEFAULTS)
     return parser
 
@@ -98,11 +94,9 @@ def compare_request(
     return CompareRequest(
         databases=args.databases,
         configuration=args.config,
-        before=args.before or "",
         after=args.after or "",
         state=args.state,
         max_size=args.max_size,
-        max_report=args.max_report,
         max_age=args.max_age,
         exclude_from=args.exclude_from,
         exclude=args.exclude,
@@ -127,13 +121,7 @@ def check_databases(databases: Sequence[str]) -> None:
 def plain_request(request: CompareRequest) -> Request:
     """The databases that are compared, and how."""
     old, new = request.databases or (None, None)
-    return Request(
-        old=old,
-        new=new,
-        configuration=request.configuration,
-        before=request.before,
-        after=request.after,
-    )
+    return Request(old=old, new=new, configuration=request.configuration, after=request.after)
 
 
 def request_with_defaults(arguments: Sequence[str]) -> CompareRequest:
@@ -150,7 +138,6 @@ def work_request(request: CompareRequest) -> Request:
         raise Fault(Status.USAGE, "standard input can hold only one database")
     return plain_request(request)._replace(
         max_size=request.max_size,
-        max_report=request.max_report,
         max_age=request.max_age,
         exclusions=exclusions_of(request.exclude_from, request.exclude, request.reads_defaults),
         trusted=request.trusted,
@@ -165,7 +152,7 @@ def keep_failure(path: Optional[str], error: Exception) -> None:
     with suppress(Fault, OSError):
         become_owner(path)
         state = failed_comparison(error).state()
-        open_output(path, "the state file", ANYBODY_READS).commit(state.text())
+        FileOutput(path, "the state file", ANYBODY_READS).commit(state.text())
 
 
 class Reporter:
@@ -230,7 +217,7 @@ class Task:
         if not self.path:
             return None
         try:
-            return open_output(self.path, "the state file", ANYBODY_READS)
+            return FileOutput(self.path, "the state file", ANYBODY_READS)
         except Fault as fault:
             if user is None:
                 raise

@@ -9,7 +9,7 @@ from aide_compare.base.ending import Fault, Status, fault_of, say, tell, write_a
 from aide_compare.base.escapes import guarded
 from aide_compare.base.files import copy_file, open_regular
 from aide_compare.base.directories import closed_after
-from aide_compare.base.kinds import duration, matching
+from aide_compare.base.kinds import duration
 from aide_compare.base.options import (
     CONFIG,
     EXCLUDE,
@@ -31,13 +31,7 @@ from aide_compare.hosts.host_comparison import MAX_JUDGED, MAX_KEPT, Settings, c
 from aide_compare.hosts.hosts_read import hosts_of, read_host
 from aide_compare.hosts.hosts_text import WHY, not_listed
 from aide_compare.hosts.reported import HostCounts
-from aide_compare.hosts.store import (
-    ERRORS,
-    HOSTS_FILE,
-    HostDirectory,
-    check_name,
-    share_of,
-)
+from aide_compare.hosts.store import ERRORS, HOSTS_FILE, HostDirectory, check_name
 from aide_compare.hosts.workers import PAUSE, HostResult, Work, results, without_name
 from aide_compare.show.changes import change_lines
 
@@ -58,7 +52,6 @@ class HostsCompareRequest(NamedTuple):
 
     hosts_file: str  # Or the name of the one host.
     is_one: bool
-    share: tuple[int, int]
     settings: Settings
     canary: str  # "" for none.
     is_quiet: bool
@@ -169,31 +162,17 @@ def print_changes(name: str, store: str, seconds: int) -> None:
         say(f"to accept it: aide-compare hosts accept --sha256 {host.new_sha256} {name}")
 
 
-def share(text: str) -> tuple[int, int]:
-    """The kind of a value as 1/10."""
-    part, parts = map(int, text.split("/"))
-    if part > parts:
-        needs = "--share needs a part of all of them: --share 1/10 to --share 10/10"
-        raise Fault(Status.USAGE, needs)
-    return part, parts
-
-
 def own_parser() -> Parser:
     quiet = "only hosts with changes that are not silent, or not compared, and a summary"
     usage = f"{NAME} [OPTIONS] [HOSTS-FILE]"
     parser = Parser(NAME, DESCRIPTION, quiet, epilog=EPILOG, usage=usage)
     parser.add(HOST_STORE, HOST_TIME)
-    part = matching(
-        r"[1-9][0-9]{0,5}/[1-9][0-9]{0,5}", "a part of all of them: 1/10 to 10/10", share
-    )
     one = "HOSTS-FILE is the name of one host, whose changes are printed too, without --quiet"
     canary = "compared first; what changed there in the same way is silent on all other hosts"
     size = "the most bytes of the unpacked database (4 times the baseline, at least 64M)"
     same = "how long a host may send the same bytes (50h; 0: no limit)"
-    shares = "only the hosts of the Kth of N shares"
     parser.add(
         JOBS,
-        Option("--share", shares, metavar="K/N", kind=part),
         Option("--no-fetch", "compare what was fetched before"),
         Option("--one", one),
         Option("--canary", canary, metavar="HOST", kind=check_name),
@@ -226,23 +205,21 @@ def request_of(arguments: Sequence[str]) -> HostsCompareRequest:
         trusted={},
         max_kept=MAX_KEPT,
     )
-    if args.one and (args.share or args.canary):
-        raise Fault(Status.USAGE, "--one goes with neither --share nor --canary")
-    part = args.share or (1, 1)
+    if args.one and args.canary:
+        raise Fault(Status.USAGE, "--one does not go with --canary")
     canary = args.canary or ""
-    return HostsCompareRequest(args.file, args.one, part, settings, canary, args.quiet, args.color)
+    return HostsCompareRequest(args.file, args.one, settings, canary, args.quiet, args.color)
 
 
 def hosts_to_compare(request: HostsCompareRequest) -> list[str]:
-    """The hosts of the file that are in the share. The canary has to be one of them: otherwise no
-    report would list what is silent beside it."""
-    part, parts = request.share
-    names = [name for name in hosts_of(request.hosts_file) if share_of(name, parts) == part]
+    """The hosts of the file. The canary has to be one of them: otherwise no report would list what
+    is silent beside it."""
+    names = hosts_of(request.hosts_file)
     if not request.canary:
         keep_run(request.settings.store, None)
     elif request.canary not in names:
-        what = "this share" if parts > 1 else "the file"
-        raise Fault(Status.USAGE, f"the canary {request.canary} is not among the hosts of {what}")
+        why = f"the canary {request.canary} is not among the hosts of the file"
+        raise Fault(Status.USAGE, why)
     return names
 
 

@@ -31,7 +31,7 @@ from aide_compare.hosts.hosts_page import page
 from aide_compare.hosts.hosts_read import hosts_of, read_host
 from aide_compare.hosts.hosts_text import Report, headline, report_lines, short_lines
 from aide_compare.hosts.reported import CUT, UNREADABLE, HostCounts, Summary
-from aide_compare.hosts.store import HOSTS_FILE, share_of
+from aide_compare.hosts.store import HOSTS_FILE
 from aide_compare.lines.reader import ENCODE
 from aide_compare.mail.message import build, clean, within
 from aide_compare.mail.sending import Way, alert, deliver, way_out
@@ -55,7 +55,7 @@ class ReportRequest(NamedTuple):
     """What the options ask for."""
 
     hosts_file: str
-    stores: Sequence[str]  # That of a host is the one of its share.
+    store: str
     seconds: int
     max_age: int
     format: str
@@ -70,9 +70,8 @@ class ReportRequest(NamedTuple):
 def command_words(request: ReportRequest) -> list[str]:
     """The command that prints all that this one leaves out."""
     words = [find_installed(FRONT), "hosts", "report"]
-    if list(request.stores) != [STORE]:
-        for store in request.stores:
-            words += ["--store", os.path.abspath(store)]
+    if request.store != STORE:
+        words += ["--store", os.path.abspath(request.store)]
     if request.max_age != RESULT_AGE.default:
         words += ["--max-age", str(request.max_age)]
     if request.hosts_file != HOSTS_FILE:
@@ -106,7 +105,7 @@ class HostsReport:
         self.fleet.gather()
         self.command = command_text(command_words(request))
         self.worst = max(host.status for host in self.hosts)
-        notes = notes_of(request.stores, self.hosts)
+        notes = notes_of(request.store, self.hosts)
         # Silent differences are no reason for a mail.
         has_alarm = any(host.differs or host.status > 7 for host in self.hosts)
         self.is_alarm = has_alarm or notes.are_alarms
@@ -171,7 +170,7 @@ class HostsReport:
             subject = f"aide on {hosts}: {mail.subject}"
             deliver(way, build(request.address, subject, clean(mail.text)))
 
-        count_quiet_run(f"{request.stores[0]}/report.quiet", request.weekly, silent, send)
+        count_quiet_run(f"{request.store}/report.quiet", request.weekly, silent, send)
 
     def parts(self, form: str, color: str) -> Iterable[bytes]:
         """The bytes of the report in a format."""
@@ -192,13 +191,10 @@ def own_parser() -> Parser:
     quiet = "print nothing if no host differs and each was compared"
     usage = f"{NAME} [OPTIONS] [HOSTS-FILE]"
     parser = Parser(NAME, DESCRIPTION, quiet, epilog=EPILOG, usage=usage)
-    stores = (
-        f"where the reports are kept ({STORE}); given N times: the Kth one is that of --share K/N"
-    )
     age = "a host that was compared longer ago counts as not compared (26h; 0: no limit)"
     wait = "how long to wait for a run over a host (10m)"
     parser.add(
-        HOST_STORE._replace(help=stores, default=None, is_repeated=True),
+        HOST_STORE._replace(help=f"where the reports are kept ({STORE})"),
         RESULT_AGE._replace(help=age),
         HOST_TIME._replace(help=wait),
     )
@@ -225,7 +221,7 @@ def request_of(arguments: Sequence[str]) -> ReportRequest:
         raise Fault(Status.USAGE, "--mail-time goes with --to", f"try: {NAME} --help")
     return ReportRequest(
         hosts_file=args.file,
-        stores=args.store or [STORE],
+        store=args.store,
         seconds=args.time,
         max_age=args.max_age,
         format=args.format or "text",

@@ -92,11 +92,7 @@ def page_options(request: MailRequest) -> list[str]:
     if isinstance(asked, Fault):
         return []
     words = []
-    for name, value in (
-        ("config", asked.configuration),
-        ("before", asked.before),
-        ("after", asked.after),
-    ):
+    for name, value in (("config", asked.configuration), ("after", asked.after)):
         if value:
             words.append(f"--{name}={value}")
     if asked.trusted:

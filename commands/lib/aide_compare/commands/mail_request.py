@@ -8,7 +8,6 @@ from typing import NamedTuple, Optional, Union
 
 from aide_compare.base import progress
 from aide_compare.base.ending import Fault, Status, say
-from aide_compare.base.escapes import shown
 from aide_compare.base.kinds import unit_name
 from aide_compare.base.options import (
     DAYS,
@@ -28,7 +27,6 @@ from aide_compare.commands.compare_task import (
     plain_request,
 )
 from aide_compare.commands.defaults import comparison_defaults
-from aide_compare.compare.outputs import descriptor_of
 
 NAME = "aide-compare mail"
 DESCRIPTION = """\
@@ -63,16 +61,15 @@ def own_parser() -> Parser:
     parser = Parser(NAME, DESCRIPTION, epilog=EPILOG, usage=usage)
     parser.add(TO._replace(default="root", help="where the mail goes (root)"))
     parser.add(MAIL_TIME, ATTACH_PAGE)
-    queue = "keep the mail in this directory; --send-queue sends it"
-    send = "compare nothing, and send the mails of this directory"
-    unit = "with --send-queue: mail first that this unit of systemd failed"
     success = "end with 0 also after differences or errors that were mailed"
     parser.add(
         Option("--test", "compare nothing, and send a test mail the same way"),
         WEEKLY,
-        Option("--queue", queue, metavar="DIRECTORY"),
-        Option("--send-queue", send, metavar="DIRECTORY"),
-        Option("--unit-failed", unit, metavar="NAME", kind=unit_name),
+        # Of the units: keep the mail in a directory, send the mails of one, and mail first that a
+        # unit has failed.
+        Option("--queue", argparse.SUPPRESS, metavar="DIRECTORY"),
+        Option("--send-queue", argparse.SUPPRESS, metavar="DIRECTORY"),
+        Option("--unit-failed", argparse.SUPPRESS, metavar="NAME", kind=unit_name),
         USER,
         # It is the comparison's, and not for the command that a mail names.
         STATE._replace(help=argparse.SUPPRESS),
@@ -137,9 +134,6 @@ def check(request: MailRequest, databases: Sequence[str]) -> None:
     state = request.state
     if request.weekly and not state:
         text = "--weekly needs --state, beside which the number of quiet runs is kept"
-        raise Fault(Status.USAGE, text)
-    if state and descriptor_of(state) is not None:
-        text = f"--state needs a file here, which the next run reads: {shown(state, 200)}"
         raise Fault(Status.USAGE, text)
     if request.unit_failed and not request.send_queue:
         raise Fault(Status.USAGE, "--unit-failed needs --send-queue")

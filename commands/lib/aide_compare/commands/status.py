@@ -1,5 +1,5 @@
-"""aide-compare status: the result of the last comparison, in the form that people, a log or
-Prometheus reads."""
+"""aide-compare status: the result of the last comparison, in the form that people or programs
+read."""
 from __future__ import annotations
 
 import os
@@ -14,15 +14,15 @@ from aide_compare.base.replacement import replace
 from aide_compare.base.rights import become_owner
 from aide_compare.base.options import RESULT_AGE, STATE, STORE, Option
 from aide_compare.base.parser import Parser, defaults_for
-from aide_compare.base.words import SEVERITIES, date_of, minute_of
-from aide_compare.compare.state import DAILY, State, not_compared, read_state
-from aide_compare.show.result import kind_counts, known_counts, result_text, time_text
+from aide_compare.base.words import SEVERITIES, minute_of
+from aide_compare.compare.state import DAILY, State, read_state
+from aide_compare.show.result import known_counts, result_text, time_text
 from aide_compare.show.told import BOLD, in_colour
 
 NAME = "aide-compare status"
 DESCRIPTION = """\
-Prints the result of the last comparison: for people, as one line for logger(1), for the node
-exporter of Prometheus, or as an object of JSON. The check for Nagios is check_aide_compare."""
+Prints the result of the last comparison: for people, for the node exporter of Prometheus, or as
+an object of JSON. The check for Nagios is check_aide_compare."""
 EPILOG = """\
 In a directory in which another user can write, as Debian's user prometheus can in its own, root
 writes as that user.
@@ -33,7 +33,7 @@ MAX_LINE = 8000
 STDOUT = "-"
 # The baseline of one of many hosts, which has a command of its own.
 HOST_BASELINE = r"(/.*)/hosts/([A-Za-z0-9][A-Za-z0-9._:@-]*)/aide\.db"
-FORMATS = ("text", "line", "json", "prometheus")
+FORMATS = ("text", "json", "prometheus")
 PREFIX = "aide_compare_"
 # What Prometheus is told of each standing and of the entries.
 ENTRIES = {
@@ -62,38 +62,6 @@ class StatusRequest(NamedTuple):
     is_quiet: bool
     color: str
     is_daily: bool  # The state is that of the job of each day.
-
-
-def line_of(state: State, max_age: int) -> str:
-    """The line for a log, whose first two words say whether anybody has to read on."""
-    if state.age is None or state.age > max_age:
-        return f"no comparison: the last one ended at {date_of(state.time)}"
-    if state.status > 7:
-        return f"no comparison: status={state.status} error={state.error}"
-    kinds = kind_counts(state, "?")
-    counts = f"added={kinds.added} removed={kinds.removed} changed={kinds.changed}"
-    counts = f"status={state.status} {counts}"
-    if state.skipped:
-        counts += f" ({not_compared(state.skipped)})"
-    if state.status == 0:
-        return f"no difference: {counts}"
-    if state.standings:
-        counts = f"{state.standings.line()} {counts}"
-    names = f"new_sha256={state.new_sha256} old={state.old} new={state.new}"
-    return f"differences: {counts} {names}"
-
-
-def write_line(request: StatusRequest) -> int:
-    status: int = Status.OK
-    try:
-        line = line_of(read_state(request.state), request.max_age)
-    except Fault as fault:
-        status = fault.status
-        path = shown(request.state)
-        line = f"no comparison: {path} cannot be read, or is no state file of aide-compare"
-    if not request.is_quiet or not line.startswith("no difference:"):
-        tell(guarded(line)[:MAX_LINE])
-    return status
 
 
 def database_line(side: str, name: str, written: int | None) -> str:
@@ -217,7 +185,6 @@ def write_metrics(request: StatusRequest) -> int:
 
 WRITERS = {
     "text": write_text,
-    "line": write_line,
     "json": write_json,
     "prometheus": write_metrics,
 }
@@ -238,8 +205,8 @@ def request_of(arguments: Sequence[str]) -> StatusRequest:
     parser.set_defaults(**defaults_for((STATE,), arguments))
     args = parser.parse(arguments)
     is_conditional = args.quiet or args.max_age != RESULT_AGE.default
-    if is_conditional and args.format not in ("text", "line"):
-        parser.error("only --format text and line have --quiet and --max-age")
+    if is_conditional and args.format != "text":
+        parser.error("only --format text has --quiet and --max-age")
     if args.output != STDOUT and args.format != "prometheus":
         parser.error("only --format prometheus has an OUTPUT")
     return StatusRequest(

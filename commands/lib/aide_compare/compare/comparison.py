@@ -34,7 +34,6 @@ class Request(NamedTuple):
     old: str | None = None  # Its path; None, as of the other one, if the configuration names both.
     new: str | None = None
     configuration: str | None = None  # None: none for two paths, otherwise that of AIDE.
-    before: str = ""  # The text of -B.
     after: str = ""  # The text of -A.
     max_size: int = MAX_DATABASE_BYTES  # Of a database, unpacked.
     max_report: int = MAX_REPORT_BYTES  # Of the lines or the report.

@@ -44,8 +44,7 @@ def write_report(texts: Texts, databases: Mapping[str, int], limit: int) -> Repo
 
     def take(block: bytes) -> None:
         if os.lseek(target, 0, os.SEEK_CUR) + len(block) > limit:
-            text = f"the report has more than {limit} bytes; --max-report allows more"
-            raise Fault(Status.DEVICE, text)
+            raise Fault(Status.DEVICE, f"the report has more than {limit} bytes")
         write_all(target, block)
 
     answer = ask_for_changes(find_installed(PROGRAM), texts, databases, take)

@@ -33,7 +33,7 @@ def read_by_program(old: Copy, new: Copy) -> Comparison:
     request = Request(
         old="",
         copies={"old": old, "new": new},
-        before=SHORTEST,
+        after=SHORTEST,
         wants_lines=False,
         max_report=MAX_REPORT,
     )

@@ -96,7 +96,7 @@ class Work:
             configuration = without_includes(request.configuration)
             self.included = configuration.notes
             config = configuration.text
-        return Texts(os.fsencode(request.before), config, os.fsencode(request.after))
+        return Texts(b"", config, os.fsencode(request.after))
 
     def compare(self, opened: Sequence[Opened]) -> Comparison:
         """Compares the databases. What ends it is told by the status and the fault, never by an

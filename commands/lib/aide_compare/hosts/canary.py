@@ -207,19 +207,14 @@ class CanaryNotes(NamedTuple):
     are_alarms: bool  # Something may be listed nowhere.
 
 
-def notes_of(stores: Sequence[str], hosts: Sequence[Host]) -> CanaryNotes:
-    """What the last runs over some stores have noted of their canaries."""
-    notes = []
-    are_alarms = False
-    for store in stores:
-        try:
-            run = run_in(store)
-        except Fault as fault:
-            run = Run("", fault.text)
-        if run is None:
-            continue
-        notes.append(run.note)
-        if not is_in_report(run, hosts):
-            are_alarms = True
-            notes.append(f"canary {run.host}: {UNLISTED}")
-    return CanaryNotes(list(dict.fromkeys(notes)), are_alarms)
+def notes_of(store: str, hosts: Sequence[Host]) -> CanaryNotes:
+    """What the last run over a store has noted of its canary."""
+    try:
+        run = run_in(store)
+    except Fault as fault:
+        run = Run("", fault.text)
+    if run is None:
+        return CanaryNotes([], False)
+    if is_in_report(run, hosts):
+        return CanaryNotes([run.note], False)
+    return CanaryNotes([run.note, f"canary {run.host}: {UNLISTED}"], True)

@@ -137,7 +137,7 @@ def known_host(name: str, store: str, seconds: int, max_age: int) -> Host:
 def directory_of(name: str, store: str, seconds: int, is_alone: bool = False) -> HostDirectory:
     """The directory of a host that was compared once. Nothing is made for any other."""
     if not os.path.isdir(store):
-        raise Fault(Status.DEVICE, f"its share is missing: there is no directory {shown(store)}")
+        raise Fault(Status.DEVICE, f"there is no directory {shown(store)}")
     if not os.path.lexists(f"{store}/hosts/{check_name(name)}"):
         raise Fault(Status.DEVICE, "was never compared")
     lock = fcntl.LOCK_EX if is_alone else fcntl.LOCK_SH

@@ -4,7 +4,6 @@ from __future__ import annotations
 
 import errno
 import fcntl
-import hashlib
 import os
 import re
 import time
@@ -41,13 +40,6 @@ def check_name(host: str) -> str:
     if not NAME.fullmatch(host) or ".." in host:
         raise Fault(Status.USAGE, NAME_FORM)
     return host
-
-
-def share_of(host: str, shares: int) -> int:
-    """The share, from 1 on, that a host belongs to. Other hosts in the file do not matter for
-    it."""
-    digest = hashlib.sha256(host.encode("utf-8", "surrogateescape")).digest()
-    return int.from_bytes(digest[:8], "big") % shares + 1
 
 
 def write_cause(error: OSError) -> str:

@@ -42,7 +42,7 @@ def _judged(comparison: Comparison) -> Judged:
     lines = comparison.known_lines()
     if lines.is_cut:
         limit = comparison.request.max_report
-        raise Refused(0, f"its lines have more than {limit} bytes; --max-report allows more")
+        raise Refused(0, f"its lines have more than {limit} bytes")
     return Judged(reader_over(lines.fd))
 
 
