@@ -107,7 +107,7 @@ class FrontTest(CommandTest):
             ("report old.db new.db", b": aide-compare --help\n"),
             ("hosts --nonsense", b": aide-compare hosts --help\n"),
             ("--reprot old.db new.db", b"did you mean: --report\n"),
-            ("page --titel x", b"did you mean: --title\n"),
+            ("page --pgae x", b"did you mean: --page\n"),
             ("status --fromat json", b"did you mean: --format\n"),
             ("sort --zzzzzz", b"try: aide-compare sort --help\n"),
             ("a\033[31m", b"try: aide-compare compare --help\n"),

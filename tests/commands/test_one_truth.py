@@ -129,7 +129,7 @@ class OneTruthTest(CommandTest):
             for standing, count in ((b"open", b"4"), (b"trusted", b"11")):
                 self.assertIn(b"<dt>%s</dt><dd>%s</dd>" % (standing, count), page)
         shown = self.call("aide-compare show", os.fsdecode(TOOL))
-        self.assertIn(b"in the trusted new database", shown.output)
+        self.assertIn(b"trusted changed ", shown.output)
         new = sha256(self.place.new.database())
         done = self.call("aide-compare accept", "--sha256", new, "--trusted-only")
         self.assertIn(b"11 of 15 changes silent", done.errors)

@@ -14,7 +14,7 @@ TOOL, NAGIOS = "aide-compare", "check_aide_compare"
 ONE, TWO = b"one", b"two, of the upgraded package"
 # Options that compare had, with a value for those that took one.
 GONE = (
-    "--packages=x --packages-now=x --archive=x --keyring=x --rules=x --severity=x --json=x --page=x "
+    "--packages=x --packages-now=x --archive=x --keyring=x --rules=x --severity=x "
     "--reasons --brief --format --before=x --max-report=1G"
 )
 SAMPLE = {

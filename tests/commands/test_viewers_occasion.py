@@ -4,6 +4,7 @@ from __future__ import annotations
 
 import json
 import os
+import re
 import shlex
 import subprocess
 from typing import Any
@@ -66,6 +67,37 @@ class OccasionTest(CommandTest):
         wanted[0].update(old=OLD, new=NEW)
         self.assertEqual(given, wanted)
 
+    def test_places(self) -> None:
+        """Several outputs of one run: each in its file, which is replaced when all is written."""
+        page = self.call("aide-compare page", OLD, NEW).output
+        lines = self.call("aide-compare json", OLD, NEW).output
+        brief = self.call("aide-compare", OLD, NEW).output
+        words = ("--json", "lines", "--page", "page", "--state", "state")
+        self.answered(7, brief, None, "aide-compare", *words, OLD, NEW)
+        self.assertEqual(self.read("lines"), lines)
+        at = rb"20..-..-.. ..:..:.. UTC"  # When it was compared.
+        self.assertEqual(re.sub(at, b"", self.read("page")), re.sub(at, b"", page))
+        for name in ("lines", "page"):
+            self.assertEqual(os.stat(self.path(name)).st_mode & 0o777, 0o600)
+        for more in (["--json", "-"], ["--page", "/dev/stdout"]):
+            self.answered(
+                7,
+                (lines if "--json" in more else page)[-300:],
+                b"",
+                "aide-compare",
+                *more,
+                OLD,
+                NEW,
+            )
+        self.refused(USAGE, b"only one output", "aide-compare", "--json", "-", "--page=-", OLD, NEW)
+        said = b"cannot write the output of --json none/lines"
+        words = ("--json", "none/lines", OLD, NEW)
+        self.refused(DEVICE, said, "aide-compare", *words, state="state")
+        self.refused(
+            DEVICE, b"cannot open", "aide-compare", "--json=lines", OLD, "/no", state="state"
+        )
+        self.assertEqual(self.read("lines"), lines, "nothing was compared")
+
     def test_gone(self) -> None:
         """Options that jq is better at, and lines as an input."""
         for tool, words in (
@@ -95,9 +127,11 @@ class OccasionTest(CommandTest):
 
     def test_refused(self) -> None:
         for status, errors, words in (
-            (USAGE, b"name two databases", [OLD]),
-            (USAGE, b"name two databases", ["-"]),
-            (USAGE, b"name two databases", [OLD, NEW, OLD]),
+            (USAGE, b"name both databases", [OLD]),
+            (USAGE, b"name both databases", ["-"]),
+            (USAGE, b"more than two databases", [OLD, NEW, OLD]),
+            (USAGE, b"only one output can be standard output", ["--report", OLD, NEW]),
+            (USAGE, b"only one output can be standard output", ["--only=/x", OLD, NEW]),
             (DEVICE, b"cannot open the new database /nowhere", [OLD, "/nowhere"]),
             (CONFIGURATION, b"aide: after:1: line not understood", ["-A", "x", OLD, NEW]),
             (DEVICE, b"more than 9 bytes", ["--max-size", "9", OLD, NEW]),
@@ -123,15 +157,11 @@ class OccasionTest(CommandTest):
         self.assertFalse({"old_text", "new_text"} & set(entry))
 
     def test_types(self) -> None:
-        """A mode has the letter of the type if the line tells the type of both sides."""
+        """A mode has the letter of the type of its side."""
         pair = self.put_pair("perm", "/a 100644\n/b 100644", "/a 41777\n/b 101777")
-        for more, wanted in (
-            ("", ["-rw-r--r--", "drwxrwxrwt"]),
-            ("report_ignore_changed_attrs=ftype", ["rw-r--r--", "rwxrwxrwt"]),
-        ):
-            entry = objects_of(self.call("aide-compare json", "-A", more, *pair))[1]
-            modes = [entry[side]["Perm"] for side in ("old_text", "new_text")]
-            self.assertEqual((entry["path"], modes), ("/a", wanted))
+        entry = objects_of(self.call("aide-compare json", *pair))[1]
+        modes = [entry[side]["Perm"] for side in ("old_text", "new_text")]
+        self.assertEqual((entry["path"], modes), ("/a", ["-rw-r--r--", "drwxrwxrwt"]))
 
     def test_left_out(self) -> None:
         """Entries that are left out are counted in the first line only."""

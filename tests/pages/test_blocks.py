@@ -39,6 +39,8 @@ ALSO = {
     "man/aide-compare-mail.1": ["compare"],
     "man/aide-compare-status.1": ["status", "--format", "prometheus"],
 }
+# These are short for a comparison, whose page has the options.
+SHORT = ("aide-compare-json.1", "aide-compare-page.1", "aide-compare-show.1")
 COMPARE = "aide-compare -E -c compare.conf"
 ADDED = HEAD + "/a 100644 5 MA== 4\n@@end_db\n"
 EMPTY = HEAD + "@@end_db\n"
@@ -235,7 +237,8 @@ class WordsTest(unittest.TestCase):
             more = listed_by([FRONT, *ALSO[page]]) if page in ALSO else set()
             with self.subTest(page):
                 self.assertGreater(len(listed), 1)
-                self.assertLessEqual(listed, named)
+                if os.path.basename(page) not in SHORT:
+                    self.assertLessEqual(listed, named)
                 self.assertLessEqual(named, listed | more)
 
     def test_defaults(self) -> None:

@@ -90,7 +90,7 @@ class MailRequestTest(ModuleTest):
     def test_bad_lines(self) -> None:
         """Only options that are the same for all may be among the defaults."""
         for line in (
-            *("--user root", "--queue q", "--json x", "-c x", "o.db", "--"),
+            *("--user root", "--queue q", "--json x", "--only /x", "-c x", "o.db", "--"),
             *("--attach-page yes", "--max-age", "--odd", "--to"),
         ):
             self.write("defaults", b"# x\n\n--max-size 1G\n%s\n" % line.encode())

@@ -10,7 +10,11 @@ from aide_compare.compare import outputs
 
 
 def put(path: str, text: bytes, mode: int = 0o600) -> None:
-    outputs.open_output(path, "it", mode).commit(text)
+    descriptor = in_memory(text)
+    try:
+        outputs.open_output(path, "it", mode).commit_copy(descriptor)
+    finally:
+        os.close(descriptor)
 
 
 class OutputsTest(PlacesTest):

@@ -6,6 +6,7 @@ import fcntl
 import os
 import stat
 import time
+from collections.abc import Iterator
 from contextlib import suppress
 from io import BufferedRandom
 
@@ -143,12 +144,18 @@ def lines_of(path: str, what: str) -> list[tuple[bytes, str]]:
     return lines_in(trusted_text(path, what), path, what)
 
 
-def copy_file(source: int, target: int) -> None:
-    """Writes all bytes of a file to another one, both by their descriptors, from its beginning."""
+def blocks_of(source: int) -> Iterator[bytes]:
+    """All bytes of a file by its descriptor, from its beginning."""
     offset = 0
     while block := os.pread(source, BLOCK, offset):
-        write_all(target, block)
+        yield block
         offset += len(block)
+
+
+def copy_file(source: int, target: int) -> None:
+    """Writes all bytes of a file to another one, both by their descriptors."""
+    for block in blocks_of(source):
+        write_all(target, block)
 
 
 def random_name() -> str:

@@ -10,7 +10,7 @@ from aide_compare.base.options import TRUSTED
 from aide_compare.base.terminal import answer_to
 from aide_compare.base.words import minute_of
 from aide_compare.commands.compare import Printer
-from aide_compare.commands.compare_task import Task, request_with_defaults
+from aide_compare.commands.compare_task import request_with_defaults
 from aide_compare.compare.comparison import Request
 from aide_compare.compare.state import State
 from aide_compare.compare.work import named_databases
@@ -36,9 +36,8 @@ def compare_and_print(new: str, baseline: str, trusted: Sequence[str]) -> State:
     if trusted:
         words = [TRUSTED.name, *trusted, *words]
     request = request_with_defaults(words)
-    printer = Printer(request, words)
-    ended = Task(printer.task_request, wants_state=True).carry_out(printer)
-    if ended.state is None or ended.status > 7:
+    ended = Printer(request, words).task().carry_out()
+    if ended.status > 7:
         raise Fault(Status(ended.status), "nothing was compared, so nothing is accepted")
     return ended.state
 

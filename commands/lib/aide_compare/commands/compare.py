@@ -2,17 +2,17 @@
 from __future__ import annotations
 
 import os
-from collections.abc import Iterator, Sequence
+from collections.abc import Iterable, Iterator, Sequence
 from typing import TYPE_CHECKING, Optional
 
-from aide_compare.base.ending import Fault, failing, say, write_all, write_blocks
+from aide_compare.base.ending import Fault, Status
 from aide_compare.base.escapes import guarded, shown
-from aide_compare.base.files import copy_file
+from aide_compare.base.files import blocks_of
 from aide_compare.base.rights import give_up
 from aide_compare.base.words import date_of, words_of_side
 from aide_compare.commands.compare_task import (
     CompareRequest,
-    Reporter,
+    Row,
     Task,
     check_databases,
     compare_request,
@@ -20,14 +20,9 @@ from aide_compare.commands.compare_task import (
     request_with_defaults,
 )
 from aide_compare.compare.comparison import Comparison
+from aide_compare.compare.outputs import STDOUT, Notes, StreamOutput, descriptor_of
 from aide_compare.compare.work import report_of
-from aide_compare.show.told import (
-    coloured,
-    no_difference,
-    tell_comparison,
-    wants_colours,
-    with_names,
-)
+from aide_compare.show.told import coloured, no_difference, told_of, wants_colours, with_names
 
 if TYPE_CHECKING:
     from aide_compare.changes.judged import Judged
@@ -38,16 +33,23 @@ BASE16 = "report_base16=yes"
 # What a terminal has beside what people read first: two lines for the databases, notes, and the
 # command for the report.
 LINES_BESIDE = 6
-# What standard output gets: what people read first, the report of AIDE, or nothing.
+# What standard output gets: what people read first, the changes of some paths, the report of AIDE,
+# or nothing.
 BRIEF = "brief"
+ONLY = "only"
 REPORT = "report"
 NOTHING = ""
 
 
 def form_of(request: CompareRequest) -> str:
-    """What standard output gets: nothing with -q."""
-    if request.is_quiet:
+    """What standard output gets: nothing with -q, or if it is the place of an output."""
+    others = [descriptor_of(path) for path in request.outputs.values()].count(STDOUT)
+    if others > 1 or (others and (request.wants_report or request.only)):
+        raise Fault(Status.USAGE, "only one output can be standard output")
+    if others or request.is_quiet:
         return NOTHING
+    if request.only:
+        return ONLY
     if request.wants_report or "report_" in request.after:
         return REPORT
     return BRIEF
@@ -63,7 +65,7 @@ def named_lines(report: int, comparison: Comparison) -> Iterator[bytes]:
             yield line
 
 
-class Printer(Reporter):
+class Printer:
     """Prints a comparison: first what there is to say beside it, then what was found, so that on a
     terminal nothing pushes that off the screen."""
 
@@ -71,7 +73,6 @@ class Printer(Reporter):
         self.request = request
         self.form = form_of(request)
         self.arguments = arguments
-        self.has_told = False
 
     @property
     def task_request(self) -> CompareRequest:
@@ -80,84 +81,73 @@ class Printer(Reporter):
             return self.request
         return self.request._replace(after=f"{BASE16}\n{self.request.after}")
 
-    def print(self, comparison: Comparison, judged: Optional[Judged]) -> None:
-        """Prints what was asked for. A comparison that fails meanwhile prints nothing."""
+    def task(self) -> Task:
+        """The comparison that prints so."""
+        before = [Row(Notes(), self._notes)]
+        if self.form != NOTHING:
+            before.append(Row(StreamOutput(STDOUT, "cannot write the report"), self._printed))
+        after = [Row(Notes(), self._failure, of_failure=True)]
+        judges = self.form in (BRIEF, ONLY) or self.request.outputs or self.request.state
+        return Task(self.task_request, before, after, bool(judges))
+
+    def _printed(self, comparison: Comparison, judged: Optional[Judged]) -> Iterable[bytes]:
+        """What was asked for. If the changes are not known, that is the report."""
+        if self.form in (BRIEF, ONLY) and comparison.status == 0:
+            return [no_difference(comparison)]
+        if self.request.only:
+            from aide_compare.show.changes import changes_with_values
+
+            return changes_with_values(comparison, judged, self.request.only)
+        if self.form == BRIEF and judged is not None:
+            from aide_compare.show.judgement import brief_of
+
+            return self._brief(brief_of(judged))
+        return self._report(comparison)
+
+    def _notes(self, comparison: Comparison, judged: Optional[Judged]) -> Iterable[bytes]:
+        """What is not in a report: it names only the descriptors of the databases."""
+        text = told_of(comparison, self.request.is_quiet, self.request.is_verbose)
+        if self.form != NOTHING and comparison.differs:
+            for side, copy in comparison.copies.items():
+                line = f"{words_of_side(side)} database: {shown(copy.name)}, "
+                if copy.written is not None:
+                    line += f"written {date_of(int(copy.written))}, "
+                text += f"aide-compare: {line}SHA-256 {copy.sha256}\n"
+            is_brief = self.form == BRIEF and judged is not None
+            if comparison.standings and not (is_brief and os.isatty(1)):
+                text += f"aide-compare: {comparison.standings.words()}\n"
+        yield text.encode("utf-8", "backslashreplace")
+
+    def _failure(self, comparison: Comparison, _judged: Optional[Judged]) -> Iterable[bytes]:
+        """Why nothing was compared."""
         if comparison.has_failed:
-            return
-        text = self._brief(comparison, judged) if self.form == BRIEF else b""
-        if text:
-            self._tell_beside(comparison, is_brief=True)
-            with failing("cannot write the report"):
-                self._print_brief(text, comparison)
-        elif self.form == NOTHING:
-            self._tell_beside(comparison, is_brief=False)
-        else:
-            report = report_of(comparison)
-            self._tell_beside(comparison, is_brief=False)
-            with failing("cannot write the report"):
-                self._print_report(report, comparison)
+            text = told_of(comparison, self.request.is_quiet, self.request.is_verbose)
+            yield text.encode("utf-8", "backslashreplace")
 
-    def conclude(self, comparison: Comparison, judged: Optional[Judged]) -> bytes:
-        """Says why nothing was compared, or what was said of it before the report."""
-        if comparison.has_failed or not self.has_told:
-            tell_comparison(comparison, self.request.is_quiet, self.request.is_verbose)
-        return b""
-
-    def _brief(self, comparison: Comparison, judged: Optional[Judged]) -> bytes:
-        """What people read first; nothing if the changes are not known, so that the report is
-        printed."""
-        if comparison.status == 0:
-            return no_difference(comparison)
-        if judged is None:
-            return b""
-        from aide_compare.show.judgement import brief_of
-
-        return brief_of(judged)
-
-    def _tell_beside(self, comparison: Comparison, is_brief: bool) -> None:
-        """Says what is not in a report: it names only the descriptors of the databases."""
-        self.has_told = True
-        tell_comparison(comparison, self.request.is_quiet, self.request.is_verbose)
-        if self.request.is_quiet or not comparison.differs:
-            return
-        for side, copy in comparison.copies.items():
-            line = f"{words_of_side(side)} database: {shown(copy.name)}, "
-            if copy.written is not None:
-                line += f"written {date_of(int(copy.written))}, "
-            say(f"{line}SHA-256 {copy.sha256}")
-        if comparison.standings and not (is_brief and os.isatty(1)):
-            say(comparison.standings.words())
-
-    def _print_report(self, report: int, comparison: Comparison) -> None:
+    def _report(self, comparison: Comparison) -> Iterable[bytes]:
+        report = report_of(comparison)
         if os.isatty(1):
-            write_blocks(1, named_lines(report, comparison))
-        else:
-            copy_file(report, 1)
+            return named_lines(report, comparison)
+        return blocks_of(report)
 
-    def _print_brief(self, text: bytes, comparison: Comparison) -> None:
+    def _brief(self, text: bytes) -> Iterator[bytes]:
         """On a terminal the first line comes again at the end if the screen is too small for
         all."""
-        if wants_colours(self.request.color):
-            write_all(1, coloured(text))
-        else:
-            write_all(1, text)
-        if not os.isatty(1) or not comparison.differs:
+        yield coloured(text) if wants_colours(self.request.color) else text
+        if not os.isatty(1):
             return
         import shlex
 
         report = guarded(shlex.join(["aide-compare", "--report", *self.arguments]))
-        write_all(1, b"\nAIDE's report: %s\n" % report.encode("utf-8", "backslashreplace"))
+        yield b"\nAIDE's report: %s\n" % report.encode("utf-8", "backslashreplace")
         if 0 < os.get_terminal_size(1).lines < text.count(b"\n") + LINES_BESIDE:
-            write_all(1, text.partition(b"\n")[0] + b"\n")
+            yield text.partition(b"\n")[0] + b"\n"
 
 
-def task_of(arguments: Sequence[str]) -> tuple[Task, Printer]:
-    """The comparison that arguments ask for with the administrator's defaults, and who prints
-    it."""
+def task_of(arguments: Sequence[str]) -> Task:
+    """The comparison that arguments ask for with the administrator's defaults."""
     request = request_with_defaults(arguments)
-    printer = Printer(request, arguments)
-    judges = request.state is not None or printer.form == BRIEF
-    return Task(printer.task_request, judges), printer
+    return Printer(request, arguments).task()
 
 
 def main(arguments: Sequence[str]) -> int:
@@ -166,8 +156,8 @@ def main(arguments: Sequence[str]) -> int:
     if own_request.user:
         give_up(own_request.user)
     try:
-        task, printer = task_of(arguments)
+        task = task_of(arguments)
     except Fault as fault:
         keep_failure(own_request.state, fault)
         raise
-    return task.carry_out(printer).status
+    return task.carry_out().status

@@ -1,12 +1,15 @@
 """A comparison as the options of a command line ask for it, and what is written of it."""
 from __future__ import annotations
 
-from collections.abc import Sequence
+import os
+from collections.abc import Mapping, Sequence
 from contextlib import suppress
 from typing import TYPE_CHECKING, NamedTuple, Optional
 
-from aide_compare.base.ending import Fault, Status
+from aide_compare.base.ending import Fault, Status, write_blocks
 from aide_compare.base.escapes import shown
+from aide_compare.base.files import in_memory, nameless
+from aide_compare.base.kinds import pattern
 from aide_compare.base.options import (
     AFTER,
     CONFIG,
@@ -25,14 +28,17 @@ from aide_compare.base.replacement import ANYBODY_READS
 from aide_compare.base.rights import become_owner, rights_hint
 from aide_compare.commands.defaults import comparison_defaults, exclusions_of
 from aide_compare.compare.comparison import Comparison, Request
-from aide_compare.compare.outputs import FileOutput, Output
+from aide_compare.compare.outputs import FileOutput, Output, descriptor_of, open_output
 from aide_compare.compare.state import State
 from aide_compare.compare.unpack import Opened
 from aide_compare.compare.work import FAILURES, Work, failed_comparison
 from aide_compare.lines.change import Counts
+from aide_compare.show.outputs import OUTPUTS
 
 if TYPE_CHECKING:
+    from aide_compare.base.paths import Pattern
     from aide_compare.changes.judged import Judged
+    from aide_compare.show.outputs import Maker
 
 NAME = "aide-compare compare"
 DESCRIPTION = """Compares two AIDE databases, plain or compressed by gzip, and prints what differs,
@@ -40,14 +46,20 @@ the most severe first; with --report the report as AIDE does."""
 TRY = "try: aide-compare compare --help"
 EPILOG = """\
 Times are as in 90s, 15m, 26h or 3d; a plain number is seconds. Sizes are in bytes, or as in
-500k, 20M or 1G. Root becomes the user in whose directory the baseline and the state file are,
-unless --user names another one.
+500k, 20M or 1G. Root becomes the user in whose directories the baseline and the outputs are, unless
+--user names another one.
 
 Status: that of aide-compare-program(8). 0 no difference, 1 to 7 differences, above 7 no
 comparison."""
 REPORT = Option(
     "--report",
     "print the report as AIDE does, as with an option report_* in -A",
+)
+ONLY = Option(
+    "--only",
+    "print the changes of these paths alone, as '/etc/**', with their values",
+    metavar="PATTERN",
+    kind=pattern,
 )
 
 
@@ -64,6 +76,8 @@ class CompareRequest(NamedTuple):
     exclude: Sequence[str]
     trusted: Sequence[str]  # The paths of a trusted pair, or none.
     wants_report: bool
+    only: Optional[Pattern]
+    outputs: Mapping[str, str]  # The places of further outputs, by the names of their options.
     user: Optional[str]
     reads_defaults: bool
     is_quiet: bool
@@ -71,16 +85,16 @@ class CompareRequest(NamedTuple):
     color: str
 
 
-def own_parser() -> Parser:
-    """The options of a comparison, which aide-compare mail has too."""
+def own_parser(usage: str = "aide-compare [compare] [OPTIONS] [OLD NEW]") -> Parser:
+    """The options of a comparison, which aide-compare mail and show have too."""
     quiet = "print only why nothing was compared"
-    usage = "aide-compare [compare] [OPTIONS] [OLD NEW]"
     parser = Parser(NAME, DESCRIPTION, quiet, epilog=EPILOG, usage=usage)
     databases = "the databases, - for standard input; without them the configuration names both"
     parser.add_operand("databases", "OLD NEW", databases, nargs="*")
     state = "write the status, the time, the counts and both SHA-256 to FILE"
     parser.add(CONFIG, AFTER, STATE._replace(help=state), MAX_SIZE, MAX_AGE)
-    parser.add(EXCLUDE_FROM, EXCLUDE, TRUSTED, REPORT, USER, NO_DEFAULTS)
+    parser.add(EXCLUDE_FROM, EXCLUDE, TRUSTED, REPORT, ONLY, *(row.option for row in OUTPUTS))
+    parser.add(USER, NO_DEFAULTS)
     return parser
 
 
@@ -91,6 +105,7 @@ def compare_request(
     parser = own_parser()
     parser.set_defaults(**(defaults or {}))
     args = parser.parse(arguments)
+    places = {row.option.name: getattr(args, row.option.attribute) for row in OUTPUTS}
     return CompareRequest(
         databases=args.databases,
         configuration=args.config,
@@ -102,6 +117,8 @@ def compare_request(
         exclude=args.exclude,
         trusted=args.trusted or (),
         wants_report=args.report,
+        only=args.only,
+        outputs={name: path for name, path in places.items() if path},
         user=args.user,
         reads_defaults=not args.no_defaults,
         is_quiet=args.quiet,
@@ -155,45 +172,68 @@ def keep_failure(path: Optional[str], error: Exception) -> None:
         FileOutput(path, "the state file", ANYBODY_READS).commit(state.text())
 
 
-class Reporter:
-    """Who is told of a comparison."""
+class Row:
+    """An output: its place, which is open before anything is compared, and what makes its bytes.
+    These are in a private file until all outputs are made. An output `of_failure` is made if nothing
+    was compared, too, and needs no disk."""
 
-    def print(self, comparison: Comparison, judged: Judged | None) -> None:
-        """Prints what was found, before the state is written. If that is not possible, nothing was
-        compared."""
+    def __init__(self, place: Output, make: Maker, of_failure: bool = False) -> None:
+        self.place = place
+        self.make = make
+        self.of_failure = of_failure
+        self.fd = in_memory(b"") if of_failure else nameless()
 
-    def conclude(self, comparison: Comparison, judged: Judged | None) -> bytes:
-        """Says the rest when the state is written. Returns the mail that is sent of it."""
-        return b""
+    def write(self, comparison: Comparison, judged: Optional[Judged]) -> None:
+        """Makes the bytes."""
+        os.ftruncate(self.fd, 0)
+        os.lseek(self.fd, 0, os.SEEK_SET)
+        write_blocks(self.fd, self.make(comparison, judged))
 
 
-class Ended:
+def output_rows(request: CompareRequest) -> list[Row]:
+    """The outputs that options name, each with its place."""
+    rows = []
+    for row in OUTPUTS:
+        path = request.outputs.get(row.option.name)
+        if path:
+            what = f"the output of {row.option.name}"
+            rows.append(Row(open_output(path, what), row.make))
+    return rows
+
+
+def state_bytes(comparison: Comparison, _judged: Optional[Judged]) -> Sequence[bytes]:
+    return [comparison.state().text()]
+
+
+class Ended(NamedTuple):
     """How a comparison has ended."""
 
-    def __init__(self, status: int, state: Optional[State], message: bytes) -> None:
-        self.status = status
-        self.state = state  # None if nobody wants it.
-        self.message = message  # The mail that is sent of it.
+    status: int
+    state: State
 
 
 class Task:
-    """A comparison that is carried out. `judges`: whoever is told of it reads its changes with
-    their standings; otherwise the report alone is wanted. `wants_state`: also without a file for
-    it."""
+    """A comparison that is carried out, and its outputs. `judges`: one of these needs its changes
+    with their standings; otherwise the report alone is wanted."""
 
     def __init__(
-        self, request: CompareRequest, judges: bool = True, wants_state: bool = False
+        self,
+        request: CompareRequest,
+        before: Sequence[Row] = (),
+        after: Sequence[Row] = (),
+        judges: bool = True,
     ) -> None:
         self.judges = judges
+        self.options = request
         self.request = work_request(request)._replace(wants_lines=judges)
-        self.path = request.state
-        self.is_of_user = bool(request.user)
-        self.output: Optional[Output] = None
-        self.wants_state = wants_state or request.state is not None
+        self.before = before
+        self.after = after
+        self.rows: Sequence[Row] = ()
+        self.state_file: Optional[FileOutput] = None
 
-    def carry_out(self, reporter: Reporter) -> Ended:
+    def carry_out(self) -> Ended:
         """Compares, judges, and writes what is wanted. Root opens the databases, and then becomes
-        for good the user in whose directory the baseline and the state file are."""
+        for good the user in whose directories the baseline and the outputs are."""
         work = Work(self.request)
         opened: Sequence[Opened] = ()
         failure = None
@@ -202,34 +242,41 @@ class Task:
         except FAILURES as error:
             failure = error
         user = None
-        if not self.is_of_user:
-            user = become_owner(*filter(None, (work.databases.old, self.path)))
-        self.output = self._open_output(user)
+        if not self.options.user:
+            user = become_owner(*filter(None, (work.databases.old, *self._files())))
+        self._open_outputs(user)
         if failure is not None:
-            return self._end(work.failed(failure), reporter)
+            return self._end(self._made(work.failed(failure)))
         comparison = work.compare(opened)
         if user is not None:
             comparison = comparison.explained(rights_hint(user))
-        return self._end(comparison, reporter)
+        return self._end(self._made(comparison))
 
-    def _open_output(self, user: Optional[int]) -> Optional[Output]:
-        """The place of the state file, if one is wanted, as this user may write it."""
-        if not self.path:
-            return None
+    def keep(self, state: State) -> None:
+        """Writes another state where the options want it."""
+        if self.state_file:
+            self.state_file.commit(state.text())
+
+    def _files(self) -> list[str]:
+        """The paths of the outputs that are files."""
+        paths = [path for path in self.options.outputs.values() if descriptor_of(path) is None]
+        return [*paths, self.options.state] if self.options.state else paths
+
+    def _open_outputs(self, user: Optional[int]) -> None:
+        """Opens the places of the outputs, as this user may write them."""
         try:
-            return FileOutput(self.path, "the state file", ANYBODY_READS)
+            rows = [*self.before, *output_rows(self.options)]
+            if self.options.state:
+                self.state_file = FileOutput(self.options.state, "the state file", ANYBODY_READS)
+                rows.append(Row(self.state_file, state_bytes, of_failure=True))
         except Fault as fault:
             if user is None:
                 raise
             raise Fault(fault.status, fault.text, *fault.more, rights_hint(user))
+        self.rows = [*rows, *self.after]
 
-    def keep(self, state: State) -> None:
-        """Writes the state where the options want it."""
-        if self.output:
-            self.output.commit(state.text())
-
-    def _end(self, comparison: Comparison, reporter: Reporter) -> Ended:
-        """Judges a comparison, prints it, keeps its state, and says the rest."""
+    def _made(self, comparison: Comparison) -> Comparison:
+        """Judges a comparison, and makes all outputs. What fails meanwhile has ended it."""
         judged = None
         try:
             if self.judges and comparison.status == 0:
@@ -241,12 +288,25 @@ class Task:
                 reviewed = judge(comparison)
                 comparison = reviewed.comparison
                 judged = reviewed.judged
-            reporter.print(comparison, judged)
-        except (Fault, MemoryError, OSError) as error:
+            for row in self.rows:
+                if not (row.of_failure or comparison.has_failed):
+                    row.write(comparison, judged)
+        except FAILURES as error:
             comparison = comparison.failed(error)
-        state = None
-        if self.wants_state:
-            state = comparison.state()
-            self.keep(state)
-        message = reporter.conclude(comparison, judged)
-        return Ended(comparison.status, state, message)
+        for row in self.rows:
+            if row.of_failure:
+                row.write(comparison, judged)
+        return comparison
+
+    def _end(self, comparison: Comparison) -> Ended:
+        """Hands the outputs to their places, in their order. If that is not possible, nothing was
+        compared."""
+        try:
+            for row in self.rows:
+                if row.of_failure or not comparison.has_failed:
+                    row.place.commit_copy(row.fd)
+        except FAILURES as error:
+            if comparison.has_failed:
+                raise
+            return self._end(self._made(comparison.failed(error)))
+        return Ended(comparison.status, comparison.state())

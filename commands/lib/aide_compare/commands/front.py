@@ -10,7 +10,7 @@ from typing import NoReturn
 from aide_compare.base.ending import Fault, Status, called, failing, write_all
 from aide_compare.base.escapes import shown
 
-# Each is a module of its name, of which only the one that is asked for is loaded.
+# Each but those in SHORT is a module of its name, of which only the one that is asked for is loaded.
 COMMANDS = (
     "compare",
     "show",
@@ -24,6 +24,8 @@ COMMANDS = (
     "setup",
     "version",
 )
+# These are comparisons with an output.
+SHORT = {"json": ("--json", "-"), "page": ("--page", "-")}
 # Of these the module begins with hosts_.
 HOSTS = ("add", "list", "remove", "fetch", "compare", "accept", "report")
 PROGRAM_JOBS = {"-E", "-D", "--compare", "--config-check"}
@@ -168,4 +170,6 @@ def run_command(name: str, arguments: Sequence[str]) -> int:
         called("aide-compare")
     else:
         called(f"aide-compare {name}")
+    if name in SHORT:
+        return loaded("compare")([*SHORT[name], *arguments])
     return loaded(name)(arguments)

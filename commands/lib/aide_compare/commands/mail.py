@@ -7,7 +7,8 @@ import shlex
 import time
 from collections.abc import Callable, Sequence
 from contextlib import closing, suppress
-from typing import TYPE_CHECKING, NamedTuple, Optional
+from functools import partial
+from typing import NamedTuple, Optional
 
 from aide_compare.base.ending import Fault, Status
 from aide_compare.base.escapes import shown
@@ -17,17 +18,14 @@ from aide_compare.base.options import DAYS
 from aide_compare.base.replacement import Replacement
 from aide_compare.base.rights import become_owner, give_up
 from aide_compare.base.words import counted
-from aide_compare.commands.compare_task import Reporter, Task, keep_failure
+from aide_compare.commands.compare_task import Row, Task, keep_failure
 from aide_compare.commands.mail_message import Told, message_of, unknown_columns
 from aide_compare.commands.mail_request import MailRequest, request_of
-from aide_compare.compare.comparison import Comparison
+from aide_compare.compare.outputs import Kept
 from aide_compare.compare.state import State, read_state
 from aide_compare.compare.work import failed_comparison
 from aide_compare.mail.message import build, clean, host_name, subject_of
 from aide_compare.mail.sending import Way, alert, deliver, send_all, way_in, way_out
-
-if TYPE_CHECKING:
-    from aide_compare.changes.judged import Judged
 
 QUIET_RUNS = re.compile(b"([0-9]+) ([0-9]+) ([0-9]+)\n")
 WEEK = 7 * 86400
@@ -109,17 +107,6 @@ def count_quiet_run(
         file.commit(b"%d %d %d\n" % quiet)
 
 
-class Mailer(Reporter):
-    """Puts the mail of a comparison together."""
-
-    def __init__(self, request: MailRequest, told: Told) -> None:
-        self.request = request
-        self.told = told
-
-    def conclude(self, comparison: Comparison, judged: Optional[Judged]) -> bytes:
-        return message_of(self.request, self.told, comparison, judged)
-
-
 class Outcome(NamedTuple):
     """What a comparison has found, its mail, and what keeps a State of it."""
 
@@ -134,19 +121,19 @@ def no_place(_state: State) -> None:
 
 def compared(request: MailRequest, told: Told) -> Outcome:
     """Compares, and puts the mail together."""
-    mailer = Mailer(request, told)
+    mail = Kept()
     try:
         if isinstance(request.comparison, Fault):
             raise request.comparison
-        task = Task(request.comparison, wants_state=True)
-        ended = task.carry_out(mailer)
-        if ended.state is None:
-            raise Fault(Status(ended.status), "the comparison has left no state")
-        return Outcome(ended.state, ended.message, task.keep)
+        row = Row(mail, partial(message_of, request, told), of_failure=True)
+        task = Task(request.comparison, after=[row])
+        ended = task.carry_out()
+        return Outcome(ended.state, mail.data, task.keep)
     except (Fault, MemoryError, OSError) as error:
         keep_failure(request.state, error)
         comparison = failed_comparison(error)
-        return Outcome(comparison.state(), mailer.conclude(comparison, None), no_place)
+        message = b"".join(message_of(request, told, comparison, None))
+        return Outcome(comparison.state(), message, no_place)
 
 
 def told_columns(request: MailRequest) -> Told:

@@ -34,14 +34,14 @@ def unknown_columns(told: Told, state: State) -> list[str]:
 
 def message_of(
     request: MailRequest, told: Told, comparison: Comparison, judged: Optional[Judged]
-) -> bytes:
+) -> Iterator[bytes]:
     """The mail of a comparison; nothing if it is no alarm."""
     state = comparison.state()
     if comparison.status == Status.USAGE:  # Who has typed it sees it at once.
         write_all(2, told_of(comparison).encode("utf-8", "backslashreplace"))
     columns = unknown_columns(told, state)
     if not (is_alarm(state) or columns or comparison.warnings):
-        return b""
+        return
     notes = notes_of(request, comparison)
     page = None
     if request.has_page and comparison.differs:
@@ -52,7 +52,7 @@ def message_of(
     lines = lines_of_mail(request, comparison, judged, notes)
     text = clean("".join(f"{line}\n" for line in lines))
     subject = subject_of(state, columns, comparison.warnings)
-    return build(request.address, subject, text, page)
+    yield build(request.address, subject, text, page)
 
 
 def notes_of(request: MailRequest, comparison: Comparison) -> list[str]:

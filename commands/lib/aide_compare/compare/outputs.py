@@ -3,13 +3,15 @@ from __future__ import annotations
 
 import fcntl
 import os
+from contextlib import suppress
 
-from aide_compare.base.ending import Fault, Status, failing, write_all
+from aide_compare.base.ending import Fault, Status, failing
 from aide_compare.base.escapes import shown
-from aide_compare.base.files import PRIVATE, given_descriptor
+from aide_compare.base.files import PRIVATE, copy_file, given_descriptor
 from aide_compare.base.replacement import Replacement
 
-STREAMS = {"-": 1, "/dev/stdout": 1, "/dev/stderr": 2}
+STDOUT = 1
+STREAMS = {"-": STDOUT, "/dev/stdout": STDOUT, "/dev/stderr": 2}
 
 
 def _is_open_for_writing(descriptor: int) -> bool:
@@ -32,8 +34,26 @@ class Output:
     """The place that a path means, to which bytes can be written. It is known before the work that
     this is possible."""
 
-    def commit(self, data: bytes) -> None:
+    def commit_copy(self, source: int) -> None:
+        """Writes the bytes of an open file there."""
         raise NotImplementedError
+
+
+class Kept(Output):
+    """The command itself, which has the bytes then."""
+
+    data = b""
+
+    def commit_copy(self, source: int) -> None:
+        self.data = os.pread(source, os.fstat(source).st_size, 0)
+
+
+class Notes(Output):
+    """Standard error. If that cannot be written, nothing else changes."""
+
+    def commit_copy(self, source: int) -> None:
+        with suppress(OSError):
+            copy_file(source, 2)
 
 
 class FileOutput(Output):
@@ -45,19 +65,20 @@ class FileOutput(Output):
     def commit(self, data: bytes) -> None:
         self.file.commit(data)
 
+    def commit_copy(self, source: int) -> None:
+        self.file.commit_copy(source)
+
 
 class StreamOutput(Output):
-    """A descriptor that the caller has opened."""
+    """A descriptor. `words` say what failed if nothing can be written there."""
 
-    def __init__(self, path: str, what: str, descriptor: int) -> None:
-        self.words = f"cannot write {what} {shown(path)}"
+    def __init__(self, descriptor: int, words: str) -> None:
         self.fd = descriptor
-        if not _is_open_for_writing(descriptor):
-            raise Fault(Status.DEVICE, f"{self.words}: the caller has not opened it for writing")
+        self.words = words
 
-    def commit(self, data: bytes) -> None:
+    def commit_copy(self, source: int) -> None:
         with failing(self.words):
-            write_all(self.fd, data)
+            copy_file(source, self.fd)
 
 
 def open_output(path: str, what: str, mode: int = PRIVATE) -> Output:
@@ -65,4 +86,7 @@ def open_output(path: str, what: str, mode: int = PRIVATE) -> Output:
     descriptor = descriptor_of(path)
     if descriptor is None:
         return FileOutput(path, what, mode)
-    return StreamOutput(path, what, descriptor)
+    words = f"cannot write {what} {shown(path)}"
+    if not _is_open_for_writing(descriptor):
+        raise Fault(Status.DEVICE, f"{words}: the caller has not opened it for writing")
+    return StreamOutput(descriptor, words)

@@ -1,12 +1,19 @@
 """A change as a text for people, with its values."""
 from __future__ import annotations
 
-from typing import Iterable, Iterator, NamedTuple, Optional
+from typing import TYPE_CHECKING, Iterable, Iterator, NamedTuple, Optional
 
 from aide_compare.base.escapes import guarded, shown
 from aide_compare.lines.attributes import FORMS, STRENGTH
 from aide_compare.lines.change import Change, Value
 from aide_compare.lines.decoded import texts_of
+from aide_compare.show.added import judged_changes
+from aide_compare.show.outputs import all_lines
+
+if TYPE_CHECKING:
+    from aide_compare.base.paths import Pattern
+    from aide_compare.changes.judged import Judged
+    from aide_compare.compare.comparison import Comparison
 
 MAX_VALUE = 200
 
@@ -53,6 +60,23 @@ def values_in(change: Change, others: Iterable[str] = ()) -> Iterator[Row]:
         old = _shown(change.old.get(label), texts.old.get(label))
         new = _shown(change.new.get(label), texts.new.get(label))
         yield Row(label, old, new)
+
+
+def changes_with_values(
+    comparison: Comparison, judged: Judged | None, pattern: Pattern
+) -> Iterator[bytes]:
+    """The changes of the paths that a pattern means, each with its standing and its values."""
+    is_there = False
+    for _, change, _ in judged_changes(all_lines(comparison), judged):
+        if pattern.matches(change.path[1:].split(b"/")):
+            marks = " ".join(filter(None, (change.standing.value, change.severity)))
+            lines = [f"{marks} ", *change_lines(change)]
+            if change.package:
+                lines.append(f"    Package    {guarded(change.package)}\n")
+            yield "".join(lines).encode("utf-8", "backslashreplace")
+            is_there = True
+    if not is_there:
+        yield b"no change at these paths\n"
 
 
 def change_lines(change: Change) -> Iterator[str]:

@@ -18,6 +18,7 @@ from aide_compare.base.rows import Rows
 from aide_compare.base.words import KINDS, SEVERITIES
 from aide_compare.lines.change import Change, Counts, Standing
 from aide_compare.lines.reader import Reader
+from aide_compare.show.added import add_comparison
 from aide_compare.show.page_heading import MAX_PAGE, RESERVE, entries, head, number, part_of
 from aide_compare.show.page_items import (
     NAMES,
@@ -33,6 +34,7 @@ from aide_compare.show.page_items import (
 if TYPE_CHECKING:
     from aide_compare.changes.importance import Importance
     from aide_compare.changes.judged import Judged
+    from aide_compare.compare.comparison import Comparison
 
 SCRIPTS = ("page_logic.js", "page_tree.js", "page.js")
 # The words of the filters of a page, in their order.
@@ -311,3 +313,9 @@ def page(
     while block := lists.read(BLOCK):
         yield block
     yield b"</div>\n</main>\n</body>\n</html>\n"
+
+
+def page_of(comparison: Comparison, judged: Optional[Judged], reader: Reader) -> Iterator[bytes]:
+    """The page of a comparison, whose lines a Reader has."""
+    add_comparison(reader, comparison)
+    return page(reader, "", False, judged)

@@ -6,10 +6,9 @@ from __future__ import annotations
 import os
 import re
 from collections.abc import Iterable
-from contextlib import suppress
 from typing import TYPE_CHECKING
 
-from aide_compare.base.ending import ReaderGone, write_all
+from aide_compare.base.ending import ReaderGone
 from aide_compare.base.escapes import guarded, shown, shown_lines
 from aide_compare.base.words import counted
 
@@ -148,9 +147,3 @@ def told_of(comparison: Comparison, quiet: bool = False, verbose: bool = False) 
 def _ours(texts: Iterable[str]) -> list[str]:
     """Texts as lines of the command itself."""
     return [f"aide-compare: {guarded(text)}" for text in texts]
-
-
-def tell_comparison(comparison: Comparison, quiet: bool = False, verbose: bool = False) -> None:
-    """Writes them to standard error. If that cannot be written, nothing else changes."""
-    with suppress(OSError):
-        write_all(2, told_of(comparison, quiet, verbose).encode("utf-8", "backslashreplace"))
