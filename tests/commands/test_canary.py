@@ -12,6 +12,7 @@ from tests.commands.base.calls import ModuleTest
 from tests.commands.made_up import Night, time_of
 from tests.commands.sandbox import CommandTest, sha256
 from tests.commands.test_hosts_report import Hosts
+from tests.commands.viewers.pages import data_in
 
 from aide_compare.compare import exclusions
 from aide_compare.hosts import canary
@@ -86,12 +87,12 @@ class CanaryTest(CommandTest):
             self.assertTrue(text.startswith(USED + "\naide on 4 hosts: 2 differ"), text)
             self.assertNotRegex(text, "www2|www4")
             self.assertIn("/usr/bin/mark", text)
-        page = hosts.report("--format", "page").output
-        self.assertIn(f'<p class="remark">{USED.strip()}</p>', page)
+        page = data_in(hosts.report("--format", "page").output)["heading"]
+        self.assertIn(USED.strip(), page["remarks"])
         self.set_names("hosts.hosts_page", MAX_PAGE=1)
-        page = hosts.report("--format", "page").output
-        self.assertIn("This page has no room for 3 more changes", page)
-        self.assertIn(f'<p class="remark">{USED.strip()}</p>', page, "also without room")
+        page = data_in(hosts.report("--format", "page").output)["heading"]
+        self.assertIn("This page has no room for 3 more changes", page["remarks"][-1])
+        self.assertIn(USED.strip(), page["remarks"], "also without room")
         summary, _, changes = hosts.objects()
         self.assertEqual(summary["canary"], [NOTE])
         told = {(each["path"], tuple(each["names"])) for each in changes}

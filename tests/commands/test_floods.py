@@ -15,6 +15,7 @@ from tests.lib.program_test import slow
 
 from . import mail
 from .sandbox import CommandTest, END, TIME_LIMIT
+from tests.commands.viewers.pages import data_in
 
 TOOL = "aide-compare"
 SPEC = b"@@begin_db\n@@db_spec name attr perm uid gid size mtime inode md5 sha256\n"
@@ -157,11 +158,11 @@ class FloodsTest(CommandTest):
         name = b"/home/bob/.ssh" + b"/" + b"/".join([b"n" * 250] * 14)
         self.write_night([entry(b"%s%06d" % (name, number), owner=1001) for number in range(9000)])
         answer = self.call("aide-compare page", "night.old", "night.new", limit=TIME_LIMIT)
-        page = answer.output.decode()
-        self.assertLess(len(page), 20000000)
-        self.assertIn(" more that this page has no room for", page)
-        names = re.findall("<code>(/[^<]*)<", page)
-        self.assertEqual(set(names[: len(ROOTS)]), {path.decode() for path in ROOTS})
+        self.assertLess(len(answer.output), 20000000)
+        data = data_in(answer.output)
+        self.assertRegex(data["heading"]["remarks"][0], r"^[0-9,]+ of 9,\d+ changes are here")
+        names = {head["path"] for head, *_ in data["rows"]}
+        self.assertLessEqual({path.decode() for path in ROOTS}, names)
 
     def test_unjudged(self) -> None:
         """If nobody can judge the changes, what changed and went comes first, and each folder has a

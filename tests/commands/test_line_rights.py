@@ -8,6 +8,7 @@ from typing import Any, Dict, List, Set, Tuple
 from tests.commands.made_up import MORE_ACL, Host, acl_of
 from tests.commands.sandbox import CommandTest
 from tests.commands.test_hosts_report import Hosts
+from tests.commands.viewers.pages import heads_in
 
 RIGHTS = {"Type", "Perm", "UID", "GID", "ACL", "XAttrs", "SELinux", "Caps"}
 NO_MODE = 1 << 2  # The bit of a rule that asks for permissions.
@@ -43,7 +44,8 @@ class LineRightsTest(CommandTest):
         self.assertRegex(brief, r"(?m)^  high    changed  /srv/file: content, size 3 -> 5$")
         words = ("host-old.db", "host-new.db")
         page = self.call("aide-compare page", *words).output.decode()
-        shown = set(re.findall('<th scope="row">([A-Za-z0-9]+)', page))
+        (head,) = heads_in(page)
+        shown = set(head["labels"].split())
         self.assertEqual(shown & RIGHTS, set())
         self.assertIn("SHA256", shown)
 

@@ -12,6 +12,7 @@ from typing import Any
 from .mail import COUNTS, SUBJECT, MailTest, body, call, check_size, sent, subject, words_of
 from .sandbox import NEW, NOBODY, OLD, as_user, sha256
 from .test_without import list_database
+from tests.commands.viewers.pages import data_in, heads_in
 
 UNNAMED = 12345  # A user that the system has no name for.
 CHANGES = b"""
@@ -159,14 +160,14 @@ class TextsTest(MailTest):
         page = ("text/html", "attachment", "changes.html")
         self.assertEqual(found, [("text/plain", None, None), page])
         self.assertIn(b"File changes on ", body(parts[1]), "a page with the host")
-        self.assertNotIn(b"<script", body(parts[1]))
-        self.after_import("commands.mail_message", "MAX_MAIL\nMAX_MAIL = 9000\n")
-        text = body(self.mail("--attach-page", "old.db", "new.db"))
-        said = "aide-compare mail: there is no page: a mail with it would be larger than 1 MiB"
-        self.assertTrue(words_of(text).endswith(said), text)
-        self.replaced["aide_compare.commands.mail_message"] = ""
-        failing = "def head(*words):\n    raise KeyError('an odd report')\n"
-        self.after_import("show.page", "head\n" + failing)
+        self.assertIn(b"<pre>4 open of 4 changes", body(parts[1]), "for readers without scripts")
+        self.assertEqual(len(heads_in(body(parts[1]))), 4)
+        self.set_names("commands.mail_message", MAX_PAGE=9000)
+        message = self.mail("--attach-page", "old.db", "new.db")
+        data = data_in(body(message.get_payload()[1]))
+        self.assertEqual(data["heading"]["remarks"][0].split(" changes")[0], "0 of 4")
+        failing = "def head_of(*words):\n    raise KeyError('an odd report')\n"
+        self.after_import("show.page", "head_of\n" + failing)
         text = body(self.mail("--attach-page", "old.db", "new.db"))
         said = "there is no page: a fault of this command: KeyError: 'an odd report'"
         self.assertTrue(words_of(text).endswith(said), text)

@@ -3,10 +3,12 @@ each of these before what is removed or of others, wherever their paths are."""
 from __future__ import annotations
 
 import re
+import unittest
 from typing import List
 
 from tests.commands import mail
 from tests.commands.made_up import Host
+from tests.commands.viewers.pages import HAS_NODE, seen
 
 ONE, TWO = b"one", b"two"
 TOOL = "aide-compare"
@@ -50,7 +52,9 @@ class OrderTest(mail.MailTest):
         mail.call(self, "host-old.db", "host-new.db")
         self.assertEqual(named(mail.body(mail.sent(self)).decode()), WANTED)
 
+    @unittest.skipUnless(HAS_NODE, "not installed: node")
     def test_page(self) -> None:
         night().write(self)
         page = self.call("aide-compare page", "host-old.db", "host-new.db").output
-        self.assertEqual(named(" ".join(re.findall("<code>([^<]*)<", page.decode()))), WANTED)
+        paths = [entry["path"] for entry in seen(page)["entries"]]
+        self.assertEqual(named(" ".join(paths)), WANTED)

@@ -25,7 +25,7 @@ class ShowTest(CommandTest):
                 self.assertTrue(answer.output.decode().startswith(lines), answer)
         self.answered(0, b"no differences", None, TOOL, "/d", "new.db", "new.db.gz")
         self.write("etc/without", "/d\n")
-        self.answered(7, b"no change at", b"", TOOL, "/d", "-q", "old.db", "new.db")
+        self.answered(7, b"no change at these paths", None, TOOL, "/d", "old.db", "new.db")
 
     def test_only(self) -> None:
         """All changes of a pattern, by the option of a comparison."""
@@ -49,7 +49,7 @@ class ShowTest(CommandTest):
             "open high changed File: /x",
             "    Size       5 -> 6",
             "    Mtime      2023-11-14 22:13:20 +0000 -> 2023-11-14 22:13:21 +0000",
-            "    ACL        user::rw-, group::r--, other::r-- -> 0",
+            "    ACL        user::rw-, group::r--, other::r-- -> none",
         ]
         self.assertEqual(answer.output.decode().splitlines(), wanted)
 

@@ -9,6 +9,7 @@ import re
 from tests.commands import mail
 from tests.commands.made_up import Host, Package, standings_of, time_of
 from tests.commands.sandbox import Answer, CommandTest
+from tests.commands.viewers.pages import data_in
 
 TOOL, NAGIOS = "aide-compare", "check_aide_compare"
 ONE, TWO = b"one", b"two, of the upgraded package"
@@ -155,15 +156,15 @@ class StandingsTest(mail.MailTest):
         self.assertNotIn("severity", line)
 
     def test_pages(self) -> None:
-        """A page has a group for each standing, and opens only what is open."""
+        """A page has the standings, and the brief for who has no script."""
         prepare(self)
-        text = self.call("aide-compare page", "o.db", "n.db").output.decode()
-        groups = re.findall(r'data-standing="(\w+)"( open)?', text)
-        self.assertEqual(dict(groups), {"open": " open", "recorded": "", "same": ""})
-        names = [name for name, _ in groups]
-        self.assertEqual(names, sorted(names, key=["open", "recorded", "same"].index))
-        self.assertIn("Open, severity high</span>: 1 entry", text)
-        self.assertIn("<span>tool 2</span>: 1 entry", text)
+        page = self.call("aide-compare page", "o.db", "n.db").output
+        self.assertIn(b"<pre>" + WORDS.encode(), page, "what is there without a script")
+        data = data_in(page)
+        counts = dict(data["heading"]["counts"])
+        self.assertEqual((counts["open"], counts["recorded"], counts["same"]), (4, 1, 1))
+        entries = {entry["path"]: entry for entry, _ in data["rows"]}
+        self.assertEqual(entries["/usr/lib/tool"]["package"], "tool 2")
 
     def test_monitoring(self) -> None:
         """Nagios, Prometheus and JSON read the same counts."""

@@ -6,8 +6,11 @@ from __future__ import annotations
 
 import io
 import os
+import json
 import random
+import subprocess
 import tempfile
+import unittest
 from collections.abc import Callable
 from typing import Any
 from unittest import mock
@@ -18,23 +21,56 @@ from tests.oracle.configuration import BOOL_OPTIONS, DEFAULTS, LEVELS, SET_OPTIO
 from tests.oracle.database import database_of, first_fault
 from tests.oracle.lines import lines_of as lines_of_databases
 from tests.program.random_texts.databases import random_pair
-from tests.commands.viewers import deep, hostile, looks, texts
-from tests.commands.viewers.expected import faults_of
-from tests.commands.viewers.lines import Fields, lines_of, objects_of, page_of, proved_lines
-from tests.commands.viewers.pages import bytes_shown, contrast_faults, page_faults
+from tests.commands.viewers import deep, hostile, texts
+from tests.commands.viewers.expected import faults_of, without_same_rights
+from tests.commands.viewers.in_browser import CASES, VIEWED, script_entry
+from tests.commands.viewers.lines import Fields, changes_of, lines_of, objects_of
+from tests.commands.viewers.lines import page_over, proved_lines, stand
+from tests.commands.viewers.pages import HAS_NODE, bytes_shown, contrast_faults, seen
 from tests.commands.viewers.refused import LINE_EDITS, rich_lines
 from tests.commands.viewers.schema import Validator, schema_of_lines
 
-from aide_compare.base.escapes import shown_path, shown_value
+from aide_compare.base.words import SEVERITIES
 from aide_compare.lines import reader
 from aide_compare.lines.reader import Reader, Refused
-from aide_compare.show.page import script_of
-from aide_compare.show.page_heading import part_of
+from aide_compare.show.page import CHOICES, part_of, script_of
 
 # Letters by their class, and yet nothing is seen of them: the Hangul fillers and the empty Braille
 # pattern.
 BLANKS_THAT_ARE_LETTERS = "\u115f\u1160\u2800\u3164\uffa0"
 PAIRS = 20 if os.environ.get(QUICK) else 40
+
+
+# The elements that the script makes of what it shows.
+TAGS = set("h1 h2 p dl dt dd div code b i span small details summary table tr th td li ul".split())
+
+
+def bytes_in(fields: Fields, key: str) -> bytes:
+    if key + "_hex" in fields:
+        return bytes.fromhex(fields[key + "_hex"])
+    return "none".encode() if fields[key] is None else str(fields[key]).encode()
+
+
+def values_of(fields: Fields) -> dict[str, list[bytes | None]]:
+    """The values of a change by their attributes: of each both sides."""
+    fields = without_same_rights(fields)
+    sides = [fields.get(side, {}) for side in ("old", "new")]
+    labels = {name.removesuffix("_hex") for side in sides for name in side}
+    return {
+        label: [
+            bytes_in(side, label) if {label, label + "_hex"} & side.keys() else None
+            for side in sides
+        ]
+        for label in labels
+    }
+
+
+def values_in(entry: Fields) -> dict[str, list[bytes | None]]:
+    """The same as a page shows them."""
+    return {
+        label: [None if text is None else bytes_shown(text) for text in texts]
+        for label, *texts in entry["rows"]
+    }
 
 
 def read_all(lines: bytes) -> None:
@@ -84,14 +120,6 @@ class ViewersTest(ProgramTest):
     def test_depth(self) -> None:
         deep.try_work(self)
         deep.try_memory(self)
-        deep.try_sizes(self)
-
-    def test_looks(self) -> None:
-        looks.try_blank_ends(self)
-        looks.try_heading(self)
-        looks.try_new_file(self)
-        looks.try_nothing(self)
-        looks.try_standings(new_seed(), self)
 
     def test_cuts(self) -> None:
         """Lines that are cut at any byte are refused."""
@@ -121,21 +149,6 @@ class ViewersTest(ProgramTest):
             self.assertRaises(Refused, objects_of, head + b"".join(changes) + end)
             self.assertRaises(Refused, objects_of, head.rstrip(b"\n") + b" " * 1000)
 
-    def test_shown(self) -> None:
-        """What is shown tells the bytes, and has only characters that are seen."""
-        seed = new_seed()
-        pick = random.Random(f"shown {seed}")
-        letters = b"a /\\0129<\xc3\xa9\xff\xe2\x80\xae"
-        values = [bytes(pick.choices(letters, k=pick.randint(1, 12))) for _ in range(2000)]
-        values += [chr(code).encode("utf-8", "surrogatepass") for code in range(0x11000)]
-        for show in (shown_value, shown_path):
-            for value in hostile.NAMES + values:
-                text = show(value)
-                self.assertEqual(bytes_shown(text), value, (seed, text))
-                self.assertTrue(text.isprintable() and text == text.strip(), (seed, value, text))
-            for letter in BLANKS_THAT_ARE_LETTERS:
-                self.assertIn("\\", show(letter.encode()))
-
     def check_lines(self, objects: list[Fields], *databases: Any) -> None:
         """The objects fit the schema, have the texts that they should, and say what differs."""
         for fields in objects:
@@ -151,14 +164,76 @@ class ViewersTest(ProgramTest):
             pick = random.Random(f"hostile {seed} {number}")
             databases, names = hostile.random_databases(pick)
             settings = random_settings(pick)
-            is_plain = number % 2 == 1
             with self.subTest(seed=seed, number=number):
                 old, new = databases
                 objects = objects_of(lines_of_databases(old, new, names, settings)[0])
                 self.check_lines(objects, *databases, names, settings)
-                if number % 4 < 2:
-                    page = page_of(objects, is_plain)
-                    self.assertEqual(page_faults(page, objects, is_plain), [])
+                if HAS_NODE and number % 20 == 0:
+                    self.check_page(objects)
+
+    def check_page(self, objects: list[Fields]) -> None:
+        """A page shows the bytes of all paths and values, and only letters that are seen. What a
+        host has chosen makes no element."""
+        page = page_over(objects)
+        self.assertTrue(page.isascii(), "no letter that turns the direction of text")
+        self.assertEqual(page.count(b"<script"), page.count(b"</script"))
+        self.assertEqual((page.count(b"<script"), page.count(b"<!--")), (2, 0))
+        shown = seen(page)
+        self.assertLessEqual(set(shown["tags"]), TAGS)
+        self.assertFalse(shown["digest"], "what is there without a script")
+        found = {}
+        for entry in shown["entries"]:
+            rows = [text for row in [*entry["rows"], *entry["shown"]] for text in row if text]
+            for text in (entry["path"], entry["about"], *rows):
+                self.assertTrue(text.isprintable(), ascii(text))
+                self.assertFalse(set(BLANKS_THAT_ARE_LETTERS) & set(text), ascii(text))
+            found[bytes_shown(entry["path"])] = (entry["words"].split(" ")[0], values_in(entry))
+        wanted = {
+            bytes_in(fields, "path"): (fields["kind"], values_of(fields))
+            for fields in changes_of(objects)
+        }
+        self.assertEqual(found, wanted)
+
+    @unittest.skipUnless(HAS_NODE, "not installed: node")
+    def test_page(self) -> None:
+        """What has no room: values go first, then those that matter least."""
+        objects = objects_of(rich_lines())
+        levels = ("low", "high", "medium")
+        for number, fields in enumerate(changes_of(objects)):
+            stand(fields, "open", levels[number % 3])
+        whole = page_over(objects)
+        self.check_page(objects)
+        sections = [entry["section"] for entry in seen(whole)["entries"]]
+        wanted = [f"Open, severity {level}" for level in SEVERITIES]
+        self.assertEqual(list(dict.fromkeys(text.partition(":")[0] for text in sections)), wanted)
+        for limit in (800, 1500, 3000):
+            entries = seen(page_over(objects, limit))["entries"]
+            self.assertGreater(len(entries), 0)
+            self.assertEqual(
+                [entry["section"].partition(":")[0] for entry in entries],
+                [text.partition(":")[0] for text in sections[: len(entries)]],
+            )
+            has_values = [bool(entry["rows"]) for entry in entries]
+            self.assertEqual(has_values, sorted(has_values, reverse=True), limit)
+        self.assertLess(len(page_over(objects, 800)), len(whole))
+
+    @unittest.skipUnless(HAS_NODE, "not installed: node")
+    def test_views(self) -> None:
+        """The table of views: what filters and orders find, by the functions of the script."""
+        with open(CASES, encoding="utf-8") as file:
+            table = json.load(file)
+        entries = json.dumps([script_entry(one) for one in table["entries"]])
+        choices = json.dumps({**CHOICES, "attribute": table["attributes"]})
+        logic = part_of("page_logic.js")
+        views = [
+            VIEWED % (choices, logic, entries, json.dumps(case["view"])) for case in table["cases"]
+        ]
+        text = f"console.log(JSON.stringify([{','.join(view.rstrip().rstrip(';') for view in views)}]))"
+        done = subprocess.run(
+            ["node", "-"], input=text.encode(), stdout=subprocess.PIPE, check=True
+        )
+        for case, (found, view) in zip(table["cases"], json.loads(done.stdout)):
+            self.assertEqual((found, view), (case["found"], case.get("text", case["view"])), case)
 
     def test_program(self) -> None:
         """The program's own lines of random databases, through both commands."""
@@ -170,9 +245,9 @@ class ViewersTest(ProgramTest):
             while any(first_fault(text) for text in pair):
                 pair = random_pair(pick)
             with self.subTest(seed=seed, number=number):
-                self.check_pair(pick, pair, number % 2 == 1)
+                self.check_pair(pick, pair)
 
-    def check_pair(self, pick: random.Random, pair: list[bytes], is_plain: bool) -> None:
+    def check_pair(self, pick: random.Random, pair: list[bytes]) -> None:
         with tempfile.TemporaryDirectory() as folder:
             settings = random_settings(pick, folder)
             for name, text in zip(("old", "new"), pair):
@@ -181,4 +256,3 @@ class ViewersTest(ProgramTest):
             proved = proved_lines(self.program, configuration_of(settings))
         objects = objects_of(proved)
         self.check_lines(objects, *map(database_of, pair), pair, settings)
-        self.assertEqual(page_faults(page_of(objects, is_plain), objects, is_plain), [])

@@ -22,7 +22,6 @@ from tests.commands.viewers.samples import (
     hostile_lines,
     lines_of,
     page_of,
-    split_page_of,
 )
 from tests.lib.tally import Tally
 
@@ -33,10 +32,7 @@ def write_pages(folder: str) -> dict[str, str]:
     texts = {
         "demo": page_of(demo),
         "simple": page_of(lines_of(demo_changes())),
-        "plain": page_of(demo, True),
         "hostile": page_of(hostile),
-        "split": split_page_of(demo),
-        "odd": split_page_of(hostile),
     }
     paths = {name: os.path.join(folder, name + ".html") for name in texts}
     for name, text in texts.items():
@@ -47,22 +43,19 @@ def write_pages(folder: str) -> dict[str, str]:
 
 def try_pages(trial: Trial, pages: dict[str, str]) -> None:
     trial.views()
-    for name in ("demo", "simple", "split"):
+    for name in ("demo", "simple"):
         trial.filters(pages[name])
-    for name in ("demo", "simple", "hostile", "split", "odd"):
+    for name in ("demo", "simple", "hostile"):
         trial.folders(pages[name])
-    trial.same((pages["hostile"], pages["odd"]))
-    for name in ("split", "demo"):
-        trial.entries(pages[name])
+    trial.entries(pages["demo"])
     for name in ("demo", "simple"):
         trial.first_screen(pages[name])
     trial.address(pages["demo"])
     trial.keyboard(pages["demo"])
     trial.printing(pages["demo"])
-    for name in ("hostile", "odd"):
-        trial.hostile(pages[name])
+    trial.hostile(pages["hostile"])
     trial.policy(pages["demo"])
-    trial.without_script([pages[name] for name in ("demo", "plain", "split")])
+    trial.without_script(pages["demo"])
 
 
 def main() -> None:

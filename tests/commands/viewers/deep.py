@@ -2,13 +2,9 @@
 work and memory."""
 from __future__ import annotations
 
-import io
-import random
-import re
 import unittest
 from collections.abc import Callable
 
-from tests.commands.viewers import lines
 from tests.commands.viewers.hostile import Database
 from tests.commands.viewers.work import (
     MeasuredOf,
@@ -16,18 +12,11 @@ from tests.commands.viewers.work import (
     bytes_held,
     check_growth,
     lines_run,
-    pages_of,
 )
 from tests.oracle.configuration import DEFAULTS
 from tests.oracle.lines import lines_of as proved_lines_of
 
-from aide_compare.lines.reader import Reader
-from aide_compare.show.page import page
-
-MOST_BYTES = 20000000
 LONG = 100000
-# What a page says if it has not all.
-CUT = re.compile(b'<p class="remark">(?:This page has room for|Values are on this page of)')
 LinesOf = Callable[[int], bytes]
 
 
@@ -56,21 +45,6 @@ def many(count: int) -> bytes:
     return lines_over({b"/d%06d/x" % each: {"ftype": 0o100000, "s": each} for each in range(count)})
 
 
-def lines_of(proved: bytes) -> bytes:
-    return lines.lines_of(lines.objects_of(proved))
-
-
-def pages_over(lines_of_size: LinesOf) -> MeasuredOf:
-    """The work of both pages by the size of lines, and how long these are. They are made before the
-    work begins."""
-
-    def given_of(size: int) -> tuple[Callable[[], None], int]:
-        text = lines_of(lines_of_size(size))
-        return pages_of(text), len(text)
-
-    return given_of
-
-
 def additions_over(lines_of_size: LinesOf) -> MeasuredOf:
     def given_of(size: int) -> tuple[Callable[[], None], int]:
         text = lines_of_size(size)
@@ -83,8 +57,6 @@ def try_work(test: unittest.TestCase) -> None:
     """The lines of code that run, and the pieces of paths that are looked at, grow as the input
     does."""
     for made, size in ((deep_path, 1500), (nested, 150), (many, 300)):
-        with test.subTest(pages=made.__name__):
-            check_growth(test, lines_run, pages_over(made), size)
         with test.subTest(lines=made.__name__):
             check_growth(test, lines_run, additions_over(made), size)
 
@@ -94,43 +66,10 @@ def try_memory(test: unittest.TestCase) -> None:
     the number of entries."""
     for byte in (b"\x01", b"a", b"\xff"):
         proved = long_value(byte, LONG)
-        added = lines_of(proved)
         with test.subTest(byte=byte):
             test.assertLess(bytes_held(additions_to(proved)), 12 * len(proved) + 3000000)
-            test.assertLess(bytes_held(pages_of(added)), 12 * len(added) + 3000000)
-    for given_of in (pages_over(many), additions_over(many)):
-        few, more = (bytes_held(given_of(count)[0]) for count in (300, 3000))
-        test.assertLess(more, few + 1500000)
-
-
-def long_lines(count: int, letters: int) -> bytes:
-    """Lines of entries with long names and with values that cannot be packed."""
-    pick = random.Random(count)
-    counts = {"total": count, "added": 0, "removed": 0, "changed": count}
-    read = {"sha256": "00" * 32, "skipped": []}
-    objects: list[dict[str, object]] = [{"format": 4, "old": "/a", "new": "/a"}]
-    for number in range(count):
-        values = ["%0*x" % (letters, pick.getrandbits(4 * letters)) for _ in range(2)]
-        path, summary = f"/{number:06}-{'n' * letters}", "f                 "
-        sides = {"old": {"XAttrs": values[0]}, "new": {"XAttrs": values[1]}}
-        objects.append({"kind": "changed", "path": path, "summary": summary, **sides})
-    end = {"end": True, "old": read, "new": read, **counts}
-    objects.append({**end, "same_as_old": 0, "others": count, "status": 4})
-    return lines.lines_of(objects)
-
-
-def try_sizes(test: unittest.TestCase) -> None:
-    """No page is longer than it may be, and a page that has not all says so."""
-    for label, text, is_cut in (
-        ("a path of 200,000 pieces", lines_of(deep_path(200000)), False),
-        ("1,000 nested folders", lines_of(nested(1000)), False),
-        ("2,200 long entries", long_lines(2200, 9000), True),
-    ):
-        for is_plain in (False, True):
-            with test.subTest(label, is_plain=is_plain):
-                whole = b"".join(page(Reader(io.BytesIO(text)), "", is_plain))
-                test.assertIn(len(whole), range(1000, MOST_BYTES + 1))
-                test.assertEqual(bool(CUT.search(whole)), is_cut)
+    few, more = (bytes_held(additions_over(many)(count)[0]) for count in (300, 3000))
+    test.assertLess(more, few + 1500000)
 
 
 def try_script(script: str, test: unittest.TestCase) -> None:

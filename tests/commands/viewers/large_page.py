@@ -9,10 +9,8 @@ import time
 from tests.commands.viewers.browser import Browser
 from tests.commands.viewers.in_browser import Trial
 from tests.commands.viewers.lines import Fields, stand
+from tests.commands.viewers.samples import page_of
 from tests.lib.tally import Tally
-
-from aide_compare.lines.reader import Reader
-from aide_compare.show.page import page
 
 MOST_BYTES, MOST_SECONDS, MOST_ANSWER = 20000000, 3, 0.2
 FIRST = 1700000000
@@ -68,8 +66,8 @@ def try_large(browser: Browser, count: int, folder: str, tally: Tally) -> None:
     """The time of the processor that a large page takes to be there, and to answer."""
     lines, path = os.path.join(folder, "lines"), os.path.join(folder, "large.html")
     write_lines(lines, count)
-    with open(path, "wb") as file:
-        file.writelines(page(Reader(open(lines, "rb")), "", False))
+    with open(lines, "rb") as source, open(path, "wb") as file:
+        file.write(page_of(source.read()))
     size = os.path.getsize(path)
     tally.holds("a large page", size <= MOST_BYTES, f"{size} bytes")
     browser.open("/proc/version")

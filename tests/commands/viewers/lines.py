@@ -10,10 +10,12 @@ from typing import Any
 from tests.lib.programs import lines_program_of
 
 from aide_compare.base.ending import Fault, Status
+from aide_compare.base.words import SEVERITIES
+from aide_compare.changes.importance import Importance
 from aide_compare.compare.work import failed_comparison
 from aide_compare.lines.reader import Reader
 from aide_compare.show.added import added_lines
-from aide_compare.show.page import page
+from aide_compare.show.page import MAX_PAGE, Rows, class_of, page
 
 Fields = dict[str, Any]
 # A comparison that knows nothing beside its lines.
@@ -71,5 +73,13 @@ def lines_of(objects: list[Fields]) -> bytes:
     return b"".join(json.dumps(fields).encode() + b"\n" for fields in objects)
 
 
-def page_of(objects: list[Fields], is_plain: bool = False) -> str:
-    return b"".join(page(Reader(io.BytesIO(lines_of(objects))), "", is_plain)).decode()
+def page_over(objects: list[Fields], limit: int = MAX_PAGE) -> bytes:
+    """The page of the objects of lines, with the standings that they say."""
+    rows = Rows()
+    for fields in changes_of(objects):
+        level = SEVERITIES.index(fields.get("severity", "high"))
+        importance = Importance(level, 0, 0, False)
+        rows.add(class_of(fields["standing"], importance), {**fields, "order": 0})
+    heading: Fields = {"title": "File changes", "outcome": "", "remarks": []}
+    heading.update((name, []) for name in ("facts", "databases", "counts", "lists"))
+    return b"".join(page("File changes", "digest", rows.chosen(limit), lambda: heading))

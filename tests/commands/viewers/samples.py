@@ -2,19 +2,14 @@
 names."""
 from __future__ import annotations
 
-import io
 import json
 import random
 from typing import Any
-from unittest import mock
 
 from tests.commands.viewers import hostile, lines
 from tests.commands.viewers.lines import changes_of, stand, with_counts
 from tests.oracle.configuration import DEFAULTS
 from tests.oracle.lines import lines_of as proved_lines_of
-
-from aide_compare.lines.reader import Reader
-from aide_compare.show.page import page
 
 Entries = dict[bytes, dict[str, Any]]
 HOST = {
@@ -120,11 +115,5 @@ def lines_of(proved: bytes) -> bytes:
     return lines.lines_of(lines.objects_of(proved))
 
 
-def page_of(text: bytes, is_plain: bool = False) -> bytes:
-    return b"".join(page(Reader(io.BytesIO(text)), "", is_plain))
-
-
-def split_page_of(text: bytes) -> bytes:
-    """A page of which nine entries are elements, and all others are text."""
-    with mock.patch("aide_compare.show.page.MAX_ELEMENTS", 9):
-        return b"".join(page(Reader(io.BytesIO(text)), "", False))
+def page_of(text: bytes) -> bytes:
+    return lines.page_over([json.loads(line) for line in text.splitlines()])

@@ -1,4 +1,4 @@
-"""Counts the work of the page's code, without a clock: lines of Python that ran, and bytes that
+"""Counts the work of the commands' code, without a clock: lines of Python that ran, and bytes that
 were held at once.
 
 Work that grows as its input does doubles with it; a walk within a walk makes it four times as much.
@@ -18,7 +18,6 @@ from tests.commands.viewers.lines import NAMELESS
 
 from aide_compare.lines.reader import Reader
 from aide_compare.show.added import added_lines
-from aide_compare.show.page import page
 
 OURS = COMMANDS + "/lib/aide_compare/"
 MOST_GROWTH = 1.3
@@ -56,17 +55,6 @@ def bytes_held(work: Work) -> int:
         return tracemalloc.get_traced_memory()[1]
     finally:
         tracemalloc.stop()
-
-
-def pages_of(lines: bytes) -> Work:
-    """A call that makes both forms of a page."""
-
-    def work() -> None:
-        for is_plain in (False, True):
-            for _ in page(Reader(io.BytesIO(lines)), "", is_plain):
-                pass
-
-    return work
 
 
 def additions_to(lines: bytes) -> Work:

@@ -1,6 +1,6 @@
 """Bytes of others as people may see them. Every command that shows such bytes uses `shown` or
-`shown_lines`, and a page the functions at the end, so that nothing is invisible or changes what
-stands around it.
+`shown_lines`, so that nothing is invisible or changes what stands around it. The script of a page
+does the same.
 
 Escaped, as a backslash and three octal digits for each byte, as paths are in reports: control bytes
 and the backslash, bytes that are no UTF-8, and what a terminal or a reader obeys in place of
@@ -20,9 +20,7 @@ _FORMAT_CONTROLS = (
 )
 # Printable ASCII without the backslash, and without blanks at its ends.
 PLAIN = re.compile(r"[!-\[\]-~](?:[ -\[\]-~]*[!-\[\]-~])?")
-PLAIN_PATH = re.compile(rb"[!-\[\]-~]*")
 # Letters by their class, and yet blank.
-BLANK = "\\040"
 BLANK_LETTERS = "\u115f\u1160\u2800\u3164\uffa0"
 
 
@@ -118,25 +116,6 @@ def _seen(text: str) -> str:
     for letter in text:
         letters.append(letter if _is_visible(letter) else _escaped(_bytes_of(letter)))
     return "".join(letters)
-
-
-def shown_value(value: bytes) -> str:
-    """Bytes as text on a page: unusual blanks, letters that no font has, and blanks at the ends are
-    escaped too."""
-    text = shown(value, len(value))
-    if PLAIN.fullmatch(text):
-        return text
-    text = _seen(text)
-    inner = text.strip(" ")
-    before = len(text) - len(text.lstrip(" "))
-    return BLANK * before + inner + BLANK * (len(text) - before - len(inner))
-
-
-def shown_path(path: bytes) -> str:
-    """A path on a page, each of its names shown by itself."""
-    if PLAIN_PATH.fullmatch(path):
-        return path.decode()
-    return "/".join(shown_value(name) for name in path.split(b"/"))
 
 
 def shown_note(text: str, limit: int = 200) -> str:

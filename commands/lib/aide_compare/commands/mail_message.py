@@ -1,7 +1,7 @@
 """The mail of a comparison: its subject, its lines and its page."""
 from __future__ import annotations
 
-from collections.abc import Iterable, Iterator, Sequence
+from collections.abc import Iterator, Sequence
 from contextlib import suppress
 from typing import NamedTuple, Optional
 
@@ -15,12 +15,12 @@ from aide_compare.compare.hints import hint_for_owner
 from aide_compare.compare.state import State, is_alarm
 from aide_compare.lines.change import Change
 from aide_compare.lines.reader import Reader, Refused, reader_over
-from aide_compare.mail.message import build, clean, host_name, subject_of, within
+from aide_compare.mail.message import build, clean, subject_of
 from aide_compare.mail.text import Mail, fault_lines, note_lines, text_of_changes, text_of_unjudged
 from aide_compare.show.told import told_of
 
 MAX_PATTERNS = 8  # Of --exclude, in the command of a mail.
-MAX_MAIL = 1 << 20  # Bytes of a mail with a page.
+MAX_PAGE = 1 << 19  # Bytes of the page of a mail.
 # The columns that earlier mails have told; None if no state is kept that a next run can see.
 Told = Optional[Sequence[str]]
 
@@ -128,24 +128,14 @@ class MadePage(NamedTuple):
 
 
 def page_of(comparison: Comparison, judged: Optional[Judged]) -> MadePage:
-    """The plain page of the changes. An alarm is not lost if there can be no page."""
+    """The page of the changes. An alarm is not lost if there can be no page."""
     if judged is None:
         return MadePage(None, "the changes are not known")
-    if comparison.known_lines().size > MAX_MAIL:
-        return MadePage(None, "the changes are too many for one")
     try:
-        whole = within(page_parts(comparison, judged), MAX_MAIL // 2)
+        from aide_compare.show.outputs import all_lines
+        from aide_compare.show.page import page_of as parts_of
+
+        parts = parts_of(comparison, judged, all_lines(comparison), MAX_PAGE)
+        return MadePage(b"".join(parts))
     except Exception as error:
         return MadePage(None, why_of(error))
-    if whole is None:
-        return MadePage(None, "a mail with it would be larger than 1 MiB")
-    return MadePage(whole)
-
-
-def page_parts(comparison: Comparison, judged: Judged) -> Iterable[bytes]:
-    from aide_compare.show.added import add_comparison
-    from aide_compare.show.page import page
-
-    reader = reader_over(comparison.known_lines().fd)
-    add_comparison(reader, comparison)
-    return page(reader, f"File changes on {host_name()}", True, judged)

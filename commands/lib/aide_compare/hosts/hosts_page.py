@@ -1,11 +1,9 @@
-"""The report of all hosts as one page without a script: the counts, the hosts, and each change with
-the hosts that have it."""
+"""The report of all hosts as one page: the counts, the hosts, and each change with the hosts that
+have it."""
 from __future__ import annotations
 
-from html import escape
 from typing import Iterator, NamedTuple, Sequence
 
-from aide_compare.base.escapes import shown_note
 from aide_compare.base.files import private_file
 from aide_compare.hosts.hosts_text import (
     ORDER,
@@ -14,94 +12,82 @@ from aide_compare.hosts.hosts_text import (
     headline,
     host_lists,
     room_of,
+    short_lines,
 )
 from aide_compare.hosts.reported import SharedChange
+from aide_compare.lines.change import Fields
+from aide_compare.lines.rights import differing
+from aide_compare.show.added import text_members
 from aide_compare.show.digest import digest
-from aide_compare.show.page_heading import MAX_PAGE, RESERVE, Beginning, CountRow
-from aide_compare.show.page_heading import counts_line, number
-from aide_compare.show.page_items import encoded, entry_of, head_of, item, table
+from aide_compare.show.page import BESIDE, MAX_PAGE, embedded, head_of, page as whole_page
+from aide_compare.show.page import size_beside, values_of
 
 MAX_LIST = 1500000  # Of each list of hosts.
-MAX_CAUSE = 1000
-MAX_COMMAND = 4000
-MIN_ITEM = 400  # So many bytes most items have at least.
+MIN_ROW = 400  # So many bytes most rows have at least.
+OWN = ("kind", "path", "path_hex", "type", "severity", "old_various", "per_host", "old", "new")
 
 
-class Item(NamedTuple):
-    """Where an item is in a private file, and a number for its hosts."""
+def listed(lines: Sequence[str]) -> list[str]:
+    """The lines of a list of hosts for which there is room."""
+    room = MAX_LIST
+    for number, line in enumerate(lines):
+        room -= len(embedded(line))
+        if room < 0:
+            return [*lines[:number], f"and {len(lines) - number:,} more"]
+    return list(lines)
+
+
+def heading_of(report: Report, left_out: int, high: int) -> Fields:
+    """What stands above the changes: also how many of these are left out."""
+    summary = report.summary
+    remarks = [line for line in canary_lines(summary) if line]
+    if left_out:
+        command = report.command.replace(" \\\n     ", "")
+        what = f"{left_out:,} more changes, {high:,} of them high"
+        remarks.append(f"This page has no room for {what}. This command prints all: {command}")
+    outcome = "No changes are listed"
+    if summary.changes:
+        outcome = f"{summary.changes:,} different changes, {ORDER}"
+    lists = host_lists(report.hosts)
+    return {
+        "title": headline(summary),
+        "facts": [],
+        "databases": [],
+        "counts": [
+            ["hosts", summary.counts.hosts],
+            ["differ", summary.counts.differ],
+            ["not compared", summary.counts.not_compared],
+        ],
+        "remarks": remarks,
+        "lists": [[f"{name}: {len(lists[name]):,}", listed(lists[name])] for name in lists],
+        "outcome": outcome,
+    }
+
+
+def row_of(shared: SharedChange, hosts: int) -> bytes:
+    """The row of a change, with its hosts."""
+    fields = differing(shared.fields)
+    row = {name: fields[name] for name in OWN if name in fields}
+    row["standing"] = "open"
+    row["note"] = f"on {shared.hosts:,} of {hosts:,} hosts: {shared.names_text()}"
+    row.update(text_members(shared.fields))
+    return embedded([head_of(row), values_of(row)])
+
+
+class Place(NamedTuple):
+    """Where a row is in a private file, and a number for its hosts."""
 
     hosts: int
     start: int
     size: int
 
 
-def host_list(title: str, lines: Sequence[str]) -> str:
-    """A list of hosts with its title; nothing if it is empty. What is missing is seen at once."""
-    if not lines:
-        return ""
-    items: list[str] = []
-    room = MAX_LIST
-    for line in lines:
-        text = f"<li>{escape(shown_note(line, MAX_CAUSE))}\n"
-        room -= len(encoded(text))
-        if room < 0:
-            items.append(f"<li>and {number(len(lines) - len(items))} more\n")
-            break
-        items.append(text)
-    tag = "<details open>" if title.startswith("Not") else "<details>"
-    count = number(len(lines))
-    inner = "".join(items)
-    return f"{tag}<summary>{title}: {count}</summary><ul>\n{inner}</ul></details>\n"
-
-
-def head(report: Report, left_out: int, high: int) -> bytes:
-    """The beginning of the page, up to the changes: also how many of these it leaves out."""
-    summary = report.summary
-    remarks = ""
-    for line in filter(None, canary_lines(summary)):
-        remarks += f'<p class="remark">{escape(shown_note(line, MAX_CAUSE))}</p>\n'
-    if left_out:
-        line = report.command.replace(" \\\n     ", "")
-        command = escape(shown_note(line, MAX_COMMAND))
-        what = f"{number(left_out)} more changes, {number(high)} of them high"
-        how = f"This command prints all: <code>{command}</code>"
-        remarks += f'<p class="remark">This page has no room for {what}. {how}</p>\n'
-    for title, lines in host_lists(report.hosts).items():
-        remarks += host_list(title, lines)
-    outcome = "No changes are listed"
-    if summary.changes:
-        outcome = f"{number(summary.changes)} different changes, {ORDER}"
-    title = headline(summary)
-    rows = (
-        CountRow("hosts", summary.counts.hosts),
-        CountRow("differ", summary.counts.differ),
-        CountRow("not compared", summary.counts.not_compared),
-    )
-    return Beginning(
-        title=title,
-        heading=escape(title),
-        outcome=f'<p class="outcome">{outcome}</p>\n',
-        counts=counts_line(rows),
-        remarks=remarks,
-    ).encoded()
-
-
-def item_of(shared: SharedChange, hosts: int) -> bytes:
-    """A change. Its kind, its path and its hosts are seen at once, its values on demand."""
-    entry = entry_of(shared.change, shared.various)
-    where = f"on {number(shared.hosts)} of {number(hosts)} hosts: {shared.names_text()}"
-    inner = table(entry)
-    if shared.per_host:
-        inner += f'<p class="hint">Of each host: {escape(", ".join(shared.per_host))}</p>'
-    return item(encoded(head_of(entry, where)), encoded(inner))
-
-
-def grouped(items: list[Item]) -> Iterator[Item]:
-    """The items of a severity: those of the same hosts together, and the smallest group first, so
+def grouped(places: list[Place]) -> Iterator[Place]:
+    """The rows of a severity: those of the same hosts together, and the smallest group first, so
     that nothing that some hosts have many of stands before what others have."""
-    groups: dict[int, list[Item]] = {}
-    for item in items:
-        groups.setdefault(item.hosts, []).append(item)
+    groups: dict[int, list[Place]] = {}
+    for place in places:
+        groups.setdefault(place.hosts, []).append(place)
     for group in sorted(groups.values(), key=len):
         yield from group
 
@@ -109,27 +95,29 @@ def grouped(items: list[Item]) -> Iterator[Item]:
 def page(report: Report, limit: int = 0) -> Iterator[bytes]:
     """Yields the page, of at most so many bytes. The most severe changes have room first."""
     total = report.summary.changes
-    limit = limit or MAX_PAGE
-    limit -= len(head(report, total, total)) + RESERVE
-    items = private_file()
-    listed: dict[int, list[Item]] = {}
-    remaining = limit
-    for part in digest(report.table, room_of(report, max(limit // MIN_ITEM, 1)), lambda *_: ""):
+    title = headline(report.summary)
+    text = "\n".join(short_lines(report))
+    room = (limit or MAX_PAGE) - size_beside(title, text, lambda: heading_of(report, total, total))
+    rows = private_file()
+    places: dict[int, list[Place]] = {}
+    for part in digest(report.table, room_of(report, max(room // MIN_ROW, 1)), lambda *_: ""):
         for row in part.rows:
             shared = report.shared(row)
-            text = item_of(shared, report.summary.counts.hosts)
-            remaining -= len(text)
-            if remaining < 0:
+            data = row_of(shared, report.summary.counts.hosts)
+            room -= len(data) + BESIDE
+            if room < 0:
                 break
             hosts = hash((shared.hosts, *shared.names))
-            listed.setdefault(row.level, []).append(Item(hosts, items.tell(), len(text)))
-            items.write(text)
+            places.setdefault(row.level, []).append(Place(hosts, rows.tell(), len(data)))
+            rows.write(data)
     (all_high,) = next(report.table.ask("select count(*) from changes where level = 0"))
-    left_out = total - sum(map(len, listed.values()))
-    yield head(report, left_out, all_high - len(listed.get(0, ())))
-    yield b'<div id="content" tabindex="-1">\n<ul>\n'
-    for level in sorted(listed):
-        for place in grouped(listed[level]):
-            items.seek(place.start)
-            yield items.read(place.size)
-    yield b"</ul>\n</div>\n</main>\n</body>\n</html>\n"
+    left_out = total - sum(map(len, places.values()))
+    heading = heading_of(report, left_out, all_high - len(places.get(0, ())))
+
+    def listed_rows() -> Iterator[bytes]:
+        for level in sorted(places):
+            for place in grouped(places[level]):
+                rows.seek(place.start)
+                yield rows.read(place.size)
+
+    return whole_page(title, text, listed_rows(), lambda: heading)

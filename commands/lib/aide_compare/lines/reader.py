@@ -127,8 +127,7 @@ def _is_summary(fields: Fields) -> bool:
 
 class Reader:
     """The lines of a file: the `summary` of the first one; by iteration each change as its line and
-    its value, once; then what the last line says, as `end` and `counts`. `end` is its
-    object with what was there before."""
+    its value, once; then what the last line says, as `end`, its object, and `counts`."""
 
     def __init__(self, file: BinaryIO) -> None:
         self.file = file
@@ -144,21 +143,12 @@ class Reader:
             raise Refused(self.number, "the summary has other values")
 
     def __iter__(self) -> Iterator[Tuple[bytes, Change]]:
-        last = b""
-        while True:
-            line = self._line()
-            fields = self._object_of(line)
-            if "end" in fields:
-                self._read_end(fields)
-                return
-            change = self._change_of(fields)
-            last = self._key_after(last, change.path)
-            self._count(change.kind, fields.get("same_as"))
-            yield line, change
+        for outline in self.outlines():
+            yield outline.line, self._change_of(self._object_of(outline.line))
 
     def outlines(self) -> Iterator[Outline]:
-        """The changes in place of iteration, of lines that the proved program has just written:
-        most are known by their beginnings. Their values are not looked at."""
+        """The changes as far as the beginnings of most lines say them: their values are not looked
+        at."""
         last = b""
         while True:
             line = self._line()
@@ -199,7 +189,7 @@ class Reader:
             raise Refused(self.number, text) from None
         if self.file.read(1):
             raise Refused(self.number + 1, "this is after the end")
-        self.end = {**fields, **self.end}
+        self.end = fields
 
     def _line(self, missing: str = NO_END) -> bytes:
         line = self.file.readline(LINE_LIMIT)

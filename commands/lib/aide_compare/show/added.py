@@ -6,8 +6,8 @@ import json
 import os
 from typing import TYPE_CHECKING, Iterator, Optional, Tuple
 
-from aide_compare.base.words import SIDES, date_of
-from aide_compare.lines.change import Change, Fields, Standing, change_of
+from aide_compare.base.words import SIDES
+from aide_compare.lines.change import Fields, change_of
 from aide_compare.lines.decoded import NOTED_BESIDE_TIMES, texts_of
 from aide_compare.lines.reader import ENCODE, HEX, Reader
 
@@ -15,8 +15,6 @@ if TYPE_CHECKING:
     from aide_compare.changes.importance import Importance
     from aide_compare.changes.judged import Judged
     from aide_compare.compare.comparison import Comparison
-
-DIGITS = 16
 
 
 def name_member(side: str, path: bytes) -> Fields:
@@ -47,43 +45,18 @@ def end_members(comparison: Comparison) -> Fields:
     return {"skipped": comparison.skipped}
 
 
-def add_comparison(reader: Reader, comparison: Comparison) -> None:
-    """Lets a Reader say what a Comparison knows beside its lines, and where and when that was."""
-    members: Fields = {"host": os.uname().nodename, "@timestamp": date_of(comparison.time)}
-    for side in SIDES:
-        copy = comparison.copies[side]
-        members[f"{side}_time"] = None if copy.written is None else date_of(int(copy.written))
-        members[f"{side}_digest"] = copy.sha256[:DIGITS]
-    reader.summary = {**members, **summary_of(reader.summary, comparison)}
-    reader.end = end_members(comparison)
-
-
-def judged_changes(
+def marked_lines(
     reader: Reader, judged: Optional[Judged]
-) -> Iterator[Tuple[bytes, Change, Optional[Importance]]]:
-    """Yields the lines of a Reader and their changes, with the standings and the places among
-    others that these were judged to have, if they were."""
-    if judged is None:
-        for line, change in reader:
-            yield line, change, None
-        return
-    for line, standing, severity, package, importance in judged.lines(reader):
-        change = change_of(json.loads(line))._replace(
-            standing=Standing(standing), severity=severity, package=package
-        )
-        yield line, change, importance
-
-
-def marked_lines(reader: Reader, judged: Optional[Judged]) -> Iterator[Tuple[bytes, Fields]]:
+) -> Iterator[Tuple[bytes, Fields, Optional[Importance]]]:
     """The lines of a Reader, each with the standing of its change, and with what is known of it if
     the changes were judged."""
     if judged is None:
         for line, change in reader:
-            yield line, {"standing": change.standing.value}
+            yield line, {"standing": change.standing.value}, None
         return
-    for line, standing, severity, package, _ in judged.lines(reader):
+    for line, standing, severity, package, importance in judged.lines(reader):
         members = {"standing": standing, "severity": severity, "package": package}
-        yield line, {name: mark for name, mark in members.items() if mark}
+        yield line, {name: mark for name, mark in members.items() if mark}, importance
 
 
 def text_members(fields: Fields) -> Fields:
@@ -103,7 +76,7 @@ def added_lines(
 ) -> Iterator[bytes]:
     """Yields the lines of a comparison with what is added."""
     yield line_of(summary_of(reader.summary, comparison))
-    for line, marks in marked_lines(reader, judged):
+    for line, marks, _ in marked_lines(reader, judged):
         fields = json.loads(line)
         yield line_of({**fields, **text_members(fields), **marks})
     end = {**reader.end, **end_members(comparison)}

@@ -1,13 +1,14 @@
 """A change as a text for people, with its values."""
 from __future__ import annotations
 
+import json
 from typing import TYPE_CHECKING, Iterable, Iterator, NamedTuple, Optional
 
 from aide_compare.base.escapes import guarded, shown
 from aide_compare.lines.attributes import FORMS, STRENGTH
-from aide_compare.lines.change import Change, Value
+from aide_compare.lines.change import Change, Value, change_of
 from aide_compare.lines.decoded import texts_of
-from aide_compare.show.added import judged_changes
+from aide_compare.show.added import marked_lines
 from aide_compare.show.outputs import all_lines
 
 if TYPE_CHECKING:
@@ -67,12 +68,13 @@ def changes_with_values(
 ) -> Iterator[bytes]:
     """The changes of the paths that a pattern means, each with its standing and its values."""
     is_there = False
-    for _, change, _ in judged_changes(all_lines(comparison), judged):
+    for line, marks, _ in marked_lines(all_lines(comparison), judged):
+        change = change_of(json.loads(line))
         if pattern.matches(change.path[1:].split(b"/")):
-            marks = " ".join(filter(None, (change.standing.value, change.severity)))
-            lines = [f"{marks} ", *change_lines(change)]
-            if change.package:
-                lines.append(f"    Package    {guarded(change.package)}\n")
+            lines = [f"{marks['standing']} {marks.get('severity', '')}".rstrip() + " "]
+            lines += change_lines(change)
+            if "package" in marks:
+                lines.append(f"    Package    {guarded(marks['package'])}\n")
             yield "".join(lines).encode("utf-8", "backslashreplace")
             is_there = True
     if not is_there:

@@ -1,12 +1,20 @@
-// Takes the items of the entries out of the document, and shows those again that the address asks for.
+// Makes what is seen of the data of the page: of each change a row, as the lines of aide-compare json have it, with the names of
+// its attributes in `labels`, and its values if there was room for them.
 const PAGE = 100, FEW = 3, PACKAGES = 4;
 const ORDERS = { importance: 'what matters most', size: 'change of size' };
+const TITLES = {
+  open: 'Open', recorded: 'Recorded', trusted: 'Trusted: changed in the same way in the trusted pair',
+  same: 'Same as before, but for times, inode and a digest that one side lacks',
+};
+const HINT = 'Open: all that is not one of the following. Recorded: a package\'s records on the host have this content. Whoever was '
+  + 'root there can write such records, so they only shorten what you read. Same: the old entry, but for times, inode and a digest '
+  + 'that one side lacks. Trusted: it changed in the same way in the trusted pair.';
 const find = (id) => document.getElementById(id), on = (target, event, act) => target.addEventListener(event, act);
 const number = new Intl.NumberFormat('en').format;
 const entriesOf = (count) => count === 1 ? '1 entry' : number(count) + ' entries';
 // All entries in the order of paths, in each order that was asked for, and those that are shown.
 const entries = [], inOrder = new Map();
-let view = viewOf(''), matching = [], firstOrder = '', shownOrder = '', written = '';
+let view = viewOf(''), matching = [], shownOrder = '', written = '', heading = {};
 
 // An element with its attributes and with what is in it. Every text is put in as text, never as markup.
 function make(tag, attributes, ...inner) {
@@ -16,42 +24,37 @@ function make(tag, attributes, ...inner) {
   return element;
 }
 
-// What the head of an item says: its kind and severity, its path, and the names of its attributes or other facts. The first items
-// of a page are elements. The others are text, which is read as fast as it is loaded: in it no name has one of the letters < > & " '.
-const HEAD = /<b class="[^"]*">([^<]*)<\/b><code>([^<]*)<\/code>(?:<i(?: title="([^"]*)")?>([^<]*))?/;
-const LETTERS = { '&amp;': '&', '&lt;': '<', '&gt;': '>', '&quot;': '"', '&#x27;': "'" };
-
-function headOfItem(item) {
-  const opening = item.firstElementChild, head = opening.tagName === 'DETAILS' ? opening.firstElementChild : item;
-  const [mark, code, names] = head.children;
-  return [mark.textContent, code.textContent, ...names ? [names.title, names.textContent] : []];
+// An entry of a row. `section` is the heading of its group.
+function entryOf([head, values]) {
+  const path = shownPath(head), { standing, severity = '' } = head, labels = head.labels.split(' ').filter(Boolean);
+  const parts = { open: severity && 'Open, severity ' + severity, recorded: head.package && shownNote(head.package) };
+  return {
+    head, values, labels, path, standing, severity, kind: head.kind, place: 0, item: null, node: null,
+    section: parts[standing] || TITLES[standing], package: standing === 'recorded' ? shownNote(head.package || '') : '',
+    attribute: [...new Set(labels.map(nameOf))].join(' '), size: growthOf(head.kind, values) || 0,
+    folded: path.toLowerCase(), key: path.replaceAll('/', '\0'),
+  };
 }
 
-const headOfText = (text) => HEAD.exec(text).slice(1)
-  .map((part) => part && part.includes('&') ? part.replace(/&[^;]+;/g, (letter) => LETTERS[letter]) : part);
-
-// An entry: its item or the text of it, and what filters and orders need of it. `section` is the heading of its group.
-function addEntry({ standing, section }, item, text, [words, path, title, about = '']) {
-  const [kind, severity] = words.split(' ');
-  entries.push({
-    item, text, standing, section, place: entries.length, kind, severity, path, about,
-    attribute: title || about.replace(/ [+-]\d+/, ''),
-    package: standing === 'recorded' ? section : '',
-    folded: path.toLowerCase(), key: path.replaceAll('/', '\0'), node: null, told: null,
+// The places of entries in the order of importance: what is open by severity, then what is recorded, package by package.
+function placeByImportance() {
+  const counts = new Map();
+  for (const { section } of entries) counts.set(section, (counts.get(section) || 0) + 1);
+  const keyed = entries.map((entry) => {
+    const level = entry.standing === 'open' ? choices.severity.indexOf(entry.severity) : -counts.get(entry.section);
+    return [[choices.standing.indexOf(entry.standing), level, entry.section, entry.head.order || 0], entry];
   });
-}
-
-// Makes the items of entries that are text. It is the page's own, and is read as it is without this script.
-function makeItems(entries) {
-  const waiting = entries.filter(({ item }) => !item), text = waiting.map((entry) => entry.text + '\n').join('');
-  const made = new DOMParser().parseFromString('<ul>' + text + '</ul>', 'text/html').querySelectorAll('body > ul > li');
-  waiting.forEach((entry, place) => { entry.item = made[place]; });
+  keyed.sort(([one], [two]) => {
+    const at = one.findIndex((part, index) => part !== two[index]);
+    return at < 0 ? 0 : one[at] < two[at] ? -1 : 1;
+  });
+  keyed.forEach(([, entry], place) => { entry.place = place; });
 }
 
 // Finds what fits, and counts it directory by directory; what is in the chosen one is shown, in the chosen order.
 function filter() {
   const folded = view.path.toLowerCase(), everywhere = { ...view, directory: '' };
-  shownOrder = view.order || firstOrder;
+  shownOrder = view.order || 'importance';
   if (!inOrder.has(shownOrder)) inOrder.set(shownOrder, ordered(entries, shownOrder));
   const fitting = inOrder.get(shownOrder).filter((entry) => fits(everywhere, folded, entry));
   countNodes(fitting);
@@ -68,18 +71,26 @@ function askedWords() {
   return parts.length ? 'Only entries ' + parts.join(', ') + '.' : '';
 }
 
-// The item of an entry as it is shown: its name stands out from its directory, and the package of a recorded one is beside
-// it, if that is not in the heading.
+// The item of an entry: its name stands out from its directory, and the package of a recorded one is beside it, if that is not in
+// the heading.
 function itemOf(entry) {
-  const { item, path } = entry, details = item.querySelector('details'), cut = path.lastIndexOf('/') + 1;
-  if (details) details.open = view.values !== '';
-  if (!entry.told) {
+  if (!entry.item) {
+    const { path, head } = entry, cut = path.lastIndexOf('/') + 1, mark = entry.severity === 'high' ? ' high' : '';
     entry.told = make('span', { class: 'reason' }, entry.package ? ' ' + entry.package : '');
-    item.querySelector('code').replaceChildren(path.slice(0, cut), make('b', {}, path.slice(cut)));
-    item.querySelector('code').after(entry.told);
+    const parts = [
+      make('b', { class: entry.kind + mark }, [entry.kind, entry.severity].join(' ')),
+      make('code', {}, path.slice(0, cut), make('b', {}, path.slice(cut))),
+      entry.told,
+      ...head.note ? [make('span', { class: 'reason' }, ' ' + shownNote(head.note))] : [],
+      make('i', {}, ' ' + factsOf(entry)),
+    ];
+    const inner = valuesOf(entry);
+    entry.item = make('li', {}, ...inner ? [make('details', {}, make('summary', {}, ...parts), ...inner)] : parts);
   }
+  const details = entry.item.querySelector('details');
+  if (details) details.open = view.values !== '';
   entry.told.hidden = shownOrder === 'importance';
-  return item;
+  return entry.item;
 }
 
 // Shows some of the entries; in the order of importance with headings, which have the number of entries of all pages.
@@ -88,7 +99,6 @@ function showItems(from, count) {
   if (shownOrder === 'importance') for (const { section } of matching) sizes.set(section, (sizes.get(section) || 0) + 1);
   const shown = matching.slice(from, from + count);
   let last = null;
-  makeItems(shown);
   list.replaceChildren();
   for (const entry of shown) {
     const { section, standing } = entry;
@@ -238,34 +248,35 @@ function listen() {
 }
 
 function begin() {
-  firstOrder = find('content').dataset.order;
-  for (const group of document.querySelectorAll('#content > .group')) {
-    const part = { standing: group.dataset.standing, section: group.querySelector('h2 span').textContent };
-    const rest = group.querySelector('noscript'), lines = rest ? rest.textContent.split('\n') : [];
-    for (const item of group.querySelectorAll('li')) addEntry(part, item, '', headOfItem(item));
-    for (const text of lines) if (text.startsWith('<li>')) addEntry(part, null, text, headOfText(text));
+  const data = JSON.parse(find('data').textContent);
+  heading = data.heading;
+  showHeading(heading);
+  for (const row of data.rows) entries.push(entryOf(row));
+  find('data').remove();
+  if (entries.length) {
+    placeByImportance();
+    entries.sort((one, two) => one.key < two.key ? -1 : 1);
+    inOrder.set('path', entries);
+    placeEntries(entries);
+    makeFilters();
+    const text = location.hash.slice(1) || (entries.length <= FEW ? 'values=shown' : '');
+    view = viewOf(text);
+    filter();
+    for (let first = shownChildren(root); first.length === 1 && first[0].node.below && opened.size < DEEP;
+      first = shownChildren(first[0].node)) opened.add(first[0].node);
+    showView(text);
+    listen();
+    find('view').hidden = false;
   }
-  inOrder.set('importance', [...entries]);
-  entries.sort((one, two) => one.key < two.key ? -1 : 1);
-  inOrder.set('path', entries);
-  placeEntries(entries);
-  find('content').remove();
-  find('bar').id = 'content';
-  makeFilters();
-  const text = location.hash.slice(1) || (entries.length <= FEW ? 'values=shown' : '');
-  view = viewOf(text);
-  filter();
-  for (let first = shownChildren(root); first.length === 1 && first[0].node.below && opened.size < DEEP;
-    first = shownChildren(first[0].node)) opened.add(first[0].node);
-  showView(text);
-  listen();
-  document.querySelector('.counts').hidden = true;
-  find('view').hidden = false;
+  find('digest').remove();
 }
 
-// The list of all entries waits unseen until it is whole. If something goes wrong then, it is there.
+// What is there without a script waits unseen until all is made. If something goes wrong then, it is there.
 document.documentElement.className = 'waiting';
 on(document, 'DOMContentLoaded', () => {
-  document.documentElement.className = '';
-  begin();
+  try {
+    begin();
+  } finally {
+    document.documentElement.className = '';
+  }
 });

@@ -1,321 +1,242 @@
-"""The page of a report: one file with its style, a list of all entries, and a script that filters
-and orders that list."""
+"""The page of changes: one file with its style, its script and its data. The data are the lines of
+the changes, from which the script makes what is seen: no markup is made here of what a host has
+written."""
 from __future__ import annotations
 
+import base64
+import hashlib
 import json
 import os
-from array import array
-from collections import Counter
 from html import escape
 from io import BufferedRandom
-from itertools import groupby, islice
-from operator import itemgetter
-from typing import TYPE_CHECKING, Dict, Iterator, List, NamedTuple, Optional, Set, Tuple
+from typing import TYPE_CHECKING, Callable, Dict, Iterable, Iterator, List, Optional
 
-from aide_compare.base.escapes import shown_note
-from aide_compare.base.files import BLOCK, private_file
-from aide_compare.base.rows import Rows
-from aide_compare.base.words import KINDS, SEVERITIES
-from aide_compare.lines.change import Change, Counts, Standing
-from aide_compare.lines.reader import Reader
-from aide_compare.show.added import add_comparison
-from aide_compare.show.page_heading import MAX_PAGE, RESERVE, entries, head, number, part_of
-from aide_compare.show.page_items import (
-    NAMES,
-    STANDINGS,
-    PageEntry,
-    encoded,
-    entries_of,
-    head_of,
-    item,
-    table_of,
-)
+from aide_compare.base.escapes import guarded, shown, shown_note
+from aide_compare.base.files import private_file
+from aide_compare.base.words import KINDS, SEVERITIES, SIDES, minute_of
+from aide_compare.lines.attributes import FORMS, STRENGTH
+from aide_compare.lines.change import Counts, Fields, Standing
+from aide_compare.lines.reader import ENCODE, Reader
+from aide_compare.lines.rights import differing
+from aide_compare.show.added import marked_lines, text_members
+from aide_compare.show.judgement import brief_of
 
 if TYPE_CHECKING:
     from aide_compare.changes.importance import Importance
     from aide_compare.changes.judged import Judged
     from aide_compare.compare.comparison import Comparison
 
-SCRIPTS = ("page_logic.js", "page_tree.js", "page.js")
-# The words of the filters of a page, in their order.
+HERE = os.path.dirname(os.path.abspath(__file__))
+POLICY = (
+    "default-src 'none'; base-uri 'none'; form-action 'none'; style-src 'sha256-{style}';"
+    " script-src 'sha256-{script}'"
+)
+SCRIPTS = ("page_logic.js", "page_tree.js", "page_values.js", "page.js")
+# What the script has to know: the words of the filters, and the attributes.
+NAMES = {label: "Digests" if label in STRENGTH else label for label in FORMS}
 CHOICES = {
     "kind": KINDS,
-    "standing": [standing.value for standing in STANDINGS],
+    "standing": [standing.value for standing in reversed(Standing)],
     "severity": SEVERITIES,
     "attribute": list(dict.fromkeys(NAMES.values())),
 }
-BESIDE_GROUP = 200
-# So many entries are elements of a page with a script, also where the script does not run. A
-# browser that runs it gets the others as text, of which it makes elements when it shows them.
-MAX_ELEMENTS = 1000
-REST = b"<p>The others, if scripts are off in this browser:</p>\n"
-TITLES = {
-    Standing.OPEN: "Open",
-    Standing.RECORDED: "Recorded",
-    Standing.TRUSTED: "Trusted: changed in the same way in the trusted pair",
-    Standing.SAME: "Same as before, but for times, inode and a digest that one side lacks",
-}
-# Packages after so many different ones are counted together.
-MAX_PACKAGES = 1000
-OTHERS = "other packages"
-# In the private file, between the head of an entry and the line of its values, if that is there.
-VALUES = b"\0"
-# A line says the path too, and has a member of each value for people.
-MAX_LINES = 2 * MAX_PAGE
-# What is beside the head of an item, and beside its values.
-ITEM = len(item(b"", b""))
-OPENING = len(item(b"", b"-"))
+KNOWN = {"choices": CHOICES, "labels": list(FORMS), "strength": STRENGTH}
+VALUES = ("old", "new", "old_text", "new_text")
+# The most bytes of a page, and what is kept free for remarks.
+MAX_PAGE = 20000000
+RESERVE = 8000
+MAX_DIGEST = 200000
+MAX_NAME = 1000
+MAX_COLUMNS = 20
+BESIDE = len(b"[,],\n")
+# The classes of rows in the order in which they get room: what is open by its severity and the
+# group of its owner, what is recorded, and what is silent.
+OWNERS = 3
+RECORDED = OWNERS * len(SEVERITIES)
+SILENT = RECORDED + 1
+
+
+def part_of(name: str) -> str:
+    """A file of the page that is the same for all."""
+    with open(os.path.join(HERE, name), encoding="utf-8") as file:
+        return file.read()
 
 
 def script_of() -> str:
-    words = f"const choices = {json.dumps(CHOICES)};"
-    parts = "\n".join([words, *map(part_of, SCRIPTS)])
+    words = [f"const {name} = {json.dumps(value)};" for name, value in KNOWN.items()]
+    parts = "\n".join([*words, *map(part_of, SCRIPTS)])
     return f"'use strict';\n(() => {{\n{parts}\n}})();\n"
 
 
-class Room:
-    """How many bytes are left. Once something does not fit, nothing does: so the first ones are
-    there, and no other."""
-
-    def __init__(self, remaining: int) -> None:
-        self.remaining = remaining
-        self.is_open = True
-
-    def reserve(self, size: int) -> bool:
-        """Takes room for so many bytes. False, and then there is none any more, if they do not
-        fit."""
-        self.is_open = self.is_open and size <= self.remaining
-        if self.is_open:
-            self.remaining -= size
-        return self.is_open
+def digest_of(text: str) -> str:
+    """The SHA-256 of a style or a script, as a policy has it."""
+    return base64.b64encode(hashlib.sha256(text.encode()).digest()).decode()
 
 
-class Rooms(NamedTuple):
-    """The room for the heads of entries, and that for their values."""
-
-    heads: Room
-    values: Room
-
-
-class Group:
-    """The entries below one heading: a standing, with a severity or a package. `places` are those
-    in the private file."""
-
-    def __init__(self, standing: Standing, name: str) -> None:
-        self.standing = standing
-        self.name = name
-        self.count = 0
-        self.is_sorted = False  # Whether a sorter has the entries.
-        self.places = array("Q")
-
-    def order(self) -> Tuple[int, int, str]:
-        place = STANDINGS.index(self.standing)
-        if self.standing is not Standing.OPEN:
-            return place, -self.count, self.name
-        if self.name:
-            return place, SEVERITIES.index(self.name), ""
-        return place, len(SEVERITIES), ""
-
-    def heading(self) -> bytes:
-        """The beginning of a group, which has its number of entries. Only what is open is
-        opened."""
-        attributes = f'class="group" data-standing="{self.standing.value}"'
-        title = TITLES[self.standing]
-        if self.standing is Standing.OPEN:
-            attributes += " open"
-            if self.name:
-                title = f"Open, severity {self.name}"
-        elif self.standing is Standing.RECORDED and self.name:
-            title = shown_note(self.name)
-        text = f"<span>{escape(title)}</span>: {entries(self.count)}"
-        return encoded(f"<details {attributes}><summary><h2>{text}</h2></summary>\n")
-
-
-class Groups:
-    """The entries of a report by their standing: first what is open, the severe of it at the front,
-    then what is recorded, package by package, then what is silent. A file has the head of each
-    entry, and the line that says its values, of which a table is made if there is room; of each
-    standing and severity no more than a page has. What is judged and open is put in its order
-    first, so that what has no room is what matters least."""
-
-    def __init__(self) -> None:
-        self.file = private_file()
-        self.end = 0  # Of what is written there.
-        self.size = 0  # Of all heads.
-        self.packages: Set[str] = set()
-        # By the word of the standing, since members of an enumeration are slow keys.
-        self.groups: Dict[Tuple[str, str], Group] = {}
-        # By standing and severity: the room for them, and how many there are.
-        self.rooms: Dict[Tuple[str, str], Rooms] = {}
-        self.standings: Counter[Tuple[str, str]] = Counter()
-        self.opened = Rows("create table opened (level, owners, rank, is_added, text)")
-        # How many entries are listed, and how many of them with all their values.
-        self.listed = 0
-        self.valued = 0
-
-    def add(self, line: bytes, entry: PageEntry, importance: Optional[Importance]) -> None:
-        text = encoded(head_of(entry))
-        group = self._group_of(entry.change)
-        group.count += 1
-        self.size += len(text) + ITEM
-        part = (entry.change.standing.value, entry.change.severity)
-        self.standings[part] += 1
-        if importance is not None and entry.change.standing is Standing.OPEN:
-            group.is_sorted = True
-            row = (*importance, text + VALUES + line)
-            self.opened.do("insert into opened values (?, ?, ?, ?, ?)", *row)
-            return
-        rooms = self.rooms.get(part)
-        if rooms is None:
-            rooms = Rooms(Room(MAX_PAGE), Room(MAX_LINES))
-            self.rooms[part] = rooms
-        if not rooms.heads.reserve(len(text)):
-            return
-        group.places.append(self.end)
-        if rooms.values.reserve(len(line)):
-            text += VALUES + line
-        else:
-            text += b"\n"
-        self.file.write(text)
-        self.end += len(text)
-
-    def _group_of(self, change: Change) -> Group:
-        """The group of a change, by its standing and its package, or else its severity."""
-        name = change.package or change.severity
-        if change.standing is Standing.RECORDED and name not in self.packages:
-            if len(self.packages) >= MAX_PACKAGES:
-                name = OTHERS
-            self.packages.add(name)
-        key = (change.standing.value, name)
-        group = self.groups.get(key)
-        if group is None:
-            group = Group(change.standing, name)
-            self.groups[key] = group
-        return group
-
-    def total(self) -> Counts:
-        """The Counts of all entries. An entry without a severity, which nobody has judged, has
-        none."""
-        numbers = dict.fromkeys(Counts._fields, 0)
-        for (standing, severity), count in self.standings.items():
-            numbers[standing] += count
-            if severity and not Standing(standing).is_silent:
-                numbers[f"{standing}_{severity}"] += count
-        return Counts(**numbers)
-
-    def write(self, file: BufferedRandom, limit: int, max_elements: int) -> None:
-        """Writes the groups, as far as there is room for them."""
-        groups = sorted(self.groups.values(), key=Group.order)
-        headings = [group.heading() for group in groups]
-        limit -= sum(map(len, headings)) + len(groups) * BESIDE_GROUP
-        # Values get what heads leave, or an eighth if there are so many entries that a browser has
-        # enough to do with their heads.
-        for_tables = limit - self.size
-        if self.size > limit // 2:
-            for_tables = limit // 8
-        rooms = Rooms(Room(limit - for_tables), Room(for_tables))
-        question = "select level, text from opened order by level, owners, rank, is_added, rowid"
-        self.levels = groupby(self.opened.ask(question), itemgetter(0))
-        for group, heading in zip(groups, headings):
-            file.write(heading)
-            self._write_list(file, group, rooms, max_elements)
-            file.write(b"</details>\n")
-
-    def _write_list(
-        self, file: BufferedRandom, group: Group, rooms: Rooms, max_elements: int
-    ) -> None:
-        """Writes the entries of a group. Those after so many of a page are in an element that a
-        browser with scripts reads as text."""
-        first = self.listed
-        items = self._items(group, rooms)
-        if first < max_elements:
-            file.write(b"<ul>\n")
-            file.writelines(islice(items, max_elements - first))
-            file.write(b"</ul>")
-        following = next(items, b"")
-        if following:
-            if first < max_elements:
-                file.write(REST)
-            file.write(b"<noscript><ul>\n" + following)
-            file.writelines(items)
-            file.write(b"</ul></noscript>")
-        left_out = group.count - (self.listed - first)
-        if left_out:
-            text = f"<p>{number(left_out)} more that this page has no room for</p>"
-            file.write(encoded(text))
-
-    def _items(self, group: Group, rooms: Rooms) -> Iterator[bytes]:
-        """Yields items with their values, or without them, by the room that there is."""
-        for text in self._texts(group):
-            head, _, line = text[:-1].partition(VALUES)
-            if not rooms.heads.reserve(len(head) + ITEM):
-                return
-            self.listed += 1
-            yield item(head, self._values_of(line, rooms.values))
-
-    def _texts(self, group: Group) -> Iterator[bytes]:
-        """Yields what is kept of the entries of a group. Those that a sorter has come severity by
-        severity, as the groups do."""
-        if group.is_sorted:
-            _, rows = next(self.levels)
-            yield from (text for _, text in rows)
-        here = -1
-        for place in group.places:
-            if place != here:
-                self.file.seek(place)
-            text = self.file.readline()
-            here = place + len(text)
-            yield text
-
-    def _values_of(self, line: bytes, room: Room) -> bytes:
-        """The values that a line says, b"" if there is no room for them."""
-        if not (line and room.is_open):
-            return b""
-        values = table_of(line)
-        if not room.reserve(len(values) + OPENING):
-            return b""
-        self.valued += 1
-        return values
-
-    def remarks(self) -> List[str]:
-        """What the lists leave out."""
-        remarks: List[str] = []
-        total = sum(self.standings.values())
-        if self.listed < total:
-            first = f"This page has room for {entries(self.listed)} of {number(total)}."
-            remarks.append(f"{first} The counts are those of all.")
-        if self.valued < self.listed:
-            first = f"Values are on this page of the first {entries(self.valued)} only"
-            remarks.append(f"{first}: it stays below 20 MB.")
-        return remarks
+def embedded(fields: object) -> bytes:
+    """JSON as it stands in an element of a page: no text in it ends that element."""
+    return ENCODE(fields).replace("<", "\\u003c").encode()
 
 
 def page(
-    reader: Reader, title: str, is_plain: bool, judged: Optional[Judged] = None
+    title: str, digest: str, rows: Iterable[bytes], heading: Callable[[], Fields]
 ) -> Iterator[bytes]:
-    """Yields the page of the lines of a Reader, when all of them have been read and are good."""
-    groups = Groups()
-    lists = private_file()
-    name = os.fsencode(title)
-    for line, entry, importance in entries_of(reader, judged):
-        groups.add(line, entry, importance)
-    counts = groups.total()
-    has_script = bool(groups.size) and not is_plain
-    script = script_of() if has_script else ""
-    controls = part_of("controls.html") if has_script else ""
-    controls += '<div id="content" tabindex="-1" data-order="importance">\n'
-    beginning = head(reader, counts, name, script, [])
-    limit = MAX_PAGE - RESERVE - len(beginning) - len(controls)
-    groups.write(lists, limit, MAX_ELEMENTS if has_script else MAX_PAGE)
-    yield head(reader, counts, name, script, groups.remarks())
-    yield encoded(controls)
-    lists.seek(0)
-    while block := lists.read(BLOCK):
-        yield block
-    yield b"</div>\n</main>\n</body>\n</html>\n"
+    """Yields a page. `digest` is what is seen without the script; the heading is made when all rows
+    were."""
+    style = part_of("page.css")
+    script = script_of()
+    policy = POLICY.format(style=digest_of(style), script=digest_of(script))
+    head = part_of("page.html").format(
+        title=escape(shown_note(title)),
+        style=style,
+        script=script,
+        policy=policy,
+        digest=escape(digest[:MAX_DIGEST]),
+    )
+    yield head.encode("utf-8", "backslashreplace")
+    yield b'{"rows":['
+    separator = b"\n"
+    for row in rows:
+        yield separator + row
+        separator = b",\n"
+    yield b'],\n"heading":%s}\n</script>\n</body>\n</html>\n' % embedded(heading())
 
 
-def page_of(comparison: Comparison, judged: Optional[Judged], reader: Reader) -> Iterator[bytes]:
+def size_beside(title: str, digest: str, heading: Callable[[], Fields]) -> int:
+    """How many bytes a page has beside its rows."""
+    return RESERVE + sum(map(len, page(title, digest, (), heading)))
+
+
+def head_of(fields: Fields) -> Fields:
+    """What is always there of a row: all but its values, and the names of these."""
+    head = {name: value for name, value in fields.items() if name not in VALUES}
+    sides = [fields.get(side, {}) for side in SIDES]
+    names = {name.removesuffix("_hex") for side in sides for name in side}
+    head["labels"] = " ".join(label for label in FORMS if label in names)
+    return head
+
+
+def values_of(fields: Fields) -> Fields:
+    """The values of a row, with their texts."""
+    return {name: fields[name] for name in VALUES if name in fields}
+
+
+class Rows:
+    """The rows of a page: each the head and the values of a change. Those that matter most have
+    room first, and values go before heads."""
+
+    def __init__(self) -> None:
+        self.files: Dict[int, BufferedRandom] = {}  # By class, its rows in path order.
+        self.size = 0  # Of all heads.
+        self.count = 0
+        self.listed = 0
+        self.valued = 0
+
+    def add(self, number: int, fields: Fields) -> None:
+        """Adds the object of a change to a class."""
+        if number not in self.files:
+            self.files[number] = private_file()
+        fields = {**differing(fields), **text_members(fields)}
+        head = embedded(head_of(fields))
+        self.files[number].write(b"%s\t%s\n" % (head, embedded(values_of(fields))))
+        self.size += len(head) + BESIDE
+        self.count += 1
+
+    def chosen(self, room: int) -> Iterator[bytes]:
+        """Yields the rows for which there is room: of all changes the heads, if these take no more
+        than seven eighths of it, and of the first ones the values."""
+        for_values = max(room - self.size, room // 8)
+        for_heads = room - for_values
+        for number in sorted(self.files):
+            self.files[number].seek(0)
+            for line in self.files[number]:
+                head, _, values = line[:-1].partition(b"\t")
+                for_heads -= len(head) + BESIDE
+                if for_heads < 0:
+                    return
+                for_values -= len(values)
+                self.listed += 1
+                if for_values >= 0:
+                    self.valued += 1
+                    yield b"[%s,%s]" % (head, values)
+                else:
+                    yield b"[%s]" % head
+
+    def remarks(self) -> List[str]:
+        """What is missing."""
+        remarks = []
+        if self.listed < self.count:
+            all_counted = "The counts are those of all."
+            remarks.append(f"{self.listed:,} of {self.count:,} changes are here. {all_counted}")
+        if self.valued < self.listed:
+            remarks.append(
+                f"The first {self.valued:,} of them have their values, for want of room."
+            )
+        return remarks
+
+
+def class_of(standing: str, importance: Optional[Importance]) -> int:
+    """The class of a change."""
+    if standing == Standing.RECORDED.value:
+        return RECORDED
+    if standing != Standing.OPEN.value:
+        return SILENT
+    if importance is None:
+        return 0
+    return OWNERS * importance.level + importance.owners
+
+
+def order_of(importance: Importance) -> int:
+    """The place of a change among those of its severity, as one number."""
+    return (importance.owners << 32) + 2 * importance.rank + importance.is_added
+
+
+def heading_of(comparison: Comparison, rows: Rows, title: str, end: Fields) -> Fields:
+    """What stands above the changes of a comparison."""
+    counts = comparison.standings or Counts()
+    words = {standing.value: counts.of(standing) for standing in reversed(Standing)}
+    words.update({severity: counts.of_severity(severity) for severity in SEVERITIES})
+    words.update({kind: end[kind] for kind in KINDS})
+    databases = []
+    for side in SIDES:
+        copy = comparison.copies[side]
+        time = "" if copy.written is None else minute_of(int(copy.written))
+        name = shown(copy.name, MAX_NAME)
+        databases.append({"side": side, "name": name, "time": time, "sha256": copy.sha256})
+    remarks = rows.remarks()
+    for side, left_out in comparison.left_out.items():
+        if left_out.total:
+            remarks.insert(0, f"{left_out.total:,} entries of the {side} database are left out.")
+    names = dict.fromkeys(name for side in comparison.skipped.values() for name in side)
+    for name in list(names)[:MAX_COLUMNS]:
+        remarks.append(f"The column {guarded(name)} is not compared: the program does not know it.")
+    total = f"{end['total']:,} in the new database"
+    return {
+        "title": title,
+        "facts": [["Compared", minute_of(comparison.time)], ["Entries", total]],
+        "databases": databases,
+        "counts": [[word, count] for word, count in words.items() if count] if rows.count else [],
+        "remarks": remarks,
+        "lists": [],
+        "outcome": "" if rows.count else "No differences between the two databases",
+    }
+
+
+def page_of(
+    comparison: Comparison, judged: Optional[Judged], reader: Reader, limit: int = MAX_PAGE
+) -> Iterator[bytes]:
     """The page of a comparison, whose lines a Reader has."""
-    add_comparison(reader, comparison)
-    return page(reader, "", False, judged)
+    rows = Rows()
+    for line, marks, importance in marked_lines(reader, judged):
+        fields = {**json.loads(line), **marks}
+        if importance is not None:
+            fields["order"] = order_of(importance)
+        rows.add(class_of(marks["standing"], importance), fields)
+    title = f"File changes on {os.uname().nodename}"
+    digest = brief_of(judged).decode() or "No differences\n"
+
+    def heading() -> Fields:
+        return heading_of(comparison, rows, title, reader.end)
+
+    room = limit - size_beside(title, digest, heading)
+    return page(title, digest, rows.chosen(room), heading)

@@ -6,10 +6,7 @@ const KEYS = {
   path: () => 0,
   kind: ({ kind }) => choices.kind.indexOf(kind),
   severity: ({ severity }) => severity ? choices.severity.indexOf(severity) : choices.severity.length,
-  size: ({ about }) => {
-    const [, grown, size] = /Size [+-](\d+)|(\d+) bytes$/.exec(about) || [];
-    return -(grown || size || 0);
-  },
+  size: ({ size }) => -Math.abs(size),
 };
 
 // A view from its text. A filter without words takes every entry; several words take what has one of them.
