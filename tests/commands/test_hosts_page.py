@@ -51,7 +51,7 @@ class HostsPageTest(CommandTest):
         self.assertIn("rwsr-xr-x", values["new_text"]["Perm"])
         self.assertIn("SHA256", head["labels"].split())
         head, values = self.only(rows, "/etc/p", "hosts")
-        self.assertEqual((head["old_various"], values["new"]["Perm"]), (["Perm"], "0600"))
+        self.assertEqual((head["old_various"], values["new"]["Perm"]), (["Perm", "SHA256"], "0600"))
 
     def test_groups(self) -> None:
         """Of one severity, the changes of the same hosts stand together, the fewest first."""

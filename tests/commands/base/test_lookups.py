@@ -13,7 +13,7 @@ from tests.commands.viewers.expected import RIGHTS, SLOTS
 from aide_compare.base.paths import Pattern
 from aide_compare.lines.decoded import texts_of, texts_of_line
 from aide_compare.lines.reader import ENCODE, Reader
-from aide_compare.show.added import members_text, text_members, time_texts
+from aide_compare.show.json_lines import members_text, text_members, time_texts
 
 PIECES = (b"a", b"b", b"a.so", b"", b".ssh", b"x-y", b"[", b"a\n")
 PATTERNS = (

@@ -25,8 +25,8 @@ class MailRequestTest(ModuleTest):
     def asks(self, words: str, **wanted: Any) -> Any:
         """The comparison of some words, which ask for nothing else that no words ask for."""
         request = request_of(words.split())
-        usual = parsed([])._replace(comparison=request.comparison, asked=request.asked)
-        self.expect(words, request, usual._replace(**wanted))
+        usual = parsed([]).but(comparison=request.comparison, asked=request.asked)
+        self.expect(words, request, usual.but(**wanted))
         return request.comparison
 
     def test_words(self) -> None:
@@ -45,7 +45,9 @@ class MailRequestTest(ModuleTest):
         for words, wanted in rows.items():
             self.asks(words, **wanted)
         with mock.patch.object(progress, "tell_steps") as tell:
-            comparison = self.asks("--user u --state s -v -- --weekly n", user="u", state="s")
+            comparison = self.asks(
+                "--user u --state s -v -- --weekly n", user="u", state="s", is_verbose=True
+            )
         tell.assert_any_call(True)
         got = (comparison.databases, comparison.user, comparison.state)
         self.assertEqual(got, (["--weekly", "n"], "u", "s"))

@@ -14,7 +14,7 @@ from aide_compare.base.words import SEVERITIES
 from aide_compare.changes.importance import Importance
 from aide_compare.compare.work import failed_comparison
 from aide_compare.lines.reader import Reader
-from aide_compare.show.added import added_lines
+from aide_compare.show.json_lines import added_lines
 from aide_compare.show.page import MAX_PAGE, Rows, class_of, page
 
 Fields = dict[str, Any]

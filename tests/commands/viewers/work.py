@@ -17,7 +17,7 @@ from tests.commands.viewers import COMMANDS  # It puts the modules of the comman
 from tests.commands.viewers.lines import NAMELESS
 
 from aide_compare.lines.reader import Reader
-from aide_compare.show.added import added_lines
+from aide_compare.show.json_lines import added_lines
 
 OURS = COMMANDS + "/lib/aide_compare/"
 MOST_GROWTH = 1.3

@@ -1,11 +1,12 @@
 """The table of options. An option is one row, whatever commands have it: rows that several commands
 have, or that may stand in the administrator's file of defaults, are here, all others in the module
-of their command. base/parser.py makes a command line of rows.
+of their command. What a command line asks for is a class whose fields are rows, of which
+base/parser.py makes the parser, the help and the completions.
 """
 from __future__ import annotations
 
 from collections.abc import Callable, Sequence
-from typing import NamedTuple
+from typing import Any, NamedTuple, TypeVar
 
 from aide_compare.base.kinds import (
     address,
@@ -36,6 +37,7 @@ class Option(NamedTuple):
     bare: str = ""  # Its value where it stands alone.
     is_repeated: bool = False  # Its value is the list of all that were given.
     is_single: bool = False  # It may be given once only.
+    group: str = ""  # Of options that exclude one another.
     number_of_values: int = 1  # With more, `metavar` has a word for each.
 
     @property
@@ -48,6 +50,27 @@ class Option(NamedTuple):
         return self.name.removeprefix("--").replace("-", "_")
 
 
+class Operand(NamedTuple):
+    """What a command line has beside its options. With `nargs` as argparse has it there may be none
+    or several."""
+
+    metavar: str
+    help: str
+    nargs: str | None = None
+    default: object = None
+
+
+def field(row: Option | Operand, **changes: Any) -> Any:
+    """A field of a request: its value is what the command line says for a row, with these
+    changes."""
+    return row._replace(**changes)
+
+
+def option(name: str, help: str, metavar: str = "", **more: Any) -> Any:
+    """A field whose option no other command has."""
+    return Option(name, help, metavar, **more)
+
+
 QUIET = Option("--quiet", "print only why it failed", letter="-q")
 VERBOSE = Option("--verbose", "print which step is done, and how long it took", letter="-v")
 COLOR = Option(
@@ -56,6 +79,37 @@ COLOR = Option(
     choices=("auto", "always", "never"),
     default="auto",
 )
+Asks = TypeVar("Asks", bound="Asked")
+
+
+class Asked:
+    """What a command line asks for. Each field of a subclass is an option or an operand."""
+
+    is_quiet: bool = field(QUIET)
+    is_verbose: bool = field(VERBOSE)
+    color: str = field(COLOR)
+
+    def __init__(self, **values: object) -> None:
+        vars(self).update(values)
+
+    def __eq__(self, other: object) -> bool:
+        return type(other) is type(self) and vars(other) == vars(self)
+
+    def but(self: Asks, **values: object) -> Asks:
+        """The same with other values."""
+        return type(self)(**{**vars(self), **values})
+
+    @classmethod
+    def rows(cls) -> dict[str, Option | Operand]:
+        """The rows by the names of their fields, those of all commands first."""
+        rows: dict[str, Option | Operand] = {}
+        for each in reversed(cls.__mro__):
+            for name, row in vars(each).items():
+                if isinstance(row, (Option, Operand)):
+                    rows[name] = row
+        return rows
+
+
 CONFIG = Option(
     "--config",
     "the configuration (/dev/null with OLD NEW, otherwise AIDE's, /etc/aide/aide.conf or"
@@ -186,6 +240,10 @@ JOBS = Option(
     metavar="N",
     kind=matching(r"[1-9][0-9]{0,2}", "a number from 1 to 999", int),
     default=8,
+)
+HOSTS_FILE = "/etc/aide-compare/hosts"
+HOSTS_OPERAND = Operand(
+    "HOSTS-FILE", f"a name a line; - is standard input ({HOSTS_FILE})", "?", HOSTS_FILE
 )
 NO_DEFAULTS = Option("--no-defaults", "do not read the defaults in /etc/aide-compare")
 

@@ -28,6 +28,9 @@ from aide_compare.base.options import (
     NO_DEFAULTS,
     QUIET,
     VERBOSE,
+    Asked,
+    Asks,
+    Operand,
     Option,
 )
 
@@ -90,13 +93,16 @@ class Once(argparse.Action):
         setattr(namespace, self.dest, values)
 
 
-def add_option(parser: argparse.ArgumentParser | argparse._ArgumentGroup, option: Option) -> None:
-    """Adds an option to a parser, or to a group of one."""
+def add_option(
+    parser: argparse.ArgumentParser | argparse._ArgumentGroup, option: Option, field: str = ""
+) -> None:
+    """Adds an option to a parser, or to a group of one, whose value is that of a field."""
     names = [name for name in (option.letter, option.name) if name]
+    words: dict[str, Any] = {"help": option.help, "dest": field or option.attribute}
     if not option.has_value:
-        parser.add_argument(*names, action="store_true", help=option.help)
+        parser.add_argument(*names, action="store_true", **words)
         return
-    words: dict[str, Any] = {"default": option.default, "help": option.help}
+    words["default"] = option.default
     if option.metavar:
         words["metavar"] = option.metavar
     if option.choices:
@@ -129,6 +135,7 @@ class Parser(argparse.ArgumentParser):
         quiet: str = QUIET.help,
         epilog: str = "",
         usage: str | None = None,
+        asked: type[Asked] | None = None,
     ) -> None:
         super().__init__(
             prog=name,
@@ -140,12 +147,24 @@ class Parser(argparse.ArgumentParser):
         )
         self.names = ["--help", "--version"]
         self.add_argument("--version", action="store_true", help="print the version and stop")
-        self.add(QUIET._replace(help=quiet), VERBOSE, COLOR)
+        if asked is None:
+            self.add(QUIET._replace(help=quiet), VERBOSE, COLOR)
+            return
+        groups: dict[str, argparse._ArgumentGroup] = {}
+        for name, row in asked.rows().items():
+            if isinstance(row, Operand):
+                self.add_operand(name, row.metavar, row.help, row.nargs, row.default)
+            elif row.group:
+                group = groups.setdefault(row.group, self.add_mutually_exclusive_group())
+                self.names.append(row.name)
+                add_option(group, row, name)
+            else:
+                self.add(row, field=name)
 
-    def add(self, *options: Option) -> None:
+    def add(self, *options: Option, field: str = "") -> None:
         for option in options:
             self.names.append(option.name)
-            add_option(self, option)
+            add_option(self, option, field)
 
     def add_operand(
         self,
@@ -153,7 +172,7 @@ class Parser(argparse.ArgumentParser):
         metavar: str,
         help: str,
         nargs: str | None = None,
-        default: str | None = None,
+        default: object = None,
     ) -> None:
         """An operand, a text that is not empty; with `nargs` as argparse has it there may be none
         or several."""
@@ -168,7 +187,7 @@ class Parser(argparse.ArgumentParser):
         cut = self._cut(arguments)
         operands = [OPERAND + word for word in arguments[cut + 1 :]]
         args = self.parse_intermixed_args([*arguments[:cut], *operands])
-        progress.tell_steps(args.verbose)
+        progress.tell_steps(getattr(args, "is_verbose", getattr(args, "verbose", False)))
         return args
 
     def parse_own(self, arguments: Sequence[str]) -> tuple[argparse.Namespace, list[str]]:
@@ -203,6 +222,32 @@ class Parser(argparse.ArgumentParser):
             for near in difflib.get_close_matches(unknown.group(1), self.names, 1, 0.75):
                 hint = f"did you mean: {near}"
         raise Fault(Status.USAGE, text, hint)
+
+
+def read(
+    asked: type[Asks],
+    words: Sequence[str],
+    name: str,
+    description: str,
+    epilog: str = "",
+    usage: str = "%(prog)s [OPTIONS]",
+    defaults: Defaults | None = None,
+) -> Asks:
+    """What the words of a command line ask for, and the defaults where they say nothing."""
+    parser = Parser(name, description, epilog=epilog, usage=usage, asked=asked)
+    parser.set_defaults(**named_by_fields(asked, defaults or {}))
+    values = vars(parser.parse(words))
+    del values["version"]
+    return asked(**values)
+
+
+def named_by_fields(asked: type[Asked], defaults: Defaults) -> Defaults:
+    """The values of defaults by the fields of a request in place of their options."""
+    named: Defaults = {}
+    for field, row in asked.rows().items():
+        if isinstance(row, Option) and row.attribute in defaults:
+            named[field] = defaults[row.attribute]
+    return named
 
 
 def _operand(text: str) -> str:

@@ -4,13 +4,13 @@ from __future__ import annotations
 import io
 import os
 from collections.abc import Collection, Container, Iterable, Sequence
-from typing import NamedTuple, Optional
+from typing import Optional
 
 from aide_compare.base.ending import Fault, Status, say
 from aide_compare.base.escapes import shown
 from aide_compare.base.files import PRIVATE, copy_file, in_memory, trusted_text
-from aide_compare.base.options import MAX_SIZE, USER, Option
-from aide_compare.base.parser import Parser
+from aide_compare.base.options import MAX_SIZE, QUIET, USER, Asked, Operand, field, option
+from aide_compare.base.parser import read
 from aide_compare.base.paths import key_of_path, path_of
 from aide_compare.base.processes import limit_memory, limit_time
 from aide_compare.base.replacement import replace_by_copy
@@ -39,36 +39,35 @@ ADVICE = (
     f"it has to name MIRROR/dists/SUITE, or a directory called lists with what the old database has"
     f" in {APTS_LISTS}"
 )
-FROM = Option(
-    "--from",
-    "a suite of a mirror (MIRROR/dists/SUITE), apt's lists, or a directory of packages",
-    metavar="DIR",
-    is_repeated=True,
-)
-KEYRING = Option(
-    "--keyring",
-    f"the keys that must have signed the indexes ({DEBIANS_KEYRING})",
-    metavar="FILE",
-    is_repeated=True,
-)
-OUTPUT = Option(
-    "--output",
-    "write to FILE, which is a copy of OLD if nothing can be applied, and OLD to FILE.old",
-    metavar="FILE",
-)
 
 
-class ArchiveRequest(NamedTuple):
+class ArchiveRequest(Asked):
     """What the options ask for."""
 
-    old: str
-    new: str
-    directories: Sequence[str]  # With the signed indexes and packages.
-    keyrings: Sequence[str]
-    output: Optional[str]
-    max_size: int
-    user: Optional[str]
-    is_quiet: bool
+    is_quiet: bool = field(QUIET, help="say only what is new or not applied")
+    databases: Sequence[str] = field(
+        Operand("OLD NEW", "two databases of one host (those of AIDE's configuration)", nargs="*")
+    )
+    # With the signed indexes and packages.
+    directories: Sequence[str] = option(
+        "--from",
+        "a suite of a mirror (MIRROR/dists/SUITE), apt's lists, or a directory of packages",
+        "DIR",
+        is_repeated=True,
+    )
+    keyrings: Sequence[str] = option(
+        "--keyring",
+        f"the keys that must have signed the indexes ({DEBIANS_KEYRING})",
+        "FILE",
+        is_repeated=True,
+    )
+    output: Optional[str] = option(
+        "--output",
+        "write to FILE, which is a copy of OLD if nothing can be applied, and OLD to FILE.old",
+        "FILE",
+    )
+    max_size: int = field(MAX_SIZE)
+    user: Optional[str] = field(USER)
 
 
 # Entries of a database, by their paths or by the names of packages.
@@ -189,29 +188,16 @@ def upgrades_of(old_copy: Copy, new_copy: Copy, request: ArchiveRequest) -> Upgr
 
 
 def request_of(arguments: Sequence[str]) -> ArchiveRequest:
-    parser = Parser(NAME, DESCRIPTION, "say only what is new or not applied", usage=USAGE)
-    databases = "two databases of one host (those of AIDE's configuration)"
-    parser.add_operand("databases", "OLD NEW", databases, nargs="*")
-    parser.add(FROM, KEYRING, OUTPUT, MAX_SIZE, USER)
-    args = parser.parse(arguments)
-    directories: Sequence[str] = getattr(args, "from")
-    if len(args.databases) not in (0, 2) or not directories:
+    request = read(ArchiveRequest, arguments, NAME, DESCRIPTION, usage=USAGE)
+    if len(request.databases) not in (0, 2) or not request.directories:
         why = "name --from, and both databases, OLD and NEW, or none"
         raise Fault(Status.USAGE, why, f"try: {NAME} --help")
-    old, new = args.databases or named_databases(Request())
-    output = args.output
-    if output and os.path.realpath(output) in (os.path.realpath(old), os.path.realpath(new)):
+    databases = request.databases or named_databases(Request())
+    output = request.output
+    if output and os.path.realpath(output) in [os.path.realpath(path) for path in databases]:
         raise Fault(Status.USAGE, "--output is one of the databases, which would be replaced")
-    return ArchiveRequest(
-        old=old,
-        new=new,
-        directories=directories,
-        keyrings=args.keyring or [DEBIANS_KEYRING],
-        output=output,
-        max_size=args.max_size,
-        user=args.user,
-        is_quiet=args.quiet,
-    )
+    keyrings = request.keyrings or [DEBIANS_KEYRING]
+    return request.but(databases=databases, keyrings=keyrings)
 
 
 def main(arguments: Sequence[str]) -> int:
@@ -222,11 +208,11 @@ def main(arguments: Sequence[str]) -> int:
         become_owner(request.output)
     limit_memory(MAX_MEMORY)
     limit_time(MAX_SECONDS)
-    old = copy_database("old", request.old, request.max_size)
+    old = copy_database("old", request.databases[0], request.max_size)
     if request.output:  # However this ends from here on, that of another night is gone.
         for path in (request.output, f"{request.output}.old"):
             replace_by_copy(path, old.fd, PRIVATE, "the database")
-    new = copy_database("new", request.new, request.max_size)
+    new = copy_database("new", request.databases[1], request.max_size)
     refuse_unsound(new, old)
     upgrades = upgrades_of(old, new, request)
     made = upgraded(old, new, upgrades)

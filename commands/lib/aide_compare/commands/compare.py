@@ -79,7 +79,7 @@ class Printer:
         """What is compared so that it can be printed."""
         if self.form != REPORT or self.request.configuration or not os.isatty(1):
             return self.request
-        return self.request._replace(after=f"{BASE16}\n{self.request.after}")
+        return self.request.but(after=f"{BASE16}\n{self.request.after}")
 
     def task(self) -> Task:
         """The comparison that prints so."""

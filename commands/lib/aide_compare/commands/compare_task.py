@@ -18,12 +18,17 @@ from aide_compare.base.options import (
     MAX_AGE,
     MAX_SIZE,
     NO_DEFAULTS,
+    QUIET,
     STATE,
     TRUSTED,
     USER,
+    Asked,
+    Operand,
     Option,
+    field,
+    option,
 )
-from aide_compare.base.parser import Defaults, Parser
+from aide_compare.base.parser import Defaults, read
 from aide_compare.base.replacement import ANYBODY_READS
 from aide_compare.base.rights import become_owner, rights_hint
 from aide_compare.commands.defaults import comparison_defaults, exclusions_of
@@ -44,6 +49,7 @@ NAME = "aide-compare compare"
 DESCRIPTION = """Compares two AIDE databases, plain or compressed by gzip, and prints what differs,
 the most severe first; with --report the report as AIDE does."""
 TRY = "try: aide-compare compare --help"
+USAGE = "aide-compare [compare] [OPTIONS] [OLD NEW]"
 EPILOG = """\
 Times are as in 90s, 15m, 26h or 3d; a plain number is seconds. Sizes are in bytes, or as in
 500k, 20M or 1G. Root becomes the user in whose directories the baseline and the outputs are, unless
@@ -51,80 +57,57 @@ Times are as in 90s, 15m, 26h or 3d; a plain number is seconds. Sizes are in byt
 
 Status: that of aide-compare-program(8). 0 no difference, 1 to 7 differences, above 7 no
 comparison."""
-REPORT = Option(
-    "--report",
-    "print the report as AIDE does, as with an option report_* in -A",
-)
-ONLY = Option(
-    "--only",
-    "print the changes of these paths alone, as '/etc/**', with their values",
-    metavar="PATTERN",
-    kind=pattern,
-)
 
 
-class CompareRequest(NamedTuple):
+class CompareRequest(Asked):
     """What the options of a comparison ask for."""
 
-    databases: Sequence[str]  # The paths of both, or none if the configuration names them.
-    configuration: Optional[str]
-    after: str
-    state: Optional[str]
-    max_size: int
-    max_age: int
-    exclude_from: Sequence[str]
-    exclude: Sequence[str]
-    trusted: Sequence[str]  # The paths of a trusted pair, or none.
-    wants_report: bool
-    only: Optional[Pattern]
-    outputs: Mapping[str, str]  # The places of further outputs, by the names of their options.
-    user: Optional[str]
-    reads_defaults: bool
-    is_quiet: bool
-    is_verbose: bool
-    color: str
+    is_quiet: bool = field(QUIET, help="print only why nothing was compared")
+    databases: Sequence[str] = field(
+        Operand(
+            "OLD NEW",
+            "the databases, - for standard input; without them the configuration names both",
+            nargs="*",
+        )
+    )
+    configuration: Optional[str] = field(CONFIG)
+    after: str = field(AFTER, default="")
+    state: Optional[str] = field(
+        STATE, help="write the status, the time, the counts and both SHA-256 to FILE"
+    )
+    max_size: int = field(MAX_SIZE)
+    max_age: int = field(MAX_AGE)
+    exclude_from: Sequence[str] = field(EXCLUDE_FROM)
+    exclude: Sequence[str] = field(EXCLUDE)
+    trusted: Sequence[str] = field(TRUSTED, default=())
+    wants_report: bool = option(
+        "--report", "print the report as AIDE does, as with an option report_* in -A"
+    )
+    only: Optional[Pattern] = option(
+        "--only",
+        "print the changes of these paths alone, as '/etc/**', with their values",
+        "PATTERN",
+        kind=pattern,
+    )
+    user: Optional[str] = field(USER)
+    no_defaults: bool = field(NO_DEFAULTS)
 
+    @classmethod
+    def rows(cls) -> dict[str, Option | Operand]:
+        return {**super().rows(), **{row.option.attribute: row.option for row in OUTPUTS}}
 
-def own_parser(usage: str = "aide-compare [compare] [OPTIONS] [OLD NEW]") -> Parser:
-    """The options of a comparison, which aide-compare mail and show have too."""
-    quiet = "print only why nothing was compared"
-    parser = Parser(NAME, DESCRIPTION, quiet, epilog=EPILOG, usage=usage)
-    databases = "the databases, - for standard input; without them the configuration names both"
-    parser.add_operand("databases", "OLD NEW", databases, nargs="*")
-    state = "write the status, the time, the counts and both SHA-256 to FILE"
-    parser.add(CONFIG, AFTER, STATE._replace(help=state), MAX_SIZE, MAX_AGE)
-    parser.add(EXCLUDE_FROM, EXCLUDE, TRUSTED, REPORT, ONLY, *(row.option for row in OUTPUTS))
-    parser.add(USER, NO_DEFAULTS)
-    return parser
+    @property
+    def outputs(self) -> Mapping[str, str]:
+        """The places of further outputs, by the names of their options."""
+        places = {row.option.name: vars(self)[row.option.attribute] for row in OUTPUTS}
+        return {name: path for name, path in places.items() if path}
 
 
 def compare_request(
-    arguments: Sequence[str], defaults: Optional[Defaults] = None
+    arguments: Sequence[str], defaults: Optional[Defaults] = None, usage: str = USAGE
 ) -> CompareRequest:
     """What the arguments ask for, and the defaults where these say nothing."""
-    parser = own_parser()
-    parser.set_defaults(**(defaults or {}))
-    args = parser.parse(arguments)
-    places = {row.option.name: getattr(args, row.option.attribute) for row in OUTPUTS}
-    return CompareRequest(
-        databases=args.databases,
-        configuration=args.config,
-        after=args.after or "",
-        state=args.state,
-        max_size=args.max_size,
-        max_age=args.max_age,
-        exclude_from=args.exclude_from,
-        exclude=args.exclude,
-        trusted=args.trusted or (),
-        wants_report=args.report,
-        only=args.only,
-        outputs={name: path for name, path in places.items() if path},
-        user=args.user,
-        reads_defaults=not args.no_defaults,
-        is_quiet=args.quiet,
-        is_verbose=args.verbose,
-        color=args.color,
-    )
+    return read(CompareRequest, arguments, NAME, DESCRIPTION, EPILOG, usage, defaults)
 
 
 def check_databases(databases: Sequence[str]) -> None:
@@ -156,7 +139,7 @@ def work_request(request: CompareRequest) -> Request:
     return plain_request(request)._replace(
         max_size=request.max_size,
         max_age=request.max_age,
-        exclusions=exclusions_of(request.exclude_from, request.exclude, request.reads_defaults),
+        exclusions=exclusions_of(request.exclude_from, request.exclude, not request.no_defaults),
         trusted=request.trusted,
     )
 

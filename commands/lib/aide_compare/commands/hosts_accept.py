@@ -8,6 +8,7 @@ from functools import partial
 from typing import NamedTuple, Optional
 
 from aide_compare.base.ending import Fault, Status, tell
+from aide_compare.base.options import HOSTS_FILE
 from aide_compare.base.options import (
     EXCLUDE,
     EXCLUDE_FROM,
@@ -38,7 +39,6 @@ from aide_compare.hosts.host_comparison import MAX_BASELINE, MAX_JUDGED, MISSING
 from aide_compare.hosts.hosts_read import hosts_of
 from aide_compare.hosts.store import (
     BASELINE,
-    HOSTS_FILE,
     MAX_MEMORY,
     NEW,
     HostDirectory,

@@ -10,13 +10,14 @@ from typing import NamedTuple
 
 from aide_compare.base.ending import Fault, Status, status_of, tell
 from aide_compare.base.replacement import NewFile
+from aide_compare.base.options import HOSTS_FILE
 from aide_compare.base.options import HOST_STORE, HOST_TIME, Option
 from aide_compare.base.parser import Parser
 from aide_compare.base.processes import limit_memory
 from aide_compare.base.terminal import answer_to
 from aide_compare.hosts import adding
 from aide_compare.hosts.fetching import DATABASE, NOT_ALLOWED
-from aide_compare.hosts.store import BASELINE, HOSTS_FILE, MAX_MEMORY, HostDirectory
+from aide_compare.hosts.store import BASELINE, MAX_MEMORY, HostDirectory
 
 NAME = "aide-compare hosts add"
 DESCRIPTION = """\

@@ -3,7 +3,7 @@ from __future__ import annotations
 
 from contextlib import suppress
 from functools import partial
-from typing import Iterator, NamedTuple, Sequence
+from typing import Iterator, Optional, Sequence
 
 from aide_compare.base.ending import Fault, Status, fault_of, say, tell, write_all
 from aide_compare.base.escapes import guarded
@@ -16,12 +16,16 @@ from aide_compare.base.options import (
     EXCLUDE_FROM,
     HOST_STORE,
     HOST_TIME,
+    HOSTS_OPERAND,
     JOBS,
     MAX_SIZE,
     NO_DEFAULTS,
-    Option,
+    QUIET,
+    Asked,
+    field,
+    option,
 )
-from aide_compare.base.parser import Parser, defaults_for
+from aide_compare.base.parser import defaults_for, read
 from aide_compare.commands.defaults import exclusions_of
 from aide_compare.compare.state import State, is_alarm
 from aide_compare.hosts.canary import Run, failed_note, keep_run, trusted_pair, used_note
@@ -31,7 +35,7 @@ from aide_compare.hosts.host_comparison import MAX_JUDGED, MAX_KEPT, Settings, c
 from aide_compare.hosts.hosts_read import hosts_of, read_host
 from aide_compare.hosts.hosts_text import WHY, not_listed
 from aide_compare.hosts.reported import HostCounts
-from aide_compare.hosts.store import ERRORS, HOSTS_FILE, HostDirectory, check_name
+from aide_compare.hosts.store import ERRORS, HostDirectory, check_name
 from aide_compare.hosts.workers import PAUSE, HostResult, Work, results, without_name
 from aide_compare.show.changes import change_lines
 
@@ -47,15 +51,58 @@ some host was not compared. 15 if arguments or a host's name are wrong; 18 if th
 fails."""
 
 
-class HostsCompareRequest(NamedTuple):
+class HostsCompareRequest(Asked):
     """What the options of `hosts compare` ask for."""
 
-    hosts_file: str  # Or the name of the one host.
-    is_one: bool
-    settings: Settings
-    canary: str  # "" for none.
-    is_quiet: bool
-    color: str
+    is_quiet: bool = field(
+        QUIET,
+        help="only hosts with changes that are not silent, or not compared, and a summary",
+    )
+    store: str = field(HOST_STORE)
+    seconds: int = field(HOST_TIME)
+    jobs: int = field(JOBS)
+    no_fetch: bool = option("--no-fetch", "compare what was fetched before")
+    is_one: bool = option(
+        "--one",
+        "HOSTS-FILE is the name of one host, whose changes are printed too, without --quiet",
+    )
+    canary: Optional[str] = option(
+        "--canary",
+        "compared first; what changed there in the same way is silent on all other hosts",
+        "HOST",
+        kind=check_name,
+    )
+    configuration: Optional[str] = field(CONFIG, help="a configuration of this machine (none)")
+    exclude_from: Sequence[str] = field(EXCLUDE_FROM)
+    exclude: Sequence[str] = field(EXCLUDE)
+    no_defaults: bool = field(NO_DEFAULTS)
+    max_size: int = field(
+        MAX_SIZE,
+        default=0,
+        help="the most bytes of the unpacked database (4 times the baseline, at least 64M)",
+    )
+    same_for: int = option(
+        "--same-for",
+        "how long a host may send the same bytes (50h; 0: no limit)",
+        "TIME",
+        kind=duration,
+        default=SAME_FOR,
+    )
+    hosts_file: str = field(HOSTS_OPERAND)  # Or the name of the one host.
+
+    def settings(self) -> Settings:
+        return Settings(
+            store=self.store,
+            seconds=self.seconds,
+            jobs=self.jobs,
+            configuration=self.configuration,
+            exclusions=exclusions_of(self.exclude_from, self.exclude, not self.no_defaults),
+            max_size=self.max_size,
+            same_for=self.same_for,
+            fetches=not self.no_fetch,
+            trusted={},
+            max_kept=MAX_KEPT,
+        )
 
 
 def counts_text(state: State) -> str:
@@ -126,14 +173,14 @@ def counts_of(found: Sequence[HostResult]) -> HostCounts:
     return HostCounts(len(found), unchanged, differ, silent, not_compared)
 
 
-def compare_all(request: HostsCompareRequest, hosts: Sequence[str]) -> int:
+def compare_all(request: HostsCompareRequest, settings: Settings, hosts: Sequence[str]) -> int:
     """Prints a line for each host and the summary; returns the greatest status."""
     is_quiet = request.is_quiet
     color = request.color
     if request.canary:
-        all_results = results_beside(request.canary, hosts, request.settings)
+        all_results = results_beside(request.canary, hosts, settings)
     else:
-        all_results = results(hosts, work_of(request.settings))
+        all_results = results(hosts, work_of(settings))
     found = []
     for result in all_results:
         found.append(result._replace(text=""))
@@ -162,53 +209,14 @@ def print_changes(name: str, store: str, seconds: int) -> None:
         say(f"to accept it: aide-compare hosts accept --sha256 {host.new_sha256} {name}")
 
 
-def own_parser() -> Parser:
-    quiet = "only hosts with changes that are not silent, or not compared, and a summary"
-    usage = f"{NAME} [OPTIONS] [HOSTS-FILE]"
-    parser = Parser(NAME, DESCRIPTION, quiet, epilog=EPILOG, usage=usage)
-    parser.add(HOST_STORE, HOST_TIME)
-    one = "HOSTS-FILE is the name of one host, whose changes are printed too, without --quiet"
-    canary = "compared first; what changed there in the same way is silent on all other hosts"
-    size = "the most bytes of the unpacked database (4 times the baseline, at least 64M)"
-    same = "how long a host may send the same bytes (50h; 0: no limit)"
-    parser.add(
-        JOBS,
-        Option("--no-fetch", "compare what was fetched before"),
-        Option("--one", one),
-        Option("--canary", canary, metavar="HOST", kind=check_name),
-        CONFIG._replace(help="a configuration of this machine (none)"),
-        EXCLUDE_FROM,
-        EXCLUDE,
-        NO_DEFAULTS,
-        MAX_SIZE._replace(default=0, help=size),
-        Option("--same-for", same, metavar="TIME", kind=duration, default=SAME_FOR),
-    )
-    text = f"a name a line; - is standard input ({HOSTS_FILE})"
-    parser.add_operand("file", "HOSTS-FILE", text, nargs="?", default=HOSTS_FILE)
-    return parser
-
-
 def request_of(arguments: Sequence[str]) -> HostsCompareRequest:
     # Of the defaults only what is left out: a trusted pair there is one of this machine.
-    parser = own_parser()
-    parser.set_defaults(**defaults_for((EXCLUDE_FROM, EXCLUDE), arguments))
-    args = parser.parse(arguments)
-    settings = Settings(
-        store=args.store,
-        seconds=args.time,
-        jobs=args.jobs,
-        configuration=args.config,
-        exclusions=exclusions_of(args.exclude_from, args.exclude, not args.no_defaults),
-        max_size=args.max_size,
-        same_for=args.same_for,
-        fetches=not args.no_fetch,
-        trusted={},
-        max_kept=MAX_KEPT,
-    )
-    if args.one and args.canary:
+    defaults = defaults_for((EXCLUDE_FROM, EXCLUDE), arguments)
+    usage = f"{NAME} [OPTIONS] [HOSTS-FILE]"
+    request = read(HostsCompareRequest, arguments, NAME, DESCRIPTION, EPILOG, usage, defaults)
+    if request.is_one and request.canary:
         raise Fault(Status.USAGE, "--one does not go with --canary")
-    canary = args.canary or ""
-    return HostsCompareRequest(args.file, args.one, settings, canary, args.quiet, args.color)
+    return request
 
 
 def hosts_to_compare(request: HostsCompareRequest) -> list[str]:
@@ -216,7 +224,7 @@ def hosts_to_compare(request: HostsCompareRequest) -> list[str]:
     is silent beside it."""
     names = hosts_of(request.hosts_file)
     if not request.canary:
-        keep_run(request.settings.store, None)
+        keep_run(request.store, None)
     elif request.canary not in names:
         why = f"the canary {request.canary} is not among the hosts of the file"
         raise Fault(Status.USAGE, why)
@@ -225,12 +233,12 @@ def hosts_to_compare(request: HostsCompareRequest) -> list[str]:
 
 def main(arguments: Sequence[str]) -> int:
     request = request_of(arguments)
-    settings = request.settings
+    settings = request.settings()
     if request.is_one:
         hosts = [request.hosts_file]
     else:
         hosts = hosts_to_compare(request)
-    status = compare_all(request, hosts)
+    status = compare_all(request, settings, hosts)
     if request.is_one and status <= 7 and not request.is_quiet:
-        print_changes(request.hosts_file, settings.store, settings.seconds)
+        print_changes(request.hosts_file, request.store, request.seconds)
     return status

@@ -4,8 +4,8 @@ from __future__ import annotations
 from collections.abc import Sequence
 
 from aide_compare.base.ending import Status
-from aide_compare.base.options import HOST_STORE, HOST_TIME
-from aide_compare.base.parser import Parser
+from aide_compare.base.options import HOST_STORE, HOST_TIME, Asked, Operand, field
+from aide_compare.base.parser import read
 from aide_compare.base.processes import limit_memory
 from aide_compare.hosts.fetching import fetch
 from aide_compare.hosts.store import MAX_MEMORY, HostDirectory
@@ -17,11 +17,17 @@ EPILOG = """The key of the caller needs one line on HOST; see the example author
 Status: 0 fetched; 15 bad arguments; 18 nothing was fetched, and what was fetched before stays."""
 
 
+class FetchRequest(Asked):
+    """What the options ask for."""
+
+    store: str = field(HOST_STORE)
+    seconds: int = field(HOST_TIME)
+    host: str = field(Operand("HOST", "its name for ssh"))
+
+
 def main(arguments: Sequence[str]) -> int:
-    parser = Parser(NAME, DESCRIPTION, epilog=EPILOG, usage=f"{NAME} [OPTIONS] HOST")
-    parser.add(HOST_STORE, HOST_TIME)
-    parser.add_operand("host", "HOST", "its name for ssh")
-    args = parser.parse(arguments)
+    usage = f"{NAME} [OPTIONS] HOST"
+    request = read(FetchRequest, arguments, NAME, DESCRIPTION, EPILOG, usage)
     limit_memory(MAX_MEMORY)
-    fetch(HostDirectory(args.store, args.host, args.time), 1)
+    fetch(HostDirectory(request.store, request.host, request.seconds), 1)
     return Status.OK

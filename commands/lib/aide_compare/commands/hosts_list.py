@@ -5,17 +5,25 @@ from collections.abc import Sequence
 
 from aide_compare.base.ending import Status, tell
 from aide_compare.base.escapes import guarded
-from aide_compare.base.options import HOST_STORE, HOST_TIME, RESULT_AGE
-from aide_compare.base.parser import Parser
+from aide_compare.base.options import HOST_STORE, HOST_TIME, HOSTS_OPERAND, RESULT_AGE, Asked, field
+from aide_compare.base.parser import read
 from aide_compare.hosts.hosts_read import hosts_of, known_host
 from aide_compare.hosts.reported import Host
-from aide_compare.hosts.store import HOSTS_FILE
 
 NAME = "aide-compare hosts list"
 DESCRIPTION = (
     "Prints a line for each host of HOSTS-FILE: its name, its last status, and what it says."
 )
 EPILOG = "Status: 0 listed; 15 bad arguments; 18 the file of hosts cannot be read."
+
+
+class ListRequest(Asked):
+    """What the options ask for."""
+
+    store: str = field(HOST_STORE)
+    seconds: int = field(HOST_TIME)
+    max_age: int = field(RESULT_AGE)
+    hosts_file: str = field(HOSTS_OPERAND)
 
 
 def line_of(host: Host) -> str:
@@ -33,11 +41,7 @@ def line_of(host: Host) -> str:
 
 def main(arguments: Sequence[str]) -> int:
     usage = f"{NAME} [OPTIONS] [HOSTS-FILE]"
-    parser = Parser(NAME, DESCRIPTION, epilog=EPILOG, usage=usage)
-    parser.add(HOST_STORE, HOST_TIME, RESULT_AGE)
-    text = f"a name a line; - is standard input ({HOSTS_FILE})"
-    parser.add_operand("file", "HOSTS-FILE", text, nargs="?", default=HOSTS_FILE)
-    args = parser.parse(arguments)
-    for name in hosts_of(args.file):
-        tell(line_of(known_host(name, args.store, args.time, args.max_age)))
+    request = read(ListRequest, arguments, NAME, DESCRIPTION, EPILOG, usage)
+    for name in hosts_of(request.hosts_file):
+        tell(line_of(known_host(name, request.store, request.seconds, request.max_age)))
     return Status.OK

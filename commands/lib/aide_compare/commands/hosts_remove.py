@@ -8,12 +8,13 @@ from contextlib import closing, suppress
 from aide_compare.base.ending import Fault, Status, failing, tell
 from aide_compare.base.escapes import shown
 from aide_compare.base.files import read_file
-from aide_compare.base.options import HOST_STORE, HOST_TIME, Option
-from aide_compare.base.parser import Parser
+from aide_compare.base.options import HOST_STORE, HOST_TIME, HOSTS_FILE, Asked, Operand
+from aide_compare.base.options import field, option
+from aide_compare.base.parser import read
 from aide_compare.base.replacement import ANYBODY_READS, replace
 from aide_compare.hosts.adding import MAX_FILE
 from aide_compare.hosts.hosts_read import directory_of
-from aide_compare.hosts.store import HOSTS_FILE, check_name
+from aide_compare.hosts.store import check_name
 
 NAME = "aide-compare hosts remove"
 DESCRIPTION = """\
@@ -22,6 +23,20 @@ state. A new HOST of this name begins with aide-compare hosts add."""
 EPILOG = """Its key stays in known_hosts: ssh-keygen -R HOST removes it.
 
 Status: 0 removed; 15 bad arguments; 18 there is no such host, or something could not be removed."""
+
+
+class RemoveRequest(Asked):
+    """What the options ask for."""
+
+    store: str = field(HOST_STORE)
+    seconds: int = field(HOST_TIME)
+    hosts_file: str = option(
+        "--hosts-file",
+        f"the file that has the name of HOST ({HOSTS_FILE})",
+        "FILE",
+        default=HOSTS_FILE,
+    )
+    host: str = field(Operand("HOST", "its name"))
 
 
 def remove_from_list(host: str, path: str) -> bool:
@@ -51,19 +66,16 @@ def remove_directory(host: str, store: str, seconds: int) -> bool:
 
 
 def main(arguments: Sequence[str]) -> int:
-    parser = Parser(NAME, DESCRIPTION, epilog=EPILOG, usage=f"{NAME} [OPTIONS] HOST")
-    parser.add(HOST_STORE, HOST_TIME)
-    text = f"the file that has the name of HOST ({HOSTS_FILE})"
-    parser.add(Option("--hosts-file", text, metavar="FILE", default=HOSTS_FILE))
-    parser.add_operand("host", "HOST", "its name")
-    args = parser.parse(arguments)
-    host = check_name(args.host)
-    was_listed = remove_from_list(host, args.hosts_file)
-    was_kept = remove_directory(host, args.store, args.time)
+    usage = f"{NAME} [OPTIONS] HOST"
+    request = read(RemoveRequest, arguments, NAME, DESCRIPTION, EPILOG, usage)
+    host = check_name(request.host)
+    was_listed = remove_from_list(host, request.hosts_file)
+    was_kept = remove_directory(host, request.store, request.seconds)
     if not was_listed and not was_kept:
         raise Fault(
-            Status.DEVICE, f"{host} is not in {shown(args.hosts_file)}, and nothing is kept of it"
+            Status.DEVICE,
+            f"{host} is not in {shown(request.hosts_file)}, and nothing is kept of it",
         )
-    if not args.quiet:
+    if not request.is_quiet:
         tell(f"{host} is watched no longer. Its key stays: ssh-keygen -R {host} removes it")
     return Status.OK

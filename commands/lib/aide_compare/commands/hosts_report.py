@@ -5,7 +5,7 @@ from __future__ import annotations
 import os
 import shlex
 from functools import partial
-from typing import Iterable, Iterator, NamedTuple, Optional, Sequence
+from typing import Iterable, Iterator, Optional, Sequence
 
 from aide_compare.base import progress
 from aide_compare.base.ending import Fault, Status, write_blocks
@@ -13,14 +13,19 @@ from aide_compare.base.options import (
     ATTACH_PAGE,
     HOST_STORE,
     HOST_TIME,
+    HOSTS_FILE,
+    HOSTS_OPERAND,
     MAIL_TIME,
+    QUIET,
     RESULT_AGE,
     STORE,
     TO,
     WEEKLY,
-    Option,
+    Asked,
+    field,
+    option,
 )
-from aide_compare.base.parser import Parser, add_option
+from aide_compare.base.parser import read
 from aide_compare.base.program import FRONT, find_installed
 from aide_compare.base.words import counted
 from aide_compare.commands.mail import Heartbeat, count_quiet_run
@@ -31,7 +36,6 @@ from aide_compare.hosts.hosts_page import page
 from aide_compare.hosts.hosts_read import hosts_of, read_host
 from aide_compare.hosts.hosts_text import Report, headline, report_lines, short_lines
 from aide_compare.hosts.reported import CUT, UNREADABLE, HostCounts, Summary
-from aide_compare.hosts.store import HOSTS_FILE
 from aide_compare.lines.reader import ENCODE
 from aide_compare.mail.message import build, clean, within
 from aide_compare.mail.sending import Way, alert, deliver, way_out
@@ -51,20 +55,35 @@ EPILOG = """Exit status, the highest of all hosts: 0 no difference, 1 to 7 diffe
 some host was not compared. 15, 18 or 22 if the command itself fails."""
 
 
-class ReportRequest(NamedTuple):
+class ReportRequest(Asked):
     """What the options ask for."""
 
-    hosts_file: str
-    store: str
-    seconds: int
-    max_age: int
-    format: str
-    address: str  # "" without a mail.
-    has_page: bool  # The mail has the page too.
-    mail_seconds: int
-    weekly: Optional[str]  # The day of the heartbeat.
-    is_quiet: bool
-    color: str
+    is_quiet: bool = field(QUIET, help="print nothing if no host differs and each was compared")
+    store: str = field(HOST_STORE, help=f"where the reports are kept ({STORE})")
+    max_age: int = field(
+        RESULT_AGE,
+        help="a host that was compared longer ago counts as not compared (26h; 0: no limit)",
+    )
+    seconds: int = field(HOST_TIME, help="how long to wait for a run over a host (10m)")
+    format: Optional[str] = option(
+        "--format",
+        "text (the default), brief: 80 lines, json: an object a line, or page: for a browser",
+        choices=("text", "brief", "json", "page"),
+        group="output",
+    )
+    address: Optional[str] = field(
+        TO,
+        help="mail the brief text, if a host differs or was not compared",
+        group="output",
+    )
+    has_page: bool = field(ATTACH_PAGE, help="with --to: attach the page to the text")
+    mail_seconds: int = field(MAIL_TIME)
+    weekly: Optional[str] = field(
+        WEEKLY,
+        help="with --to: send a heartbeat on one day of the week (Mon) if there is nothing to"
+        " report",
+    )
+    hosts_file: str = field(HOSTS_OPERAND)
 
 
 def command_words(request: ReportRequest) -> list[str]:
@@ -144,7 +163,7 @@ class HostsReport:
         """Yields the lines of the short text."""
         return map(encoded, short_lines(self.report()))
 
-    def send(self, request: ReportRequest) -> None:
+    def send(self, request: ReportRequest, address: str) -> None:
         """Sends one mail about all hosts, and none if there is nothing to say."""
         try:
             way = way_out(request.mail_seconds)
@@ -153,22 +172,22 @@ class HostsReport:
             raise
         if not self.is_alarm:
             if request.weekly:
-                self._count_quiet_run(request, way)
+                self._count_quiet_run(request, address, way)
             return
         attached = None
         if request.has_page:
             attached = within(page(self.report(), MAX_MAILED_PAGE), 2 * MAX_MAILED_PAGE)
         text = clean(b"".join(self.brief()))
-        deliver(way, build(request.address, headline(self.summary), text, attached))
+        deliver(way, build(address, headline(self.summary), text, attached))
 
-    def _count_quiet_run(self, request: ReportRequest, way: Way) -> None:
+    def _count_quiet_run(self, request: ReportRequest, address: str, way: Way) -> None:
         """Counts a run without an alarm, and sends a heartbeat if one is due."""
         silent = sum(sum(host.counts or ()) for host in self.hosts if host.is_silent)
         hosts = counted(self.summary.counts.hosts, "host")
 
         def send(mail: Heartbeat) -> None:
             subject = f"aide on {hosts}: {mail.subject}"
-            deliver(way, build(request.address, subject, clean(mail.text)))
+            deliver(way, build(address, subject, clean(mail.text)))
 
         count_quiet_run(f"{request.store}/report.quiet", request.weekly, silent, send)
 
@@ -187,51 +206,19 @@ def encoded(line: str) -> bytes:
     return (line + "\n").encode("utf-8", "backslashreplace")
 
 
-def own_parser() -> Parser:
-    quiet = "print nothing if no host differs and each was compared"
-    usage = f"{NAME} [OPTIONS] [HOSTS-FILE]"
-    parser = Parser(NAME, DESCRIPTION, quiet, epilog=EPILOG, usage=usage)
-    age = "a host that was compared longer ago counts as not compared (26h; 0: no limit)"
-    wait = "how long to wait for a run over a host (10m)"
-    parser.add(
-        HOST_STORE._replace(help=f"where the reports are kept ({STORE})"),
-        RESULT_AGE._replace(help=age),
-        HOST_TIME._replace(help=wait),
-    )
-    form = parser.add_mutually_exclusive_group()
-    formats = "text (the default), brief: 80 lines, json: an object a line, or page: for a browser"
-    add_option(form, Option("--format", formats, choices=("text", "brief", "json", "page")))
-    to = "mail the brief text, if a host differs or was not compared"
-    add_option(form, TO._replace(help=to))
-    parser.add(ATTACH_PAGE._replace(help="with --to: attach the page to the text"), MAIL_TIME)
-    week = "with --to: send a heartbeat on one day of the week (Mon) if there is nothing to report"
-    parser.add(WEEKLY._replace(help=week))
-    text = f"a name a line; - is standard input ({HOSTS_FILE})"
-    parser.add_operand("file", "HOSTS-FILE", text, nargs="?", default=HOSTS_FILE)
-    return parser
-
-
 def request_of(arguments: Sequence[str]) -> ReportRequest:
-    args = own_parser().parse(with_days(arguments))
-    if args.attach_page and not args.to:
-        raise Fault(Status.USAGE, "--attach-page goes with --to", f"try: {NAME} --help")
-    if args.weekly and not args.to:
-        raise Fault(Status.USAGE, "--weekly goes with --to", f"try: {NAME} --help")
-    if args.mail_time != MAIL_TIME.default and not args.to:
-        raise Fault(Status.USAGE, "--mail-time goes with --to", f"try: {NAME} --help")
-    return ReportRequest(
-        hosts_file=args.file,
-        store=args.store,
-        seconds=args.time,
-        max_age=args.max_age,
-        format=args.format or "text",
-        address=args.to or "",
-        has_page=args.attach_page,
-        mail_seconds=args.mail_time,
-        weekly=args.weekly,
-        is_quiet=args.quiet,
-        color=args.color,
-    )
+    words = with_days(arguments)
+    usage = f"{NAME} [OPTIONS] [HOSTS-FILE]"
+    request = read(ReportRequest, words, NAME, DESCRIPTION, EPILOG, usage)
+    of_mail = {
+        ATTACH_PAGE.name: request.has_page,
+        WEEKLY.name: request.weekly,
+        MAIL_TIME.name: request.mail_seconds != MAIL_TIME.default,
+    }
+    for name, is_given in of_mail.items():
+        if is_given and not request.address:
+            raise Fault(Status.USAGE, f"{name} goes with --to", f"try: {NAME} --help")
+    return request
 
 
 def main(arguments: Sequence[str]) -> int:
@@ -239,7 +226,7 @@ def main(arguments: Sequence[str]) -> int:
     report = HostsReport(hosts_of(request.hosts_file), request)
     progress.note_step("the hosts are read")
     if request.address:
-        report.send(request)
+        report.send(request, request.address)
     elif report.is_alarm or not request.is_quiet:
-        write_blocks(1, report.parts(request.format, request.color))
+        write_blocks(1, report.parts(request.format or "text", request.color))
     return report.worst

@@ -100,7 +100,7 @@ def page_options(request: MailRequest) -> list[str]:
     words += [f"--exclude-from={path}" for path in asked.exclude_from]
     if len(asked.exclude) <= MAX_PATTERNS:
         words += [f"--exclude={pattern}" for pattern in asked.exclude]
-    if not asked.reads_defaults:
+    if asked.no_defaults:
         words.append(NO_DEFAULTS.name)
     return words
 

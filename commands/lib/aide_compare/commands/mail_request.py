@@ -4,7 +4,7 @@ from __future__ import annotations
 
 import argparse
 from collections.abc import Callable, Sequence
-from typing import NamedTuple, Optional, Union
+from typing import Optional, Union
 
 from aide_compare.base import progress
 from aide_compare.base.ending import Fault, Status, say
@@ -18,9 +18,12 @@ from aide_compare.base.options import (
     TO,
     USER,
     WEEKLY,
-    Option,
+    Asked,
+    field,
+    option,
 )
 from aide_compare.base.parser import Defaults, Parser, defaults_for, end_of_options
+from aide_compare.base.parser import named_by_fields
 from aide_compare.commands.compare_task import (
     CompareRequest,
     compare_request,
@@ -29,6 +32,7 @@ from aide_compare.commands.compare_task import (
 from aide_compare.commands.defaults import comparison_defaults
 
 NAME = "aide-compare mail"
+USAGE = "%(prog)s [OPTIONS] [ARGUMENTS of aide-compare]"
 DESCRIPTION = """\
 Compares as aide-compare does with the other arguments. Sends a mail of at most 80 lines if a
 change is not silent, or with the errors if nothing was compared."""
@@ -37,45 +41,32 @@ Status: that of aide-compare-compare(1); 18 if no mail can be sent. With --alarm
 it is 0 if the mail was sent or kept in the queue."""
 
 
-class MailRequest(NamedTuple):
+class MailRequest(Asked):
     """What the options ask for."""
 
+    address: str = field(TO, default="root", help="where the mail goes (root)")
+    seconds: int = field(MAIL_TIME)
+    has_page: bool = field(ATTACH_PAGE)
+    is_test: bool = option("--test", "compare nothing, and send a test mail the same way")
+    weekly: Optional[str] = field(WEEKLY)
+    # Of the units: keep the mail in a directory, send the mails of one, and mail first that a unit
+    # has failed.
+    queue: Optional[str] = option("--queue", argparse.SUPPRESS, "DIRECTORY")
+    send_queue: Optional[str] = option("--send-queue", argparse.SUPPRESS, "DIRECTORY")
+    unit_failed: Optional[str] = option("--unit-failed", argparse.SUPPRESS, "NAME", kind=unit_name)
+    user: Optional[str] = field(USER)
+    # It is the comparison's, and not for the command that a mail names.
+    state: Optional[str] = field(STATE, help=argparse.SUPPRESS)
+    sent_is_success: bool = option(
+        "--alarm-sent-is-success", "end with 0 also after differences or errors that were mailed"
+    )
     comparison: Union[CompareRequest, Fault]  # A Fault in its options is mailed.
     asked: Union[CompareRequest, Fault]  # What the command line alone asks for.
     default_fault: str  # What is wrong with the defaults; "" if nothing is.
-    address: str
-    seconds: int
-    has_page: bool
-    is_test: bool
-    weekly: Optional[str]  # The day of the heartbeat.
-    queue: Optional[str]
-    send_queue: Optional[str]
-    unit_failed: Optional[str]
-    user: Optional[str]
-    state: Optional[str]
-    sent_is_success: bool
 
 
 def own_parser() -> Parser:
-    usage = "%(prog)s [OPTIONS] [ARGUMENTS of aide-compare]"
-    parser = Parser(NAME, DESCRIPTION, epilog=EPILOG, usage=usage)
-    parser.add(TO._replace(default="root", help="where the mail goes (root)"))
-    parser.add(MAIL_TIME, ATTACH_PAGE)
-    success = "end with 0 also after differences or errors that were mailed"
-    parser.add(
-        Option("--test", "compare nothing, and send a test mail the same way"),
-        WEEKLY,
-        # Of the units: keep the mail in a directory, send the mails of one, and mail first that a
-        # unit has failed.
-        Option("--queue", argparse.SUPPRESS, metavar="DIRECTORY"),
-        Option("--send-queue", argparse.SUPPRESS, metavar="DIRECTORY"),
-        Option("--unit-failed", argparse.SUPPRESS, metavar="NAME", kind=unit_name),
-        USER,
-        # It is the comparison's, and not for the command that a mail names.
-        STATE._replace(help=argparse.SUPPRESS),
-        Option("--alarm-sent-is-success", success),
-    )
-    return parser
+    return Parser(NAME, DESCRIPTION, epilog=EPILOG, usage=USAGE, asked=MailRequest)
 
 
 def with_days(words: Sequence[str]) -> list[str]:
@@ -90,11 +81,11 @@ def with_days(words: Sequence[str]) -> list[str]:
 
 
 def comparison_of(
-    words: Sequence[str], args: argparse.Namespace, defaults: Optional[Defaults] = None
+    words: Sequence[str], own: argparse.Namespace, defaults: Optional[Defaults] = None
 ) -> Union[CompareRequest, Fault]:
     """What is compared; the Fault if the words do not say it."""
     try:
-        return compare_request(words, defaults)._replace(user=args.user, state=args.state)
+        return compare_request(words, defaults).but(user=own.user, state=own.state)
     except Fault as fault:
         return fault
 
@@ -105,25 +96,15 @@ def parsed(
     """What the words ask for, and the defaults of a mail and those of a comparison where these say
     nothing; a Fault for words that mean nothing without another one."""
     parser = own_parser()
-    parser.set_defaults(**(own or {}))
+    parser.set_defaults(**named_by_fields(MailRequest, own or {}))
     args, rest = parser.parse_own(with_days(words))
     request = MailRequest(
+        **vars(args),
         comparison=comparison_of(rest, args, others),
         asked=comparison_of(rest, args),
         default_fault="",
-        address=args.to,
-        seconds=args.mail_time,
-        has_page=args.attach_page,
-        is_test=args.test,
-        weekly=args.weekly,
-        queue=args.queue,
-        send_queue=args.send_queue,
-        unit_failed=args.unit_failed,
-        user=args.user,
-        state=args.state,
-        sent_is_success=args.alarm_sent_is_success,
     )
-    progress.tell_steps(args.verbose)
+    progress.tell_steps(request.is_verbose)
     if not isinstance(request.comparison, Fault):
         check(request, request.comparison.databases)
     return request
@@ -180,9 +161,9 @@ def request_of(words: Sequence[str]) -> MailRequest:
         own[STATE.attribute] = state
     request = parsed(words, own, others)
     if fault:
-        request = request._replace(comparison=fault)
+        request = request.but(comparison=fault)
     why = fault or own_fault
     if why:
         say(why.text)
         notes.insert(0, why.text)
-    return request._replace(default_fault="; ".join(notes))
+    return request.but(default_fault="; ".join(notes))

@@ -2,15 +2,14 @@
 from __future__ import annotations
 
 from collections.abc import Iterator, Sequence
-from typing import NamedTuple
 
 from aide_compare.base import progress
 from aide_compare.base.database import MAX_LINE, Kind, Layout
 from aide_compare.base.ending import Fault, Status, say, write_blocks
 from aide_compare.base.escapes import shown
 from aide_compare.base.files import private_file
-from aide_compare.base.options import MAX_SIZE
-from aide_compare.base.parser import Parser
+from aide_compare.base.options import MAX_SIZE, QUIET, Asked, Operand, field
+from aide_compare.base.parser import read
 from aide_compare.base.paths import path_of
 from aide_compare.base.rows import Rows
 from aide_compare.compare.unpack import Copy, copy_database
@@ -34,12 +33,22 @@ ADVICE = (
 )
 
 
-class SortRequest(NamedTuple):
+class SortRequest(Asked):
     """What the options ask for."""
 
-    path: str
-    max_size: int
-    is_quiet: bool
+    is_quiet: bool = field(QUIET, help="do not print how many lines were out of order")
+    path: str = field(
+        Operand(
+            "FILE",
+            "the database, plain or compressed with gzip; standard input if it is left out, and"
+            " for -",
+            nargs="?",
+            default="-",
+        )
+    )
+    max_size: int = field(
+        MAX_SIZE, default=1 << 36, help="refuse a database of more bytes unpacked (64G)"
+    )
 
 
 class Unsorted:
@@ -138,7 +147,8 @@ def sort(request: SortRequest) -> int:
     """Writes the database in path order, and says what was out of order. Returns the status."""
     repeated = RepeatedPaths()
     rows = Rows("create table lines (path_key blob, line blob)", 4 * request.max_size)
-    database = Unsorted(copy_database("given", request.path, request.max_size), rows)
+    path = "/dev/stdin" if request.path == "-" else request.path
+    database = Unsorted(copy_database("given", path, request.max_size), rows)
     write_blocks(1, sorted_blocks(database, rows, repeated))
     progress.note_step("the lines are in order")
     if not request.is_quiet:
@@ -149,20 +159,6 @@ def sort(request: SortRequest) -> int:
     return Status.DATABASE if repeated.count else Status.OK
 
 
-def request_of(arguments: Sequence[str]) -> SortRequest:
-    quiet = "do not print how many lines were out of order"
-    usage = f"{NAME} [OPTIONS] [FILE]"
-    parser = Parser(NAME, DESCRIPTION, quiet, epilog=EPILOG, usage=usage)
-    files = (
-        "the database, plain or compressed with gzip; standard input if it is left out, and for -"
-    )
-    parser.add_operand("file", "FILE", files, nargs="?", default="-")
-    size = "refuse a database of more bytes unpacked (64G)"
-    parser.add(MAX_SIZE._replace(default=1 << 36, help=size))
-    args = parser.parse(arguments)
-    path = "/dev/stdin" if args.file == "-" else args.file
-    return SortRequest(path, args.max_size, args.quiet)
-
-
 def main(arguments: Sequence[str]) -> int:
-    return sort(request_of(arguments))
+    usage = f"{NAME} [OPTIONS] [FILE]"
+    return sort(read(SortRequest, arguments, NAME, DESCRIPTION, EPILOG, usage))

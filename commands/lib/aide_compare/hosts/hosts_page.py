@@ -17,8 +17,8 @@ from aide_compare.hosts.hosts_text import (
 from aide_compare.hosts.reported import SharedChange
 from aide_compare.lines.change import Fields
 from aide_compare.lines.rights import differing
-from aide_compare.show.added import text_members
 from aide_compare.show.digest import digest
+from aide_compare.show.json_lines import text_members
 from aide_compare.show.page import BESIDE, MAX_PAGE, embedded, head_of, page as whole_page
 from aide_compare.show.page import size_beside, values_of
 

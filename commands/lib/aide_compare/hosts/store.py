@@ -15,7 +15,6 @@ from aide_compare.base.files import copy_file, is_locked, open_regular, read_fil
 from aide_compare.base.replacement import NewFile, replace
 from aide_compare.compare.state import State
 
-HOSTS_FILE = "/etc/aide-compare/hosts"
 # What a process may take of memory for one host, beside what it has when its work begins.
 MAX_MEMORY = 64 << 20
 MAX_CAUSE = 5000

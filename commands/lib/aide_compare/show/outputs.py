@@ -35,7 +35,7 @@ def all_lines(comparison: Comparison) -> Reader:
 
 
 def json_lines(comparison: Comparison, judged: Optional[Judged]) -> Iterable[bytes]:
-    from aide_compare.show.added import added_lines
+    from aide_compare.show.json_lines import added_lines
 
     return added_lines(all_lines(comparison), comparison, judged)
 

@@ -18,7 +18,7 @@ from aide_compare.lines.attributes import FORMS, STRENGTH
 from aide_compare.lines.change import Counts, Fields, Standing
 from aide_compare.lines.reader import ENCODE, Reader
 from aide_compare.lines.rights import differing
-from aide_compare.show.added import marked_lines, text_members
+from aide_compare.show.json_lines import marked_lines, text_members
 from aide_compare.show.judgement import brief_of
 
 if TYPE_CHECKING:
