@@ -10,7 +10,7 @@ from typing import NoReturn
 from aide_compare.base.ending import Fault, Status, called, failing, write_all
 from aide_compare.base.escapes import shown
 
-# Each but those in SHORT is a module of its name, of which only the one that is asked for is loaded.
+# Each but those in SHORT is a module, of which only the one that is asked for is loaded.
 COMMANDS = (
     "compare",
     "show",

@@ -1,5 +1,6 @@
-"""Reads the lines of aide_lines: the names of the databases, a line for each change in the order of paths, and an end that says what was read of each
-database, and all counts. Lines without their end were cut, and are not believed."""
+"""Reads the lines of aide_lines: the names of the databases, a line for each change in the order of
+paths, and an end that says what was read of each database, and all counts. Lines without their end
+were cut, and are not believed."""
 from __future__ import annotations
 
 import json
