@@ -24,7 +24,6 @@ from aide_compare.show.page import size_beside, values_of
 
 MAX_LIST = 1500000  # Of each list of hosts.
 MIN_ROW = 400  # So many bytes most rows have at least.
-OWN = ("kind", "path", "path_hex", "type", "severity", "old_various", "per_host", "old", "new")
 
 
 def listed(lines: Sequence[str]) -> list[str]:
@@ -66,11 +65,8 @@ def heading_of(report: Report, left_out: int, high: int) -> Fields:
 
 def row_of(shared: SharedChange, hosts: int) -> bytes:
     """The row of a change, with its hosts."""
-    fields = differing(shared.fields)
-    row = {name: fields[name] for name in OWN if name in fields}
-    row["standing"] = "open"
+    row = {**differing(shared.fields), **text_members(shared.fields), "standing": "open"}
     row["note"] = f"on {shared.hosts:,} of {hosts:,} hosts: {shared.names_text()}"
-    row.update(text_members(shared.fields))
     return embedded([head_of(row), values_of(row)])
 
 

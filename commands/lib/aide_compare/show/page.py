@@ -42,6 +42,8 @@ CHOICES = {
 }
 KNOWN = {"choices": CHOICES, "labels": list(FORMS), "strength": STRENGTH}
 VALUES = ("old", "new", "old_text", "new_text")
+HEAD = ("kind", "path", "path_hex", "standing", "severity", "package", "order")
+HEAD_OF_HOSTS = ("note", "old_various", "per_host")
 # The most bytes of a page, and what is kept free for remarks.
 MAX_PAGE = 20000000
 RESERVE = 8000
@@ -108,8 +110,8 @@ def size_beside(title: str, digest: str, heading: Callable[[], Fields]) -> int:
 
 
 def head_of(fields: Fields) -> Fields:
-    """What is always there of a row: all but its values, and the names of these."""
-    head = {name: value for name, value in fields.items() if name not in VALUES}
+    """What is always there of a row: its place, and the names of its values."""
+    head = {name: fields[name] for name in (*HEAD, *HEAD_OF_HOSTS) if name in fields}
     sides = [fields.get(side, {}) for side in SIDES]
     names = {name.removesuffix("_hex") for side in sides for name in side}
     head["labels"] = " ".join(label for label in FORMS if label in names)
