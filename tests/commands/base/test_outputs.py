@@ -6,6 +6,7 @@ import os
 
 from tests.commands.base.calls import PlacesTest
 
+from aide_compare.base.files import in_memory
 from aide_compare.compare import outputs
 
 

@@ -118,9 +118,9 @@ class HostsReport:
         self.fleet = Fleet(names)
         self.hosts = []
         for number, name in enumerate(names):
-            store = request.stores[share_of(name, len(request.stores)) - 1]
             take = partial(self.fleet.add, number)
-            self.hosts.append(read_host(name, store, request.seconds, request.max_age, take))
+            host = read_host(name, request.store, request.seconds, request.max_age, take)
+            self.hosts.append(host)
         self.fleet.gather()
         self.command = command_text(command_words(request))
         self.worst = max(host.status for host in self.hosts)
