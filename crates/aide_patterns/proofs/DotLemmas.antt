@@ -1,10 +1,10 @@
 -- The test of a path says what the relation says: it counts the components and the names that begin with a dot.
-use Rattle.std.proofs.Common.{◌≡◌, ◌≤◌, ◌+◌, ℕ, Bool, true, false, ◌||◌, ◌&&◌, not, List, [], ◌∷◌, refl, ap, sym, subst, ◌∙◌, arith, eq-eqb}
-use Rattle.std.proofs.Common.{inl, inr}
+use Rattle.std.proofs.Common.{◌≡◌, ◌≤◌, ◌+◌, ℕ, Bool, true, false, ◌||◌, not, List, [], ◌∷◌, refl, ap, sym, subst, ◌∙◌, arith, eq-eqb, inl}
+use Rattle.std.proofs.Common.{inr}
 use Rattle.std.specs.Prelude.{◌==◌, if◌then◌else◌, ◌↔◌, Option, Some, None}
 use Rattle.std.specs.List.{list_any}
 use Rattle.std.proofs.lemmas.Bool.{and_parts, and_from, or_cases, false≢true, eqb-true}
-use Rattle.aide_patterns.specs.Parts.{Part, one, many, Matches, end, item, none, more}
+use Rattle.aide_patterns.specs.Parts.{one, many, Matches, end, item, none, more}
 use Rattle.aide_patterns.specs.Bytes.{is_byte}
 use Rattle.aide_patterns.specs.Component.{component_parts}
 use Rattle.aide_patterns.specs.Path.{Pattern, begins_with, below, components, is_dotted, is_double_star, pattern_from, pattern_of}
@@ -15,7 +15,7 @@ use Rattle.aide_patterns.specs.Rules.{Names, IsFirst, IsFound, IsNamed}
 use Rattle.aide_patterns.proofs.FindLemmas.{line_behind, line_here}
 use Rattle.aide_patterns.proofs.FrontLemmas.{plain, plain_part}
 use Rattle.aide_patterns.specs.code.Fronts.{is_plain}
-use Rattle.aide_patterns.proofs.MatchLemmas.{or_left, or_right}
+use Rattle.aide_patterns.proofs.MatchLemmas.{here, or_right}
 use Rattle.aide_patterns.proofs.MeaningLemmas.{parts_complete, parts_sound, some_in, some_test}
 
 abbrev pub one_if : Bool → ℕ
@@ -116,10 +116,6 @@ same_dot true c h k = ap one_if (sym (h refl))
 same_dot false true h k = absurd (false≢true (k refl))
 same_dot false false h k = refl
 
-some_here : {X : Type 0} (f : List X → Bool) (xs : List X) → f xs ≡ true → some_rest f xs ≡ true
-some_here f [] h = h
-some_here f (x ∷ xs) h = or_left (f (x ∷ xs)) (some_rest f xs) h
-
 pub names_complete : {ps : Pattern} {xs : List (List ℕ)} → Matches MatchesName IsPlainName ps xs
     → (matches matches_name ps xs ≡ true) × (pattern_dots ps ≡ dots xs)
 names_complete end = (refl, refl)
@@ -129,7 +125,7 @@ names_complete (item {t} {x} {ps} {xs} p m) =
       and_from (matches_name t x) (matches matches_name ps xs) it k.0,
       omega (arith, k.1, same_dot (is_dotted t) (is_dotted x) (λ h. dot_kept t x h it) p.dot),
     )
-names_complete (none {ps} {xs} m) = let k = names_complete m in (some_here (matches matches_name ps) xs k.0, k.1)
+names_complete (none {ps} {xs} m) = let k = names_complete m in (here matches_name ps xs k.0, k.1)
 names_complete (more {x} {ps} {xs} taken m) =
     let k = names_complete m in (
       or_right (matches matches_name ps (x ∷ xs)) (some_rest (matches matches_name ps) xs) k.0,

@@ -1,7 +1,7 @@
 -- Laws of patterns, and of lists of them.
-use Rattle.std.proofs.Common.{◌≡◌, ◌≤◌, ℕ, Bool, true, false, ◌&&◌, List, [], ◌∷◌, ◌++◌, length, refl, ap, sym, ◌∙◌, subst, arith, eq-eqb}
+use Rattle.std.proofs.Common.{◌≡◌, ℕ, Bool, true, false, List, [], ◌∷◌, ◌++◌, length, refl, ap, sym, ◌∙◌, subst, arith, eq-eqb}
 use Rattle.std.proofs.Common.{append_assoc}
-use Rattle.std.specs.Prelude.{◌==◌, ◌↔◌, Option, Some, None, Result, Ok, Err}
+use Rattle.std.specs.Prelude.{◌↔◌, Some, Result, Ok, Err}
 use Rattle.std.specs.List.{All, list_all}
 use Rattle.std.proofs.lemmas.Bool.{and_from, and_parts, eqb-true, false≢true}
 use Rattle.std.proofs.lemmas.List.Elements.{All-nil, All-cons, All-head, All-tail}
@@ -9,13 +9,13 @@ use Rattle.aide_patterns.specs.Parts.{Part, many, Matches, none, more}
 use Rattle.aide_patterns.specs.Path.{begins_with, components, pattern_of, IsPlainName, MatchesName, MatchesPath, Pattern}
 use Rattle.aide_patterns.specs.Pieces.{head_until, others_until, pieces}
 use Rattle.aide_patterns.specs.Line.{RuleText}
-use Rattle.aide_patterns.specs.List.{lines_of, numbered, rules_of, HasFirstFault, HasRules, IsReading}
-use Rattle.aide_patterns.specs.Tests.{dots, line_of, matches, matches_name, matches_path, matches_text, names}
-use Rattle.aide_patterns.specs.Rules.{IsFirst, IsFound, IsNamed}
+use Rattle.aide_patterns.specs.List.{numbered, rules_of, HasRules, IsReading}
+use Rattle.aide_patterns.specs.Tests.{dots, line_of, matches, matches_name, matches_path, names}
+use Rattle.aide_patterns.specs.Rules.{IsFound, IsNamed}
 use Rattle.aide_patterns.specs.code.Fronts.{is_plain}
 use Rattle.aide_patterns.specs.code.Reading.{read_list}
 use Rattle.aide_patterns.specs.declared.fault.ListFault.{ListFault}
-use Rattle.aide_patterns.proofs.DotLemmas.{line_is_found, list_meaning, names_complete, pattern_of_dots, text_meaning}
+use Rattle.aide_patterns.proofs.DotLemmas.{list_meaning, names_complete, pattern_of_dots, text_meaning}
 use Rattle.aide_patterns.proofs.FindLemmas.{line_behind, line_here}
 use Rattle.aide_patterns.proofs.FrontLemmas.{one_part}
 use Rattle.aide_patterns.proofs.LiteralLemmas.{first_no_star, within_is, within_itself}

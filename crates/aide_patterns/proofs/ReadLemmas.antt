@@ -1,14 +1,13 @@
 -- What is read line by line is what the list says.
 use Rattle.std.proofs.Common.{◌≡◌, ◌≤◌, ◌<◌, ◌+◌, ◌⊎◌, ℕ, Bool, true, false, List, [], ◌∷◌, ◌++◌, length, refl, ap, sym, ◌∙◌, subst, arith}
 use Rattle.std.proofs.Common.{inl, inr, append_assoc, length-append}
-use Rattle.std.specs.Prelude.{Option, Some, None, Result, Ok, Err, nat_lt, if◌then◌else◌}
+use Rattle.std.specs.Prelude.{Some, None, Result, Ok, Err, nat_lt, if◌then◌else◌}
 use Rattle.std.specs.List.{All}
-use Rattle.std.proofs.lemmas.Bool.{ltb-true, ltb-false, false≢true}
+use Rattle.std.proofs.lemmas.Bool.{ltb-true, ltb-false}
 use Rattle.std.proofs.lemmas.List.{append-nil}
 use Rattle.std.proofs.lemmas.List.Elements.{All-nil, All-cons}
 use Rattle.aide_patterns.specs.Line.{LineResult, RuleText, rule_of}
-use Rattle.aide_patterns.specs.List.{Line, lines_of, numbered, most_rules, rule_at, rule_read, rules_of, fault_read, IsSound, HasRules}
-use Rattle.aide_patterns.specs.List.{HasFirstFault}
+use Rattle.aide_patterns.specs.List.{Line, numbered, most_rules, rule_at, rule_read, rules_of, fault_read, IsSound, HasRules, HasFirstFault}
 use Rattle.aide_patterns.specs.Pieces.{pieces}
 use Rattle.aide_patterns.specs.code.Reading.{added, and_then, read_from, read_list}
 use Rattle.aide_patterns.specs.declared.fault.ListFault.{ListFault}

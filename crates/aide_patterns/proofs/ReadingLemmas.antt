@@ -1,13 +1,13 @@
 -- What a list says is what is read line by line; and what longer lists say.
-use Rattle.std.proofs.Common.{◌≡◌, ◌≤◌, ◌<◌, ◌+◌, ◌⊎◌, ℕ, Bool, true, false, List, [], ◌∷◌, ◌++◌, length, refl, ap, sym, ◌∙◌, subst, arith}
-use Rattle.std.proofs.Common.{inl, inr, append_assoc, length-append}
-use Rattle.std.specs.Prelude.{◌==◌, Option, Some, None, Result, Ok, Err, nat_lt, if◌then◌else◌}
+use Rattle.std.proofs.Common.{◌≡◌, ◌≤◌, ◌<◌, ◌+◌, ℕ, Bool, true, false, List, [], ◌∷◌, ◌++◌, length, refl, ap, sym, ◌∙◌, subst, arith, inl}
+use Rattle.std.proofs.Common.{inr, append_assoc, length-append}
+use Rattle.std.specs.Prelude.{◌==◌, Some, None, Ok, Err, if◌then◌else◌}
 use Rattle.std.specs.List.{All}
-use Rattle.std.proofs.lemmas.Bool.{lt-ltb, le-ltb, eq-eqb, false≢true}
+use Rattle.std.proofs.lemmas.Bool.{lt-ltb, le-ltb, eq-eqb}
 use Rattle.std.proofs.lemmas.List.{append-nil}
 use Rattle.std.proofs.lemmas.List.Elements.{All-head, All-tail}
 use Rattle.aide_patterns.specs.Line.{LineResult, RuleText, rule_of}
-use Rattle.aide_patterns.specs.List.{Line, lines_of, numbered, most_rules, rule_at, rule_read, rules_of, fault_read, IsSound}
+use Rattle.aide_patterns.specs.List.{Line, numbered, most_rules, rule_at, rule_read, rules_of, fault_read, IsSound}
 use Rattle.aide_patterns.specs.Pieces.{head_until, others_until, pieces}
 use Rattle.aide_patterns.specs.code.Reading.{added, and_then, read_from}
 use Rattle.aide_patterns.specs.declared.fault.ListFault.{ListFault}
