@@ -85,19 +85,22 @@ class BaselineTest(ModuleTest):
             self.expect("the new one", self.rights(NAME), (0o644, *owner))
             self.expect("the former one", self.rights(KEPT), (0o4755, *owner))
 
+    def replace_and_look(self) -> bytes:
+        """Replaces the baseline: who owns it then."""
+        return repr(replace(self.base, self.source)[:]).encode()
+
     def replace_as_other(self) -> bytes:
         """Replaces the baseline with the rights of another user: who owns it then."""
         os.setgroups([12346])
         os.setresgid(OTHER, OTHER, OTHER)
         os.setresuid(OTHER, OTHER, OTHER)
-        return repr(replace(self.base, self.source)[:]).encode()
+        return self.replace_and_look()
 
     @unittest.skipUnless(os.getuid() == 0, "it needs root")
     def test_anothers(self) -> None:
         self.fresh(base=b"old")
         os.chown(self.root, OTHER, OTHER)
-        self.fails(18, "belongs to another user", replace, self.base, self.source)
-        self.gives(repr((OTHER, OTHER)).encode(), in_child, self.replace_as_other)
+        self.gives(repr((OTHER, OTHER)).encode(), in_child, self.replace_and_look)
         self.expect("the texts", self.texts(), {NAME: b"new", KEPT: b"old"})
         self.expect("the new one", self.rights(NAME), (0o644, OTHER, OTHER))
         os.mkdir(self.path("second"))

@@ -14,7 +14,6 @@ from aide_compare.base.files import BLOCK, nameless, reopened
 from aide_compare.base.directories import closed_after
 from aide_compare.base.options import MAX_REPORT_BYTES
 from aide_compare.base.paths import Pattern, key_of_path
-from aide_compare.base.rights import become_owner
 from aide_compare.base.words import TRUSTED_SIDES, counted
 from aide_compare.compare.baseline import Baseline, Owners, owners
 from aide_compare.compare.comparison import NO_COPIES, Request
@@ -187,10 +186,9 @@ def merge(request: AcceptRequest, offer: Offer, baseline: Baseline) -> Merged:
 
 def accept(request: AcceptRequest) -> Accepted:
     """Makes the new database the baseline. A database that is not meant is a Fault of status 24.
-    Root opens the new one, and then becomes for good the user in whose directory the baseline
-    is."""
+    Root opens both, and then becomes for good the user in whose directory the baseline is."""
     opened = open_database("new", request.new)
-    become_owner(request.baseline)
+    baseline = Baseline(request.baseline)
     offer = Offer(opened, request.max_size)
     if not offer.sha256.startswith(request.digest):
         raise Fault(
@@ -199,7 +197,6 @@ def accept(request: AcceptRequest) -> Accepted:
             f"the SHA-256 that was given: {request.digest}",
             f"the SHA-256 of the database: {offer.sha256}",
         )
-    baseline = Baseline(request.baseline)
     baseline.settle()
     former = former_of(baseline, request.max_size)
     merged = None

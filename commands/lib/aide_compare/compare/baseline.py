@@ -1,6 +1,5 @@
 """The baseline in its directory, which is locked against other runs, and how another file takes its
-place: no former one is lost. Where another user can write in the directory, or above it, nothing
-is changed: a command becomes that user before."""
+place: no former one is lost."""
 from __future__ import annotations
 
 import errno
@@ -17,7 +16,7 @@ from aide_compare.base.escapes import shown
 from aide_compare.base.files import copy_file, is_locked, new_file, refuse_other_kinds, reopened
 from aide_compare.base.files import unlink
 from aide_compare.base.replacement import exchange
-from aide_compare.base.rights import entry_of
+from aide_compare.base.rights import become, entry_of
 
 FILE_MODES = 0o666
 FIRST_MODE = 0o600
@@ -56,14 +55,18 @@ def owners(status: os.stat_result) -> Owners:
     return Owners(status.st_uid, status.st_gid)
 
 
-def _refuse_other_users(directory: Directory) -> None:
-    """Refuses a directory in which somebody else can write."""
+def _user_for(directory: Directory) -> int | None:
+    """The user with whose rights a directory is changed; None for the caller's own."""
+    if not directory.others:
+        return None
     if ANYBODY in directory.others or len(directory.others) > 1:
         why = "more than one user can write in its directory, or above it; only its owner should"
         raise failure(errno.EPERM, why)
-    if directory.others:
-        why = "its directory, or one above it, belongs to another user; run this as that user"
+    if os.geteuid() != 0:
+        why = "its directory, or one above it, belongs to another user"
+        why += "; run this as that user or as root"
         raise failure(errno.EPERM, why)
+    return min(directory.others)
 
 
 class Former:
@@ -77,7 +80,8 @@ class Former:
 
 
 class Baseline:
-    """The file of a path, or the place where it will be."""
+    """The file of a path, or the place where it will be. Where another user can write in its
+    directory, root opens what is needed of it, and becomes that user for good."""
 
     def __init__(self, path: str) -> None:
         self.path = path
@@ -94,11 +98,14 @@ class Baseline:
         self.spare = f".{self.name}.former"
         self.place = os.path.dirname(path) or "."
         with open_directory(self.place) as directory, failing(self.words):
-            _refuse_other_users(directory)
+            user = _user_for(directory)
             with failing(f"{self.words}: its directory"):
                 self.directory = os.open(".", LISTING, dir_fd=directory.fd)
                 self._lock()
             self.former = self._former()
+            self._readable = self._opened_former()
+        if user is not None:
+            become(entry_of(user))
 
     def _lock(self) -> None:
         """Waits for another run, but not for ever."""
@@ -111,13 +118,19 @@ class Baseline:
             return Former(os.open(self.name, PIECE, dir_fd=self.directory))
         return None
 
-    def reading(self) -> int | None:
-        """A descriptor to read the former baseline; None if there is none, or if the caller may not
-        read it."""
+    def _opened_former(self) -> int | None:
         if self.former is not None:
             with suppress(OSError):
                 return reopened(self.former.fd, os.O_RDONLY | os.O_NONBLOCK)
         return None
+
+    def reading(self) -> int | None:
+        """A descriptor to read the former baseline from its beginning; None if there is none, or if
+        the caller may not read it."""
+        if self._readable is None:
+            return None
+        os.lseek(self._readable, 0, os.SEEK_SET)
+        return os.dup(self._readable)
 
     def replace(self, source: int) -> Owners:
         """Makes a copy of an open file the baseline. Returns to whom it belongs."""
