@@ -81,6 +81,7 @@ HIDDEN = """
     /run/host/inaccessible/blk /run/systemd/inaccessible/chr
     /var/spool/postfix/pid/unix.bounce /var/spool/postfix/pid/inet.smtp
     /run/reboot-required /run/reboot-required.pkgs
+    /var/cache/apt/pkgcache.bin.hSWiF9 /var/cache/apt/srcpkgcache.bin.0aZ9bY
 """
 # Accounts, keys, programs, settings of aide-compare, what apt runs as root or a program loads from
 # /var/cache, what is in homes there, and what something below /run obeys.
@@ -100,7 +101,8 @@ SEEN = """
     /var/cache/man/.forward /var/cache/man/.ssh/authorized_keys /var/cache/man/de/.x/index.db
     /var/backups/.forward /var/backups/shadow.bak /var/backups/.ssh/authorized_keys
     /var/lib/aide-compare/hosts/www/aide.db /var/lib/aide-compare/daily
-    /run/reboot-required.d/x /var/spool/postfix/pid/x /var/spool/postfix/pid /var/spool/postfix/private/bounce
+    /var/cache/apt/pkgcache.bin.x /run/reboot-required.d/x /var/spool/postfix/pid
+    /var/spool/postfix/pid/x /var/spool/postfix/private/bounce
     /var/log/.x /var/log/apt/.x/y /dev/shm/.x /run/.x.pid /run/user/0/gnupg/.x
     /root/.bashrc /root/.profile /root/.vimrc /root/.lesskey /home/anna/.ssh/rc /home/anna/.bash_logout
     /home/anna/x/.bash_history
