@@ -70,9 +70,12 @@ class HostsEndsTest(CommandTest):
     def test_ends(self) -> None:
         """Without room, a reader or a store: a status that is no comparison's."""
         hosts = four_hosts(self)
-        said = hosts.report(before=[*SHELL, 'ulimit -f 0; exec "$@"', "sh"])
+        few = [*SHELL, 'ulimit -f 0; exec "$@"', "sh"]
+        self.assertEqual(hosts.report(before=few).status, 7, "rows that need no file")
+        self.set_names("base.rows", MAX_CACHED=1 << 10)
+        said = hosts.report(before=few)
         self.assertEqual((said.status, said.output, self.leftovers()), (18, "", []), said)
-        self.assertTrue(said.errors)
+        self.assertIn("cannot keep rows in ", said.errors)
         run = hosts.start(hosts.words("aide-compare hosts report", self.path("hosts")))
         if run.stdout is not None:
             run.stdout.close()
