@@ -39,7 +39,7 @@ def compare_and_print(new: str, baseline: str, trusted: Sequence[str]) -> State:
     ended = Printer(request, words).task().carry_out()
     if ended.status > 7:
         raise Fault(Status(ended.status), "nothing was compared, so nothing is accepted")
-    return ended.state
+    return ended.state()
 
 
 def wanted_after_question(new: str, baseline: str, trusted: Sequence[str]) -> State:

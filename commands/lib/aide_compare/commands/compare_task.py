@@ -4,11 +4,11 @@ from __future__ import annotations
 import os
 from collections.abc import Mapping, Sequence
 from contextlib import suppress
-from typing import TYPE_CHECKING, NamedTuple, Optional
+from typing import TYPE_CHECKING, Optional
 
 from aide_compare.base.ending import Fault, Status, write_blocks
 from aide_compare.base.escapes import shown
-from aide_compare.base.files import in_memory, nameless
+from aide_compare.base.files import nameless
 from aide_compare.base.kinds import pattern
 from aide_compare.base.options import (
     AFTER,
@@ -157,20 +157,31 @@ def keep_failure(path: Optional[str], error: Exception) -> None:
 
 class Row:
     """An output: its place, which is open before anything is compared, and what makes its bytes.
-    These are in a private file until all outputs are made. An output `of_failure` is made if nothing
-    was compared, too, and needs no disk."""
+    These are made before any place gets its own. An output `of_failure` is made if nothing was
+    compared, too: its few bytes are in memory, so that it needs no disk."""
 
     def __init__(self, place: Output, make: Maker, of_failure: bool = False) -> None:
         self.place = place
         self.make = make
         self.of_failure = of_failure
-        self.fd = in_memory(b"") if of_failure else nameless()
+        self.fd: Optional[int] = None
+        self.data = b""
 
     def write(self, comparison: Comparison, judged: Optional[Judged]) -> None:
         """Makes the bytes."""
-        os.ftruncate(self.fd, 0)
-        os.lseek(self.fd, 0, os.SEEK_SET)
-        write_blocks(self.fd, self.make(comparison, judged))
+        parts = self.make(comparison, judged)
+        if self.of_failure:
+            self.data = b"".join(parts)
+            return
+        self.fd = nameless()
+        write_blocks(self.fd, parts)
+
+    def put(self) -> None:
+        """Hands the bytes to the place."""
+        if self.fd is None:
+            self.place.commit(self.data)
+        else:
+            self.place.commit_copy(self.fd)
 
 
 def output_rows(request: CompareRequest) -> list[Row]:
@@ -188,11 +199,19 @@ def state_bytes(comparison: Comparison, _judged: Optional[Judged]) -> Sequence[b
     return [comparison.state().text()]
 
 
-class Ended(NamedTuple):
+class Ended:
     """How a comparison has ended."""
 
-    status: int
-    state: State
+    def __init__(self, comparison: Comparison) -> None:
+        self.comparison = comparison
+
+    @property
+    def status(self) -> int:
+        return self.comparison.status
+
+    def state(self) -> State:
+        """What its state file has, or would have."""
+        return self.comparison.state()
 
 
 class Task:
@@ -287,9 +306,9 @@ class Task:
         try:
             for row in self.rows:
                 if row.of_failure or not comparison.has_failed:
-                    row.place.commit_copy(row.fd)
+                    row.put()
         except FAILURES as error:
             if comparison.has_failed:
                 raise
             return self._end(self._made(comparison.failed(error)))
-        return Ended(comparison.status, comparison.state())
+        return Ended(comparison)

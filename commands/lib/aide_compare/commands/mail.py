@@ -128,7 +128,7 @@ def compared(request: MailRequest, told: Told) -> Outcome:
         row = Row(mail, partial(message_of, request, told), of_failure=True)
         task = Task(request.comparison, after=[row])
         ended = task.carry_out()
-        return Outcome(ended.state, mail.data, task.keep)
+        return Outcome(ended.state(), mail.data, task.keep)
     except (Fault, MemoryError, OSError) as error:
         keep_failure(request.state, error)
         comparison = failed_comparison(error)

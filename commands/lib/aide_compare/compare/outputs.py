@@ -5,7 +5,7 @@ import fcntl
 import os
 from contextlib import suppress
 
-from aide_compare.base.ending import Fault, Status, failing
+from aide_compare.base.ending import Fault, Status, failing, write_all
 from aide_compare.base.escapes import shown
 from aide_compare.base.files import PRIVATE, copy_file, given_descriptor
 from aide_compare.base.replacement import Replacement
@@ -34,9 +34,12 @@ class Output:
     """The place that a path means, to which bytes can be written. It is known before the work that
     this is possible."""
 
+    def commit(self, data: bytes) -> None:
+        raise NotImplementedError
+
     def commit_copy(self, source: int) -> None:
         """Writes the bytes of an open file there."""
-        raise NotImplementedError
+        self.commit(whole(source))
 
 
 class Kept(Output):
@@ -44,16 +47,21 @@ class Kept(Output):
 
     data = b""
 
-    def commit_copy(self, source: int) -> None:
-        self.data = os.pread(source, os.fstat(source).st_size, 0)
+    def commit(self, data: bytes) -> None:
+        self.data = data
 
 
 class Notes(Output):
     """Standard error. If that cannot be written, nothing else changes."""
 
-    def commit_copy(self, source: int) -> None:
+    def commit(self, data: bytes) -> None:
         with suppress(OSError):
-            copy_file(source, 2)
+            write_all(2, data)
+
+
+def whole(descriptor: int) -> bytes:
+    """All bytes of a small file."""
+    return os.pread(descriptor, os.fstat(descriptor).st_size, 0)
 
 
 class FileOutput(Output):
@@ -75,6 +83,10 @@ class StreamOutput(Output):
     def __init__(self, descriptor: int, words: str) -> None:
         self.fd = descriptor
         self.words = words
+
+    def commit(self, data: bytes) -> None:
+        with failing(self.words):
+            write_all(self.fd, data)
 
     def commit_copy(self, source: int) -> None:
         with failing(self.words):
