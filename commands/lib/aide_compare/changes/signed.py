@@ -14,7 +14,7 @@ from collections import Counter
 from collections.abc import Callable, Collection, Iterable, Iterator, Mapping, Sequence
 from email.utils import parsedate_to_datetime
 from hashlib import sha256
-from typing import IO, NamedTuple, Optional
+from typing import IO, NamedTuple
 
 from aide_compare.base.directories import closed_after
 from aide_compare.base.ending import Fault, Status, failing, say, write_all
@@ -53,7 +53,7 @@ class Release(NamedTuple):
 
     path: str
     suite: str
-    indexes: Optional[Collection[str]]
+    indexes: Collection[str] | None
 
 
 def run_tool(words: Sequence[str], takers: Mapping[int, Taker], files: Sequence[int]) -> int:

@@ -5,20 +5,19 @@ import os
 import re
 from collections.abc import Callable
 from contextlib import suppress
-from typing import Optional
 
 MERGED = (b"/bin", b"/lib", b"/lib32", b"/lib64", b"/libx32", b"/sbin")
 IN_MERGED = re.compile(rb"\A(?:%s)(?=/|\Z)" % b"|".join(MERGED))
 
 
-def link_here(path: bytes) -> Optional[bytes]:
+def link_here(path: bytes) -> bytes | None:
     """Where a link on this machine points to, None if the path is none."""
     with suppress(OSError):
         return os.readlink(path)
     return None
 
 
-def usr_of(link: Callable[[bytes], Optional[bytes]]) -> Callable[[bytes], bytes]:
+def usr_of(link: Callable[[bytes], bytes | None]) -> Callable[[bytes], bytes]:
     """A function that gives a path with these directories followed where they are such links.
     `link` gives where a path points to."""
     merged = {

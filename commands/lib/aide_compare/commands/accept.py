@@ -3,7 +3,7 @@ whole, or but for what stays open."""
 from __future__ import annotations
 
 from collections.abc import Iterator, Sequence
-from typing import NamedTuple, Optional
+from typing import NamedTuple
 
 from aide_compare.base.ending import Fault, Status, say, tell
 from aide_compare.base.escapes import shown
@@ -87,11 +87,11 @@ def lines_of(request: AcceptRequest, accepted: Accepted, counts: str) -> Iterato
 class Reported(NamedTuple):
     """What is known of the comparison that was read: its state, or why there is none."""
 
-    state: Optional[State]
+    state: State | None
     why_unknown: str = ""
 
 
-def reported_in(path: Optional[str], usual: str = DAILY) -> Reported:
+def reported_in(path: str | None, usual: str = DAILY) -> Reported:
     """What the state file of a comparison says, or the one of each day, which may be missing."""
     try:
         return Reported(read_state(path or usual))

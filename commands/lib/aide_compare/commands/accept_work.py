@@ -6,7 +6,7 @@ import gzip
 import os
 from collections.abc import Iterator, Mapping, Sequence
 from contextlib import suppress
-from typing import TYPE_CHECKING, NamedTuple, Optional
+from typing import TYPE_CHECKING, NamedTuple
 
 from aide_compare.base.ending import Fault, Status, write_all
 from aide_compare.base.escapes import shown
@@ -53,7 +53,7 @@ class AcceptRequest(NamedTuple):
     trusted_copies: Mapping[str, Copy] = NO_COPIES  # A pair that was opened before.
     max_report: int = MAX_REPORT_BYTES  # Of the changes that are asked for what is silent.
     is_quiet: bool = False  # Nothing is said of the comparison.
-    exclusions: Optional[Exclusions] = None  # What a comparison leaves out.
+    exclusions: Exclusions | None = None  # What a comparison leaves out.
 
 
 class Offer:
@@ -92,17 +92,17 @@ class Accepted(NamedTuple):
     """What was done."""
 
     new: Offer
-    former: Optional[Former]  # None if there was no baseline.
+    former: Former | None  # None if there was no baseline.
     sha256: str  # Of the baseline now.
-    merged: Optional[Merged]  # None if nothing stays open.
-    owner: Optional[Owners]  # Of the baseline, None if nothing was written.
+    merged: Merged | None  # None if nothing stays open.
+    owner: Owners | None  # Of the baseline, None if nothing was written.
 
     @property
     def is_replaced(self) -> bool:
         return self.former is None or self.former.sha256 != self.sha256
 
 
-def former_of(baseline: Baseline, max_size: int) -> Optional[Former]:
+def former_of(baseline: Baseline, max_size: int) -> Former | None:
     if baseline.former is None:
         return None
     owner = owners(baseline.former.status)

@@ -1,7 +1,6 @@
 """A comparison as the options of a command line ask for it, and what is written of it."""
 from __future__ import annotations
 
-import os
 from collections.abc import Mapping, Sequence
 from contextlib import suppress
 from typing import TYPE_CHECKING, Optional

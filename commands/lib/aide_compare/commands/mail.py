@@ -8,7 +8,7 @@ import time
 from collections.abc import Callable, Sequence
 from contextlib import closing, suppress
 from functools import partial
-from typing import NamedTuple, Optional
+from typing import NamedTuple
 
 from aide_compare.base.ending import Fault, Status
 from aide_compare.base.escapes import shown
@@ -59,7 +59,7 @@ class QuietRuns(NamedTuple):
     sent: int
     silent: int
 
-    def is_due(self, day: Optional[str], now: int) -> bool:
+    def is_due(self, day: str | None, now: int) -> bool:
         """Whether a heartbeat is sent now: on the day, or a week after the last one."""
         today = time.localtime(now)
         is_new_day = today[:3] != time.localtime(self.sent)[:3]
@@ -90,7 +90,7 @@ def quiet_runs_in(path: str, now: int) -> QuietRuns:
 
 
 def count_quiet_run(
-    path: str, day: Optional[str], silent: int, send: Callable[[Heartbeat], object]
+    path: str, day: str | None, silent: int, send: Callable[[Heartbeat], object]
 ) -> None:
     """Counts a run that raises no alarm, and its silent changes, in a file. A heartbeat has both
     counts, and they begin anew."""
@@ -183,7 +183,7 @@ class FailedUnit(NamedTuple):
     how: str = ""
 
 
-def failed_unit(request: MailRequest) -> Optional[FailedUnit]:
+def failed_unit(request: MailRequest) -> FailedUnit | None:
     """The command line says which unit has failed; systemd 251 and later say how by variables,
     which are enough without the option too."""
     result = os.environ.get("MONITOR_SERVICE_RESULT", "success")

@@ -4,8 +4,8 @@ from __future__ import annotations
 import filecmp
 import os
 import re
+from collections.abc import Sequence
 from contextlib import closing
-from typing import Sequence
 
 from aide_compare.base.ending import Fault, failing, write_all
 from aide_compare.base.escapes import shown
