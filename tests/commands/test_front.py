@@ -52,7 +52,8 @@ class FrontTest(CommandTest):
         for words in (["-h"], ["help"], ["help", "--help"]):
             self.answered(0, text, b"", TOOL, *words)
         for word in EVERY:
-            usage = b"[compare] " if word == "compare" else word.encode() + b" "
+            is_short = word in ("compare", "json", "page")
+            usage = b"[compare] " if is_short else word.encode() + b" "
             parts = [b"usage: aide-compare " + usage, *COMMON]
             given = self.answered(0, parts, b"", TOOL, *word.split(), "--help")
             self.assertIn(b" [OPTIONS]", given.output.splitlines()[0])

@@ -277,10 +277,13 @@ class StandingsTest(mail.MailTest):
             self.assertIn("\\", text)
 
     def test_options(self) -> None:
-        """aide-compare compare has at most 18 options. Those that are gone are refused."""
+        """aide-compare compare has at most 18 options beside those of outputs. Those that are gone
+        are refused."""
         help_text = self.call("aide-compare compare", "--help").output.decode()
         names = re.findall(r"(?m)^  (-[^ ,]+)", help_text)
-        self.assertTrue(10 < len(names) <= 18, names)
+        outputs = {"--json", "--page"}
+        self.assertLessEqual(outputs, set(names))
+        self.assertTrue(10 < len(set(names) - outputs) <= 18, names)
         for name in GONE.split():
             words = name.split("=")
             self.expect(f"the option {name}", self.call(TOOL, *words, "o.db", "n.db"), 15, b"")

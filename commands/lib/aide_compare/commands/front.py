@@ -38,10 +38,10 @@ usage: aide-compare [compare] [OPTIONS] [OLD NEW]
   aide-compare setup                     each day on this machine, with a mail
 
   compare    compare two databases       json     what differs as lines of JSON
-  show PATH  one entry of both in full   page     what differs as a page
+  show PATH  what changed of one path    page     what differs as a page
   mail       compare, and send a mail
   status     the last result: for you,   sort     put a database into path order
-             logs and Prometheus         setup    make this machine ready
+             programs and Prometheus     setup    make this machine ready
   accept     make a database the         version  the program, whether proved
              baseline
   archive    the database to expect after signed upgrades
