@@ -75,7 +75,7 @@ class OccasionTest(CommandTest):
         words = ("--json", "lines", "--page", "page", "--state", "state")
         self.answered(7, brief, None, "aide-compare", *words, OLD, NEW)
         self.assertEqual(self.read("lines"), lines)
-        at = rb"20..-..-.. ..:..:.. UTC"  # When it was compared.
+        at = rb"20..-..-.. ..:.. UTC"  # When it was compared.
         self.assertEqual(re.sub(at, b"", self.read("page")), re.sub(at, b"", page))
         for name in ("lines", "page"):
             self.assertEqual(os.stat(self.path(name)).st_mode & 0o777, 0o600)
