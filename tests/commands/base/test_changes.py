@@ -17,8 +17,6 @@ LINE: dict[str, Any] = {
     "package": "p 1",
     "old": {"Size": 1, "Inode": "9999999999999999999", "LinkName": "9", "ACL_hex": "ff"},
     "new": {"Size": None},
-    "old_text": {"Size": "one"},
-    "new_text": {"Size": "none"},
 }
 CHANGE = Change(
     path=b"/\xff",
@@ -30,11 +28,8 @@ CHANGE = Change(
     standing=Standing.RECORDED,
     severity="low",
     package="p 1",
-    old_texts={"Size": "one"},
-    new_texts={"Size": "none"},
-    says_standing=True,
 )
-LEAST = Change(b"/a", "added", "Entry", "", {}, {}, Standing.OPEN, "", "", {}, {}, False)
+LEAST = Change(b"/a", "added", "Entry", "", {}, {}, Standing.OPEN, "", "")
 COUNTS = Counts(100, 20, 3, 6, 1, 2, 3, 0, 1, 2)
 
 
@@ -72,8 +67,6 @@ class ChangesTest(ModuleTest):
             {"old": {"Size": [1]}},
             {"new": {"Size": True}},
             {"old": {"Inode": "x"}},
-            {"old_text": ["one"]},
-            {"new_text": {"Size": 1}},
         ]
         for more in rows:
             with self.subTest(more=more), self.assertRaises((ValueError, KeyError)):

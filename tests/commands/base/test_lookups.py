@@ -1,9 +1,7 @@
-"""Short ways to what a slower one says: names in a directory, beginnings of lines, and texts of
-times."""
+"""Short ways to what a slower one says: names in a directory, and beginnings of lines."""
 from __future__ import annotations
 
 import io
-import json
 import random
 from typing import Any, Dict, List
 
@@ -11,9 +9,7 @@ from tests.commands.base.calls import ModuleTest
 from tests.commands.viewers.expected import RIGHTS, SLOTS
 
 from aide_compare.base.paths import Pattern
-from aide_compare.lines.decoded import texts_of, texts_of_line
 from aide_compare.lines.reader import ENCODE, Reader
-from aide_compare.show.json_lines import members_text, text_members, time_texts
 
 PIECES = (b"a", b"b", b"a.so", b"", b".ssh", b"x-y", b"[", b"a\n")
 PATTERNS = (
@@ -91,21 +87,3 @@ class LookupsTest(ModuleTest):
                 got = (outline.kind, outline.path, outline.silent is not None)
                 want = (change.kind, change.path, change.standing.is_silent)
                 self.expect(f"{path!r}", got, want)
-
-    def test_times(self) -> None:
-        """The texts of a line are those of its object, and those of its change."""
-        quick = 0
-        for path in ODD_PATHS:
-            for _ in range(200):
-                line = random_line(self.draw, path)
-                fields = json.loads(line)
-                change = next(iter(Reader(io.BytesIO(HEAD + line))))[1]
-                want = members_text(text_members(texts_of(change)))
-                self.expect(
-                    "of its object", members_text(text_members(texts_of_line(fields))), want
-                )
-                got = time_texts(line)
-                if got is not None:
-                    quick += 1
-                    self.expect("of the line", got, want)
-        self.assertGreater(quick, 100)

@@ -61,9 +61,10 @@ class PackagesTest(ModuleTest):
     def test_named(self) -> None:
         """A package comes and goes with its list. Beside a trusted pair one that is new or has
         other digests is signed or not by its digests."""
-        rows = [(INFO + b"tool.list", "added"), (INFO + b"new.list", "added")]
-        rows += [(INFO + b"new.md5sums", "added"), (INFO + b"old.list", "removed")]
-        rows += [(INFO + b"old.md5sums", "removed"), (INFO + b"other.md5sums", "changed")]
+        names = [(b"tool.list", "added"), (b"new.list", "added"), (b"new.md5sums", "added")]
+        names += [(b"old.list", "removed"), (b"old.md5sums", "removed")]
+        names += [(b"other.md5sums", "changed")]
+        rows = [SimpleNamespace(path=INFO + name, kind=kind) for name, kind in names]
         findings: Any = SimpleNamespace(below=lambda _directory: rows)
         named = self.dpkg().named(findings, {}, None).titled()
         wanted = [("New packages", ["tool 2", "new "]), ("Removed packages", ["old"])]
