@@ -55,7 +55,7 @@ class CutLinesTest(CommandTest):
         paths = {each["path"] for each in changes}
         self.assertTrue({"/root/.bashrc", "/root/x"} <= paths, "what root has is kept")
         brief = hosts.report("--format", "brief").output
-        self.assertIn("High:\n  long                added    /root/.bashrc", brief)
+        self.assertIn("severity high:\n  long                added    /root/.bashrc", brief)
 
     def report_of(self, hosts: Hosts, lines: bytes) -> Fields:
         """What the report says of a host whose lines these are."""
@@ -82,13 +82,11 @@ class CutLinesTest(CommandTest):
         text = self.read(LINES)
         for old, new in (
             (b'"path":"/etc/p"', b'"path":"etc/p"'),
-            (b'"severity":"high"', b'"severity":"none"'),
             (b'"path":"/etc/p"', b'"same_as":"old","path":"/etc/p"'),
             (b'"listed":4', b'"listed":3'),
             (b'"open_high":', b'"open_high":1'),
             (b'"end":true', b'"end":true}\n{"end":true'),
-            (b'"format":2', b'"format":3'),
-            (b'"rank":', b'"rank":-1'),
+            (b'"format":3', b'"format":2'),
             (b'{"kind":"changed"', b'["kind"'),
         ):
             self.assertIn(old, text)

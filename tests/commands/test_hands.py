@@ -4,11 +4,9 @@ from __future__ import annotations
 
 import os
 import shlex
-import signal
 from typing import Any
 
 from tests.lib.scratch import read
-from tests.lib.waiting import is_alive, until
 
 from . import mail
 from . import test_standings as standings
@@ -189,16 +187,18 @@ class HandsTest(CommandTest):
         return found
 
     def test_owner(self) -> None:
-        """Root compares with the rights of the user in whose folder the baseline is. What only root
-        may read or write, root opens and puts in place."""
+        """Root becomes the user in whose folder the baseline is. What only root may read, root
+        opens before; what the user may not write is refused."""
         self.put_baseline()
-        words = ("--state", "mine/state", "his/o.db", "mine/n.db")
+        words = ("--state", "his/state", "his/o.db", "mine/n.db")
         counts: Texts = standings.WORDS.encode()
         self.answered(7, b"Changed entries:         4", counts, TOOL, "--report", *words)
         self.assertEqual(self.call(TOOL, *words).output, standings.BRIEF.encode())
         self.assertEqual(self.users(), {str(NOBODY)})
-        self.assertIn(b"open=4\n", self.read("mine/state"))
-        self.assertEqual(os.stat(self.path("mine/state")).st_uid, 0, "root's state")
+        self.assertEqual(self.state("his/state")["open"], "4")
+        self.assertEqual(os.stat(self.path("his/state")).st_uid, NOBODY, "the user's state")
+        words = ("--state", "mine/state", *words[2:])
+        self.answered(18, b"", b"--user root keeps root's", TOOL, *words)
         self.answered(7, None, counts, TOOL, "--user", "root", "--report", *words)
         self.assertEqual(self.users(), {"0"})
         names = (self.path("his/o.db"), self.path("mine/n.db"))
@@ -206,22 +206,4 @@ class HandsTest(CommandTest):
         self.answered(7, None, b"his/o.db, written", TOOL, "--report", "-c", "his.conf")
         self.assertEqual(self.users(), {str(NOBODY)}, "by the configuration")
         self.write("bad.db", b"x\n")
-        self.refused(24, b"no @@begin_db", TOOL, "his/o.db", "bad.db", state="mine/state")
-
-    def test_lost_child(self) -> None:
-        """The child of root's comparison is killed, or its parent: no status of a comparison, no
-        state of before, no process left."""
-        self.put_baseline()
-        self.write("mine/state", b"as before\n")
-        words = ("--report", "his/o.db", "mine/n.db")
-        self.note_users("case $1 in -E) kill -9 $PPID; sleep 5;; esac")
-        self.refused(18, b"ended with -9", TOOL, *words, state="mine/state")
-        os.remove(self.path("out/users"))
-        self.note_users("case $1 in -E) exec sleep 60;; esac")
-        process = self.start(TOOL, "--state", "mine/state", *words)
-        noted = self.path("out/users")
-        until(lambda: os.path.exists(noted) and os.path.getsize(noted))
-        program = int(self.read("out/users").split()[1])
-        process.send_signal(signal.SIGTERM)
-        process.communicate(timeout=20)
-        self.assertTrue(until(lambda: not is_alive(program)), "no process is left")
+        self.refused(24, b"no @@begin_db", TOOL, "his/o.db", "bad.db", state="his/state")

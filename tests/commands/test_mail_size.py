@@ -171,7 +171,7 @@ class SizesTest(MailTest):
         unit = [*queue, "--max-age", "50h", "--state", "state"]
         short = [*queue, "-A", "report_level=summary", "old.db", "new.db"]
         for label, words, wanted in (
-            ("with a page", ["--attach-page", *queue, "old.db", "new.db"], (7, 2, 6)),
+            ("with a page", ["--attach-page", *queue, "old.db", "new.db"], (7, 2, 5)),
             ("the unit's", [*unit, "-c", "conf"], (7, 3, 5)),
             ("of a short report", short, (7, 2, 4)),
             ("by sendmail", ["old.db", "new.db"], (7, 3, 3)),

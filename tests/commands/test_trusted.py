@@ -199,7 +199,7 @@ class TrustedTest(mail.MailTest):
         answer = self.call(TOOL, *PAIR, *BOTH)
         self.assertIn(b"\nSilent: 1 same, 3 trusted\n", answer.output)
         page = self.call(TOOL + " page", *PAIR, *BOTH)
-        self.expect("a page", page, 7, b"<dt>trusted</dt><dd>3</dd>")
+        self.expect("a page", page, 7, b'["trusted",3]')
 
     def test_mail(self) -> None:
         """No mail goes out if all that differs is silent; another one names the pair in its
@@ -256,19 +256,6 @@ class TrustedTest(mail.MailTest):
                 if path in side.entries:
                     merged.entries[path] = side.entries[path]
             self.assertEqual(contents(self)[0], merged.database(), ("what stays", contents(self)))
-
-    def test_show(self) -> None:
-        """All four entries of a path are printed."""
-        put(self)
-        pair = [b"trusted new database: canary-new.db"]
-        pair += [b"\nFile, in the trusted %s database\n" % side for side in (b"old", b"new")]
-        none = [b"\nnot in the trusted %s database\n" % side for side in (b"old", b"new")]
-        for path, wanted in (
-            ("/usr/bin/evil", [*pair, sha256(TWO).encode()]),
-            ("/usr/bin/mine", [b"added\n", *none]),
-        ):
-            answer = self.call(TOOL + " show", *PAIR, path, *BOTH)
-            self.expect(f"show {path}", answer, 0, output=wanted, errors=b"")
 
     def test_owner(self) -> None:
         """Root opens the pair, and compares with the rights of the user in whose directory the

@@ -217,7 +217,7 @@ class MachineTest(ScratchTest):
         return self.taken("mailed")
 
     def digest_of_state(self, name: str = STATE) -> str:
-        found = re.search("^new_sha256=([0-9a-f]{64})$", self.read(name), re.M)
+        found = re.search('"new_sha256": "([0-9a-f]{64})"', self.read(name))
         self.assertIsNotNone(found, self.read(name))
         return found.group(1) if found else ""
 

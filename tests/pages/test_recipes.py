@@ -67,14 +67,13 @@ class HandsTest(RecipesTest):
     def test_page(self) -> None:
         self.put_files(OLD, NEW)
         self.assertEqual(self.recipe("page"), (7, "", ""))
-        self.assertIn("a é</code>", self.read("/tmp/page.html"))
+        self.assertIn("/a é", self.read("/tmp/page.html"))
         self.assertIn("</html>", self.read("/tmp/page.html"))
 
     def test_lines(self) -> None:
         self.put_files(of_sizes(BEFORE), of_sizes(INTRUDER))
         self.assertEqual(self.recipe("lines")[0], 0)
         self.assertIn('"left_out":{"old":3,"new":4}', self.read("/tmp/lines"))
-        self.assertIn("</html>", self.read("/tmp/page.html"))
         if not shutil.which("jq"):
             self.skipTest("not installed: jq")
         self.assertEqual(self.recipe("one object"), (0, "", ""))

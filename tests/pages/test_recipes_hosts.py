@@ -97,7 +97,7 @@ class HostsTest(RecipesTest):
         self.assertEqual(self.recipe("mail hosts")[0], 24)
         mail = self.taken("mailed") or ""
         self.assertIn(f"\nSubject: {head}\n", mail)
-        self.assertRegex(mail, r"(?m)^  (?:other \+1)? +added +/a é: -rw-r--r--$")
+        self.assertRegex(mail, r"(?m)^  (?:other \+1)? +added +/a é: -rw-r--r-- 5 bytes$")
 
     def test_at_once(self) -> None:
         """Three runs over the same hosts at once: each has its lines, and the databases are

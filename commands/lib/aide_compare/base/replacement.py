@@ -7,6 +7,8 @@ import time
 import zlib
 from collections.abc import Callable
 from contextlib import closing, suppress
+from functools import cache
+from typing import Optional
 
 from aide_compare.base.directories import LISTING, Directory, closed_after, failure
 from aide_compare.base.directories import open_directory
@@ -177,15 +179,27 @@ def replace_by_copy(path: str, source: int, mode: int, what: str) -> None:
         file.commit_copy(source)
 
 
-def exchange(directory: int, one: str, other: str) -> bool:
-    """Two names of a directory change places in one step, by renameat2. False, with nothing
-    changed, if that is not possible."""
+@cache
+def renameat2() -> Optional[Callable[..., int]]:
+    """The call of the C library, None if there is none. A command loads it before it becomes a user
+    who may not read the module."""
     try:
         import ctypes
 
-        call = ctypes.CDLL(None, use_errno=True).renameat2
+        call: Callable[..., int] = ctypes.CDLL(None, use_errno=True).renameat2
     except (ImportError, AttributeError, OSError):
+        return None
+    return call
+
+
+def exchange(directory: int, one: str, other: str) -> bool:
+    """Two names of a directory change places in one step, by renameat2. False, with nothing
+    changed, if that is not possible."""
+    call = renameat2()
+    if call is None:
         return False
+    import ctypes
+
     if call(directory, os.fsencode(one), directory, os.fsencode(other), RENAME_EXCHANGE) == 0:
         return True
     if ctypes.get_errno() in NO_EXCHANGE:

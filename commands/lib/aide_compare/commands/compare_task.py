@@ -266,14 +266,16 @@ class Task:
     def _open_outputs(self, user: Optional[int]) -> None:
         """Opens the places of the outputs, as this user may write them."""
         try:
-            rows = [*self.before, *output_rows(self.options)]
             if self.options.state:
                 self.state_file = FileOutput(self.options.state, "the state file", ANYBODY_READS)
-                rows.append(Row(self.state_file, state_bytes, of_failure=True))
+            rows = [*self.before, *output_rows(self.options)]
         except Fault as fault:
-            if user is None:
-                raise
-            raise Fault(fault.status, fault.text, *fault.more, rights_hint(user))
+            if user is not None:
+                fault = Fault(fault.status, fault.text, *fault.more, rights_hint(user))
+            self.keep(failed_comparison(fault).state())
+            raise fault
+        if self.state_file:
+            rows.append(Row(self.state_file, state_bytes, of_failure=True))
         self.rows = [*rows, *self.after]
 
     def _made(self, comparison: Comparison) -> Comparison:

@@ -15,7 +15,7 @@ from aide_compare.base.ending import Fault, Status, failing, why_of
 from aide_compare.base.escapes import shown
 from aide_compare.base.files import copy_file, is_locked, new_file, refuse_other_kinds, reopened
 from aide_compare.base.files import unlink
-from aide_compare.base.replacement import exchange
+from aide_compare.base.replacement import exchange, renameat2
 from aide_compare.base.rights import become, entry_of
 
 FILE_MODES = 0o666
@@ -105,6 +105,7 @@ class Baseline:
             self.former = self._former()
             self._readable = self._opened_former()
         if user is not None:
+            renameat2()
             become(entry_of(user))
 
     def _lock(self) -> None:
