@@ -164,6 +164,7 @@ class TextsTest(MailTest):
         self.assertEqual(len(heads_in(body(parts[1]))), 4)
         self.set_names("commands.mail_message", MAX_PAGE=9000)
         message = self.mail("--attach-page", "old.db", "new.db")
+        assert message is not None
         data = data_in(body(message.get_payload()[1]))
         self.assertEqual(data["heading"]["remarks"][0].split(" changes")[0], "0 of 4")
         failing = "def head_of(*words):\n    raise KeyError('an odd report')\n"

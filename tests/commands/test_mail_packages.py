@@ -55,7 +55,9 @@ class MailPackagesTest(mail.MailTest):
                 host.old.file(path, ONE)
                 host.new.file(path, TWO)
         lines = self.lines(host)
-        self.assertTrue(lines[0].startswith("6 changes are open, 0 of severity high. 6 more"), lines)
+        self.assertTrue(
+            lines[0].startswith("6 changes are open, 0 of severity high. 6 more"), lines
+        )
         at = lines.index("Open, compiled of changed sources, their contents in no record:")
         wanted = ["  one 1: 2 files", "  three 1: 2 files", "  and 2 files of other packages", ""]
         self.assertEqual(lines[at + 1 : at + 5], wanted, lines)

@@ -91,8 +91,7 @@ class OccasionTest(CommandTest):
             )
         self.refused(USAGE, b"only one output", "aide-compare", "--json", "-", "--page=-", OLD, NEW)
         said = b"cannot write the output of --json none/lines"
-        words = ("--json", "none/lines", OLD, NEW)
-        self.refused(DEVICE, said, "aide-compare", *words, state="state")
+        self.refused(DEVICE, said, "aide-compare", "--json", "none/lines", OLD, NEW, state="state")
         self.refused(
             DEVICE, b"cannot open", "aide-compare", "--json=lines", OLD, "/no", state="state"
         )

@@ -57,7 +57,3 @@ class Tables(unittest.TestCase):
             with self.subTest(old=old, new=new, of_old=of_old, of_new=of_new):
                 expected = self.line_of("ALL", old, new, of_old == "true", of_new == "true")
                 self.assertEqual(int(line), expected)
-
-
-if __name__ == "__main__":
-    unittest.main()

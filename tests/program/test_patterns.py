@@ -67,7 +67,3 @@ class Shipped(unittest.TestCase):
         self.assertGreater(patterns.line_of(rules, b"/var/log/syslog.1", False), 0)
         self.assertEqual(patterns.line_of(rules, b"/var/log/.hidden", False), 0)
         self.assertEqual(patterns.line_of(rules, b"/var/log/tool", True), 0)
-
-
-if __name__ == "__main__":
-    unittest.main()

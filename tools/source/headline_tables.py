@@ -140,8 +140,8 @@ def types_of(page: Page, known: list[tuple[str, str, str]]) -> list[str]:
         parts = []
         for part in parts_of(read(file), name):
             others = [each for each in aliases.get((crate, name, part), []) if each != part]
-            above = f" (above {listed(others)})" if others else ""
-            parts.append(f"`{part}`{above}")
+            shown = f" (above {listed(others)})" if others else ""
+            parts.append(f"`{part}`{shown}")
         sentence = words.split(". ")[0].rstrip(".")
         lines.append(f"| `{name}` | {sentence} | {', '.join(parts)} | `{file}` |")
     constants = constants_of(declared)

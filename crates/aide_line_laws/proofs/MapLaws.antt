@@ -30,7 +30,8 @@ use Rattle.aide_report.specs.Sections.{all_listed, is_in}
 use Rattle.aide_report.proofs.MergeLemmas.{and_first, and_second, get-compared, lt_less, paired}
 use Rattle.aide_line_laws.specs.ByteValues.{AreBytes}
 use Rattle.aide_line_laws.specs.Field.{Field}
-use Rattle.aide_line_laws.specs.OverMaps.{AreApart, HappenedThere, IsAbout, IsAccount, IsFramed, IsOneOf, SayAll, SaysOne, StayedAsOld, differ_beyond}
+use Rattle.aide_line_laws.specs.OverMaps.{AreApart, HappenedThere, IsAbout, IsAccount, IsFramed, IsOneOf, SayAll, SaysOne}
+use Rattle.aide_line_laws.specs.OverMaps.{StayedAsOld, differ_beyond}
 use Rattle.aide_line_laws.specs.TextFields.{change_fields, fields_beside, fields_read}
 use Rattle.aide_line_laws.proofs.ReadingLaws.{account_is_read_back, path_is_read_back}
 use Rattle.aide_line_laws.proofs.TextLaws.{IsChangeOfBytes, changes_bytes}

@@ -1,6 +1,6 @@
 -- What the lines of changes say of four databases, path by path.
-use Rattle.std.specs.Prelude.{◌≡◌, ◌⊎◌, ℕ, Bool, true, false, List, [], ◌∷◌, ◌++◌, Option, Some, None, ⊤}
-use Rattle.std.specs.Prelude.{codes, option_map}
+use Rattle.std.specs.Prelude.{◌≡◌, ◌⊎◌, ℕ, Bool, true, false, List, [], ◌∷◌, ◌++◌, Option, Some}
+use Rattle.std.specs.Prelude.{None, ⊤, codes, option_map}
 use Rattle.std.specs.FinMap.{get}
 use Rattle.std.specs.Io.KnownBytes.{Appends}
 use Rattle.json.specs.Json.{string}
@@ -20,8 +20,8 @@ use Rattle.aide_line_laws.specs.Reading.{text_under, value_under}
 
 -- ---- one path
 
--- what two databases have at a path differs beyond what the options ignore: only one of them has an entry there, or both
--- have one and an attribute was changed, added or removed
+-- what two databases have at a path differs beyond what the options ignore: only one of them has
+-- an entry there, or both have one and an attribute was changed, added or removed
 abbrev pub differ_beyond : Ignore → Pair → Bool
 differ_beyond ignore (None, None) = false
 differ_beyond ignore (None, Some new) = true
@@ -35,16 +35,17 @@ pub record StayedAsOld (pair : Pair) : Type 0 where
   pub both : pair ≡ (Some old, Some new)
   pub agrees : Agrees old new
 
--- The same happened at the path of a trusted machine: it has an entry that agrees with the new one, and that entry is no
--- old one; or it had an entry that agrees with the one that is gone, and has none any more.
+-- The same happened at the path of a trusted machine: it has an entry that agrees with the new one,
+-- and that entry is no old one; or it had an entry that agrees with the one that is gone, and has
+-- none any more.
 abbrev pub HappenedThere : (found trusted : Pair) → Type 0
 HappenedThere (old, Some new) (trusted_old, Some trusted_new) =
     Agrees new trusted_new × (StayedAsOld (trusted_old, Some trusted_new) → ⊥)
 HappenedThere (Some old, None) (Some trusted_old, None) = Agrees old trusted_old
 HappenedThere _ _ = ⊥
 
--- What accounts for a change: the old entry exactly if it stayed as it was; otherwise the trusted machine exactly if the
--- same happened there.
+-- What accounts for a change: the old entry exactly if it stayed as it was; otherwise the trusted
+-- machine exactly if the same happened there.
 pub record IsAccount (found there : Pair) (account : Option SameAs) : Type 0 where
   pub old : account ≡ Some Old → StayedAsOld found
   pub from_old : StayedAsOld found → account ≡ Some Old
