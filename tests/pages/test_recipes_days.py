@@ -82,7 +82,9 @@ class DaysTest(RecipesTest):
                     if os.geteuid() == 0:
                         self.assertEqual((done[0], done[1]), (1, ""), name)
         self.assertEqual(os.listdir(self.path("/var/tmp")), [])
-        self.assertTrue(self.run_words(["cat", self.path(STATE)], NOBODY)[1].startswith('{"format": '))
+        self.assertTrue(
+            self.run_words(["cat", self.path(STATE)], NOBODY)[1].startswith('{"format": ')
+        )
 
     def test_aide_stops(self) -> None:
         """The new database is too old: no way of asking takes it for a quiet day."""

@@ -144,8 +144,11 @@ class ReplacementTest(PlacesTest):
             self.gives(True, replacement.exchange, *given)
             with mock.patch.object(replacement, "RENAME_EXCHANGE", 3):  # No call knows these flags.
                 self.gives(False, replacement.exchange, *given)
+            self.addCleanup(replacement.renameat2.cache_clear)
+            replacement.renameat2.cache_clear()
             with mock.patch.object(ctypes, "CDLL", side_effect=OSError):
                 self.gives(False, replacement.exchange, *given)
+            replacement.renameat2.cache_clear()
             with self.assertRaises(FileNotFoundError):
                 replacement.exchange(folder.fd, "one", "none")
         self.assertEqual((self.read("one"), self.read("other")), (b"2", b"1"))
