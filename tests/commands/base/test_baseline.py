@@ -133,12 +133,13 @@ class BaselineTest(ModuleTest):
         self.fresh(base=b"old")
         before = signal.signal(signal.SIGIO, signal.SIG_IGN)
         self.addCleanup(signal.signal, signal.SIGIO, before)
-        with open(self.base, "r+b") as file, opened(self.base) as made:
+        with open(self.base, "r+b") as file:
             try:
                 fcntl.fcntl(file, fcntl.F_SETLEASE, fcntl.F_WRLCK)
             except OSError:
                 self.skipTest("nothing can be leased here")
-            self.assertIsNone(made.reading())
+            with opened(self.base) as made:
+                self.assertIsNone(made.reading())
 
     def test_settled(self) -> None:
         """What a run has left that was killed after and before the names were exchanged."""
