@@ -207,3 +207,6 @@ class HandsTest(CommandTest):
         self.assertEqual(self.users(), {str(NOBODY)}, "by the configuration")
         self.write("bad.db", b"x\n")
         self.refused(24, b"no @@begin_db", TOOL, "his/o.db", "bad.db", state="his/state")
+        os.mkdir(self.path("other"))
+        os.chown(self.path("other"), 1, 1)
+        self.refused(15, b"choose one by --user", TOOL, *words[2:], state="other/state")

@@ -244,7 +244,7 @@ class Task:
             failure = error
         user = None
         if not self.options.user:
-            user = become_owner(*filter(None, (work.databases.old, *self._files())))
+            user = self._become_owner(work.databases.old)
         self._open_outputs(user)
         if failure is not None:
             return self._end(self._made(work.failed(failure)))
@@ -252,6 +252,13 @@ class Task:
         if user is not None:
             comparison = comparison.explained(rights_hint(user))
         return self._end(self._made(comparison))
+
+    def _become_owner(self, baseline: str) -> Optional[int]:
+        try:
+            return become_owner(*filter(None, (baseline, *self._files())))
+        except Fault as fault:
+            keep_failure(self.options.state, fault)
+            raise
 
     def keep(self, state: State) -> None:
         """Writes another state where the options want it."""
