@@ -1,5 +1,5 @@
-"""Rows in a temporary database of SQLite: of any number of them little is in memory. The file of the
-database has no name, and is made only if the rows have no room in memory."""
+"""Rows in a temporary database of SQLite: of any number of them little is in memory. The file of
+the database has no name, and is made only if the rows have no room in memory."""
 from __future__ import annotations
 
 from collections.abc import Iterable, Iterator

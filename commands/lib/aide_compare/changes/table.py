@@ -1,5 +1,5 @@
-"""The changes that are not silent, as the rows of one table. Whatever people read of many changes is
-a question to it, in the one order of ORDER."""
+"""The changes that are not silent, as the rows of one table. Whatever people read of many changes
+is a question to it, in the one order of ORDER."""
 from __future__ import annotations
 
 from collections import Counter

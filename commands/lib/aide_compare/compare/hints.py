@@ -59,7 +59,10 @@ NOT_SUPPORTED = (
     "aide-compare.conf(5)"
 )
 # Bytes that no text has, and how packed ones begin, which would hide the lines around them.
-BINARY = rb"[\x00-\x08\x0b\x0c\x0e-\x1a\x1c-\x1f]|^(?:\xfd7zXZ|\x28\xb5\x2f\xfd|BZh|\xef\xbb\xbf|\xff\xfe)"
+BINARY = (
+    rb"[\x00-\x08\x0b\x0c\x0e-\x1a\x1c-\x1f]"
+    rb"|^(?:\xfd7zXZ|\x28\xb5\x2f\xfd|BZh|\xef\xbb\xbf|\xff\xfe)"
+)
 
 
 def _start_of_line(descriptor: int, number: int) -> bytes:

@@ -109,8 +109,8 @@ class Fleet:
         return (self.shared(row, max_names) for row in self.table.rows(order=order))
 
     def shared(self, row: Row, max_names: int) -> SharedChange:
-        """A change on some hosts. Values that are of one host are shown if there is only one; of old
-        values that are not the same, only the names of their attributes."""
+        """A change on some hosts. Values that are of one host are shown if there is only one; of
+        old values that are not the same, only the names of their attributes."""
         hosts: list[int] = []
         olds: set[bytes] = set()
         owns: set[str] = set()

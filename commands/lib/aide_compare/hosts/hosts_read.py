@@ -70,7 +70,8 @@ def host_in(directory: HostDirectory, max_age: int) -> Host:
 
 
 class KeptChanges:
-    """The changes in the lines that were kept of a host: by iteration each of them, once; then how many are `listed`, and what the lines are, as the `report` of a Host says it."""
+    """The changes in the lines that were kept of a host: by iteration each of them, once; then how
+    many are `listed`, and what the lines are, as the `report` of a Host says it."""
 
     def __init__(self, directory: HostDirectory, host: Host) -> None:
         self.path = directory.file(LINES)

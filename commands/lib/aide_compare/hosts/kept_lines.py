@@ -1,10 +1,10 @@
-"""The changes of a host that are not silent, as the store keeps them: the lines of aide_lines, within
-a limit.
+"""The changes of a host that are not silent, as the store keeps them: the lines of aide_lines,
+within a limit.
 
-The file has a first line, each change that is kept, as aide_lines writes it, and at the end how many
-there were. Of changes that do not fit the limit the most severe ones are kept, root's first, and
-each kind has a share. So nobody but root hides a change of root's behind a million others, and no
-flood hides all of a kind.
+The file has a first line, each change that is kept, as aide_lines writes it, and at the end how
+many there were. Of changes that do not fit the limit the most severe ones are kept, root's first,
+and each kind has a share. So nobody but root hides a change of root's behind a million others, and
+no flood hides all of a kind.
 """
 from __future__ import annotations
 

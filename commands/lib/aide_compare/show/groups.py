@@ -38,8 +38,8 @@ def high_line(table: Table, package: str, width: int) -> str:
 
 
 def recorded_lines(table: Table, limit: int, width: int) -> Iterator[str]:
-    """A line for each package, as in "openssl 3.0.17-1: 41 files", and one for the paths of severity
-    high if they are few."""
+    """A line for each package, as in "openssl 3.0.17-1: 41 files", and one for the paths of
+    severity high if they are few."""
     packages = files = all_high = 0
     for number, (package, count, high) in enumerate(table.ask(RECORDED_OF)):
         if number < limit:
