@@ -1,6 +1,7 @@
 //! The columns of a database.
 ghost use Rattle.std.specs.Prelude.{◌≡◌, ◌+◌, ◌*◌, ◌<◌, ◌≤◌, [], ◌∷◌, ◌++◌, length, true, false};
 ghost use Rattle.std.specs.Prelude.{take, map, All, ℕ, List, None, IfNone, IfSome, drop};
+ghost use Rattle.std.specs.List.{list_any};
 ghost use Rattle.aide_entry.specs.Fields.{is_column, field_under};
 ghost use Rattle.aide_entry.specs.code.FirstColumns.{AreFirstColumns};
 ghost use Rattle.aide_entry.specs.Spans.{first_in};
@@ -82,7 +83,7 @@ pub struct Columns {
 }
 
 impl Columns {
-    ghost use Rattle.aide_entry.specs.Columns.{columns_in};
+    ghost use Rattle.aide_entry.specs.Columns.{columns_in, has_column};
 
     /// Returns a list without columns.
     pub fn none() -> Columns
@@ -156,6 +157,13 @@ impl Columns {
         codes == other_codes
     }
 
+    /// Returns whether an attribute has a column of its own.
+    pub fn has(&self, attr: Attr) -> bool
+        ensures { result ≡ has_column attr (columns_in self.now) }
+    {
+        is_among(Column::Of(attr), self.as_slice())
+    }
+
     /// Returns the unknown columns as bits. The lowest bit belongs to the first column.
     pub fn skipped(&self) -> u64
         ensures { result ≡ skipped_in (columns_in self.now) }
@@ -188,6 +196,16 @@ impl Columns {
         self.count += 1;
         note_first(&mut self.firsts, column, self.count);
         true
+    }
+}
+
+/// Returns whether the wanted column is one of these.
+fn is_among(wanted: Column, columns: &[Column]) -> bool
+    ensures { result ≡ list_any (is_column wanted) columns.now }
+{
+    match columns.split_first() {
+        None => false,
+        Some((first, more)) => is_column(wanted, *first) || is_among(wanted, more),
     }
 }
 
