@@ -9,3 +9,8 @@ pub joined_parts : (first last : List ℕ) (others : List (List ℕ))
 joined_parts first last others =
     ap (λ l. first ++ l)
     (ap (λ l. behind others ++ l) (behind_one last) ∙ sym (behind_append others (last ∷ [])))
+
+-- two members behind others
+pub behind_two : (first second : List ℕ)
+    → (44 ∷ []) ++ (first ++ ((44 ∷ []) ++ second)) ≡ behind (first ∷ second ∷ [])
+behind_two first second = ap (λ l. (44 ∷ first) ++ l) (behind_one second)

@@ -8,6 +8,18 @@ pub read_parts : (d s : List ℕ)
 unfolding object
 read_parts d s = grind (arith, append_assoc)
 
+-- an object with one member
+pub digest_parts : (d : List ℕ) → (123 ∷ []) ++ (d ++ (125 ∷ [])) ≡ object (d ∷ [])
+unfolding object
+digest_parts d = grind (arith, append_assoc)
+
+-- one member more
+pub joined_one : (first last : List ℕ) (members : List (List ℕ))
+    → joined (first ∷ members) ++ ((44 ∷ []) ++ last) ≡ joined (first ∷ (members ++ last ∷ []))
+joined_one first last members =
+    append_assoc first (behind members) ((44 ∷ []) ++ last)
+    ∙ ap (λ l. first ++ l) (ap (λ l. behind members ++ l) (behind_one last) ∙ sym (behind_append members (last ∷ [])))
+
 assemble_closing : (e x y t a r c o b s : List ℕ)
     → (123 ∷ []) ++ (e ++ ((44 ∷ x) ++ ((44 ∷ y) ++ ((44 ∷ []) ++ (joined (t ∷ a ∷ r ∷ c ∷ []) ++ ((44 ∷ []) ++ ((o ++ b)
     ++ ((44 ∷ []) ++ (s ++ (125 ∷ 10 ∷ []))))))))))

@@ -2,7 +2,6 @@
 use Rattle.std.proofs.Common.{◌≡◌, ◌∙◌, ℕ, Bool, List, [], ◌∷◌, ◌++◌, sym, ap, arith, append_assoc, codes}
 use Rattle.std.specs.Prelude.{Option}
 use Rattle.aide_agreement.specs.Account.{Pair}
-use Rattle.aide_agreement.specs.declared.account.SameAs.{SameAs}
 use Rattle.aide_attr.specs.declared.attr.Attr.{Attr}
 use Rattle.aide_json.proofs.ItemLemmas.{behind_append}
 use Rattle.aide_json.specs.Json.{quoted}
@@ -11,13 +10,14 @@ use Rattle.aide_json.specs.Object.{behind, line, object}
 use Rattle.aide_line_text.specs.Entry.{account_members, entry_line, entry_members, kind_word, type_at}
 use Rattle.aide_line_text.specs.Entry.{type_members}
 use Rattle.aide_line_text.specs.code.Parts.{entry_head, entry_parts}
+use Rattle.aide_line_text.specs.declared.account.Account.{Account}
 
 assemble : (k p s m b c d e f : List ℕ)
     → (123 ∷ (k ++ (44 ∷ (p ++ (44 ∷ s))))) ++ (m ++ (b ++ ((c ++ d) ++ (e ++ f))))
     ≡ (123 ∷ ((k ++ ((44 ∷ p) ++ ((44 ∷ s) ++ (m ++ (b ++ (c ++ d)))))) ++ e)) ++ f
 assemble k p s m b c d e f = grind (arith, append_assoc)
 
-pub parts_line : (path letters : List ℕ) (account : Option SameAs) (shows : Attr → Bool) (found : Pair)
+pub parts_line : (path letters : List ℕ) (account : Option Account) (shows : Attr → Bool) (found : Pair)
     → entry_parts path letters account shows found ≡ entry_line path letters account shows found
 unfolding entry_parts entry_head entry_line line object
 parts_line path letters account shows found =

@@ -33,14 +33,14 @@ is_skipped columns column = bit_at columns (column - 1) == 1
 unfoldable pub skipped_array : ℕ → List ℕ
 skipped_array columns = array (map json_count (filter (is_skipped columns) (numbers 1 64)))
 
--- for how many lines a trusted machine accounts, if there is one
+-- for how many lines a trusted machine accounts, and how many a list leaves out, if there is such a machine
 abbrev pub trusted_members : (has_trusted : Bool) → LineCounts → List (List ℕ)
 trusted_members false counts = []
 trusted_members true counts =
-    count_member (codes "same_as_trusted") counts.same_as_trusted ∷ []
+    count_member (codes "same_as_trusted") counts.same_as_trusted
+    ∷ count_member (codes "left_out") counts.left_out ∷ []
 
--- for how many lines the old entries account, for how many a trusted machine, and for how many
--- nothing
+-- for how many lines the old entries account, for how many a trusted machine or a list, and for how many nothing
 abbrev pub account_members : (has_trusted : Bool) → LineCounts → List (List ℕ)
 account_members has_trusted counts =
     count_member (codes "same_as_old") counts.same_as_old

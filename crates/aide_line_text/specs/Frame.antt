@@ -43,14 +43,21 @@ opening_line_trusted old_path new_path trusted_old trusted_new =
     ∷ text_member (codes "trusted_old") trusted_old
     ∷ text_member (codes "trusted_new") trusted_new ∷ [])
 
--- the last line then: what was read of all four databases, and the same numbers
-unfoldable pub closing_line_trusted : (old new trusted_old trusted_new : ReadFacts) → LineCounts → ℕ
+-- the SHA-256 of the list that says what is left out
+abbrev pub list_member : List ℕ → List ℕ
+list_member digest =
+    member (codes "list") (object (member (codes "sha256") (hex_string digest) ∷ []))
+
+-- the last line then: what was read of all four databases, the same numbers, and the list
+unfoldable pub closing_line_trusted : (old new trusted_old trusted_new : ReadFacts)
+    → (list : List ℕ) → LineCounts → ℕ
     → List ℕ
-closing_line_trusted old new trusted_old trusted_new counts status =
+closing_line_trusted old new trusted_old trusted_new list counts status =
     line (member (codes "end") (codes "true")
     ∷ member (codes "old") (read_object old)
     ∷ member (codes "new") (read_object new)
     ∷ member (codes "trusted_old") (read_object trusted_old)
     ∷ member (codes "trusted_new") (read_object trusted_new)
     ∷ (count_members counts
-    ++ (account_members true counts ++ count_member (codes "status") status ∷ [])))
+    ++ (account_members true counts
+    ++ list_member list ∷ count_member (codes "status") status ∷ [])))

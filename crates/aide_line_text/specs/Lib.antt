@@ -1,3 +1,4 @@
+pub mod Account
 pub mod Attribute
 pub mod Entry
 pub mod Ends

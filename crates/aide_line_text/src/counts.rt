@@ -15,6 +15,8 @@ pub struct LineCounts {
     pub same_as_old: u64,
     /// The lines of entries for which a trusted machine accounts.
     pub same_as_trusted: u64,
+    /// The lines of entries that a list leaves out.
+    pub left_out: u64,
     /// The lines of entries for which nothing accounts.
     pub others: u64,
 }

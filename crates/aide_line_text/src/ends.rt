@@ -22,7 +22,7 @@ pub(crate) fn put_counts<W: Sink>(out: &mut W, pen: &mut Pen, counts: &LineCount
     put_count_member(out, pen, b"changed", counts.changed as u128);
 }
 
-/// Writes how many lines a trusted machine accounts for, if there is one.
+/// Writes how many lines a trusted machine accounts for, and how many a list leaves out, if there is such a machine.
 fn put_trusted<W: Sink>(out: &mut W, pen: &mut Pen, counts: &LineCounts, has_trusted: bool)
     ensures { Wrote (behind (trusted_members has_trusted counts.now))
         (on_sheet W.Sink out.old pen.old) (on_sheet W.Sink out.new pen.new) }
@@ -30,10 +30,13 @@ fn put_trusted<W: Sink>(out: &mut W, pen: &mut Pen, counts: &LineCounts, has_tru
     if has_trusted {
         put(out, pen, b",");
         put_count_member(out, pen, b"same_as_trusted", counts.same_as_trusted as u128);
+        put(out, pen, b",");
+        put_count_member(out, pen, b"left_out", counts.left_out as u128);
     }
 }
 
-/// Writes for how many lines the old entries account, for how many a trusted machine, and for how many nothing.
+/// Writes for how many lines the old entries account, for how many a trusted machine or a list, and for how many
+/// nothing.
 pub(crate) fn put_accounts<W: Sink>(
     out: &mut W,
     pen: &mut Pen,

@@ -3,20 +3,20 @@ ghost use Rattle.std.specs.Prelude.{◌≡◌, ◌∷◌, ◌++◌, [], Some, co
 ghost use Rattle.aide_attr.specs.Set.{has};
 ghost use Rattle.aide_entry.specs.View.{entry_in};
 ghost use Rattle.aide_json.specs.Object.{behind};
-ghost use Rattle.aide_line_text.specs.Entry.{account_members, account_word, entry_line};
+ghost use Rattle.aide_line_text.specs.Entry.{account_member, account_members, entry_line};
 ghost use Rattle.aide_line_text.specs.Entry.{entry_members, kind_word, type_at, type_members};
 ghost use Rattle.aide_line_text.specs.code.Parts.{entries_behind, entry_head};
 ghost use Rattle.aide_line_text.specs.SidesView.{found_in};
 ghost use Rattle.aide_text.specs.PenSheet.{on_sheet};
 ghost use Rattle.aide_text.specs.Sheet.{Wrote};
 
+use crate::account::Account;
 use crate::attribute::put_type;
 use crate::side::put_entry;
 use crate::sides::Sides;
-use aide_agreement::SameAs;
 use aide_attr::{AttrSet, FileType};
 use aide_db::View;
-use aide_json::{put_name, put_text_member, put_word_member};
+use aide_json::{put_count_member, put_name, put_text_member, put_word_member};
 use aide_text::{Feed, Pen, Sink, put};
 
 /// Returns the word for what became of the path.
@@ -63,23 +63,25 @@ fn put_head<W: Sink, B: Feed + Copy>(
     put_word_member(out, pen, b"summary", letters);
 }
 
-/// Returns the word for what accounts for the change.
-fn account_word(account: SameAs) -> &'static [u8]
-    ensures { result.now ≡ account_word account }
+/// Writes what accounts for the change.
+fn put_account<W: Sink>(out: &mut W, pen: &mut Pen, account: Account)
+    ensures { Wrote (account_member account)
+        (on_sheet W.Sink out.old pen.old) (on_sheet W.Sink out.new pen.new) }
 {
     match account {
-        SameAs::Old => b"old",
-        SameAs::Trusted => b"trusted",
+        Account::Old => put_word_member(out, pen, b"same_as", b"old"),
+        Account::Trusted => put_word_member(out, pen, b"same_as", b"trusted"),
+        Account::LeftOut(line) => put_count_member(out, pen, b"left_out", line as u128),
     }
 }
 
-fn put_account_behind<W: Sink>(out: &mut W, pen: &mut Pen, account: Option<SameAs>)
+fn put_account_behind<W: Sink>(out: &mut W, pen: &mut Pen, account: Option<Account>)
     ensures { Wrote (behind (account_members account))
         (on_sheet W.Sink out.old pen.old) (on_sheet W.Sink out.new pen.new) }
 {
     if let Some(account) = account {
         put(out, pen, b",");
-        put_word_member(out, pen, b"same_as", account_word(account));
+        put_account(out, pen, account);
     }
 }
 
@@ -128,7 +130,7 @@ pub struct Remark<'a> {
     /// The summary string.
     pub letters: &'a [u8],
     /// What accounts for the change, if anything does.
-    pub account: Option<SameAs>,
+    pub account: Option<Account>,
     /// The attributes that are shown.
     pub shown: AttrSet,
 }

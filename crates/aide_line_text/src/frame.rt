@@ -2,7 +2,7 @@
 ghost use Rattle.std.specs.Prelude.{◌∷◌, codes};
 ghost use Rattle.aide_json.specs.Member.{member, text_member};
 ghost use Rattle.aide_line_text.specs.Frame.{closing_line, closing_line_trusted, opening_line};
-ghost use Rattle.aide_line_text.specs.Frame.{opening_line_trusted, read_object};
+ghost use Rattle.aide_line_text.specs.Frame.{list_member, opening_line_trusted, read_object};
 ghost use Rattle.aide_line_text.specs.ReadView.{facts_read};
 ghost use Rattle.aide_text.specs.PenSheet.{on_sheet};
 ghost use Rattle.aide_text.specs.Sheet.{Wrote};
@@ -29,6 +29,17 @@ pub struct Read<'a> {
 pub struct ReadPair<'a> {
     pub old: Read<'a>,
     pub new: Read<'a>,
+}
+
+/// What is known of two databases at their ends, of a trusted pair, and of a list.
+#[derive(Clone, Copy)]
+pub struct ReadBeside<'a> {
+    /// The pair that is compared.
+    pub compared: ReadPair<'a>,
+    /// The trusted pair.
+    pub trusted: ReadPair<'a>,
+    /// The SHA-256 of the list that says what is left out.
+    pub list: &'a [u8; 32],
 }
 
 /// Writes what is known of one database at its end.
@@ -125,30 +136,43 @@ pub fn put_closing_line<W: Sink>(
     put(out, pen, b"}\n");
 }
 
+/// Writes the SHA-256 of a list.
+fn put_list<W: Sink>(out: &mut W, pen: &mut Pen, digest: &[u8; 32])
+    ensures { Wrote (list_member digest.now)
+        (on_sheet W.Sink out.old pen.old) (on_sheet W.Sink out.new pen.new) }
+{
+    put_name(out, pen, b"list");
+    put(out, pen, b"{");
+    put_digest_member(out, pen, b"sha256", digest);
+    put(out, pen, b"}");
+}
+
 /// Writes the last line where two databases are compared beside a trusted pair.
 pub fn put_closing_line_trusted<W: Sink>(
     out: &mut W,
     pen: &mut Pen,
-    compared: &ReadPair<'_>,
-    trusted: &ReadPair<'_>,
+    read: &ReadBeside<'_>,
     counts: &LineCounts,
     status: u8,
 )
     ensures { Wrote (closing_line_trusted
-        (facts_read compared.now.old) (facts_read compared.now.new)
-        (facts_read trusted.now.old) (facts_read trusted.now.new) counts.now status)
+        (facts_read read.now.compared.old) (facts_read read.now.compared.new)
+        (facts_read read.now.trusted.old) (facts_read read.now.trusted.new)
+        read.now.list.now counts.now status)
         (on_sheet W.Sink out.old pen.old) (on_sheet W.Sink out.new pen.new) }
 {
     put(out, pen, b"{");
     put_literal_member(out, pen, b"end", b"true");
-    put_read_behind(out, pen, b"old", &compared.old);
-    put_read_behind(out, pen, b"new", &compared.new);
-    put_read_behind(out, pen, b"trusted_old", &trusted.old);
-    put_read_behind(out, pen, b"trusted_new", &trusted.new);
+    put_read_behind(out, pen, b"old", &read.compared.old);
+    put_read_behind(out, pen, b"new", &read.compared.new);
+    put_read_behind(out, pen, b"trusted_old", &read.trusted.old);
+    put_read_behind(out, pen, b"trusted_new", &read.trusted.new);
     put(out, pen, b",");
     put_counts(out, pen, counts);
     put(out, pen, b",");
     put_accounts(out, pen, counts, true);
+    put(out, pen, b",");
+    put_list(out, pen, read.list);
     put(out, pen, b",");
     put_count_member(out, pen, b"status", status as u128);
     put(out, pen, b"}\n");

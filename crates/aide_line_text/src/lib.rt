@@ -1,6 +1,7 @@
 //! The lines of JSON about two databases: the first line, the line of an entry, and the last line.
 #![tactic(auto)]
 
+mod account;
 mod attribute;
 mod counts;
 mod ends;
@@ -10,10 +11,11 @@ mod side;
 mod sides;
 mod skipped;
 
+pub use account::{Account, account_as};
 pub use counts::LineCounts;
 pub use entry::{Remark, kind_word, put_entry_line, type_at};
 pub use frame::{
-    Read, ReadPair, put_closing_line, put_closing_line_trusted, put_opening_line,
+    Read, ReadBeside, ReadPair, put_closing_line, put_closing_line_trusted, put_opening_line,
     put_opening_line_trusted,
 };
 pub use sides::Sides;

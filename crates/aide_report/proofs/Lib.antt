@@ -37,3 +37,4 @@ pub mod PassLemmas
 pub mod ReadingLemmas
 pub mod OneReadingLemmas
 pub mod LinesRunLemmas
+pub mod ColumnLemmas

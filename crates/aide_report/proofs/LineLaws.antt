@@ -14,7 +14,7 @@ use Rattle.aide_report.specs.Changed.{differ_by}
 use Rattle.aide_report.specs.Changes.{is_added, is_removed, is_changed}
 use Rattle.aide_report.specs.Compare.{changes}
 use Rattle.aide_report.specs.Entries.{PathChange}
-use Rattle.aide_report.specs.LineCounts.{account_count, entry_count, is_line_with, is_old, is_other, is_trusted}
+use Rattle.aide_report.specs.LineCounts.{account_count, entry_count, is_left_out, is_line_with, is_old, is_other, is_trusted}
 use Rattle.aide_report.specs.LineCounts.{line_counts}
 use Rattle.aide_report.specs.LinesRead.{lines_read}
 use Rattle.aide_report.specs.Missing.{RunsOverBy, run_answer}
@@ -40,6 +40,7 @@ module _ (options : Options) (account : Accounts) (old new : Database) where
     changed = changed_count path_cmp path_cmp_total (differ_by options.ignore) path_cmp-IsAntisymmetric old new i;
     same_as_old = sym (length-filter (is_line_with options account is_old) (changes old new)) i;
     same_as_trusted = sym (length-filter (is_line_with options account is_trusted) (changes old new)) i;
+    left_out = sym (length-filter (is_line_with options account is_left_out) (changes old new)) i;
     others = sym (length-filter (is_line_with options account is_other) (changes old new)) i;
   }
 

@@ -6,7 +6,7 @@ use Rattle.std.proofs.lemmas.Grind.{flat_map-append}
 use Rattle.std.proofs.lemmas.List.{append-nil}
 use Rattle.aide_conf.specs.declared.options.Options.{Options}
 use Rattle.aide_entry.specs.Attributes.{Entry}
-use Rattle.aide_agreement.specs.declared.account.SameAs.{SameAs}
+use Rattle.aide_line_text.specs.declared.account.Account.{Account}
 use Rattle.aide_line_text.specs.Entry.{entry_line}
 use Rattle.aide_report.specs.ChangeLines.{Accounts, change_line, change_lines, listed_line, widest}
 use Rattle.aide_report.specs.Entries.{PathChange, letters_of, shows_at}
@@ -17,7 +17,7 @@ use Rattle.aide_report.proofs.WriterLemmas.{all_passing}
 
 module _ (options : Options) (account : Accounts) where
   -- the line of one change, by what accounts for it
-  pub listed_as : (change : PathChange) (a : Option SameAs) → a ≡ account change
+  pub listed_as : (change : PathChange) (a : Option Account) → a ≡ account change
       → listed_line options (λ any. a) change ≡ listed_line options account change
   unfolding listed_line change_line
   listed_as change a is = ap (λ b. if is_in options all_listed change

@@ -73,6 +73,7 @@ wider c m n le small = record {
   changed = omega (arith, le, small.changed);
   same_as_old = omega (arith, le, small.same_as_old);
   same_as_trusted = omega (arith, le, small.same_as_trusted);
+  left_out = omega (arith, le, small.left_out);
   others = omega (arith, le, small.others);
 }
 
@@ -85,6 +86,7 @@ entry_below c (old, Some new) n small = let wide = wider c n (n + 1) (omega arit
   changed = wide.changed;
   same_as_old = wide.same_as_old;
   same_as_trusted = wide.same_as_trusted;
+  left_out = wide.left_out;
   others = wide.others;
 }
 
@@ -97,6 +99,7 @@ kind_below c (None, Some new) n small = let wide = wider c n (n + 1) (omega arit
   changed = wide.changed;
   same_as_old = wide.same_as_old;
   same_as_trusted = wide.same_as_trusted;
+  left_out = wide.left_out;
   others = wide.others;
 }
 kind_below c (Some old, None) n small = let wide = wider c n (n + 1) (omega arith) small in record {
@@ -106,6 +109,7 @@ kind_below c (Some old, None) n small = let wide = wider c n (n + 1) (omega arit
   changed = wide.changed;
   same_as_old = wide.same_as_old;
   same_as_trusted = wide.same_as_trusted;
+  left_out = wide.left_out;
   others = wide.others;
 }
 kind_below c (Some old, Some new) n small = let wide = wider c n (n + 1) (omega arith) small in record {
@@ -115,5 +119,6 @@ kind_below c (Some old, Some new) n small = let wide = wider c n (n + 1) (omega 
   changed = omega (arith, small.changed);
   same_as_old = wide.same_as_old;
   same_as_trusted = wide.same_as_trusted;
+  left_out = wide.left_out;
   others = wide.others;
 }

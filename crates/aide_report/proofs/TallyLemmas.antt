@@ -4,8 +4,8 @@ use Rattle.std.proofs.Common.{arith, length}
 use Rattle.std.specs.Prelude.{count_by, cond, ◌&&◌, ◌||◌, Option, Some, None}
 use Rattle.std.specs.List.{flat_map}
 use Rattle.std.proofs.lemmas.List.Sums.{count_by-le-length, length-filter, sum_by-append}
-use Rattle.aide_agreement.specs.declared.account.SameAs.{SameAs}
-use Rattle.aide_agreement.specs.declared.account.SameAs.TheVariants.{Old, Trusted}
+use Rattle.aide_line_text.specs.declared.account.Account.{Account}
+use Rattle.aide_line_text.specs.declared.account.Account.TheVariants.{LeftOut, Old, Trusted}
 use Rattle.aide_conf.specs.declared.options.Options.{Options}
 use Rattle.aide_entry.specs.Attributes.{Entry}
 use Rattle.aide_line_text.specs.declared.counts.LineCounts.{LineCounts}
@@ -13,7 +13,7 @@ use Rattle.aide_report.specs.ChangeLines.{Accounts, change_line, change_lines, l
 use Rattle.aide_report.specs.Changed.{differ_by}
 use Rattle.aide_report.specs.Changes.{is_added, is_removed, is_changed, is_of_new}
 use Rattle.aide_report.specs.Entries.{PathChange}
-use Rattle.aide_report.specs.LineCounts.{account_count, entry_count, is_line_with, is_old, is_other, is_trusted}
+use Rattle.aide_report.specs.LineCounts.{account_count, entry_count, is_left_out, is_line_with, is_old, is_other, is_trusted}
 use Rattle.aide_report.specs.Sections.{all_listed, is_in}
 use Rattle.aide_report.specs.code.ChangeView.{alike_of}
 use Rattle.aide_report.specs.code.LineTally.{AreLinesBelow, sum_of_counts, tally, with_account, with_entry, with_kind}
@@ -36,7 +36,7 @@ module _ (options : Options) (account : Accounts) where
   abbrev differs : PathChange → Bool
   differs = is_changed (differ_by options.ignore)
 
-  abbrev line_with : (Option SameAs → Bool) → PathChange → Bool
+  abbrev line_with : (Option Account → Bool) → PathChange → Bool
   line_with = is_line_with options account
 
   pub tally_more : (done : List PathChange) (change : PathChange)
@@ -49,17 +49,18 @@ module _ (options : Options) (account : Accounts) where
     changed = counted_more differs done change i;
     same_as_old = counted_more (line_with is_old) done change i;
     same_as_trusted = counted_more (line_with is_trusted) done change i;
+    left_out = counted_more (line_with is_left_out) done change i;
     others = counted_more (line_with is_other) done change i;
   })
 
   -- one change is counted by what accounts for it
-  pub tally_as : (change : PathChange) (a : Option SameAs) → a ≡ account change
+  pub tally_as : (change : PathChange) (a : Option Account) → a ≡ account change
       → tally options (λ any. a) (change ∷ []) ≡ tally options account (change ∷ [])
   tally_as change a is = ap (λ b. tally options (λ any. b) (change ∷ [])) is
 
   -- ---- a change that has no line
 
-  no_account : (passes : Option SameAs → Bool) (change : PathChange) → is_in options all_listed change ≡ false
+  no_account : (passes : Option Account → Bool) (change : PathChange) → is_in options all_listed change ≡ false
       → line_with passes change ≡ false
   no_account passes change out = ap (λ b. b && passes (account change)) out
 
@@ -75,6 +76,7 @@ module _ (options : Options) (account : Accounts) where
     changed = same_count differs change c.changed refl i;
     same_as_old = same_count (line_with is_old) change c.same_as_old refl i;
     same_as_trusted = same_count (line_with is_trusted) change c.same_as_trusted refl i;
+    left_out = same_count (line_with is_left_out) change c.left_out refl i;
     others = same_count (line_with is_other) change c.others refl i;
   }
   unlisted c (path, (Some old, Some new)) out = λ i. let change : PathChange = (path, (Some old, Some new)) in record {
@@ -84,6 +86,7 @@ module _ (options : Options) (account : Accounts) where
     changed = same_count differs change c.changed out i;
     same_as_old = same_count (line_with is_old) change c.same_as_old (no_account is_old change out) i;
     same_as_trusted = same_count (line_with is_trusted) change c.same_as_trusted (no_account is_trusted change out) i;
+    left_out = same_count (line_with is_left_out) change c.left_out (no_account is_left_out change out) i;
     others = same_count (line_with is_other) change c.others (no_account is_other change out) i;
   }
 
@@ -94,31 +97,42 @@ module _ (options : Options) (account : Accounts) where
 
   -- ---- a change that has a line
 
-  by_account : (passes : Option SameAs → Bool) (change : PathChange) (answer : Bool) → is_in options all_listed change ≡ true
+  by_account : (passes : Option Account → Bool) (change : PathChange) (answer : Bool) → is_in options all_listed change ≡ true
       → passes (account change) ≡ answer → line_with passes change ≡ answer
   by_account passes change answer is e = ap (λ b. b && passes (account change)) is ∙ e
 
-  accounted : (a : Option SameAs) (c : LineCounts) (change : PathChange) → is_in options all_listed change ≡ true → account change ≡ a
+  accounted : (a : Option Account) (c : LineCounts) (change : PathChange) → is_in options all_listed change ≡ true → account change ≡ a
       → with_account c a ≡ record c {
         same_as_old = c.same_as_old + count_by (line_with is_old) (change ∷ []);
         same_as_trusted = c.same_as_trusted + count_by (line_with is_trusted) (change ∷ []);
+        left_out = c.left_out + count_by (line_with is_left_out) (change ∷ []);
         others = c.others + count_by (line_with is_other) (change ∷ []);
       }
   accounted (Some Old) c change is e = λ i. record c {
     same_as_old = one_count (line_with is_old) change c.same_as_old (by_account is_old change true is (ap is_old e)) i;
-    same_as_trusted = same_count (line_with is_trusted) change c.same_as_trusted
-        (by_account is_trusted change false is (ap is_trusted e)) i;
+    same_as_trusted = same_count (line_with is_trusted) change c.same_as_trusted (by_account is_trusted change false is (ap is_trusted e))
+        i;
+    left_out = same_count (line_with is_left_out) change c.left_out (by_account is_left_out change false is (ap is_left_out e)) i;
     others = same_count (line_with is_other) change c.others (by_account is_other change false is (ap is_other e)) i;
   }
   accounted (Some Trusted) c change is e = λ i. record c {
     same_as_old = same_count (line_with is_old) change c.same_as_old (by_account is_old change false is (ap is_old e)) i;
     same_as_trusted = one_count (line_with is_trusted) change c.same_as_trusted (by_account is_trusted change true is (ap is_trusted e)) i;
+    left_out = same_count (line_with is_left_out) change c.left_out (by_account is_left_out change false is (ap is_left_out e)) i;
+    others = same_count (line_with is_other) change c.others (by_account is_other change false is (ap is_other e)) i;
+  }
+  accounted (Some (LeftOut number)) c change is e = λ i. record c {
+    same_as_old = same_count (line_with is_old) change c.same_as_old (by_account is_old change false is (ap is_old e)) i;
+    same_as_trusted = same_count (line_with is_trusted) change c.same_as_trusted (by_account is_trusted change false is (ap is_trusted e))
+        i;
+    left_out = one_count (line_with is_left_out) change c.left_out (by_account is_left_out change true is (ap is_left_out e)) i;
     others = same_count (line_with is_other) change c.others (by_account is_other change false is (ap is_other e)) i;
   }
   accounted None c change is e = λ i. record c {
     same_as_old = same_count (line_with is_old) change c.same_as_old (by_account is_old change false is (ap is_old e)) i;
-    same_as_trusted = same_count (line_with is_trusted) change c.same_as_trusted
-        (by_account is_trusted change false is (ap is_trusted e)) i;
+    same_as_trusted = same_count (line_with is_trusted) change c.same_as_trusted (by_account is_trusted change false is (ap is_trusted e))
+        i;
+    left_out = same_count (line_with is_left_out) change c.left_out (by_account is_left_out change false is (ap is_left_out e)) i;
     others = one_count (line_with is_other) change c.others (by_account is_other change true is (ap is_other e)) i;
   }
 
@@ -166,6 +180,7 @@ module _ (options : Options) (account : Accounts) where
     changed = omega (arith, less, count_by-le-length differs done);
     same_as_old = omega (arith, less, count_by-le-length (line_with is_old) done);
     same_as_trusted = omega (arith, less, count_by-le-length (line_with is_trusted) done);
+    left_out = omega (arith, less, count_by-le-length (line_with is_left_out) done);
     others = omega (arith, less, count_by-le-length (line_with is_other) done);
   }
 
@@ -195,16 +210,19 @@ module _ (options : Options) (account : Accounts) where
     first_counted differs entry more,
   )
 
-  one_account : (b : Bool) (a : Option SameAs) → cond b 1 0
-      ≡ cond (b && is_old a) 1 0 + (cond (b && is_trusted a) 1 0 + cond (b && is_other a) 1 0)
+  one_account : (b : Bool) (a : Option Account) → cond b 1 0
+      ≡ cond (b && is_old a) 1 0
+      + (cond (b && is_trusted a) 1 0 + (cond (b && is_left_out a) 1 0 + cond (b && is_other a) 1 0))
   one_account false a = refl
   one_account true None = refl
   one_account true (Some Old) = refl
   one_account true (Some Trusted) = refl
+  one_account true (Some (LeftOut number)) = refl
 
   pub all_accounts : (entries : List PathChange) → count_by (is_in options all_listed) entries
       ≡ count_by (line_with is_old) entries
-      + (count_by (line_with is_trusted) entries + count_by (line_with is_other) entries)
+      + (count_by (line_with is_trusted) entries
+      + (count_by (line_with is_left_out) entries + count_by (line_with is_other) entries))
   all_accounts [] = refl
   all_accounts (entry ∷ more) = omega (
     arith,
@@ -213,6 +231,7 @@ module _ (options : Options) (account : Accounts) where
     first_counted (is_in options all_listed) entry more,
     first_counted (line_with is_old) entry more,
     first_counted (line_with is_trusted) entry more,
+    first_counted (line_with is_left_out) entry more,
     first_counted (line_with is_other) entry more,
   )
 

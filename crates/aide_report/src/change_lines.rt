@@ -17,11 +17,11 @@ use crate::change_writer::PassFault;
 use crate::difference::{letters, said_of};
 use crate::line_counts::{add_account, add_entry, add_kind, no_counts};
 use crate::merge::Merge;
-use aide_agreement::{SameAs, same_as};
+use aide_agreement::same_as;
 use aide_attr::Level;
 use aide_conf::Options;
 use aide_db::{Desk, Reel, Side};
-use aide_line_text::{LineCounts, Remark, put_entry_line};
+use aide_line_text::{Account, LineCounts, Remark, account_as, put_entry_line};
 use aide_text::{Pen, Sink};
 use std::alloc::Allocator;
 
@@ -35,14 +35,15 @@ fn widest(options: &Options) -> Options
 }
 
 /// Returns what accounts for a change where no machine is trusted.
-fn account_of(change: Change<'_>) -> Option<SameAs>
+fn account_of(change: Change<'_>) -> Option<Account>
     ensures { result ≡ by_old (change_of change.entry) }
 {
-    match change {
+    let same = match change {
         Change::Added(new) => same_as(None, Some(new), None, None),
         Change::Removed(old) => same_as(Some(old), None, None, None),
         Change::Common(old, new) => same_as(Some(old), Some(new), None, None),
-    }
+    };
+    account_as(same)
 }
 
 /// The line of a change.
@@ -52,7 +53,7 @@ fn put_change_line<W: Sink>(
     options: &Options,
     change: Change<'_>,
     letters: &[u8; 18],
-    account: Option<SameAs>,
+    account: Option<Account>,
 )
     requires { letters.now ≡ letters_of options.now.ignore (change_of change).1 }
     ensures { Wrote (change_line options.now (λ any. account) (change_of change.entry))
@@ -74,7 +75,7 @@ pub fn put_counted<W: Sink>(
     counts: &mut LineCounts,
     options: &Options,
     change: Change<'_>,
-    account: Option<SameAs>,
+    account: Option<Account>,
 )
     requires { AreLinesBelow counts.old (2 ^ 62) }
     ensures counted { counts.new ≡ sum_of_counts counts.old

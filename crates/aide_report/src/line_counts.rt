@@ -8,8 +8,7 @@ ghost use Rattle.aide_report.specs.code.LineTally.{with_kind};
 use crate::change::Change;
 use crate::finding::Readings;
 use crate::outcome::Outcome;
-use aide_agreement::SameAs;
-use aide_line_text::LineCounts;
+use aide_line_text::{Account, LineCounts};
 
 /// Returns counts that are all 0.
 pub fn no_counts() -> LineCounts
@@ -20,6 +19,7 @@ pub fn no_counts() -> LineCounts
       changed = 0;
       same_as_old = 0;
       same_as_trusted = 0;
+      left_out = 0;
       others = 0;
     } }
 {
@@ -30,6 +30,7 @@ pub fn no_counts() -> LineCounts
         changed: 0,
         same_as_old: 0,
         same_as_trusted: 0,
+        left_out: 0,
         others: 0,
     }
 }
@@ -47,13 +48,14 @@ pub(crate) fn add_kind(counts: &mut LineCounts, change: Change<'_>)
 }
 
 /// Counts what accounts for the change of a line.
-pub(crate) fn add_account(counts: &mut LineCounts, account: Option<SameAs>)
+pub(crate) fn add_account(counts: &mut LineCounts, account: Option<Account>)
     requires { AreLinesBelow counts.old (2 ^ 63) }
     ensures { counts.new ≡ with_account counts.old account }
 {
     match account {
-        Some(SameAs::Old) => counts.same_as_old += 1,
-        Some(SameAs::Trusted) => counts.same_as_trusted += 1,
+        Some(Account::Old) => counts.same_as_old += 1,
+        Some(Account::Trusted) => counts.same_as_trusted += 1,
+        Some(Account::LeftOut(_)) => counts.left_out += 1,
         None => counts.others += 1,
     }
 }

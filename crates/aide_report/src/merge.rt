@@ -1,6 +1,7 @@
 //! Two databases read in lock step: one path after another, in path order.
 ghost use Rattle.std.specs.Prelude.{◌≡◌, ◌∷◌, [], ℕ, IfOk, IfErr, List, OnOk, Option};
 ghost use Rattle.aide_entry.specs.Attributes.{Attributes};
+ghost use Rattle.aide_entry.specs.Columns.{has_column};
 ghost use Rattle.aide_entry.specs.Path.{path_cmp};
 ghost use Rattle.aide_entry.specs.View.{Shows, entry_in};
 ghost use Rattle.aide_db.specs.Desk.{desk_entry};
@@ -22,6 +23,7 @@ ghost use Rattle.aide_report.specs.Seen.{AreLimits};
 ghost use Rattle.aide_report.specs.Standing.{IsUnfailed};
 
 use crate::change::{AtPath, Change};
+use aide_attr::Attr;
 use aide_db::{Cursor, DbFault, Desk, Limits, Reel, Side, Step, View, cmp_names};
 use std::alloc::Allocator;
 use std::cmp::Ordering;
@@ -79,6 +81,19 @@ impl<R: Reel> Merge<R> {
             old_next: NextEntry::Due,
             new_next: NextEntry::Due,
         }
+    }
+
+    /// Returns whether an attribute has a column in the old and in the new database, as far as they were read.
+    pub fn have_column(&self, attr: Attr) -> (bool, bool)
+        ensures { result ≡ (
+          has_column attr self.now.old_cursor.columns,
+          has_column attr self.now.new_cursor.columns,
+        ) }
+    {
+        (
+            self.old_cursor.has_column(attr),
+            self.new_cursor.has_column(attr),
+        )
     }
 
     /// Hands back both reels, the old one first.
@@ -186,6 +201,8 @@ impl<R: Reel> Merge<R> {
         requires ready { IsReady self.old desk.now }
         requires not_due { IsNotDue self.old }
         ensures keeps { KeepsMerge R.Reel self.old self.new desk.now desk.now }
+        ensures old_cursor { self.new.old_cursor ≡ self.old.old_cursor }
+        ensures new_cursor { self.new.new_cursor ≡ self.old.new_cursor }
         ensures step { IsStep self.old self.new desk.now result }
     {
         let path = at_path(self.old_next, self.new_next, desk);

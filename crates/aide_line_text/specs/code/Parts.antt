@@ -1,13 +1,13 @@
 -- The lines in the parts in which they are written.
 use Rattle.std.specs.Prelude.{ℕ, Bool, List, [], ◌∷◌, ◌++◌, Option, codes}
 use Rattle.aide_agreement.specs.Account.{Pair}
-use Rattle.aide_agreement.specs.declared.account.SameAs.{SameAs}
 use Rattle.aide_attr.specs.declared.attr.Attr.{Attr}
 use Rattle.aide_json.specs.Json.{quoted}
 use Rattle.aide_json.specs.Member.{member, text_member}
 use Rattle.aide_json.specs.Object.{behind}
 use Rattle.aide_line_text.specs.Entry.{account_members, entry_members}
 use Rattle.aide_line_text.specs.Entry.{kind_word, type_at, type_members}
+use Rattle.aide_line_text.specs.declared.account.Account.{Account}
 
 -- the beginning of the line of a path, as far as the summary string
 unfoldable pub entry_head : (word path letters : List ℕ) → List ℕ
@@ -22,7 +22,7 @@ entries_behind shows found =
     ++ behind (entry_members (codes "new") shows found.1)
 
 -- the line of a path: its beginning, what accounts for the change, the type, the entries of both databases, and its end
-unfoldable pub entry_parts : (path letters : List ℕ) → Option SameAs → (Attr → Bool) → Pair
+unfoldable pub entry_parts : (path letters : List ℕ) → Option Account → (Attr → Bool) → Pair
     → List ℕ
 entry_parts path letters account shows found =
     entry_head (kind_word found) path letters

@@ -1,15 +1,15 @@
 -- The numbers of the last line, one change after another.
 use Rattle.std.specs.Prelude.{◌≡◌, ℕ, ◌+◌, ◌<◌, Option, Some, None, List, count_by}
 use Rattle.aide_agreement.specs.Account.{Pair}
-use Rattle.aide_agreement.specs.declared.account.SameAs.{SameAs}
-use Rattle.aide_agreement.specs.declared.account.SameAs.TheVariants.{Old, Trusted}
+use Rattle.aide_line_text.specs.declared.account.Account.{Account}
+use Rattle.aide_line_text.specs.declared.account.Account.TheVariants.{LeftOut, Old, Trusted}
 use Rattle.aide_conf.specs.declared.options.Options.{Options}
 use Rattle.aide_line_text.specs.declared.counts.LineCounts.{LineCounts}
 use Rattle.aide_report.specs.ChangeLines.{Accounts, by_old, change_lines}
 use Rattle.aide_report.specs.Changed.{differ_by}
 use Rattle.aide_report.specs.Changes.{is_added, is_removed, is_changed, is_of_new}
 use Rattle.aide_report.specs.Entries.{PathChange}
-use Rattle.aide_report.specs.LineCounts.{is_line_with, is_old, is_other, is_trusted}
+use Rattle.aide_report.specs.LineCounts.{is_left_out, is_line_with, is_old, is_other, is_trusted}
 use Rattle.aide_text.specs.Sheet.{Sheet, Wrote}
 
 -- the numbers of a list of changes
@@ -21,6 +21,7 @@ tally options account changes = record {
   changed = count_by (is_changed (differ_by options.ignore)) changes;
   same_as_old = count_by (is_line_with options account is_old) changes;
   same_as_trusted = count_by (is_line_with options account is_trusted) changes;
+  left_out = count_by (is_line_with options account is_left_out) changes;
   others = count_by (is_line_with options account is_other) changes;
 }
 
@@ -33,6 +34,7 @@ sum_of_counts a b = record {
   changed = a.changed + b.changed;
   same_as_old = a.same_as_old + b.same_as_old;
   same_as_trusted = a.same_as_trusted + b.same_as_trusted;
+  left_out = a.left_out + b.left_out;
   others = a.others + b.others;
 }
 
@@ -49,9 +51,10 @@ with_kind counts (Some old, None) = record counts { removed = counts.removed + 1
 with_kind counts (Some old, Some new) = record counts { changed = counts.changed + 1 }
 
 -- counts with what accounts for the change of a line
-abbrev pub with_account : LineCounts → Option SameAs → LineCounts
+abbrev pub with_account : LineCounts → Option Account → LineCounts
 with_account counts (Some Old) = record counts { same_as_old = counts.same_as_old + 1 }
 with_account counts (Some Trusted) = record counts { same_as_trusted = counts.same_as_trusted + 1 }
+with_account counts (Some (LeftOut number)) = record counts { left_out = counts.left_out + 1 }
 with_account counts None = record counts { others = counts.others + 1 }
 
 -- Some changes were written and counted, and of them this is true.
@@ -70,4 +73,5 @@ pub record AreLinesBelow (counts : LineCounts) (limit : ℕ) : Type 0 where
   pub changed : counts.changed < limit
   pub same_as_old : counts.same_as_old < limit
   pub same_as_trusted : counts.same_as_trusted < limit
+  pub left_out : counts.left_out < limit
   pub others : counts.others < limit

@@ -1,3 +1,4 @@
+use Rattle.std.proofs.Common.{refl}
 use Rattle.aide_db.specs.Desk.{desk_entry}
 use Rattle.aide_db.specs.declared.side.Side.TheVariants.{Old, New}
 use Rattle.aide_report.specs.code.NextEntry.{next_entry}
@@ -10,6 +11,12 @@ use Rattle.aide_report.proofs.merge.Merge.next.Goals as goal
 pub returns-clause-keeps : goal.returns-clause-keeps
 returns-clause-keeps g c =
     rw (c.release.ensures _ c.at_path-path.ensures) (passed_on g.R.Reel c.args.self.now c.args.desk.now _ _)
+
+pub returns-clause-old_cursor : goal.returns-clause-old_cursor
+returns-clause-old_cursor g c = rw (c.release.ensures _ c.at_path-path.ensures) refl
+
+pub returns-clause-new_cursor : goal.returns-clause-new_cursor
+returns-clause-new_cursor g c = rw (c.release.ensures _ c.at_path-path.ensures) refl
 
 pub returns-clause-step : goal.returns-clause-step
 returns-clause-step g c =
