@@ -32,9 +32,10 @@ use Rattle.aide_report.proofs.LineLaws.{tally_is}
 use Rattle.aide_report.proofs.LineRunLemmas.{texts_read}
 use Rattle.aide_report.proofs.OneReadingLemmas.{are_read}
 use Rattle.aide_report.proofs.RunLemmas.{pass_is_changes}
-use Rattle.aide_trusted.specs.BesideLines.{BeginsBeside, all_lines_beside, by_trusted, closing_beside, facts_of_texts}
+use Rattle.aide_trusted.specs.BesideLines.{BeginsBeside, all_lines_beside, by_texts, closing_beside, facts_of_texts}
 use Rattle.aide_trusted.specs.BesideLines.{lines_beside, opening_beside}
 use Rattle.aide_trusted.specs.BesideRuns.{AreAllSound, CutsBeside, RunsBeside, SendsWholeOf, answer_by}
+use Rattle.aide_trusted.specs.Listed.{Leaves, ListRead, leaves_between}
 use Rattle.aide_trusted.specs.Sought.{Accounted, accounted_line, accounted_lines, changes_of, sought_by}
 use Rattle.aide_trusted.specs.code.Over.{AreDone}
 use Rattle.aide_trusted.specs.code.Readings.{AreOpened}
@@ -71,9 +72,9 @@ unaccounted_are : (changes : List PathChange) → changes_of (unaccounted change
 unaccounted_are [] = refl
 unaccounted_are (c ∷ cs) = ap (λ l. c ∷ l) (unaccounted_are cs)
 
-begins_none : (wish trusted_wish : Asked) (changes beside : List PathChange) (bytes : Option (List ℕ))
-    → BeginsBeside wish trusted_wish changes beside bytes bytes
-begins_none wish trusted_wish changes beside bytes = record {
+begins_none : (leaves : Leaves) (wish trusted_wish : Asked) (changes beside : List PathChange) (bytes : Option (List ℕ))
+    → BeginsBeside leaves wish trusted_wish changes beside bytes bytes
+begins_none leaves wish trusted_wish changes beside bytes = record {
   accounted = unaccounted changes;
   all = unaccounted_are changes;
   part = part_none _ bytes;
@@ -81,13 +82,14 @@ begins_none wish trusted_wish changes beside bytes = record {
 }
 
 -- nothing has gone out
-module _ (limits : Limits) (wish trusted_wish : Asked) (old new trusted_old trusted_new : List ℕ) (bytes : Option (List ℕ)) where
-  pub cut_none : (fault : PairFault) → CutsBeside limits wish trusted_wish old new trusted_old trusted_new bytes bytes fault
-  cut_none (Compared (Open side)) = begins_none wish trusted_wish _ _ bytes
-  cut_none (Compared (Database fault)) = begins_none wish trusted_wish _ _ bytes
-  cut_none (Compared (Changed side)) = begins_none wish trusted_wish _ _ bytes
-  cut_none (Compared (Write written)) = (λ sound. part_none _ bytes, λ unsound. begins_none wish trusted_wish _ _ bytes)
-  cut_none (Trusted fault) = begins_none wish trusted_wish _ _ bytes
+module _ (limits : Limits) (list : ListRead) (wish trusted_wish : Asked) (old new trusted_old trusted_new : List ℕ)
+    (bytes : Option (List ℕ)) where
+  pub cut_none : (fault : PairFault) → CutsBeside limits list wish trusted_wish old new trusted_old trusted_new bytes bytes fault
+  cut_none (Compared (Open side)) = begins_none _ wish trusted_wish _ _ bytes
+  cut_none (Compared (Database fault)) = begins_none _ wish trusted_wish _ _ bytes
+  cut_none (Compared (Changed side)) = begins_none _ wish trusted_wish _ _ bytes
+  cut_none (Compared (Write written)) = (λ sound. part_none _ bytes, λ unsound. begins_none _ wish trusted_wish _ _ bytes)
+  cut_none (Trusted fault) = begins_none _ wish trusted_wish _ _ bytes
 
 -- ---- both pairs were read to their ends
 
@@ -101,26 +103,30 @@ module _ {R : Type 0} {r : Reels R} {limits : Limits} {a b s t : Seen} {m : Merg
     trusted_read = are_read q.there q.opened read.keeps.trusted read.trusted_ended read.trusted_read
 
   -- four texts that are told
-  module _ (wish trusted_wish : Asked) (old new trusted_old trusted_new : List ℕ)
+  module _ (list : ListRead) (wish trusted_wish : Asked) (old new trusted_old trusted_new : List ℕ)
       (told_old : a.bytes_of Old ≡ Some old) (told_new : a.bytes_of New ≡ Some new)
       (told_trusted_old : s.bytes_of Old ≡ Some trusted_old) (told_trusted_new : s.bytes_of New ≡ Some trusted_new) where
     abbrev lines_sought : List ℕ
-    lines_sought = change_lines wish.options (sought_by (pass_of trusted_old trusted_new)) (pass_of old new)
+    lines_sought = change_lines wish.options (sought_by (leaves_between list old new) (pass_of trusted_old trusted_new))
+        (pass_of old new)
 
     abbrev lines_left : List ℕ
-    lines_left = change_lines wish.options (sought_by (remaining m.trusted v trusted_old trusted_new)) (remaining m.compared e old new)
+    lines_left = change_lines wish.options (sought_by (leaves_between list old new)
+        (remaining m.trusted v trusted_old trusted_new)) (remaining m.compared e old new)
 
     left_are : lines_left ≡ lines_sought
-    left_are = λ i. change_lines wish.options (sought_by (q.opened.rest trusted_old trusted_new i)) (p.opened.rest old new i)
+    left_are = λ i. change_lines wish.options (sought_by (leaves_between list old new)
+        (q.opened.rest trusted_old trusted_new i)) (p.opened.rest old new i)
 
     sorted_left : is_sorted path_cmp (pass_of old new) ≡ true → is_sorted path_cmp (remaining m.compared e old new) ≡ true
     sorted_left in_order = ap (is_sorted path_cmp) (p.opened.rest old new) ∙ in_order
 
     -- what has gone out of changes that were broken off
     done_begins : (done : List Accounted) (before after : Option (List ℕ)) (fault : PairFault)
-        → AreDone {X = PairsFound} r wish.options m e v done (Err fault)
+        → AreDone {X = PairsFound} r list wish.options m e v done (Err fault)
         → SendsPart (begun_beside wish trusted_wish done) before after
-        → BeginsBeside wish trusted_wish (pass_of old new) (pass_of trusted_old trusted_new) before after
+        → BeginsBeside (leaves_between list old new) wish trusted_wish (pass_of old new) (pass_of trusted_old trusted_new)
+        before after
     done_begins done before after fault are part =
         let opening = opening_beside wish trusted_wish in
         let rest = are.changes old new (p.opened.stands Old old told_old) (p.opened.stands New new told_new) in
@@ -146,37 +152,42 @@ module _ {R : Type 0} {r : Reels R} {limits : Limits} {a b s t : Seen} {m : Merg
       in_order = pass_sorted limits old new sound.of_old sound.of_new
 
       -- what comes before the last line
-      text_begun : (lines_beside wish trusted_wish old new trusted_old trusted_new).text
+      text_begun : (lines_beside list wish trusted_wish old new trusted_old trusted_new).text
           ≡ (opening_beside wish trusted_wish ++ lines_sought)
-          ++ closing_beside (facts_of_texts old new trusted_old trusted_new)
-          (line_counts wish.options (by_trusted (database_of trusted_old) (database_of trusted_new)) (database_of old) (database_of new))
+          ++ closing_beside list (facts_of_texts old new trusted_old trusted_new)
+          (line_counts wish.options (by_texts list old new trusted_old trusted_new) (database_of old) (database_of new))
       unfolding lines_beside all_lines_beside
       text_begun = sym (λ i. (opening_beside wish trusted_wish
-          ++ change_lines wish.options (sought_is limits trusted_old trusted_new sound.of_trusted_old sound.of_trusted_new i)
+          ++ change_lines wish.options (sought_is (leaves_between list old new) limits trusted_old trusted_new
+          sound.of_trusted_old sound.of_trusted_new i)
           (sym (pass_is_changes limits old new sound.of_old sound.of_new) i))
-          ++ closing_beside (facts_of_texts old new trusted_old trusted_new)
-          (line_counts wish.options (by_trusted (database_of trusted_old) (database_of trusted_new)) (database_of old) (database_of new)))
+          ++ closing_beside list (facts_of_texts old new trusted_old trusted_new)
+          (line_counts wish.options (by_texts list old new trusted_old trusted_new) (database_of old) (database_of new)))
 
       begins_whole : {before after : Option (List ℕ)}
-          → BeginsBeside wish trusted_wish (pass_of old new) (pass_of trusted_old trusted_new) before after
-          → SendsPart (lines_beside wish trusted_wish old new trusted_old trusted_new).text before after
+          → BeginsBeside (leaves_between list old new) wish trusted_wish (pass_of old new) (pass_of trusted_old trusted_new)
+          before after
+          → SendsPart (lines_beside list wish trusted_wish old new trusted_old trusted_new).text before after
       begins_whole begins = part_longer _ _ text_begun (begins.sought in_order)
 
-      counts_of_pass : tally wish.options (sought_by (pass_of trusted_old trusted_new)) (pass_of old new)
-          ≡ line_counts wish.options (by_trusted (database_of trusted_old) (database_of trusted_new)) (database_of old) (database_of new)
+      counts_of_pass : tally wish.options (sought_by (leaves_between list old new) (pass_of trusted_old trusted_new))
+          (pass_of old new)
+          ≡ line_counts wish.options (by_texts list old new trusted_old trusted_new) (database_of old) (database_of new)
       counts_of_pass =
-          (λ i. tally wish.options (sought_is limits trusted_old trusted_new sound.of_trusted_old sound.of_trusted_new i)
+          (λ i. tally wish.options (sought_is (leaves_between list old new) limits trusted_old trusted_new sound.of_trusted_old
+          sound.of_trusted_new i)
           (sym (pass_is_changes limits old new sound.of_old sound.of_new) i))
-          ∙ tally_is wish.options (by_trusted (database_of trusted_old) (database_of trusted_new)) (database_of old) (database_of new)
+          ∙ tally_is wish.options (by_texts list old new trusted_old trusted_new) (database_of old) (database_of new)
 
       module _ {n : Merges R} {f w : DeskView} {found : PairsFound} {Goes : List ℕ → Type 0}
-          (told : HasToldAll r wish trusted_wish m n e f v w found Goes) where
-        counted : found.counts ≡ line_counts wish.options (by_trusted (database_of trusted_old) (database_of trusted_new))
+          (told : HasToldAll r list wish trusted_wish m n e f v w found Goes) where
+        counted : found.counts ≡ line_counts wish.options (by_texts list old new trusted_old trusted_new)
             (database_of old) (database_of new)
         counted =
             told.counts old new trusted_old trusted_new (p.opened.stands Old old told_old) (p.opened.stands New new told_new)
             (q.opened.stands Old trusted_old told_trusted_old) (q.opened.stands New trusted_new told_trusted_new) (sorted_left in_order)
-            ∙ (λ i. tally wish.options (sought_by (q.opened.rest trusted_old trusted_new i)) (p.opened.rest old new i))
+            ∙ (λ i. tally wish.options (sought_by (leaves_between list old new) (q.opened.rest trusted_old trusted_new i))
+            (p.opened.rest old new i))
             ∙ counts_of_pass
 
         all_lines : lines_sought ≡ accounted_lines wish.options told.done
@@ -185,12 +196,12 @@ module _ {R : Type 0} {r : Reels R} {limits : Limits} {a b s t : Seen} {m : Merg
             (q.opened.stands Old trusted_old told_trusted_old) (q.opened.stands New trusted_new told_trusted_new) (sorted_left in_order)
 
         -- what was written is the answer
-        pub told_is : told_beside wish trusted_wish told.done found
-            ≡ (lines_beside wish trusted_wish old new trusted_old trusted_new).text
+        pub told_is : told_beside list wish trusted_wish told.done found
+            ≡ (lines_beside list wish trusted_wish old new trusted_old trusted_new).text
         told_is =
             let is = texts_read old new (compared_read told.read) told_old told_new in
             let other = texts_read trusted_old trusted_new (trusted_read told.read) told_trusted_old told_trusted_new in
-            (λ i. (opening_beside wish trusted_wish ++ sym all_lines i) ++ closing_beside (record {
+            (λ i. (opening_beside wish trusted_wish ++ sym all_lines i) ++ closing_beside list (record {
               of_old = record { digest = is.digest_old i; skipped = is.skipped_old i };
               of_new = record { digest = is.digest_new i; skipped = is.skipped_new i };
               of_trusted_old = record { digest = other.digest_old i; skipped = other.skipped_old i };
@@ -198,7 +209,7 @@ module _ {R : Type 0} {r : Reels R} {limits : Limits} {a b s t : Seen} {m : Merg
             }) (counted i))
             ∙ sym text_begun
 
-        pub outcome_is : (lines_beside wish trusted_wish old new trusted_old trusted_new).outcome
+        pub outcome_is : (lines_beside list wish trusted_wish old new trusted_old trusted_new).outcome
             ≡ line_outcome found.counts found.compared.skipped_old found.compared.skipped_new
         unfolding lines_beside report_over
         outcome_is =
@@ -217,8 +228,9 @@ module _ {R : Type 0} {r : Reels R} {limits : Limits} {a b s t : Seen} {m : Merg
     -- ---- what has gone out at a fault
 
     cut_changes : (before after : Option (List ℕ)) (fault : PairFault)
-        → BeginsBeside wish trusted_wish (pass_of old new) (pass_of trusted_old trusted_new) before after
-        → CutsBeside limits wish trusted_wish old new trusted_old trusted_new before after fault
+        → BeginsBeside (leaves_between list old new) wish trusted_wish (pass_of old new) (pass_of trusted_old trusted_new)
+        before after
+        → CutsBeside limits list wish trusted_wish old new trusted_old trusted_new before after fault
     cut_changes before after (Compared (Open side)) begins = begins
     cut_changes before after (Compared (Database fault)) begins = begins
     cut_changes before after (Compared (Changed side)) begins = begins
@@ -227,8 +239,8 @@ module _ {R : Type 0} {r : Reels R} {limits : Limits} {a b s t : Seen} {m : Merg
 
     cut_last : (before after : Option (List ℕ)) (fault : PairFault) → IsWrite fault
         → AreAllSound limits old new trusted_old trusted_new
-        → SendsPart (lines_beside wish trusted_wish old new trusted_old trusted_new).text before after
-        → CutsBeside limits wish trusted_wish old new trusted_old trusted_new before after fault
+        → SendsPart (lines_beside list wish trusted_wish old new trusted_old trusted_new).text before after
+        → CutsBeside limits list wish trusted_wish old new trusted_old trusted_new before after fault
     cut_last before after (Compared (Open side)) written sound part = absurd written
     cut_last before after (Compared (Database fault)) written sound part = absurd written
     cut_last before after (Compared (Changed side)) written sound part = absurd written
@@ -236,8 +248,8 @@ module _ {R : Type 0} {r : Reels R} {limits : Limits} {a b s t : Seen} {m : Merg
     cut_last before after (Trusted fault) written sound part = absurd written
 
     pub cut_by : {n : Merges R} {f w : DeskView} (before after : Option (List ℕ)) (fault : PairFault)
-        → CutsChanges r wish trusted_wish m e v before after fault ⊎ CutsLast r wish trusted_wish m n e f v w before after fault
-        → CutsBeside limits wish trusted_wish old new trusted_old trusted_new before after fault
+        → CutsChanges r list wish trusted_wish m e v before after fault ⊎ CutsLast r list wish trusted_wish m n e f v w before after fault
+        → CutsBeside limits list wish trusted_wish old new trusted_old trusted_new before after fault
     cut_by before after fault cut = elim cut [
       | inl early ↦ cut_changes before after fault (done_begins early.done before after fault early.are early.part)
       | inr last ↦
@@ -262,35 +274,36 @@ whole_as r whole outcome before after is ends =
 -- after `Ok` the whole answer has gone out
 pub ends_whole : {R : Type 0} {r : Reels R} {limits : Limits} {a b s t : Seen} {m n : Merges R} {e f v w : DeskView}
     {found : PairsFound} (p : AreOpened r limits a b e m.compared) (q : AreOpened r limits s t v m.trusted)
-    (wish trusted_wish : Asked) (before after : Option (List ℕ))
-    → HasToldAll r wish trusted_wish m n e f v w found (Appends before after)
+    (list : ListRead) (wish trusted_wish : Asked) (before after : Option (List ℕ))
+    → HasToldAll r list wish trusted_wish m n e f v w found (Appends before after)
     → (old new trusted_old trusted_new : Option (List ℕ))
     → TellsSide (a.bytes_of Old) (a.is_missing Old) old × TellsSide (a.bytes_of New) (a.is_missing New) new
     → TellsSide (s.bytes_of Old) (s.is_missing Old) trusted_old × TellsSide (s.bytes_of New) (s.is_missing New) trusted_new
-    → (r : Result Report PairFault) → RunsBeside limits wish trusted_wish old new trusted_old trusted_new r
+    → (r : Result Report PairFault) → RunsBeside limits list wish trusted_wish old new trusted_old trusted_new r
     → SendsWholeOf r (line_outcome found.counts found.compared.skipped_old found.compared.skipped_new) before after
-ends_whole p q wish trusted_wish before after told None new trusted_old trusted_new tells trusted_tells r runs =
+ends_whole p q list wish trusted_wish before after told None new trusted_old trusted_new tells trusted_tells r runs =
     absurd (true_false (sym tells.0 ∙ p.there Old))
-ends_whole p q wish trusted_wish before after told (Some old) None trusted_old trusted_new tells trusted_tells r runs =
+ends_whole p q list wish trusted_wish before after told (Some old) None trusted_old trusted_new tells trusted_tells r runs =
     absurd (true_false (sym tells.1 ∙ p.there New))
-ends_whole p q wish trusted_wish before after told (Some old) (Some new) None trusted_new tells trusted_tells r runs =
+ends_whole p q list wish trusted_wish before after told (Some old) (Some new) None trusted_new tells trusted_tells r runs =
     absurd (true_false (sym trusted_tells.0 ∙ q.there Old))
-ends_whole p q wish trusted_wish before after told (Some old) (Some new) (Some trusted_old) None tells trusted_tells r runs =
+ends_whole p q list wish trusted_wish before after told (Some old) (Some new) (Some trusted_old) None tells trusted_tells r runs =
     absurd (true_false (sym trusted_tells.1 ∙ q.there New))
-ends_whole {limits = limits} {a = a} {s = s} p q wish trusted_wish before after told (Some old) (Some new) (Some trusted_old)
+ends_whole {limits = limits} {a = a} {s = s} p q list wish trusted_wish before after told (Some old) (Some new) (Some trusted_old)
     (Some trusted_new) tells trusted_tells r runs =
     let read = compared_read p q told.read in
     let trusted_read = trusted_read p q told.read in
-    let sound = all_sound p q wish trusted_wish old new trusted_old trusted_new tells.0 tells.1 trusted_tells.0 trusted_tells.1 told.read in
-    whole_as r (lines_beside wish trusted_wish old new trusted_old trusted_new) _ before after
-    (okay_answer runs.compared runs.trusted (lines_beside wish trusted_wish old new trusted_old trusted_new) r
+    let sound = all_sound p q list wish trusted_wish old new trusted_old trusted_new tells.0 tells.1 trusted_tells.0 trusted_tells.1
+    told.read in
+    whole_as r (lines_beside list wish trusted_wish old new trusted_old trusted_new) _ before after
+    (okay_answer runs.compared runs.trusted (lines_beside list wish trusted_wish old new trusted_old trusted_new) r
     (okay_over limits wish a.bytes_of a.is_missing (Some old) (Some new) tells.0 tells.1 read.there read.sound runs.compared
     runs.compared_runs)
     (okay_over limits trusted_wish s.bytes_of s.is_missing (Some trusted_old) (Some trusted_new) trusted_tells.0 trusted_tells.1
     trusted_read.there trusted_read.sound runs.trusted runs.trusted_runs)
     runs.answer) (
-      outcome_is p q wish trusted_wish old new trusted_old trusted_new tells.0 tells.1 trusted_tells.0 trusted_tells.1 sound told,
+      outcome_is p q list wish trusted_wish old new trusted_old trusted_new tells.0 tells.1 trusted_tells.0 trusted_tells.1 sound told,
       subst (λ text. Appends before after text)
-          (told_is p q wish trusted_wish old new trusted_old trusted_new tells.0 tells.1 trusted_tells.0 trusted_tells.1 sound told)
+          (told_is p q list wish trusted_wish old new trusted_old trusted_new tells.0 tells.1 trusted_tells.0 trusted_tells.1 sound told)
           told.goes,
     )

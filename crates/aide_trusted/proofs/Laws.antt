@@ -20,6 +20,7 @@ use Rattle.aide_report.specs.Merged.{merged}
 use Rattle.aide_report.proofs.MergeLemmas.{and_second, below_sorted, changes-merged, find-merged, find_below, paired, sorted-merged}
 use Rattle.aide_report.proofs.RunLemmas.{pass_is_changes}
 use Rattle.aide_trusted.specs.BesideLines.{by_trusted}
+use Rattle.aide_trusted.specs.Listed.{Leaves, account_by}
 use Rattle.aide_trusted.specs.Sought.{found_at, seek, sought_by}
 use Rattle.aide_trusted.proofs.SoughtLemmas.{T_true}
 
@@ -70,9 +71,10 @@ pass_sorted limits old new sound_old sound_new =
     (entries_sorted (compared (database_of old) (database_of new))))
 
 -- What a pass beside a trusted pair of sound texts takes for the account of a change is what its maps say.
-pub sought_is : (limits : Limits) (trusted_old trusted_new : List ℕ) → IsSound limits trusted_old → IsSound limits trusted_new
-    → sought_by (pass_of trusted_old trusted_new) ≡ by_trusted (database_of trusted_old) (database_of trusted_new)
-sought_is limits trusted_old trusted_new sound_old sound_new =
-    ap sought_by (sym (pass_is_changes limits trusted_old trusted_new sound_old sound_new)
+pub sought_is : (leaves : Leaves) (limits : Limits) (trusted_old trusted_new : List ℕ) → IsSound limits trusted_old → IsSound limits
+    trusted_new
+    → sought_by leaves (pass_of trusted_old trusted_new) ≡ by_trusted leaves (database_of trusted_old) (database_of trusted_new)
+sought_is leaves limits trusted_old trusted_new sound_old sound_new =
+    ap (sought_by leaves) (sym (pass_is_changes limits trusted_old trusted_new sound_old sound_new)
     ∙ changes-merged path_cmp path_cmp_total path_cmp-IsAntisymmetric (database_of trusted_old) (database_of trusted_new))
-    ∙ (λ i c. same_as c.1 (found_merged (database_of trusted_old) (database_of trusted_new) c.0 i))
+    ∙ (λ i c. account_by (same_as c.1 (found_merged (database_of trusted_old) (database_of trusted_new) c.0 i)) (leaves c))

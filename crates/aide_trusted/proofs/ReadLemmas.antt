@@ -29,6 +29,7 @@ use Rattle.aide_report.proofs.OneReadingLemmas.{desk_read, fault_as, fault_of_wr
 use Rattle.aide_report.proofs.PassLemmas.{desk_then, sources_then}
 use Rattle.aide_report.proofs.ReadingLemmas.{clears_then}
 use Rattle.aide_trusted.specs.BesideRuns.{IsFaultOfPair, LeavesPair, RunsBeside, StopsForPair, over_sides}
+use Rattle.aide_trusted.specs.Listed.{ListRead}
 use Rattle.aide_trusted.specs.BesideLines.{lines_beside}
 use Rattle.aide_trusted.specs.PairSeen.{Told, pair_seen}
 use Rattle.aide_trusted.specs.Pairs.{OfEach}
@@ -146,7 +147,7 @@ module _ (limits : Limits) (a b s t : Seen) (room trusted_room : ℕ) (sink : Ty
   four_behind (Compared fault) is = tt
   four_behind (Trusted fault) is = is.1.sound
 
-  module _ (wish trusted_wish : Asked) (d f u w : DeskView) where
+  module _ (list : ListRead) (wish trusted_wish : Asked) (d f u w : DeskView) where
     pub faults_of_pairs : (fault : PairFault) → room ≡ d.room → trusted_room ≡ u.room
         → IsFaultOfFour limits a b room sink s t trusted_room fault
         → OfEach (IsFaultOfPair limits (pair_seen wish a b d f) sink) (IsFaultOfPair limits (pair_seen trusted_wish s t u w) ⊥) fault
@@ -156,15 +157,15 @@ module _ (limits : Limits) (a b s t : Seen) (room trusted_room : ℕ) (sink : Ty
     pub stops_over : (fault : PairFault) → IsFaultOfFour limits a b room sink s t trusted_room fault
         → (old new trusted_old trusted_new : Option (List ℕ)) → Told (pair_seen wish a b d f) old new
         → Told (pair_seen trusted_wish s t u w) trusted_old trusted_new
-        → (r : Result Report PairFault) → RunsBeside limits wish trusted_wish old new trusted_old trusted_new r
+        → (r : Result Report PairFault) → RunsBeside limits list wish trusted_wish old new trusted_old trusted_new r
         → StopsForPair r (OfEach (IsHindered old new (Rose a.failures b.failures) sink)
         (IsHindered trusted_old trusted_new (Rose s.failures t.failures) ⊥)) fault
     stops_over (Compared fault) is old new trusted_old trusted_new told trusted_told r runs =
-        stops_compared runs.compared runs.trusted (over_sides (lines_beside wish trusted_wish) old new trusted_old trusted_new) r
+        stops_compared runs.compared runs.trusted (over_sides (lines_beside list wish trusted_wish) old new trusted_old trusted_new) r
         (IsHindered old new (Rose a.failures b.failures) sink) (IsHindered trusted_old trusted_new (Rose s.failures t.failures) ⊥)
         fault runs.answer (is.over wish old new told.0 told.1 runs.compared runs.compared_runs)
     stops_over (Trusted fault) is old new trusted_old trusted_new told trusted_told r runs =
-        stops_trusted runs.compared runs.trusted (over_sides (lines_beside wish trusted_wish) old new trusted_old trusted_new) r
+        stops_trusted runs.compared runs.trusted (over_sides (lines_beside list wish trusted_wish) old new trusted_old trusted_new) r
         (IsHindered old new (Rose a.failures b.failures) sink) (IsHindered trusted_old trusted_new (Rose s.failures t.failures) ⊥)
         fault runs.answer
         (okay_over limits wish a.bytes_of a.is_missing old new told.0 told.1 is.1.there is.1.sound runs.compared runs.compared_runs)

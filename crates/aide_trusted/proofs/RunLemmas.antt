@@ -18,6 +18,7 @@ use Rattle.aide_report.specs.declared.run_fault.RunFault.TheVariants.{Open, Data
 use Rattle.aide_text.specs.Failures.{Rose}
 use Rattle.aide_text.specs.declared.sink.Sink.{Ghosts as Sinks}
 use Rattle.aide_text.proofs.Sending.{Appends-nothing}
+use Rattle.aide_trusted.specs.Listed.{ListRead}
 use Rattle.aide_trusted.specs.PairSeen.{pair_seen}
 use Rattle.aide_trusted.specs.Pairs.{CountsPairWrites, OfCompared, OfEach}
 use Rattle.aide_trusted.specs.RunBeside.{IsRunBeside}
@@ -83,21 +84,23 @@ first_opened r m n d u sink before after (Trusted (Database fault)) is = tt
 first_opened r m n d u sink before after (Trusted (Changed side)) is = absurd is
 first_opened r m n d u sink before after (Trusted (Write written)) is = absurd is
 
-module _ (limits : Limits) (wish trusted_wish : Asked) {a b s t : Seen} {start d e trusted_start u v : DeskView} {W : Type 0} (w : Sinks W)
+module _ (limits : Limits) (list : ListRead) (wish trusted_wish : Asked) {a b s t : Seen} {start d e trusted_start u v : DeskView}
+    {W : Type 0} (w : Sinks W)
     (cleared : ClearsDesk limits a.bytes_of start d) (trusted_cleared : ClearsDesk limits s.bytes_of trusted_start u)
     (keeps : KeepsPair limits a b d e) (trusted_keeps : KeepsPair limits s t u v) where
   -- a side was refused, or what comes before it has a fault
   pub run_refused : (out : W) (fault : PairFault) → IsFaultOfFour limits a b d.room ⊥ s t u.room fault
-      → IsRunBeside limits (pair_seen wish a b start e) (pair_seen trusted_wish s t trusted_start v) (sink_seen w out) (sink_seen w out)
+      → IsRunBeside limits list (pair_seen wish a b start e) (pair_seen trusted_wish s t trusted_start v) (sink_seen w out)
+      (sink_seen w out)
       (Err fault)
   run_refused out fault is =
       let bytes = w.delivered out in
       let sink = Rose (w.failures out) (w.failures out) in
       let means = four_as limits a b s t d.room u.room ⊥ sink fault (λ none. absurd none) is in
       record {
-        over = stops_over limits a b s t d.room u.room sink wish trusted_wish start e trusted_start v fault means;
+        over = stops_over limits a b s t d.room u.room sink list wish trusted_wish start e trusted_start v fault means;
         cut = λ old new trusted_old trusted_new told trusted_told.
-            cut_none limits wish trusted_wish old new trusted_old trusted_new bytes fault;
+            cut_none limits list wish trusted_wish old new trusted_old trusted_new bytes fault;
         unopened = nothing_unopened bytes fault;
         missing = λ side gone. Appends-nothing bytes;
         trusted_missing = λ side gone. Appends-nothing bytes;
@@ -109,7 +112,7 @@ module _ (limits : Limits) (wish trusted_wish : Asked) {a b s t : Seen} {start d
         flushes = refl;
         written = nothing_written limits a b s t d.room u.room bytes fault is;
         sink_fails = nothing_failed limits a b s t d.room u.room (w.failures out) fault is;
-        fault = faults_of_pairs limits a b s t d.room u.room sink wish trusted_wish start e trusted_start v fault cleared.room
+        fault = faults_of_pairs limits a b s t d.room u.room sink list wish trusted_wish start e trusted_start v fault cleared.room
             trusted_cleared.room means;
         leaves = leaves_pair wish cleared keeps;
         trusted_leaves = leaves_pair trusted_wish trusted_cleared trusted_keeps;
@@ -121,13 +124,14 @@ module _ (limits : Limits) (wish trusted_wish : Asked) {a b s t : Seen} {start d
       (p : AreOpened r limits a opened d_open m.compared) (q : AreOpened r limits s trusted_opened u_open m.trusted) where
     -- all was read and written
     pub run_told : (out sent : W) (found : PairsFound) → b.openings ≡ opened.openings → t.openings ≡ trusted_opened.openings
-        → HasToldAll r wish trusted_wish m n d_open e u_open v found (Appends (w.delivered out) (w.delivered sent))
+        → HasToldAll r list wish trusted_wish m n d_open e u_open v found (Appends (w.delivered out) (w.delivered sent))
         → FlushesPair {X = PairsFound} w out sent (Ok found)
-        → IsRunBeside limits (pair_seen wish a b start e) (pair_seen trusted_wish s t trusted_start v) (sink_seen w out) (sink_seen w sent)
+        → IsRunBeside limits list (pair_seen wish a b start e) (pair_seen trusted_wish s t trusted_start v) (sink_seen w out)
+        (sink_seen w sent)
         (Ok (line_outcome found.counts found.compared.skipped_old found.compared.skipped_new))
     run_told out sent found closed trusted_closed told flush =
         record {
-          over = ends_whole p q wish trusted_wish (w.delivered out) (w.delivered sent) told;
+          over = ends_whole p q list wish trusted_wish (w.delivered out) (w.delivered sent) told;
           cut = λ old new trusted_old trusted_new told trusted_told. tt;
           unopened = tt;
           missing = λ side gone. absurd (true_false (sym gone ∙ p.there side));
@@ -159,19 +163,20 @@ module _ (limits : Limits) (wish trusted_wish : Asked) {a b s t : Seen} {start d
 
     -- a fault came while all four were read
     pub run_cut : (out sent : W) (fault : PairFault)
-        → CutsChanges r wish trusted_wish m d_open u_open (w.delivered out) (w.delivered sent) fault
-        ⊎ CutsLast r wish trusted_wish m n d_open e u_open v (w.delivered out) (w.delivered sent) fault
+        → CutsChanges r list wish trusted_wish m d_open u_open (w.delivered out) (w.delivered sent) fault
+        ⊎ CutsLast r list wish trusted_wish m n d_open e u_open v (w.delivered out) (w.delivered sent) fault
         → IsFirstFault r m n d_open u_open (Rose (w.failures out) (w.failures sent)) fault
         → IsFaultOfFour limits a b d.room (Rose (w.failures out) (w.failures sent)) s t u.room fault
         → FlushesPair {X = PairsFound} w out sent (Err fault)
-        → IsRunBeside limits (pair_seen wish a b start e) (pair_seen trusted_wish s t trusted_start v) (sink_seen w out) (sink_seen w sent)
+        → IsRunBeside limits list (pair_seen wish a b start e) (pair_seen trusted_wish s t trusted_start v) (sink_seen w out)
+        (sink_seen w sent)
         (Err fault)
     run_cut out sent fault cut first means flush =
         let sink = Rose (w.failures out) (w.failures sent) in
         record {
-          over = stops_over limits a b s t d.room u.room sink wish trusted_wish start e trusted_start v fault means;
+          over = stops_over limits a b s t d.room u.room sink list wish trusted_wish start e trusted_start v fault means;
           cut = λ old new trusted_old trusted_new told trusted_told.
-              cut_by p q wish trusted_wish old new trusted_old trusted_new told.0 told.1 trusted_told.0 trusted_told.1
+              cut_by p q list wish trusted_wish old new trusted_old trusted_new told.0 told.1 trusted_told.0 trusted_told.1
               (w.delivered out) (w.delivered sent) fault cut;
           unopened = first_opened r m n d_open u_open sink (w.delivered out) (w.delivered sent) fault first;
           missing = λ side gone. absurd (true_false (sym gone ∙ p.there side));
@@ -184,7 +189,7 @@ module _ (limits : Limits) (wish trusted_wish : Asked) {a b s t : Seen} {start d
           flushes = flush.flushes;
           written = flush.written;
           sink_fails = flush.fails;
-          fault = faults_of_pairs limits a b s t d.room u.room sink wish trusted_wish start e trusted_start v fault cleared.room
+          fault = faults_of_pairs limits a b s t d.room u.room sink list wish trusted_wish start e trusted_start v fault cleared.room
               trusted_cleared.room means;
           leaves = leaves_pair wish cleared keeps;
           trusted_leaves = leaves_pair trusted_wish trusted_cleared trusted_keeps;

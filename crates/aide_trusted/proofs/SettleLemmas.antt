@@ -27,6 +27,7 @@ use Rattle.aide_text.specs.Sheet.{Sheet, WritesSome, Wrote}
 use Rattle.aide_text.specs.declared.pen.Pen.{Pen}
 use Rattle.aide_text.proofs.Sheets.{wrote_as, wrote_more}
 use Rattle.aide_trusted.specs.Pairs.{CountsPairWrites, OfCompared, OfEach}
+use Rattle.aide_trusted.specs.Listed.{ListRead, leaves_between}
 use Rattle.aide_trusted.specs.Sought.{sought_by}
 use Rattle.aide_trusted.specs.code.Calls.{IsPairStop}
 use Rattle.aide_trusted.specs.code.Settled.{AreReadSound, FitsMerges, IsFirstStop, IsPairStopped, IsSettledStop}
@@ -98,9 +99,9 @@ stop_settled n f w pen stop.Write stop.Write keeps is stopped settled = is
 -- ---- what was written before it
 
 -- a pen that has written these first bytes before
-pub walked_behind : {R X E : Type 0} {r : Reels R} {options : Options} {counts_in : X → LineCounts} {m : Merges R}
+pub walked_behind : {R X E : Type 0} {r : Reels R} {list : ListRead} {options : Options} {counts_in : X → LineCounts} {m : Merges R}
     {d u : DeskView} {a b z : Sheet} {result : Result X E} (first : List ℕ) → Wrote first a b
-    → HasWalked r options [] counts_in m d u b z result → HasWalked r options first counts_in m d u a z result
+    → HasWalked r list options [] counts_in m d u b z result → HasWalked r list options first counts_in m d u a z result
 walked_behind first before p = record {
   done = p.done;
   are = p.are;
@@ -110,15 +111,19 @@ walked_behind first before p = record {
 }
 
 -- the first bytes could not be written
-pub walked_first : {R X E : Type 0} (r : Reels R) (options : Options) (first : List ℕ) (counts_in : X → LineCounts) (m : Merges R)
+pub walked_first : {R X E : Type 0} (r : Reels R) (list : ListRead) (options : Options) (first : List ℕ) (counts_in : X → LineCounts)
+    (m : Merges R)
     (d u : DeskView) {a b : Sheet} (stop : E) → Wrote first a b
-    → HasWalked {X = X} r options first counts_in m d u a b (Err stop)
-walked_first r options first counts_in m d u stop wrote = record {
+    → HasWalked {X = X} r list options first counts_in m d u a b (Err stop)
+walked_first r list options first counts_in m d u stop wrote = record {
   done = [];
   are = record {
     changes = λ old new s t. (remaining m.compared d old new, refl);
-    lines = λ old new trusted_old trusted_new s t x y in_order.
-        (change_lines options (sought_by (remaining m.trusted u trusted_old trusted_new)) (remaining m.compared d old new), refl);
+    lines = λ old new trusted_old trusted_new s t x y in_order. (
+      change_lines options (sought_by (leaves_between list old new) (remaining m.trusted u trusted_old trusted_new))
+          (remaining m.compared d old new),
+      refl,
+    );
   };
   wrote = wrote_as (sym (append-nil first)) wrote;
   counted = tt;
@@ -126,11 +131,11 @@ walked_first r options first counts_in m d u stop wrote = record {
 }
 
 -- the numbers with what else was found
-pub walked_found : {R X Y E F : Type 0} {r : Reels R} {options : Options} {first : List ℕ} {counts_in : X → LineCounts}
+pub walked_found : {R X Y E F : Type 0} {r : Reels R} {list : ListRead} {options : Options} {first : List ℕ} {counts_in : X → LineCounts}
     {m : Merges R} {d u : DeskView} {a b : Sheet} (answer : X) (found : Y) (also_in : Y → LineCounts)
     → also_in found ≡ counts_in answer
-    → HasWalked {E = E} r options first counts_in m d u a b (Ok answer)
-    → HasWalked {E = F} r options first also_in m d u a b (Ok found)
+    → HasWalked {E = E} r list options first counts_in m d u a b (Ok answer)
+    → HasWalked {E = F} r list options first also_in m d u a b (Ok found)
 walked_found answer found also_in same p = record {
   done = p.done;
   are = record { changes = p.are.changes; lines = p.are.lines };

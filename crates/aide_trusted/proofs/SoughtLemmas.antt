@@ -7,13 +7,14 @@ use Rattle.std.specs.Ordering.{is_eq, is_lt}
 use Rattle.std.specs.List.{flat_map}
 use Rattle.std.specs.FinMap.Entries.{is_sorted, below_all}
 use Rattle.aide_agreement.specs.Account.{Pair, same_as}
-use Rattle.aide_agreement.specs.declared.account.SameAs.{SameAs}
+use Rattle.aide_line_text.specs.declared.account.Account.{Account}
 use Rattle.aide_entry.specs.Attributes.{Entry}
 use Rattle.aide_entry.specs.Path.{path_cmp}
 use Rattle.aide_entry.proofs.PathLaws.{path_cmp_total}
 use Rattle.aide_report.specs.Entries.{PathChange}
 use Rattle.aide_report.specs.code.ChangeView.{alike_of}
 use Rattle.aide_report.proofs.MergeLemmas.{and_first, and_second}
+use Rattle.aide_trusted.specs.Listed.{Leaves, account_by}
 use Rattle.aide_trusted.specs.Sought.{Accounted, all_sought, found_at, seek, sought_by}
 
 -- ---- what is sought
@@ -71,13 +72,13 @@ T_true false h = absurd h
 true_T : (b : Bool) → b ≡ true → T b
 true_T b is = subst T (sym is) tt
 
-sought_later : (path : List ℕ) (es cs : List PathChange) → T (below_all path_cmp path cs)
-    → all_sought cs (seek path es) ≡ all_sought cs es
-sought_later path es [] below = refl
-sought_later path es (c ∷ cs) below =
-    let first : (c, sought_by (seek path es) c) ≡ (c, sought_by es c) =
-    ap (λ l. (c, same_as c.1 (found_at c.0 l))) (seek_again path c.0 (T_true _ (and_first _ _ below)) es) in
-    let more = sought_later path es cs (and_second _ _ below) in
+sought_later : (leaves : Leaves) (path : List ℕ) (es cs : List PathChange) → T (below_all path_cmp path cs)
+    → all_sought leaves cs (seek path es) ≡ all_sought leaves cs es
+sought_later leaves path es [] below = refl
+sought_later leaves path es (c ∷ cs) below =
+    let first : (c, sought_by leaves (seek path es) c) ≡ (c, sought_by leaves es c) =
+    ap (λ l. (c, account_by (same_as c.1 (found_at c.0 l)) (leaves c))) (seek_again path c.0 (T_true _ (and_first _ _ below)) es) in
+    let more = sought_later leaves path es cs (and_second _ _ below) in
     λ i. first i ∷ more i
 
 -- ---- changes, one after another
@@ -90,41 +91,43 @@ sorted_rest c rest changes more is one sorted =
     T_true _ (and_second _ _ (true_T _ (ap (is_sorted path_cmp) (sym all) ∙ sorted)))
 
 -- one change more
-pub sought_more : (c : PathChange) (rest changes more es sought : List PathChange) (account : Option SameAs)
+pub sought_more : (leaves : Leaves) (c : PathChange) (rest changes more es sought : List PathChange) (account : Option Account)
     → rest ≡ changes ++ more → changes ≡ c ∷ [] → sought ≡ seek c.0 es
-    → account ≡ same_as c.1 (found_at c.0 sought) → is_sorted path_cmp rest ≡ true
-    → all_sought rest es ≡ ((c, account) ∷ []) ++ all_sought more sought
-sought_more c rest changes more es sought account is one sought_is told sorted =
+    → account ≡ account_by (same_as c.1 (found_at c.0 sought)) (leaves c) → is_sorted path_cmp rest ≡ true
+    → all_sought leaves rest es ≡ ((c, account) ∷ []) ++ all_sought leaves more sought
+sought_more leaves c rest changes more es sought account is one sought_is told sorted =
     let all : rest ≡ c ∷ more = is ∙ ap (λ l. l ++ more) one in
     let in_order : is_sorted path_cmp (c ∷ more) ≡ true = ap (is_sorted path_cmp) (sym all) ∙ sorted in
-    let same : (c, sought_by es c) ≡ (c, account) = ap (λ a. (c, a)) (ap (λ l. same_as c.1 (found_at c.0 l)) (sym sought_is) ∙ sym told) in
-    let later : all_sought more sought ≡ all_sought more es =
-    ap (all_sought more) sought_is ∙ sought_later c.0 es more (and_first _ _ (true_T _ in_order)) in
-    ap (λ l. all_sought l es) all ∙ (λ i. same i ∷ sym later i)
+    let same : (c, sought_by leaves es c) ≡ (c, account) =
+    ap (λ a. (c, a)) (ap (λ l. account_by (same_as c.1 (found_at c.0 l)) (leaves c)) (sym sought_is) ∙ sym told) in
+    let later : all_sought leaves more sought ≡ all_sought leaves more es =
+    ap (all_sought leaves more) sought_is ∙ sought_later leaves c.0 es more (and_first _ _ (true_T _ in_order)) in
+    ap (λ l. all_sought leaves l es) all ∙ (λ i. same i ∷ sym later i)
 
 -- an entry that both sides have alike
-pub sought_alike : (entry : Entry) (rest changes more es : List PathChange) → rest ≡ changes ++ more
-    → changes ≡ alike_of entry ∷ [] → all_sought rest es ≡ ((alike_of entry, sought_by es (alike_of entry)) ∷ []) ++ all_sought more es
-sought_alike entry rest changes more es is one = ap (λ l. all_sought l es) (is ∙ ap (λ l. l ++ more) one)
+pub sought_alike : (leaves : Leaves) (entry : Entry) (rest changes more es : List PathChange) → rest ≡ changes ++ more
+    → changes ≡ alike_of entry ∷ [] → all_sought leaves rest es
+    ≡ ((alike_of entry, sought_by leaves es (alike_of entry)) ∷ []) ++ all_sought leaves more es
+sought_alike leaves entry rest changes more es is one = ap (λ l. all_sought leaves l es) (is ∙ ap (λ l. l ++ more) one)
 
 -- ---- their texts, one after another
 
-module _ (text : Accounted → List ℕ) where
-  pub one_sought : (c : PathChange) (rest changes more es sought : List PathChange) (account : Option SameAs)
+module _ (text : Accounted → List ℕ) (leaves : Leaves) where
+  pub one_sought : (c : PathChange) (rest changes more es sought : List PathChange) (account : Option Account)
       → rest ≡ changes ++ more → changes ≡ c ∷ [] → sought ≡ seek c.0 es
-      → account ≡ same_as c.1 (found_at c.0 sought) → is_sorted path_cmp rest ≡ true
-      → flat_map text (all_sought rest es) ≡ text (c, account) ++ flat_map text (all_sought more sought)
+      → account ≡ account_by (same_as c.1 (found_at c.0 sought)) (leaves c) → is_sorted path_cmp rest ≡ true
+      → flat_map text (all_sought leaves rest es) ≡ text (c, account) ++ flat_map text (all_sought leaves more sought)
   one_sought c rest changes more es sought account is one sought_is told sorted =
-      ap (flat_map text) (sought_more c rest changes more es sought account is one sought_is told sorted)
+      ap (flat_map text) (sought_more leaves c rest changes more es sought account is one sought_is told sorted)
 
   -- an entry that both sides have alike has no text
   pub alike_sought : (entry : Entry) (rest changes more es : List PathChange)
-      → ((account : Option SameAs) → text (alike_of entry, account) ≡ [])
+      → ((account : Option Account) → text (alike_of entry, account) ≡ [])
       → rest ≡ changes ++ more → changes ≡ alike_of entry ∷ []
-      → flat_map text (all_sought rest es) ≡ flat_map text (all_sought more es)
+      → flat_map text (all_sought leaves rest es) ≡ flat_map text (all_sought leaves more es)
   alike_sought entry rest changes more es nothing is one =
-      ap (flat_map text) (sought_alike entry rest changes more es is one)
-      ∙ ap (λ l. l ++ flat_map text (all_sought more es)) (nothing (sought_by es (alike_of entry)))
+      ap (flat_map text) (sought_alike leaves entry rest changes more es is one)
+      ∙ ap (λ l. l ++ flat_map text (all_sought leaves more es)) (nothing (sought_by leaves es (alike_of entry)))
 
-  pub none_sought : (rest es : List PathChange) → rest ≡ [] → flat_map text (all_sought rest es) ≡ []
-  none_sought rest es none = ap (λ l. flat_map text (all_sought l es)) none
+  pub none_sought : (rest es : List PathChange) → rest ≡ [] → flat_map text (all_sought leaves rest es) ≡ []
+  none_sought rest es none = ap (λ l. flat_map text (all_sought leaves l es)) none

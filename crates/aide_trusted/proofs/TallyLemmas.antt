@@ -5,7 +5,7 @@ use Rattle.std.specs.List.{flat_map}
 use Rattle.std.proofs.lemmas.Grind.{flat_map-append}
 use Rattle.std.proofs.lemmas.List.{append-nil}
 use Rattle.std.proofs.lemmas.List.Sums.{count_by-le-length, sum_by-append}
-use Rattle.aide_agreement.specs.declared.account.SameAs.{SameAs}
+use Rattle.aide_line_text.specs.declared.account.Account.{Account}
 use Rattle.aide_conf.specs.declared.options.Options.{Options}
 use Rattle.aide_entry.specs.Attributes.{Entry}
 use Rattle.aide_line_text.specs.declared.counts.LineCounts.{LineCounts}
@@ -13,7 +13,7 @@ use Rattle.aide_report.specs.ChangeLines.{Accounts, change_line, change_lines, l
 use Rattle.aide_report.specs.Changed.{differ_by}
 use Rattle.aide_report.specs.Changes.{is_added, is_removed, is_changed, is_of_new}
 use Rattle.aide_report.specs.Entries.{PathChange}
-use Rattle.aide_report.specs.LineCounts.{account_count, entry_count, is_old, is_other, is_trusted}
+use Rattle.aide_report.specs.LineCounts.{account_count, entry_count, is_left_out, is_old, is_other, is_trusted}
 use Rattle.aide_report.specs.Sections.{all_listed, is_in}
 use Rattle.aide_report.specs.code.ChangeView.{alike_of}
 use Rattle.aide_report.specs.code.LineTally.{AreLinesBelow, sum_of_counts, tally}
@@ -21,6 +21,7 @@ use Rattle.aide_report.proofs.SameEntries.{in_none, never_differs}
 use Rattle.aide_report.proofs.SectionLaws.{first_counted}
 use Rattle.aide_report.proofs.LineLemmas.{lines_one}
 use Rattle.aide_report.proofs.TallyLemmas.{tally_accounted, tally_alone}
+use Rattle.aide_trusted.specs.Listed.{Leaves}
 use Rattle.aide_trusted.specs.Sought.{Accounted, accounted_line, accounted_lines, all_sought, sought_by}
 use Rattle.aide_trusted.specs.code.Tallied.{of_account, of_change, tally_of}
 
@@ -53,15 +54,17 @@ module _ (options : Options) where
   abbrev differs : PathChange → Bool
   differs = is_changed (differ_by options.ignore)
 
-  pub tally_pairs : (cs trusted : List PathChange) → tally options (sought_by trusted) cs ≡ tally_of options (all_sought cs trusted)
-  tally_pairs cs trusted = λ i. record {
-    total = counted_pairs (of_change is_of_new) (sought_by trusted) cs i;
-    added = counted_pairs (of_change is_added) (sought_by trusted) cs i;
-    removed = counted_pairs (of_change is_removed) (sought_by trusted) cs i;
-    changed = counted_pairs (of_change differs) (sought_by trusted) cs i;
-    same_as_old = counted_pairs (of_account options is_old) (sought_by trusted) cs i;
-    same_as_trusted = counted_pairs (of_account options is_trusted) (sought_by trusted) cs i;
-    others = counted_pairs (of_account options is_other) (sought_by trusted) cs i;
+  pub tally_pairs : (leaves : Leaves) (cs trusted : List PathChange)
+      → tally options (sought_by leaves trusted) cs ≡ tally_of options (all_sought leaves cs trusted)
+  tally_pairs leaves cs trusted = λ i. record {
+    total = counted_pairs (of_change is_of_new) (sought_by leaves trusted) cs i;
+    added = counted_pairs (of_change is_added) (sought_by leaves trusted) cs i;
+    removed = counted_pairs (of_change is_removed) (sought_by leaves trusted) cs i;
+    changed = counted_pairs (of_change differs) (sought_by leaves trusted) cs i;
+    same_as_old = counted_pairs (of_account options is_old) (sought_by leaves trusted) cs i;
+    same_as_trusted = counted_pairs (of_account options is_trusted) (sought_by leaves trusted) cs i;
+    left_out = counted_pairs (of_account options is_left_out) (sought_by leaves trusted) cs i;
+    others = counted_pairs (of_account options is_other) (sought_by leaves trusted) cs i;
   }
 
   -- one change more
@@ -77,6 +80,7 @@ module _ (options : Options) where
         changed = one_more (of_change differs) m a.changed rest more is i;
         same_as_old = one_more (of_account options is_old) m a.same_as_old rest more is i;
         same_as_trusted = one_more (of_account options is_trusted) m a.same_as_trusted rest more is i;
+        left_out = one_more (of_account options is_left_out) m a.left_out rest more is i;
         others = one_more (of_account options is_other) m a.others rest more is i;
       })
       ∙ so_far
@@ -91,6 +95,7 @@ module _ (options : Options) where
     changed = small_one (of_change differs) m a.changed top k n less small.changed;
     same_as_old = small_one (of_account options is_old) m a.same_as_old top k n less small.same_as_old;
     same_as_trusted = small_one (of_account options is_trusted) m a.same_as_trusted top k n less small.same_as_trusted;
+    left_out = small_one (of_account options is_left_out) m a.left_out top k n less small.left_out;
     others = small_one (of_account options is_other) m a.others top k n less small.others;
   })
 
@@ -103,15 +108,16 @@ module _ (options : Options) where
     changed = omega (arith, small.changed);
     same_as_old = omega (arith, small.same_as_old);
     same_as_trusted = omega (arith, small.same_as_trusted);
+    left_out = omega (arith, small.left_out);
     others = omega (arith, small.others);
   }
 
-  no_line : (passes : Option SameAs → Bool) (entry : Entry) (account : Option SameAs)
+  no_line : (passes : Option Account → Bool) (entry : Entry) (account : Option Account)
       → of_account options passes (alike_of entry, account) ≡ false
   no_line passes entry account = ap (λ b. b && passes account) (in_none options all_listed entry)
 
   -- an entry that both databases have alike is counted in the total alone
-  pub tally_alike : (a : LineCounts) (entry : Entry) (account : Option SameAs)
+  pub tally_alike : (a : LineCounts) (entry : Entry) (account : Option Account)
       → record a { total = a.total + 1 } ≡ sum_of_counts a (tally_of options ((alike_of entry, account) ∷ []))
   tally_alike a entry account = let m : Accounted = (alike_of entry, account) in λ i. record {
     total = a.total + 1;
@@ -120,6 +126,7 @@ module _ (options : Options) where
     changed = uncounted (of_change differs) m a.changed (never_differs options.ignore entry.1 entry.1 refl) i;
     same_as_old = uncounted (of_account options is_old) m a.same_as_old (no_line is_old entry account) i;
     same_as_trusted = uncounted (of_account options is_trusted) m a.same_as_trusted (no_line is_trusted entry account) i;
+    left_out = uncounted (of_account options is_left_out) m a.left_out (no_line is_left_out entry account) i;
     others = uncounted (of_account options is_other) m a.others (no_line is_other entry account) i;
   }
 
@@ -132,6 +139,7 @@ module _ (options : Options) where
     changed = plus_none a.changed i;
     same_as_old = plus_none a.same_as_old i;
     same_as_trusted = plus_none a.same_as_trusted i;
+    left_out = plus_none a.left_out i;
     others = plus_none a.others i;
   }) ∙ is
     where
@@ -140,7 +148,7 @@ module _ (options : Options) where
 
   -- nothing was counted before
   pub tally_start : (a all : LineCounts) → a ≡ record
-      { total = 0; added = 0; removed = 0; changed = 0; same_as_old = 0; same_as_trusted = 0; others = 0 }
+      { total = 0; added = 0; removed = 0; changed = 0; same_as_old = 0; same_as_trusted = 0; left_out = 0; others = 0 }
       → sum_of_counts a all ≡ all
   tally_start a all is = ap (λ (c : LineCounts). sum_of_counts c all) is ∙ (λ i. record {
     total = none_plus all.total i;
@@ -149,6 +157,7 @@ module _ (options : Options) where
     changed = none_plus all.changed i;
     same_as_old = none_plus all.same_as_old i;
     same_as_trusted = none_plus all.same_as_trusted i;
+    left_out = none_plus all.left_out i;
     others = none_plus all.others i;
   })
     where
@@ -156,7 +165,7 @@ module _ (options : Options) where
       none_plus n = omega arith
 
   pub small_start : (a : LineCounts) (work : ℕ)
-      → a ≡ record { total = 0; added = 0; removed = 0; changed = 0; same_as_old = 0; same_as_trusted = 0; others = 0 }
+      → a ≡ record { total = 0; added = 0; removed = 0; changed = 0; same_as_old = 0; same_as_trusted = 0; left_out = 0; others = 0 }
       → work < 2 ^ 62 → AreLinesBelow a (2 ^ 62 - work)
   small_start a work is less = rw is (record {
     total = omega (arith, less);
@@ -165,26 +174,29 @@ module _ (options : Options) where
     changed = omega (arith, less);
     same_as_old = omega (arith, less);
     same_as_trusted = omega (arith, less);
+    left_out = omega (arith, less);
     others = omega (arith, less);
   })
 
   -- ---- the lines
 
-  pub lines_of_sought : (cs trusted : List PathChange)
-      → accounted_lines options (all_sought cs trusted) ≡ change_lines options (sought_by trusted) cs
+  pub lines_of_sought : (leaves : Leaves) (cs trusted : List PathChange)
+      → accounted_lines options (all_sought leaves cs trusted) ≡ change_lines options (sought_by leaves trusted) cs
   unfolding change_lines listed_line change_line
-  lines_of_sought [] trusted = refl
-  lines_of_sought (c ∷ cs) trusted =
-      ap (λ l. accounted_line options (c, sought_by trusted c) ++ l) (lines_of_sought cs trusted) ∙ by_test (is_in options all_listed c)
+  lines_of_sought leaves [] trusted = refl
+  lines_of_sought leaves (c ∷ cs) trusted =
+      ap (λ l. accounted_line options (c, sought_by leaves trusted c) ++ l) (lines_of_sought leaves cs trusted) ∙ by_test
+      (is_in options all_listed c)
     where
-      by_test : (b : Bool) → (cond b (change_line options (sought_by trusted) c) []) ++ flat_map (change_line options (sought_by trusted))
+      by_test : (b : Bool) → (cond b (change_line options (sought_by leaves trusted) c) []) ++ flat_map
+          (change_line options (sought_by leaves trusted))
           (listed_changes options cs)
-          ≡ flat_map (change_line options (sought_by trusted)) (cond b (c ∷ listed_changes options cs) (listed_changes options cs))
+          ≡ flat_map (change_line options (sought_by leaves trusted)) (cond b (c ∷ listed_changes options cs) (listed_changes options cs))
       by_test true = refl
       by_test false = refl
 
   -- an entry that both databases have alike has none
-  pub line_alike : (entry : Entry) (account : Option SameAs) → accounted_line options (alike_of entry, account) ≡ []
+  pub line_alike : (entry : Entry) (account : Option Account) → accounted_line options (alike_of entry, account) ≡ []
   unfolding listed_line
   line_alike entry account = ap (λ b. cond b (change_line options (λ c. account) (alike_of entry)) []) (in_none options all_listed entry)
 
@@ -199,6 +211,7 @@ module _ (options : Options) where
     changed = counted_behind (of_change differs) ms ns i;
     same_as_old = counted_behind (of_account options is_old) ms ns i;
     same_as_trusted = counted_behind (of_account options is_trusted) ms ns i;
+    left_out = counted_behind (of_account options is_left_out) ms ns i;
     others = counted_behind (of_account options is_other) ms ns i;
   })
 

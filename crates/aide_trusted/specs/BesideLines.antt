@@ -18,6 +18,7 @@ use Rattle.aide_report.specs.LinesRead.{read_of}
 use Rattle.aide_report.specs.Runs.{Report, report_over}
 use Rattle.aide_report.specs.declared.outcome.Outcome.{Outcome}
 use Rattle.aide_text.specs.Sent.{SendsPart}
+use Rattle.aide_trusted.specs.Listed.{Leaves, ListRead, account_by, leaves_between}
 use Rattle.aide_trusted.specs.Sought.{Accounted, accounted_lines, changes_of, sought_by}
 
 -- what the last line says of all four databases
@@ -27,10 +28,11 @@ pub record PairFacts : Type 0 where
   pub of_trusted_old : ReadFacts
   pub of_trusted_new : ReadFacts
 
--- what accounts for each change, by what the trusted maps have at its path
-abbrev pub by_trusted : (trusted_old trusted_new : Database) → Accounts
-by_trusted trusted_old trusted_new change =
-    same_as change.1 (get trusted_old change.0, get trusted_new change.0)
+-- what accounts for each change, by what the trusted maps have at its path and by what a list leaves out
+abbrev pub by_trusted : Leaves → (trusted_old trusted_new : Database) → Accounts
+by_trusted leaves trusted_old trusted_new change =
+    account_by (same_as change.1 (get trusted_old change.0, get trusted_new change.0))
+    (leaves change)
 
 -- the first line: the configured paths of all four databases
 abbrev pub opening_beside : (asked trusted : Asked) → List ℕ
@@ -38,17 +40,17 @@ opening_beside asked trusted = opening_line_trusted asked.old_path asked.new_pat
     trusted.old_path trusted.new_path
 
 -- the last line
-abbrev pub closing_beside : PairFacts → LineCounts → List ℕ
-closing_beside facts counts = closing_line_trusted facts.of_old facts.of_new
-    facts.of_trusted_old facts.of_trusted_new counts (status_by counts)
+abbrev pub closing_beside : ListRead → PairFacts → LineCounts → List ℕ
+closing_beside list facts counts = closing_line_trusted facts.of_old facts.of_new
+    facts.of_trusted_old facts.of_trusted_new list.digest counts (status_by counts)
 
 -- all lines, with these facts, counts and changes: the first line, a line for each added, removed or changed entry,
 -- which says what accounts for the change, and the last line
-unfoldable pub all_lines_beside : (asked trusted : Asked) → PairFacts → Accounts → LineCounts
-    → List PathChange → List ℕ
-all_lines_beside asked trusted facts account counts changes =
+unfoldable pub all_lines_beside : ListRead → (asked trusted : Asked) → PairFacts → Accounts
+    → LineCounts → List PathChange → List ℕ
+all_lines_beside list asked trusted facts account counts changes =
     (opening_beside asked trusted ++ change_lines asked.options account changes)
-    ++ closing_beside facts counts
+    ++ closing_beside list facts counts
 
 -- what the last line says of four texts
 abbrev pub facts_of_texts : (old new trusted_old trusted_new : List ℕ) → PairFacts
@@ -59,40 +61,46 @@ facts_of_texts old new trusted_old trusted_new = record {
   of_trusted_new = read_of trusted_new;
 }
 
--- the lines over four maps from paths to attributes
-abbrev pub lines_of_pairs : (asked trusted : Asked) → PairFacts
-    → (old new trusted_old trusted_new : Database)
-    → List ℕ
-lines_of_pairs asked trusted facts old new trusted_old trusted_new =
-    all_lines_beside asked trusted facts (by_trusted trusted_old trusted_new)
-    (line_counts asked.options (by_trusted trusted_old trusted_new) old new) (changes old new)
+-- the lines over two maps from paths to attributes, by what accounts for their changes
+abbrev pub lines_of_pairs : ListRead → (asked trusted : Asked) → PairFacts → Accounts
+    → (old new : Database) → List ℕ
+lines_of_pairs list asked trusted facts account old new =
+    all_lines_beside list asked trusted facts account (line_counts asked.options account old new)
+    (changes old new)
 
--- The lines over four sound texts, and the outcome that goes with them, in which the trusted texts have no part.
-unfoldable pub lines_beside : (asked trusted : Asked)
+-- what accounts for the changes of two texts, by the maps of the trusted texts and by a list
+abbrev pub by_texts : ListRead → (old new trusted_old trusted_new : List ℕ) → Accounts
+by_texts list old new trusted_old trusted_new =
+    by_trusted (leaves_between list old new) (database_of trusted_old)
+    (database_of trusted_new)
+
+-- The lines over four sound texts, and the outcome that goes with them, in which the trusted texts and the list have no
+-- part.
+unfoldable pub lines_beside : ListRead → (asked trusted : Asked)
     → (old new trusted_old trusted_new : List ℕ)
     → Report
-lines_beside asked trusted old new trusted_old trusted_new = record {
-  text = lines_of_pairs asked trusted (facts_of_texts old new trusted_old trusted_new)
-      (database_of old) (database_of new) (database_of trusted_old) (database_of trusted_new);
+lines_beside list asked trusted old new trusted_old trusted_new = record {
+  text = lines_of_pairs list asked trusted (facts_of_texts old new trusted_old trusted_new)
+      (by_texts list old new trusted_old trusted_new) (database_of old) (database_of new);
   outcome = (report_over asked old new).outcome;
 }
 
 -- A beginning of the first line and of the lines of these changes has gone out, each with what accounts for it. If the
--- changes are in path order, that is what the changes of the trusted pair have at its path.
-pub record BeginsBeside (asked trusted : Asked) (changes beside : List PathChange)
+-- changes are in path order, that is what the changes of the trusted pair have at its path, or what is left out.
+pub record BeginsBeside (leaves : Leaves) (asked trusted : Asked) (changes beside : List PathChange)
     (before after : Option (List ℕ)) : Type 0 where
   pub accounted : List Accounted
   pub all : changes_of accounted ≡ changes
   pub part : SendsPart (opening_beside asked trusted ++ accounted_lines asked.options accounted)
       before after
   pub sought : is_sorted path_cmp changes ≡ true → SendsPart
-      (opening_beside asked trusted ++ change_lines asked.options (sought_by beside) changes)
+      (opening_beside asked trusted ++ change_lines asked.options (sought_by leaves beside) changes)
       before after
 
 -- The first line has gone out with the paths, the last line with some digests, the skipped columns and the counts of
 -- this outcome, and bytes between them only if an entry was added, removed or changed. What accounts for the lines are
 -- as many as they are. The skipped columns of the trusted pair are no part of the outcome.
-pub record AreLinesBeside (asked trusted : Asked) (outcome : Outcome)
+pub record AreLinesBeside (list : ListRead) (asked trusted : Asked) (outcome : Outcome)
     (before after : Option (List ℕ)) : Type 0 where
   pub facts : PairFacts
   pub skipped_old : facts.of_old.skipped ≡ outcome.skipped_old
@@ -102,5 +110,5 @@ pub record AreLinesBeside (asked trusted : Asked) (outcome : Outcome)
   pub accounted : account_count counts ≡ entry_count counts
   pub between : List ℕ
   pub bytes : Appends before after ((opening_beside asked trusted ++ between)
-      ++ closing_beside facts counts)
+      ++ closing_beside list facts counts)
   pub alone : entry_count counts ≡ 0 → between ≡ []

@@ -25,6 +25,7 @@ use Rattle.aide_report.specs.declared.run_fault.RunFault.TheVariants.{Write}
 use Rattle.aide_text.specs.Failures.{Rose}
 use Rattle.aide_text.specs.Sent.{SendsPart}
 use Rattle.aide_trusted.specs.BesideLines.{BeginsBeside, lines_beside}
+use Rattle.aide_trusted.specs.Listed.{ListRead, leaves_between}
 use Rattle.aide_trusted.specs.PairSeen.{Gives, PairSeen}
 use Rattle.aide_trusted.specs.declared.pair_fault.PairFault.{PairFault}
 use Rattle.aide_trusted.specs.declared.pair_fault.PairFault.TheVariants.{Compared, Trusted}
@@ -50,7 +51,7 @@ answer_by (Ok report) (Ok other) None r = ⊥
 answer_by (Ok report) (Ok other) (Some over) r = r ≡ Ok over
 
 -- The right answer, by what is at all four sides.
-pub record RunsBeside (limits : Limits) (asked trusted_asked : Asked)
+pub record RunsBeside (limits : Limits) (list : ListRead) (asked trusted_asked : Asked)
     (old new trusted_old trusted_new : Option (List ℕ))
     (r : Result Report PairFault) : Type 0 where
   pub compared : Result Report RunFault
@@ -58,7 +59,7 @@ pub record RunsBeside (limits : Limits) (asked trusted_asked : Asked)
   pub compared_runs : RunsOver limits asked old new compared
   pub trusted_runs : RunsOver limits trusted_asked trusted_old trusted_new trusted
   pub answer : answer_by compared trusted
-      (over_sides (lines_beside asked trusted_asked) old new trusted_old trusted_new) r
+      (over_sides (lines_beside list asked trusted_asked) old new trusted_old trusted_new) r
 
 -- ---- how a run ends
 
@@ -94,18 +95,19 @@ abbrev pub changes_between : (old new : List ℕ) → List PathChange
 changes_between old new = merged path_cmp (entries_of old) (entries_of new)
 
 -- Never a byte of the last line, unless all four texts are sound and a write has failed.
-abbrev pub CutsBeside : Limits → (asked trusted : Asked)
+abbrev pub CutsBeside : Limits → ListRead → (asked trusted : Asked)
     → (old new trusted_old trusted_new : List ℕ)
     → (before after : Option (List ℕ)) → PairFault
     → Type 0
-CutsBeside limits asked trusted old new trusted_old trusted_new before after
+CutsBeside limits list asked trusted old new trusted_old trusted_new before after
     (Compared (Write written)) =
     (AreAllSound limits old new trusted_old trusted_new
-    → SendsPart (lines_beside asked trusted old new trusted_old trusted_new).text before after)
-    × ((AreAllSound limits old new trusted_old trusted_new → ⊥) → BeginsBeside asked trusted
+    → SendsPart (lines_beside list asked trusted old new trusted_old trusted_new).text before after)
+    × ((AreAllSound limits old new trusted_old trusted_new → ⊥)
+    → BeginsBeside (leaves_between list old new) asked trusted
     (changes_between old new) (changes_between trusted_old trusted_new) before after)
-CutsBeside limits asked trusted old new trusted_old trusted_new before after _ =
-    BeginsBeside asked trusted
+CutsBeside limits list asked trusted old new trusted_old trusted_new before after _ =
+    BeginsBeside (leaves_between list old new) asked trusted
     (changes_between old new) (changes_between trusted_old trusted_new) before after
 
 -- ---- what a run leaves of each pair

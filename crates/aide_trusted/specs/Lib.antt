@@ -4,5 +4,7 @@ pub mod RunBeside
 pub mod Pairs
 pub mod PairSeen
 pub mod SamePair
+pub mod Listed
+pub mod ListView
 pub mod Sought
 pub mod code

@@ -15,6 +15,7 @@ use Rattle.aide_text.specs.Failures.{CountsFlush, Rose}
 use Rattle.aide_trusted.specs.BesideLines.{AreLinesBeside}
 use Rattle.aide_trusted.specs.BesideRuns.{CutsBeside, EndsBeside, IsFaultOfPair, LeavesPair}
 use Rattle.aide_trusted.specs.BesideRuns.{RunsBeside}
+use Rattle.aide_trusted.specs.Listed.{ListRead}
 use Rattle.aide_trusted.specs.PairSeen.{Gives, PairSeen, Told}
 use Rattle.aide_trusted.specs.Pairs.{CountsPairWrites, OfCompared, OfEach}
 use Rattle.aide_trusted.specs.declared.pair_fault.PairFault.{PairFault}
@@ -29,16 +30,16 @@ abbrev pub KeepsMissing : PairSeen → (before after : Option (List ℕ)) → Ty
 KeepsMissing p before after = (side : Side) → p.before.is_missing side ≡ true
     → Appends before after []
 
--- A run over the compared pair `p` beside the trusted pair `q`, with this result: `o` is seen of the sink before it,
--- `s` after it.
-pub record IsRunBeside (limits : Limits) (p q : PairSeen) (o s : SinkSeen)
-    (result : Result Outcome PairFault) : Type 0 where
+-- A run over the compared pair `p` beside the trusted pair `q` and a list, with this result: `o` is seen of the sink
+-- before it, `s` after it.
+pub record IsRunBeside (limits : Limits) (list : ListRead) (p q : PairSeen)
+    (o s : SinkSeen) (result : Result Outcome PairFault) : Type 0 where
   -- If it is told what is at each of the four sides, a text or nothing: the run ends with the right answer, and all of
   -- its lines have gone out, unless an allocation, a side that is there, or the sink has failed.
   pub over : (old new trusted_old trusted_new : Option (List ℕ)) → Told p old new
       → Told q trusted_old trusted_new
       → (r : Result Report PairFault)
-      → RunsBeside limits p.asked q.asked old new trusted_old trusted_new r
+      → RunsBeside limits list p.asked q.asked old new trusted_old trusted_new r
       → EndsBeside r (OfEach
       (IsHindered old new (Rose p.before.failures p.after.failures) (Rose o.failures s.failures))
       (IsHindered trusted_old trusted_new (Rose q.before.failures q.after.failures) ⊥))
@@ -46,7 +47,7 @@ pub record IsRunBeside (limits : Limits) (p q : PairSeen) (o s : SinkSeen)
   -- what has gone out at a fault
   pub cut : (old new trusted_old trusted_new : List ℕ) → Gives p old new
       → Gives q trusted_old trusted_new
-      → IfErr result (CutsBeside limits p.asked q.asked old new trusted_old trusted_new
+      → IfErr result (CutsBeside limits list p.asked q.asked old new trusted_old trusted_new
       o.delivered s.delivered)
   -- Before all four sides are open nothing goes out.
   pub unopened : IfErr result (OfEach (KeepsUnopened o.delivered s.delivered)
@@ -59,7 +60,7 @@ pub record IsRunBeside (limits : Limits) (p q : PairSeen) (o s : SinkSeen)
   pub behind : IfErr result (OfEach (λ fault. ⊤) (λ fault. AreSoundIn limits p))
   -- For any sources, also those that tell no bytes: what has gone out is of the very outcome that is returned.
   pub consistent : IfOk result (λ outcome.
-      AreLinesBeside p.asked q.asked outcome o.delivered s.delivered)
+      AreLinesBeside list p.asked q.asked outcome o.delivered s.delivered)
   -- The lines are flushed once, after their last byte, and after a fault not at all.
   pub flushed : OnOk result (s.is_flushed ≡ true)
   pub flushes : CountsFlush o.flushes s.flushes result

@@ -1,8 +1,5 @@
 //! A trusted pair of databases, read beside the pair that is compared.
 ghost use Rattle.std.specs.Prelude.{◌≡◌, ℕ, List, IfErr, OnOk};
-ghost use Rattle.std.specs.Ordering.{is_eq, is_lt};
-ghost use Rattle.aide_entry.specs.Path.{path_cmp};
-ghost use Rattle.aide_entry.specs.View.{entry_in};
 ghost use Rattle.aide_report.specs.code.ChangeView.{change_of};
 ghost use Rattle.aide_report.specs.code.MergeCalls.{IsMergeFault, KeepsMerge};
 ghost use Rattle.aide_report.specs.code.Merging.{IsNotDue, IsReady, remaining};
@@ -10,57 +7,17 @@ ghost use Rattle.aide_report.specs.code.OneReading.{IsStopped};
 ghost use Rattle.aide_agreement.specs.Account.{same_as};
 ghost use Rattle.aide_agreement.specs.Found.{found};
 ghost use Rattle.aide_trusted.specs.code.Calls.{IsSought};
+ghost use Rattle.aide_trusted.specs.ListView.{list_read, measures_at};
+ghost use Rattle.aide_trusted.specs.Listed.{account_by, left_by};
 ghost use Rattle.aide_trusted.specs.Sought.{found_at};
 
+use crate::change::{entries_of, is_at, is_before};
+use crate::list::{LeftOutList, line_of};
 use aide_agreement::{SameAs, same_as};
-use aide_db::{DbFault, Desk, Reel, View, cmp_names};
+use aide_db::{DbFault, Desk, Reel, View};
+use aide_line_text::{Account, account_as};
 use aide_report::{Change, Merge};
 use std::alloc::Allocator;
-use std::cmp::Ordering;
-
-/// The entries of a change, the old one first.
-fn entries_of<'a>(change: Change<'a>) -> (Option<View<'a>>, Option<View<'a>>)
-    ensures { (found result.0, found result.1) ≡ (change_of change.entry).1 }
-{
-    match change {
-        Change::Added(new) => (None, Some(new)),
-        Change::Removed(old) => (Some(old), None),
-        Change::Common(old, new) => (Some(old), Some(new)),
-    }
-}
-
-/// An entry with the path of a change.
-fn view_of<'a>(change: Change<'a>) -> View<'a>
-    ensures { (entry_in result).0 ≡ (change_of change.entry).0 }
-{
-    match change {
-        Change::Added(new) => new,
-        Change::Removed(old) => old,
-        Change::Common(old, _) => old,
-    }
-}
-
-/// Whether the path of a trusted change comes before that of another change.
-fn is_before(trusted: Change<'_>, change: Change<'_>) -> bool
-    ensures { result ≡ is_lt (path_cmp (change_of trusted.entry).0 (change_of change.entry).0) }
-{
-    match cmp_names(&view_of(trusted), &view_of(change)) {
-        Ordering::Less => true,
-        Ordering::Equal => false,
-        Ordering::Greater => false,
-    }
-}
-
-/// Whether two changes are at one path.
-fn is_at(trusted: Change<'_>, change: Change<'_>) -> bool
-    ensures { result ≡ is_eq (path_cmp (change_of trusted.entry).0 (change_of change.entry).0) }
-{
-    match cmp_names(&view_of(trusted), &view_of(change)) {
-        Ordering::Less => false,
-        Ordering::Equal => true,
-        Ordering::Greater => false,
-    }
-}
 
 /// Brings the merge of the trusted pair to the first path that is not before that of a change.
 pub(crate) fn seek<R: Reel, A: Allocator + Copy>(
@@ -113,8 +70,8 @@ fn found_at<'d, R: Reel, A: Allocator + Copy>(
     }
 }
 
-/// What accounts for a change, once the merge of the trusted pair has come to its path.
-pub(crate) fn account_of<R: Reel, A: Allocator + Copy>(
+/// Returns the entry that accounts for a change, once the merge of the trusted pair has come to its path.
+fn same_of<R: Reel, A: Allocator + Copy>(
     merge: &Merge<R>,
     desk: &Desk<A>,
     change: Change<'_>,
@@ -127,4 +84,31 @@ pub(crate) fn account_of<R: Reel, A: Allocator + Copy>(
     let (old, new) = entries_of(change);
     let (trusted_old, trusted_new) = found_at(merge, desk, change);
     same_as(old, new, trusted_old, trusted_new)
+}
+
+/// Returns what accounts for a change, once the merge of the trusted pair has come to its path. The list is asked last.
+pub(crate) fn account_of<R: Reel, A: Allocator + Copy>(
+    compared: &Merge<R>,
+    trusted: &Merge<R>,
+    trusted_desk: &Desk<A>,
+    list: LeftOutList<'_>,
+    change: Change<'_>,
+    room: &mut [u8; 4096],
+) -> Option<Account>
+    requires ready { IsReady trusted.now trusted_desk.now }
+    requires not_due { IsNotDue trusted.now }
+    ensures { (old new : List ℕ) → result ≡ account_by (same_as (change_of change.entry).1
+        (found_at (change_of change.entry).0
+        (remaining trusted.now trusted_desk.now old new)))
+        (left_by (list_read list.entry) (measures_at compared.now)
+        (change_of change.entry)) }
+{
+    let same = same_of(trusted, trusted_desk, change);
+    match same {
+        Some(_) => account_as(same),
+        None => match line_of(list, compared, change, room) {
+            Some(line) => Some(Account::LeftOut(line)),
+            None => None,
+        },
+    }
 }

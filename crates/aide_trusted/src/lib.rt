@@ -2,6 +2,8 @@
 #![tactic(auto)]
 
 mod beside;
+mod change;
+mod list;
 mod opening;
 mod pair_fault;
 mod run;
@@ -9,5 +11,7 @@ mod settle;
 mod walk;
 mod write;
 
+pub use list::LeftOutList;
 pub use pair_fault::PairFault;
 pub use run::{TrustedPair, run_lines_beside};
+pub use write::Tasks;

@@ -2,6 +2,7 @@
 ghost use Rattle.std.specs.Prelude.{◌≤◌, ◌^◌};
 ghost use Rattle.aide_report.specs.Asked.{asked};
 ghost use Rattle.aide_report.specs.Seen.{seen, sink_seen};
+ghost use Rattle.aide_trusted.specs.ListView.{list_read};
 ghost use Rattle.aide_trusted.specs.RunBeside.{IsRunBeside};
 ghost use Rattle.aide_trusted.specs.PairSeen.{pair_seen};
 ghost use Rattle.aide_trusted.specs.SamePair.{AreSamePair};
@@ -10,16 +11,13 @@ use crate::opening::open_four;
 use crate::pair_fault::PairFault;
 use crate::walk::Merges;
 use crate::write::{Tasks, write_beside};
-use aide_conf::Task;
 use aide_db::{Desk, Limits, Sources};
 use aide_report::{Outcome, Sink, clear, close_both, outcome_of};
 use std::alloc::Allocator;
 
-/// A trusted pair of databases: what is asked of it, where it is read from, and onto which desk.
+/// A trusted pair of databases: where it is read from, and onto which desk.
 #[derive(Drop)]
 pub struct TrustedPair<'a, S: Sources, A: Allocator + Copy> {
-    /// The paths of both databases.
-    pub task: &'a Task<'a>,
     /// What is held of them.
     pub desk: &'a mut Desk<A>,
     /// What opens them.
@@ -27,7 +25,8 @@ pub struct TrustedPair<'a, S: Sources, A: Allocator + Copy> {
 }
 
 /// Compares two databases beside a trusted pair, and writes their changes as lines of JSON, each with what accounts for
-/// the change. Each of the four databases is opened and read once.
+/// the change. The list is asked where no entry accounts for a change. Each of the four databases is
+/// opened and read once.
 ///
 /// What [`aide_report::run_lines`] says of its lines holds of these, over four databases: the first fault counts, in
 /// the order old, new, trusted old, trusted new. What comes before it is read to its end. Nothing goes out before all
@@ -36,7 +35,7 @@ pub struct TrustedPair<'a, S: Sources, A: Allocator + Copy> {
 /// `limits.line` has to be at least 14, and `limits.bytes` at most 2^60. What is promised is the fields of
 /// `IsRunBeside`.
 pub fn run_lines_beside<S: Sources, W: Sink, A: Allocator + Copy>(
-    task: &Task<'_>,
+    tasks: &Tasks<'_>,
     limits: Limits,
     desk: &mut Desk<A>,
     sources: &mut S,
@@ -46,10 +45,10 @@ pub fn run_lines_beside<S: Sources, W: Sink, A: Allocator + Copy>(
     requires line { 14 ≤ limits.line }
     requires bytes { limits.bytes ≤ 2 ^ 60 }
     ensures same { AreSamePair trusted.old trusted.new }
-    ensures runs { IsRunBeside limits
-        (pair_seen (asked task.now)
+    ensures runs { IsRunBeside limits (list_read tasks.now.list)
+        (pair_seen (asked tasks.now.compared.now)
         (seen S.Sources sources.old) (seen S.Sources sources.new) desk.old desk.new)
-        (pair_seen (asked trusted.old.task.now)
+        (pair_seen (asked tasks.now.trusted.now)
         (seen S.Sources trusted.old.sources.now) (seen S.Sources trusted.new.sources.now)
         trusted.old.desk.now trusted.new.desk.now)
         (sink_seen W.Sink out.old) (sink_seen W.Sink out.new) result }
@@ -60,11 +59,7 @@ pub fn run_lines_beside<S: Sources, W: Sink, A: Allocator + Copy>(
         Ok(merges) => merges,
         Err(fault) => return Err(fault),
     };
-    let tasks = Tasks {
-        compared: task,
-        trusted: trusted.task,
-    };
-    let written = write_beside(&mut merges, &tasks, desk, trusted.desk, out);
+    let written = write_beside(&mut merges, tasks, desk, trusted.desk, out);
     let Merges {
         compared,
         trusted: beside,

@@ -3,13 +3,13 @@ ghost use Rattle.std.specs.Prelude.{◌≡◌, [], IfErr, OnOk};
 ghost use Rattle.aide_report.specs.Bound.{FitsAfterBoth};
 ghost use Rattle.aide_report.specs.code.OneReading.{IsFirstOfBoth};
 ghost use Rattle.aide_text.specs.PenSheet.{on_sheet};
+ghost use Rattle.aide_trusted.specs.ListView.{list_read};
 ghost use Rattle.aide_trusted.specs.code.Settled.{AreReadSound, FitsMerges, IsFirstStop};
 ghost use Rattle.aide_trusted.specs.code.Settled.{IsPairStopped, IsSettledStop};
 ghost use Rattle.aide_trusted.specs.code.Walked.{CanWalk, HasEnded, HasWalked, KeepsMerges};
 ghost use Rattle.aide_report.specs.code.Merging.{IsReady};
 
-use crate::walk::{Merges, PairStop, read_rest, walk};
-use aide_conf::Options;
+use crate::walk::{Merges, PairStop, Terms, read_rest, walk};
 use aide_db::{DbFault, Desk, Reel};
 use aide_line_text::LineCounts;
 use aide_report::{Merge, settled};
@@ -67,21 +67,21 @@ pub(crate) fn put_all_accounted<R: Reel, W: Sink, A: Allocator + Copy>(
     trusted_desk: &mut Desk<A>,
     out: &mut W,
     pen: &mut Pen,
-    options: &Options,
+    terms: &Terms<'_>,
 ) -> Result<LineCounts, PairStop>
     requires { CanWalk merges.old desk.old trusted_desk.old pen.old }
     ensures keeps { OnOk result (KeepsMerges R.Reel merges.old merges.new desk.old desk.new
         trusted_desk.old trusted_desk.new) }
     ensures fits { FitsMerges R.Reel merges.old
         desk.old desk.new trusted_desk.old trusted_desk.new }
-    ensures walked { HasWalked R.Reel options.now [] (λ counts. counts) merges.old desk.old
-        trusted_desk.old
+    ensures walked { HasWalked R.Reel (list_read terms.now.list) terms.now.options.now []
+        (λ counts. counts) merges.old desk.old trusted_desk.old
         (on_sheet W.Sink out.old pen.old) (on_sheet W.Sink out.new pen.new) result }
     ensures ended { OnOk result (HasEnded merges.new pen.new) }
     ensures fault { IfErr result (IsSettledStop R.Reel merges.old merges.new
         desk.old trusted_desk.old pen.new) }
 {
-    match walk(merges, desk, trusted_desk, out, pen, options) {
+    match walk(merges, desk, trusted_desk, out, pen, terms) {
         Ok(counts) => Ok(counts),
         Err(stop) => Err(settle(merges, desk, trusted_desk, stop)),
     }

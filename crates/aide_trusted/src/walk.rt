@@ -4,12 +4,14 @@ ghost use Rattle.aide_report.specs.code.MergeCalls.{IsMergeFault, KeepsMerge};
 ghost use Rattle.aide_report.specs.code.Merging.{IsEnded, IsReady};
 ghost use Rattle.aide_report.specs.code.OneReading.{IsStopped};
 ghost use Rattle.aide_text.specs.PenSheet.{on_sheet};
+ghost use Rattle.aide_trusted.specs.ListView.{list_read};
 ghost use Rattle.aide_trusted.specs.code.Calls.{IsPairStop};
 ghost use Rattle.aide_trusted.specs.code.Settled.{IsPairStopped};
 ghost use Rattle.aide_trusted.specs.code.Walked.{CanWalk, HasEnded, HasWalked, IsAtEnd};
 ghost use Rattle.aide_trusted.specs.code.Walked.{KeepsMerges};
 
 use crate::beside::{account_of, seek};
+use crate::list::LeftOutList;
 use aide_conf::Options;
 use aide_db::{DbFault, Desk, Reel};
 use aide_line_text::LineCounts;
@@ -21,6 +23,15 @@ use std::alloc::Allocator;
 pub(crate) struct Merges<R: Reel> {
     pub(crate) compared: Merge<R>,
     pub(crate) trusted: Merge<R>,
+}
+
+/// By what a walk over both pairs writes the lines of the changes.
+#[derive(Clone, Copy)]
+pub(crate) struct Terms<'a> {
+    /// The options of the configuration.
+    pub(crate) options: &'a Options,
+    /// What is left out.
+    pub(crate) list: LeftOutList<'a>,
 }
 
 /// Why a walk over both pairs was broken off.
@@ -39,13 +50,13 @@ fn put_accounted<R: Reel, W: Sink, A: Allocator + Copy>(
     trusted_desk: &mut Desk<A>,
     out: &mut W,
     pen: &mut Pen,
-    options: &Options,
+    terms: &Terms<'_>,
 ) -> Result<LineCounts, PairStop>
     requires { CanWalk merges.old desk.old trusted_desk.old pen.old }
     ensures keeps { KeepsMerges R.Reel merges.old merges.new desk.old desk.new
         trusted_desk.old trusted_desk.new }
-    ensures walked { HasWalked R.Reel options.now [] (λ counts. counts) merges.old desk.old
-        trusted_desk.old
+    ensures walked { HasWalked R.Reel (list_read terms.now.list) terms.now.options.now []
+        (λ counts. counts) merges.old desk.old trusted_desk.old
         (on_sheet W.Sink out.old pen.old) (on_sheet W.Sink out.new pen.new) result }
     ensures ended { OnOk result (IsAtEnd merges.new desk.new trusted_desk.new pen.new) }
     ensures fault { IfErr result (IsPairStop R.Reel merges.old merges.new
@@ -53,6 +64,7 @@ fn put_accounted<R: Reel, W: Sink, A: Allocator + Copy>(
     ensures stopped { IfErr result (IsPairStopped R.Reel merges.new desk.new) }
 {
     let mut counts = no_counts();
+    let mut room = [0; 4096];
     'pass: loop {
         if let Err(fault) = merges.compared.read_due(desk) {
             return Err(PairStop::Compared(fault));
@@ -62,8 +74,15 @@ fn put_accounted<R: Reel, W: Sink, A: Allocator + Copy>(
                 if let Err(fault) = seek(&mut merges.trusted, trusted_desk, change) {
                     return Err(PairStop::Trusted(fault));
                 }
-                let account = account_of(&merges.trusted, trusted_desk, change);
-                put_counted(out, pen, &mut counts, options, change, account);
+                let account = account_of(
+                    &merges.compared,
+                    &merges.trusted,
+                    trusted_desk,
+                    terms.list,
+                    change,
+                    &mut room,
+                );
+                put_counted(out, pen, &mut counts, terms.options, change, account);
                 if pen.failed {
                     return Err(PairStop::Write);
                 }
@@ -104,20 +123,20 @@ pub(crate) fn walk<R: Reel, W: Sink, A: Allocator + Copy>(
     trusted_desk: &mut Desk<A>,
     out: &mut W,
     pen: &mut Pen,
-    options: &Options,
+    terms: &Terms<'_>,
 ) -> Result<LineCounts, PairStop>
     requires { CanWalk merges.old desk.old trusted_desk.old pen.old }
     ensures keeps { KeepsMerges R.Reel merges.old merges.new desk.old desk.new
         trusted_desk.old trusted_desk.new }
-    ensures walked { HasWalked R.Reel options.now [] (λ counts. counts) merges.old desk.old
-        trusted_desk.old
+    ensures walked { HasWalked R.Reel (list_read terms.now.list) terms.now.options.now []
+        (λ counts. counts) merges.old desk.old trusted_desk.old
         (on_sheet W.Sink out.old pen.old) (on_sheet W.Sink out.new pen.new) result }
     ensures ended { OnOk result (HasEnded merges.new pen.new) }
     ensures fault { IfErr result (IsPairStop R.Reel merges.old merges.new
         desk.old trusted_desk.old pen.new) }
     ensures stopped { IfErr result (IsPairStopped R.Reel merges.new desk.new) }
 {
-    let counts = match put_accounted(merges, desk, trusted_desk, out, pen, options) {
+    let counts = match put_accounted(merges, desk, trusted_desk, out, pen, terms) {
         Ok(counts) => counts,
         Err(stop) => return Err(stop),
     };

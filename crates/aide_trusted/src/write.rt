@@ -8,29 +8,35 @@ ghost use Rattle.aide_text.specs.Failures.{Rose};
 ghost use Rattle.aide_text.specs.PenSheet.{on_sheet};
 ghost use Rattle.aide_text.specs.Sheet.{Wrote};
 ghost use Rattle.aide_trusted.specs.BesideLines.{closing_beside, opening_beside};
+ghost use Rattle.aide_trusted.specs.ListView.{list_read};
 ghost use Rattle.aide_trusted.specs.code.Settled.{FitsMerges, IsSettledStop};
 ghost use Rattle.aide_trusted.specs.code.Walked.{CanWalk, HasWalked};
 ghost use Rattle.aide_trusted.specs.code.Written.{ArePairsRead, CutsChanges, CutsLast, FlushesPair};
 ghost use Rattle.aide_trusted.specs.code.Written.{HasToldAll, IsFirstFault, facts_found};
 ghost use Rattle.aide_trusted.specs.code.Written.{pair_fault_of};
 
+use crate::list::LeftOutList;
 use crate::pair_fault::PairFault;
 use crate::settle::put_all_accounted;
-use crate::walk::{Merges, PairStop};
+use crate::walk::{Merges, PairStop, Terms};
 use aide_conf::Task;
 use aide_db::{Desk, DeviceFault, Reel};
 use aide_line_text::{
-    LineCounts, Read, ReadPair, put_closing_line_trusted, put_opening_line_trusted,
+    LineCounts, Read, ReadBeside, ReadPair, put_closing_line_trusted, put_opening_line_trusted,
 };
 use aide_report::{Readings, RunFault, outcome_of, readings_of};
 use aide_text::{Pen, Sink};
 use std::alloc::Allocator;
 
-/// What is asked of both pairs.
+/// What is asked of two pairs of databases and of a list.
 #[derive(Clone, Copy)]
-pub(crate) struct Tasks<'a> {
-    pub(crate) compared: &'a Task<'a>,
-    pub(crate) trusted: &'a Task<'a>,
+pub struct Tasks<'a> {
+    /// The paths of the databases that are compared, and the options.
+    pub compared: &'a Task<'a>,
+    /// The paths of the trusted pair.
+    pub trusted: &'a Task<'a>,
+    /// What is left out.
+    pub list: LeftOutList<'a>,
 }
 
 /// What a run has found that has read all four databases.
@@ -74,14 +80,18 @@ fn pair_of(readings: &Readings) -> ReadPair<'_>
 }
 
 /// Writes the last line.
-fn put_last<W: Sink>(out: &mut W, pen: &mut Pen, found: &PairsFound)
-    ensures { Wrote (closing_beside (facts_found found.now) found.now.counts)
+fn put_last<W: Sink>(out: &mut W, pen: &mut Pen, found: &PairsFound, list: LeftOutList<'_>)
+    ensures { Wrote (closing_beside (list_read list.entry) (facts_found found.now)
+        found.now.counts)
         (on_sheet W.Sink out.old pen.old) (on_sheet W.Sink out.new pen.new) }
 {
-    let compared = pair_of(&found.compared);
-    let trusted = pair_of(&found.trusted);
+    let read = ReadBeside {
+        compared: pair_of(&found.compared),
+        trusted: pair_of(&found.trusted),
+        list: list.digest,
+    };
     let status = outcome_of(&found.counts, &found.compared).status();
-    put_closing_line_trusted(out, pen, &compared, &trusted, &found.counts, status);
+    put_closing_line_trusted(out, pen, &read, &found.counts, status);
 }
 
 /// Writes the first line and the lines of the changes, and reads all four databases to their ends.
@@ -98,7 +108,7 @@ fn put_changes<R: Reel, W: Sink, A: Allocator + Copy>(
         desk.old desk.new trusted_desk.old trusted_desk.new }
     ensures read { IfOk result (ArePairsRead R.Reel merges.old merges.new desk.old desk.new
         trusted_desk.old trusted_desk.new) }
-    ensures walked { HasWalked R.Reel tasks.now.compared.now.options
+    ensures walked { HasWalked R.Reel (list_read tasks.now.list) tasks.now.compared.now.options
         (opening_beside (asked tasks.now.compared.now) (asked tasks.now.trusted.now))
         (λ found. found.counts) merges.old desk.old trusted_desk.old
         (on_sheet W.Sink out.old pen.old) (on_sheet W.Sink out.new pen.new) result }
@@ -110,8 +120,11 @@ fn put_changes<R: Reel, W: Sink, A: Allocator + Copy>(
     if pen.failed {
         return Err(PairStop::Write);
     }
-    let options = &tasks.compared.options;
-    let counts = match put_all_accounted(merges, desk, trusted_desk, out, pen, options) {
+    let terms = Terms {
+        options: &tasks.compared.options,
+        list: tasks.list,
+    };
+    let counts = match put_all_accounted(merges, desk, trusted_desk, out, pen, &terms) {
         Ok(counts) => counts,
         Err(stop) => return Err(stop),
     };
@@ -144,14 +157,14 @@ pub(crate) fn write_beside<R: Reel, W: Sink, A: Allocator + Copy>(
     requires { CanWalk merges.old desk.old trusted_desk.old (record { sent = 0; failed = false }) }
     ensures fits { FitsMerges R.Reel merges.old
         desk.old desk.new trusted_desk.old trusted_desk.new }
-    ensures told { IfOk result (λ found. HasToldAll R.Reel
+    ensures told { IfOk result (λ found. HasToldAll R.Reel (list_read tasks.now.list)
         (asked tasks.now.compared.now) (asked tasks.now.trusted.now) merges.old merges.new
         desk.old desk.new trusted_desk.old trusted_desk.new found
         (Appends (W.delivered out.old) (W.delivered out.new))) }
-    ensures cut { IfErr result (λ fault. CutsChanges R.Reel
+    ensures cut { IfErr result (λ fault. CutsChanges R.Reel (list_read tasks.now.list)
         (asked tasks.now.compared.now) (asked tasks.now.trusted.now) merges.old
         desk.old trusted_desk.old (W.delivered out.old) (W.delivered out.new) fault
-        ⊎ CutsLast R.Reel
+        ⊎ CutsLast R.Reel (list_read tasks.now.list)
         (asked tasks.now.compared.now) (asked tasks.now.trusted.now) merges.old merges.new
         desk.old desk.new trusted_desk.old trusted_desk.new
         (W.delivered out.old) (W.delivered out.new) fault) }
@@ -164,7 +177,7 @@ pub(crate) fn write_beside<R: Reel, W: Sink, A: Allocator + Copy>(
         Ok(found) => found,
         Err(stop) => return Err(pair_fault(stop, pen.sent)),
     };
-    put_last(out, &mut pen, &found);
+    put_last(out, &mut pen, &found, tasks.list);
     if pen.failed {
         return Err(PairFault::Compared(RunFault::Write { written: pen.sent }));
     }

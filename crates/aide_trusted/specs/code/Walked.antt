@@ -1,5 +1,5 @@
 -- What a walk over both pairs keeps, and what it has written and counted.
-use Rattle.std.specs.Prelude.{◌≡◌, ◌<◌, ◌^◌, ℕ, List, ◌++◌, Result, IfOk, false, true}
+use Rattle.std.specs.Prelude.{◌≡◌, ◌<◌, ◌^◌, ℕ, List, ◌++◌, Option, Result, IfOk, false, true}
 use Rattle.std.specs.FinMap.Entries.{is_sorted}
 use Rattle.aide_conf.specs.declared.options.Options.{Options}
 use Rattle.aide_db.specs.DeskView.{DeskView}
@@ -12,6 +12,7 @@ use Rattle.aide_report.specs.code.MergeCalls.{KeepsMerge}
 use Rattle.aide_report.specs.code.Merging.{IsEnded, IsReady, StandsAt, remaining, total_work}
 use Rattle.aide_text.specs.Sheet.{Sheet, Wrote}
 use Rattle.aide_text.specs.declared.pen.Pen.{Pen}
+use Rattle.aide_trusted.specs.Listed.{ListRead, leaves_between}
 use Rattle.aide_trusted.specs.Sought.{Accounted, accounted_lines, all_sought, changes_of, sought_by}
 use Rattle.aide_trusted.specs.code.Over.{AreDone, OverMerges}
 use Rattle.aide_trusted.specs.code.Tallied.{tally_of}
@@ -44,8 +45,8 @@ pub record HasEnded {R : Type 0} (m : Merges R) (pen : Pen) : Type 0 where
   pub writes_on : pen.failed ≡ false
 
 -- In the midst of a walk that began with `m`: what was written and counted.
-pub record IsWalking {R : Type 0} (r : Reels R) (options : Options) (m n : Merges R)
-    (d e u v : DeskView) (counts : LineCounts) (a b : Sheet) : Type 0 where
+pub record IsWalking {R : Type 0} (r : Reels R) (list : ListRead) (options : Options)
+    (m n : Merges R) (d e u v : DeskView) (counts : LineCounts) (a b : Sheet) : Type 0 where
   pub done : List Accounted
   pub wrote : Wrote (accounted_lines options done) a b
   pub counted : counts ≡ tally_of options done
@@ -58,18 +59,21 @@ pub record IsWalking {R : Type 0} (r : Reels R) (options : Options) (m n : Merge
       → StandsAt r.to_come m.trusted u Old trusted_old
       → StandsAt r.to_come m.trusted u New trusted_new
       → is_sorted path_cmp (remaining m.compared d old new) ≡ true
-      → accounted_lines options (all_sought (remaining m.compared d old new)
+      → accounted_lines options
+      (all_sought (leaves_between list old new) (remaining m.compared d old new)
       (remaining m.trusted u trusted_old trusted_new))
       ≡ accounted_lines options done ++ accounted_lines options
-      (all_sought (remaining n.compared e old new) (remaining n.trusted v trusted_old trusted_new))
+      (all_sought (leaves_between list old new) (remaining n.compared e old new)
+      (remaining n.trusted v trusted_old trusted_new))
   pub tallies : (old new trusted_old trusted_new : List ℕ)
       → StandsAt r.to_come m.compared d Old old → StandsAt r.to_come m.compared d New new
       → StandsAt r.to_come m.trusted u Old trusted_old
       → StandsAt r.to_come m.trusted u New trusted_new
       → is_sorted path_cmp (remaining m.compared d old new) ≡ true
       → sum_of_counts counts (tally_of options
-      (all_sought (remaining n.compared e old new) (remaining n.trusted v trusted_old trusted_new)))
-      ≡ tally_of options (all_sought (remaining m.compared d old new)
+      (all_sought (leaves_between list old new) (remaining n.compared e old new)
+      (remaining n.trusted v trusted_old trusted_new)))
+      ≡ tally_of options (all_sought (leaves_between list old new) (remaining m.compared d old new)
       (remaining m.trusted u trusted_old trusted_new))
   pub sorted : (old new : List ℕ) → StandsAt r.to_come m.compared d Old old
       → StandsAt r.to_come m.compared d New new
@@ -77,12 +81,13 @@ pub record IsWalking {R : Type 0} (r : Reels R) (options : Options) (m n : Merge
       → is_sorted path_cmp (remaining n.compared e old new) ≡ true
 
 -- What a walk has written and counted: the lines of the changes that it has met, behind these first bytes.
-pub record HasWalked {R X E : Type 0} (r : Reels R) (options : Options) (first : List ℕ)
-    (counts_in : X → LineCounts) (m : Merges R) (d u : DeskView) (a b : Sheet)
+pub record HasWalked {R X E : Type 0} (r : Reels R) (list : ListRead) (options : Options)
+    (first : List ℕ) (counts_in : X → LineCounts) (m : Merges R) (d u : DeskView) (a b : Sheet)
     (result : Result X E) : Type 0 where
   pub done : List Accounted
-  pub are : AreDone r options m d u done result
+  pub are : AreDone r list options m d u done result
   pub wrote : Wrote (first ++ accounted_lines options done) a b
   pub counted : IfOk result (λ answer. counts_in answer ≡ tally_of options done)
-  pub counts : IfOk result (λ answer. OverMerges r m.compared d m.trusted u (λ all beside.
-      counts_in answer ≡ tally options (sought_by beside) all))
+  pub counts : IfOk result (λ answer. OverMerges r list m.compared d m.trusted u
+      (λ leaves all beside.
+      counts_in answer ≡ tally options (sought_by leaves beside) all))

@@ -13,6 +13,7 @@ use Rattle.aide_text.specs.Sent.{SendsPart}
 use Rattle.aide_text.specs.declared.sink.Sink.{Ghosts as Sinks}
 use Rattle.aide_trusted.specs.BesideLines.{PairFacts, closing_beside, opening_beside}
 use Rattle.aide_trusted.specs.Pairs.{CountsPairWrites, OfCompared}
+use Rattle.aide_trusted.specs.Listed.{ListRead}
 use Rattle.aide_trusted.specs.Sought.{Accounted, accounted_lines, sought_by}
 use Rattle.aide_trusted.specs.code.Over.{AreDone, OverMerges}
 use Rattle.aide_trusted.specs.code.Settled.{AreReadSound}
@@ -39,9 +40,10 @@ abbrev pub begun_beside : (asked trusted : Asked) → List Accounted → List �
 begun_beside asked trusted done = opening_beside asked trusted ++ accounted_lines asked.options done
 
 -- all lines
-abbrev pub told_beside : (asked trusted : Asked) → List Accounted → PairsFound → List ℕ
-told_beside asked trusted done found = begun_beside asked trusted done
-    ++ closing_beside (facts_found found) found.counts
+abbrev pub told_beside : ListRead → (asked trusted : Asked) → List Accounted → PairsFound
+    → List ℕ
+told_beside list asked trusted done found = begun_beside asked trusted done
+    ++ closing_beside list (facts_found found) found.counts
 
 -- Both pairs were read to their ends.
 pub record ArePairsRead {R : Type 0} (r : Reels R) (m n : Merges R) (d e u v : DeskView)
@@ -53,21 +55,23 @@ pub record ArePairsRead {R : Type 0} (r : Reels R) (m n : Merges R) (d e u v : D
   pub trusted_read : AreReadAt r n.trusted v found.trusted
 
 -- All lines have been made, of these changes.
-pub record HasToldAll {R : Type 0} (r : Reels R) (asked trusted : Asked) (m n : Merges R)
-    (d e u v : DeskView) (found : PairsFound) (Goes : List ℕ → Type 0) : Type 0 where
+pub record HasToldAll {R : Type 0} (r : Reels R) (list : ListRead)
+    (asked trusted : Asked) (m n : Merges R) (d e u v : DeskView) (found : PairsFound)
+    (Goes : List ℕ → Type 0) : Type 0 where
   pub read : ArePairsRead r m n d e u v found
   pub done : List Accounted
-  pub are : AreDone {X = PairsFound} {E = PairFault} r asked.options m d u done (Ok found)
+  pub are : AreDone {X = PairsFound} {E = PairFault} r list asked.options m d u done (Ok found)
   pub counted : found.counts ≡ tally_of asked.options done
-  pub counts : OverMerges r m.compared d m.trusted u (λ all beside.
-      found.counts ≡ tally asked.options (sought_by beside) all)
-  pub goes : Goes (told_beside asked trusted done found)
+  pub counts : OverMerges r list m.compared d m.trusted u (λ leaves all beside.
+      found.counts ≡ tally asked.options (sought_by leaves beside) all)
+  pub goes : Goes (told_beside list asked trusted done found)
 
 -- A beginning of the lines has gone out, and no byte of the last one.
-pub record CutsChanges {R : Type 0} (r : Reels R) (asked trusted : Asked) (m : Merges R)
-    (d u : DeskView) (before after : Option (List ℕ)) (fault : PairFault) : Type 0 where
+pub record CutsChanges {R : Type 0} (r : Reels R) (list : ListRead) (asked trusted : Asked)
+    (m : Merges R) (d u : DeskView) (before after : Option (List ℕ))
+    (fault : PairFault) : Type 0 where
   pub done : List Accounted
-  pub are : AreDone {X = PairsFound} r asked.options m d u done (Err fault)
+  pub are : AreDone {X = PairsFound} r list asked.options m d u done (Err fault)
   pub part : SendsPart (begun_beside asked trusted done) before after
 
 -- a write
@@ -76,11 +80,12 @@ IsWrite (Compared (Write written)) = ⊤
 IsWrite _ = ⊥
 
 -- A write of the last line has failed, or the flush after it.
-pub record CutsLast {R : Type 0} (r : Reels R) (asked trusted : Asked) (m n : Merges R)
-    (d e u v : DeskView) (before after : Option (List ℕ)) (fault : PairFault) : Type 0 where
+pub record CutsLast {R : Type 0} (r : Reels R) (list : ListRead) (asked trusted : Asked)
+    (m n : Merges R) (d e u v : DeskView) (before after : Option (List ℕ))
+    (fault : PairFault) : Type 0 where
   pub written : IsWrite fault
   pub found : PairsFound
-  pub told : HasToldAll r asked trusted m n d e u v found (λ text. SendsPart text before after)
+  pub told : HasToldAll r list asked trusted m n d e u v found (λ text. SendsPart text before after)
 
 -- why the writing ends: the first fault of all four databases, or a failed write
 abbrev pub IsFirstFault : {R : Type 0} → Reels R → (m n : Merges R) → (d u : DeskView)

@@ -15,7 +15,8 @@ pub returns-then-is_at : goal.returns-then-is_at
 returns-then-is_at g c old new =
     let trusted = change_of c.in-Some.trusted in
     let one = upcoming_one c.args.merge.now c.args.desk.now c.requires.ready c.requires.not_due trusted c.in-Some.ensures old new in
-    c.entries_of.ensures ∙ sym (found_here (change_of c.args.change).0 trusted one.0 (remaining c.args.merge.now c.args.desk.now old new)
+    c.entries_of.ensures.entries ∙ sym (found_here (change_of c.args.change).0 trusted one.0
+    (remaining c.args.merge.now c.args.desk.now old new)
     one.1 (sym c.if-is_at.ensures))
 
 pub returns-else-is_at : goal.returns-else-is_at

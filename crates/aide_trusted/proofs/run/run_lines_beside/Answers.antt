@@ -2,6 +2,7 @@ use Rattle.std.proofs.Common.{refl}
 use Rattle.aide_report.specs.Asked.{asked}
 use Rattle.aide_report.proofs.ReadingLemmas.{clears}
 use Rattle.aide_text.specs.Failures.{Rose}
+use Rattle.aide_trusted.specs.ListView.{list_read}
 use Rattle.aide_trusted.proofs.ReadLemmas.{first_means, keeps_read}
 use Rattle.aide_trusted.proofs.RunLemmas.{run_cut, run_refused, run_told}
 use Rattle.aide_trusted.proofs.run.run_lines_beside.Goals as goal
@@ -16,7 +17,8 @@ write_beside-written-requires g c = record {
 
 pub returns-in-Err-clause-runs : goal.returns-in-Err-clause-runs
 returns-in-Err-clause-runs g c =
-    run_refused c.args.limits (asked c.args.task.now) (asked c.args.trusted.now.task.now) g.W.Sink
+    run_refused c.args.limits (list_read c.args.tasks.now.list)
+    (asked c.args.tasks.now.compared.now) (asked c.args.tasks.now.trusted.now) g.W.Sink
     (clears c.args.limits (g.S.Sources.bytes_of c.args.sources.now) c.args.desk.now c.clear.new.desk c.clear.ensures.old
     c.clear.ensures.new c.clear.ensures.peak c.clear.ensures.room)
     (clears c.args.limits (g.S.Sources.bytes_of c.args.trusted.now.sources.now) c.args.trusted.now.desk.now c.clear-2.new.desk
@@ -28,7 +30,8 @@ returns-in-Ok-written-clause-runs g c =
     let opened = c.in-Ok.ensures.opened in
     let trusted_opened = c.in-Ok.ensures.trusted_opened in
     let fits = c.write_beside-written.ensures.fits in
-    rw c.outcome_of.ensures (run_told c.args.limits (asked c.args.task.now) (asked c.args.trusted.now.task.now) g.W.Sink
+    rw c.outcome_of.ensures (run_told c.args.limits (list_read c.args.tasks.now.list)
+    (asked c.args.tasks.now.compared.now) (asked c.args.tasks.now.trusted.now) g.W.Sink
     (clears c.args.limits (g.S.Sources.bytes_of c.args.sources.now) c.args.desk.now c.clear.new.desk c.clear.ensures.old
     c.clear.ensures.new c.clear.ensures.peak c.clear.ensures.room)
     (clears c.args.limits (g.S.Sources.bytes_of c.args.trusted.now.sources.now) c.args.trusted.now.desk.now c.clear-2.new.desk
@@ -48,7 +51,8 @@ returns-in-Err-written-clause-runs g c =
     let keeps = c.open_four.ensures.keeps in
     let trusted_keeps = c.open_four.ensures.trusted_keeps in
     let sink = Rose (g.W.Sink.failures c.args.out.now) (g.W.Sink.failures c.write_beside-written.new.out) in
-    run_cut c.args.limits (asked c.args.task.now) (asked c.args.trusted.now.task.now) g.W.Sink
+    run_cut c.args.limits (list_read c.args.tasks.now.list)
+    (asked c.args.tasks.now.compared.now) (asked c.args.tasks.now.trusted.now) g.W.Sink
     (clears c.args.limits (g.S.Sources.bytes_of c.args.sources.now) c.args.desk.now c.clear.new.desk c.clear.ensures.old
     c.clear.ensures.new c.clear.ensures.peak c.clear.ensures.room)
     (clears c.args.limits (g.S.Sources.bytes_of c.args.trusted.now.sources.now) c.args.trusted.now.desk.now c.clear-2.new.desk

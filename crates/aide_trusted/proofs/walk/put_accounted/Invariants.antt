@@ -3,6 +3,7 @@ use Rattle.std.proofs.Common.{◌≡◌, ◌-◌, ◌^◌, false}
 use Rattle.aide_report.specs.code.LineTally.{AreLinesBelow}
 use Rattle.aide_report.specs.code.Merging.{IsReady, total_work}
 use Rattle.aide_report.specs.code.Passes.{on_sheet}
+use Rattle.aide_trusted.specs.ListView.{list_read}
 use Rattle.aide_trusted.specs.code.Walked.{IsWalking, KeepsMerges}
 use Rattle.aide_trusted.proofs.walk.put_accounted.Given as goal
 
@@ -13,7 +14,8 @@ invariant-pass g l = record {
   small : AreLinesBelow l.counts (2 ^ 62 - total_work l.merges.compared);
   writes_on : l.pen.failed ≡ false;
   keeps : KeepsMerges g.R.Reel l.fn.merges l.merges l.fn.desk l.desk l.fn.trusted_desk l.trusted_desk;
-  walking : IsWalking g.R.Reel l.options l.fn.merges l.merges l.fn.desk l.desk l.fn.trusted_desk l.trusted_desk l.counts
+  walking : IsWalking g.R.Reel (list_read l.terms.list) l.terms.options.now l.fn.merges l.merges l.fn.desk l.desk l.fn.trusted_desk
+      l.trusted_desk l.counts
       (on_sheet g.W.Sink l.fn.out l.fn.pen) (on_sheet g.W.Sink l.out l.pen);
 }
 

@@ -1,6 +1,7 @@
 use Rattle.std.proofs.Common.{refl}
 use Rattle.aide_trusted.specs.BesideLines.{opening_beside}
 use Rattle.aide_report.specs.Asked.{asked}
+use Rattle.aide_trusted.specs.ListView.{list_read}
 use Rattle.aide_trusted.proofs.SettleLemmas.{fits_none, walked_behind, walked_first, walked_found}
 use Rattle.aide_trusted.proofs.WalkLemmas.{walked_err}
 use Rattle.aide_trusted.proofs.write.put_changes.Goals as goal
@@ -10,7 +11,7 @@ returns-then-pen-clause-fits g c = fits_none g.R.Reel c.args.merges.now c.args.d
 
 pub returns-then-pen-clause-walked : goal.returns-then-pen-clause-walked
 returns-then-pen-clause-walked g c =
-    walked_first g.R.Reel c.args.tasks.now.compared.now.options
+    walked_first g.R.Reel (list_read c.args.tasks.now.list) c.args.tasks.now.compared.now.options
     (opening_beside (asked c.args.tasks.now.compared.now) (asked c.args.tasks.now.trusted.now))
     (λ found. found.counts) c.args.merges.now c.args.desk.now c.args.trusted_desk.now _ c.put_first.ensures
 
