@@ -7,6 +7,7 @@ the lines back by it.
 import hashlib
 import typing
 
+from . import left_out
 from .agreement import same_as
 from .attributes import ATTRIBUTES, NAMES
 from .comparison import compared, kind_of, shown, summary_of, type_of
@@ -17,6 +18,8 @@ from .report import KINDS, counts_of, status_of
 from .session import Beginning, Form, Unread, answer_of, job_beside
 
 FORMAT, FORMAT_OF_SETTINGS = 4, 3
+# The rules of the empty list, and its text.
+NO_LIST: tuple[list[left_out.patterns.Rule], bytes] = ([], b"")
 SIDES = ("old", "new", "trusted_old", "trusted_new")
 # Many readers keep 53 bits of a number, so a greater one is a string of its digits (RFC 7493
 # section 2.2).
@@ -102,6 +105,15 @@ def side_members(name, entry, names):
     ]
 
 
+def account_members(account):
+    """What accounts for a change: an entry, or the line of a list by its number."""
+    if account is None:
+        return []
+    if isinstance(account, int):
+        return [("left_out", number(account))]
+    return [("same_as", string(account))]
+
+
 def change_line(change, account, settings):
     """The line of an added, removed or changed entry, which says what accounts for the change."""
     names = shown(change, {**settings, "report_level": "added_removed_entries"})
@@ -114,7 +126,7 @@ def change_line(change, account, settings):
             text_member("path", change.path),
             ("summary", string(summary_of(change, settings))),
         ]
-        + ([] if account is None else [("same_as", string(account))])
+        + account_members(account)
         + title
         + side_members("old", change.old, names)
         + side_members("new", change.new, names)
@@ -159,6 +171,7 @@ def numbers_of(new, counts, accounts, has_trusted):
     numbers.append(("same_as_old", accounts.count("old")))
     if has_trusted:
         numbers.append(("same_as_trusted", accounts.count("trusted")))
+        numbers.append(("left_out", sum(isinstance(account, int) for account in accounts)))
     numbers.append(("others", accounts.count(None)))
     return [(name, number(value)) for name, value in numbers]
 
@@ -173,22 +186,32 @@ class Parts(typing.NamedTuple):
     status: int
 
 
+def account_of(change, trusted, rules, measures):
+    """What accounts for a change, by the entries of a trusted pair and by the rules of a list."""
+    same = same_as(change.old, change.new, *(entries.get(change.path) for entries in trusted))
+    if same is not None:
+        return same
+    return left_out.line_of(rules, left_out.Change(*change, *measures)) or None
+
+
 def parts_over(sources, settings):
     """The lines over two databases and, if they are there, the old and the new one of a trusted
-    pair."""
+    pair, beside which there is a list."""
     old, new, *trusted = sources
+    rules, text = settings.get("list", NO_LIST)
     changes = compared(old.database.entries, new.database.entries)
     counts = counts_of(changes, settings)
     status = status_of(counts)
     listed = [change for change in changes if kind_of(change, settings)]
     maps = [source.database.entries for source in trusted]
-    accounts = [
-        same_as(change.old, change.new, *(entries.get(change.path) for entries in maps))
-        for change in listed
-    ]
+    measures = [left_out.measures_of(source.text) for source in (old, new)]
+    accounts = [account_of(change, maps, rules, measures) for change in listed]
     end = [("end", truth(True))]
     end += [(side, read_of(source)) for side, source in zip(SIDES, sources)]
     end += numbers_of(new.database, counts, accounts, bool(trusted))
+    if trusted:
+        digest = hashlib.sha256(text).hexdigest()
+        end.append(("list", object_of([("sha256", string(digest))])))
     end.append(("status", number(status)))
     changed = change_lines(listed, accounts, settings)
     return Parts(first_line(sources), changed, line(end), status)

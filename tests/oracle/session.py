@@ -1,7 +1,7 @@
 """What a session answers: standard output, standard error and a status."""
 from collections import namedtuple
 
-from . import configuration
+from . import configuration, patterns
 from .database import database_of, first_fault
 from .report import report_of
 from .texts import printed
@@ -43,10 +43,20 @@ DATABASE_WORDS = {
     "NoEnd": "no @@end_db",
     "TooManyBytes": "too many bytes",
 }
+LIST_WORDS = {
+    "NoPath": "a path begins with /",
+    "DoubleStar": "** is a component of its own",
+    "OpenEscape": "a backslash is the last byte of a component",
+    "OpenClass": "a class has no end",
+    "BadRange": "a range ends before it begins",
+    "BadReason": "no reason for programs",
+    "TooMany": "too many rules",
+}
 LETTERS = {"E": "compare", "D": "config-check", "c": "config", "B": "before", "A": "after"}
 OPTIONS = list(LETTERS.values())
 FLAGS = ["compare", "config-check"]
 TRUSTED = ["trusted-old", "trusted-new"]
+WITHOUT = "without"
 
 Answer = namedtuple("Answer", "output errors status")
 
@@ -123,8 +133,8 @@ def job_of(words):
 
 def job_beside(words):
     """The options of a command line that may name a trusted pair: both databases of it, and then
-    only for a comparison."""
-    job = options_of(words, OPTIONS + TRUSTED)
+    only for a comparison, and perhaps the text of a list."""
+    job = options_of(words, OPTIONS + TRUSTED + [WITHOUT])
     if job is None or not any(name in job for name in TRUSTED):
         return job_of(words)
     is_whole = all(name in job for name in ["compare", "config", *TRUSTED])
@@ -146,6 +156,15 @@ def refusal_of(name, path, text):
         return None
     words = DATABASE_WORDS[fault.kind] + (" %d" % fault.column if fault.column else "")
     return refused(b"%s database:%d: %s" % (name, fault.line, words.encode()), BAD_DATABASE)
+
+
+def list_of(text):
+    """The rules of a list and its text, or the answer to its first fault."""
+    try:
+        return patterns.rules_of(text), text
+    except patterns.Fault as fault:
+        line, kind = str(fault).split()
+        return refused(("list:%s: %s" % (line, LIST_WORDS[kind])).encode(), BAD_CONFIGURATION)
 
 
 def compare(settings, files, form):
@@ -204,6 +223,9 @@ def answer_of(words, files, form=REPORT):
     job = form.read(words)
     if job is None:
         return Answer(b"", USAGE_LINE + b"\n", USAGE)
+    left_out = list_of(job.get(WITHOUT, b""))
+    if isinstance(left_out, Answer):
+        return left_out
     text = files(job["config"])
     if text is None or text is Unread:
         return refused(b"cannot read the configuration " + printed(job["config"]), BAD_DEVICE)
@@ -223,4 +245,4 @@ def answer_of(words, files, form=REPORT):
     if "compare" not in job:
         return Answer(form.checked(settings), b"", 0)
     trusted = [job[name] for name in TRUSTED if name in job]
-    return compare({**settings, "trusted": trusted}, files, form)
+    return compare({**settings, "trusted": trusted, "list": left_out}, files, form)

@@ -4,7 +4,7 @@ their answers.
 
 A case begins with a sentence that says what it shows. Then come sections, each under a line `--
 NAME --`: `words` (the arguments, with blanks between), files of the folder in which the case is run
-(`conf`, `old`, `new`), and the right answer: `stdout` and `stderr`, which are left out where they
+(`conf`, `old`, `new`), the text of a list (`list`), and the right answer: `stdout` and `stderr`, which are left out where they
 are empty, and a line `-- status NUMBER --`. Without `words` both databases are compared, beside a
 trusted pair if there is one. Without a `conf` there is one that names both databases, and then has
 the lines of a section `options`. `/@DIR@` is replaced by the folder. A section `NAME (escaped)` is
@@ -96,7 +96,7 @@ def words_of(case):
 
 def files_of(case):
     """The files of a case by their names."""
-    others = [*ANSWERS, "words", "options"]
+    others = [*ANSWERS, "words", "options", "list"]
     files = {name: text for name, text in case.sections.items() if name not in others}
     return {"conf": DATABASES + case.sections.get("options", b""), **files}
 
@@ -106,7 +106,10 @@ def put(case, folder):
     for name, text in files_of(case).items():
         with open(os.path.join(folder, name.encode()), "wb") as file:
             file.write(text.replace(DIR, folder) if name == "conf" else text)
-    return [unescaped(word).replace(DIR, folder) for word in words_of(case).split()]
+    words = [unescaped(word).replace(DIR, folder) for word in words_of(case).split()]
+    if "list" in case.sections:
+        words += [b"--without", case.sections["list"]]
+    return words
 
 
 def stored(case, folder):

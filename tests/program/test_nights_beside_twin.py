@@ -5,12 +5,15 @@ from __future__ import annotations
 
 import json
 import os
+import pathlib
 import unittest
 
 from tests.lib.tally import run, wanted_lines
 from tests.program.real_files.folder import Folder
 from tests.program.test_lines import LinesProgramTest, text_of
 
+TOP = pathlib.Path(__file__).resolve().parent.parent.parent
+SHIPPED = (TOP / "contrib/aide/debian.without").read_bytes()
 NIGHTS = os.path.join(os.path.dirname(os.path.abspath(__file__)), "nights_beside_twin.txt")
 # Each of them comes after the one before it.
 IN_TURN = (
@@ -58,6 +61,10 @@ class NightsTest(LinesProgramTest):
                     ]
                     folder.pair(*four[:2])
                     folder.trusted(*four[2:])
+                    listed = [*folder.words_beside(), b"--without", SHIPPED]
+                    self.check(
+                        twin + ", listed", run(self.lines_program, listed), wanted_lines(listed)
+                    )
                     answer = run(self.lines_program, folder.words_beside())
                     self.check(twin, answer, wanted_lines(folder.words_beside()))
                     left = left_in(answer.output)

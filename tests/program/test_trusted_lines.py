@@ -55,7 +55,7 @@ class TrustedTest(LinesProgramTest):
     def beside(self, words):
         """The status that is wanted, and what is not as wanted."""
         want, answer = wanted_lines(words), run(self.lines_program, words)
-        for account in (b'"same_as":"old"', b'"same_as":"trusted"', b'"kind":'):
+        for account in (b'"same_as":"old"', b'"same_as":"trusted"', b'","left_out":', b'"kind":'):
             self.accounts[account] += answer.output.count(account)
         return want.status, difference(answer, want) + faults_of_lines(answer)
 
@@ -116,6 +116,14 @@ class TrustedTest(LinesProgramTest):
                 ("a pair and texts", compared + [b"-B", b"", *old, b"-A", b"", *new], 7),
                 ("a pair and a last `--`", compared + old + new + [b"--"], 7),
                 ("one database as both", compared + old + [new[0], old[1]], 7),
+                ("a list", compared + old + new + [b"--without", b"/a"], 7),
+                ("an empty list", compared + old + [b"--without", b""] + new, 7),
+                ("a list in one word", [b"--without=/**\n# all\n"] + compared + old + new, 7),
+                ("a list with a fault", compared + old + new + [b"--without", b"a"], 17),
+                ("a list and no pair", compared + [b"--without", b"/a"], 15),
+                ("a list and half of a pair", compared + old + [b"--without", b"/a"], 15),
+                ("two lists", compared + old + new + 2 * [b"--without", b"/a"], 15),
+                ("a list without its text", compared + old + new + [b"--without"], 15),
                 ("only the old one", compared + old, 15),
                 ("only the new one", compared + new, 15),
                 ("the old one twice", compared + old + old + new, 15),
@@ -205,7 +213,7 @@ class TrustedTest(LinesProgramTest):
             check_outputs(self, "lines", self.lines_program, folder.words_beside())
 
     def test_random_sessions(self) -> None:
-        """Random sessions, in which both accounts have to come often."""
+        """Random sessions, in which each account has to come often."""
         try_sessions(self.beside, new_seed(), range(SESSIONS), 2, self, make_session_beside)
         if SESSIONS >= 1000:
             for account, count in self.accounts.items():

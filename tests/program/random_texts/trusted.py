@@ -24,6 +24,9 @@ OF_DIRECTORIES = [b"size"]
 # Columns without which few entries agree.
 USUAL = [b"perm", b"sha256", b"mtime"]
 MODES = [0o100644, 0o100644, 0o100755, 0o40755, 0o120777, 0o20600]
+# Names in patterns, and lines of a list that have a fault.
+NAMED = [b"a", b"b", b"*", b"**", b"?", b"[a-c]", b"[!a]*", b"\\a", b".*"]
+FAULTY = [b"a", b"/a**", b"/a\\", b"/[a", b"/[b-a]", b"programs() /a", b"programs(a) a"]
 CONTENTS = [bytes([number] * 32) for number in range(3)]
 
 
@@ -91,8 +94,23 @@ def random_four(pick):
     return texts + [text_of(pick, other, side, often) for side in trusted]
 
 
+def random_list(pick):
+    """The text of a list, some of whose lines have a fault."""
+    lines = []
+    for _ in range(pick.choice([0, 1, 1, 2, 4])):
+        pattern = pick.choice([b"/**", b"/**/?*", b"/*", b"/[!b]*/**", b"/?", b"/*/*"])
+        if pick.random() < 0.3:
+            pattern = b"/" + b"/".join(pick.choice(NAMED) for _ in range(pick.randint(1, 3)))
+        if pick.random() < 0.5:
+            pattern = b"programs(made anew) " + pattern
+        if pick.random() < 0.02:
+            pattern = pick.choice(FAULTY)
+        lines.append(pick.choice([b"", b"", b"# why", b"  "]) + b"\n" + pattern)
+    return b"\n".join(lines)
+
+
 def random_words_beside(pick, folder, config, bad):
-    """A command line that mostly names a trusted pair in a folder too."""
+    """A command line that mostly names a trusted pair in a folder too, and often gives a list."""
     trusted = []
     for name in (b"old", b"new"):
         option, path = b"--trusted-" + name, os.path.join(folder, b"trusted_" + name)
@@ -110,5 +128,7 @@ def random_words_beside(pick, folder, config, bad):
                 [b"-t"],
             ]
         )
+    if pick.random() < 0.6:
+        trusted += [b"--without=" + random_list(pick)]
     words = random_words(pick, config, bad)
     return trusted + words if pick.random() < 0.3 else words + trusted
