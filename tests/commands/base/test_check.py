@@ -51,9 +51,9 @@ ROWS: tuple[tuple[int, int, Optional[Counts], dict[str, str]], ...] = (
 
 
 def level(status: int, counts: Optional[Counts], words: dict[str, str]) -> int:
-    limits = [words.get(name) for name in ("warning", "critical")]
-    asked = [alarm_limit(limit) if limit else None for limit in limits]
-    request = CheckRequest("state", 100, *asked)
+    limits = {name: words.get(name) for name in ("warning", "critical")}
+    asked = {name: alarm_limit(limit) if limit else None for name, limit in limits.items()}
+    request = CheckRequest(**asked)
     state: Any = mock.Mock(status=status, standings=counts)
     return check.level_of(request, state)
 

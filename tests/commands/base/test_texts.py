@@ -6,6 +6,7 @@ import json
 import os
 import subprocess
 import sys
+from typing import Any
 
 from tests.commands.base import TOP
 from tests.commands.base.calls import ModuleTest
@@ -13,8 +14,8 @@ from tests.lib.scratch import read
 from tests.oracle.configuration import BOOL_OPTIONS, SET_OPTIONS
 
 from aide_compare import VERSION
-from aide_compare.base import ending, escapes, kinds, words
-from aide_compare.base.parser import Parser
+from aide_compare.base import ending, escapes, kinds, options, words
+from aide_compare.base.parser import read as read_options
 from aide_compare.compare import configuration, state
 from aide_compare.lines import attributes, reader
 from aide_compare.lines.change import Change, Counts, Values, change_of
@@ -130,12 +131,16 @@ class TextsTest(ModuleTest):
             self.expect("what %s, and when" % label, entry.entry_words(change_between(*pair)), want)
 
     def test_options(self) -> None:
-        parser = Parser("name", "What it does.")
-        parser.add_argument("operands", nargs="*")
-        parser.add_argument("--max-size", type=kinds.size)
-        parser.add_argument("--max-age", type=kinds.duration)
-        parser.add_argument("--text", type=kinds.some_text)
-        given = parser.parse(["a", "--max-size", "2k", "b", "--max-age=2h"])
+        class Wanted(options.Asked):
+            operands: list[str] = options.field(options.Operand("A B", "two", "*"))
+            max_size: int = options.field(options.MAX_SIZE)
+            max_age: int = options.field(options.MAX_AGE)
+            text: str = options.option("--text", "a text", "TEXT")
+
+        def asks(words: list[str]) -> Any:
+            return read_options(Wanted, words, "name", "What it does.")
+
+        given = asks(["a", "--max-size", "2k", "b", "--max-age=2h"])
         found = (given.operands, given.max_size, given.max_age)
         self.assertEqual(found, (["a", "b"], 2048, 7200), "options between operands")
         for refused in (
@@ -147,7 +152,7 @@ class TextsTest(ModuleTest):
             "--text=",
             "--max-size",
         ):
-            self.fails(15, "", parser.parse, refused.split())
+            self.fails(15, "", asks, refused.split())
         self.assertEqual(VERSION, read("VERSION").strip())
 
     def test_state(self) -> None:

@@ -22,12 +22,9 @@ from aide_compare.base.files import lines_of
 from aide_compare.base.kinds import some_text
 from aide_compare.base.options import (
     CHECK_DEFAULTS,
-    COLOR,
     COMPARISON_DEFAULTS,
     MAIL_DEFAULTS,
     NO_DEFAULTS,
-    QUIET,
-    VERBOSE,
     Asked,
     Asks,
     Operand,
@@ -93,15 +90,11 @@ class Once(argparse.Action):
         setattr(namespace, self.dest, values)
 
 
-def add_option(
-    parser: argparse.ArgumentParser | argparse._ArgumentGroup, option: Option, field: str = ""
-) -> None:
-    """Adds an option to a parser, or to a group of one, whose value is that of a field."""
-    names = [name for name in (option.letter, option.name) if name]
-    words: dict[str, Any] = {"help": option.help, "dest": field or option.attribute}
+def words_of_option(option: Option, name: str) -> dict[str, Any]:
+    """What argparse is told of an option whose value is that of a field of this name."""
+    words: dict[str, Any] = {"help": option.help, "dest": name}
     if not option.has_value:
-        parser.add_argument(*names, action="store_true", **words)
-        return
+        return {**words, "action": "store_true"}
     words["default"] = option.default
     if option.metavar:
         words["metavar"] = option.metavar
@@ -117,7 +110,15 @@ def add_option(
         words.update(nargs=option.number_of_values, metavar=tuple(option.metavar.split()))
     if option.is_single:
         words["action"] = Once
-    parser.add_argument(*names, **words)
+    return words
+
+
+def words_of_operand(operand: Operand) -> dict[str, Any]:
+    """What argparse is told of an operand, a text that is not empty."""
+    words: dict[str, Any] = {"metavar": operand.metavar, "help": operand.help, "type": _operand}
+    if operand.nargs:
+        words.update(nargs=operand.nargs, default=operand.default)
+    return words
 
 
 def end_of_options(words: Sequence[str]) -> int:
@@ -126,90 +127,57 @@ def end_of_options(words: Sequence[str]) -> int:
 
 
 class Parser(argparse.ArgumentParser):
-    """The options of a command, with those that all have. Faults have the status 15."""
+    """The parser of what a command is asked for. Faults have the status 15."""
 
     def __init__(
-        self,
-        name: str,
-        description: str,
-        quiet: str = QUIET.help,
-        epilog: str = "",
-        usage: str | None = None,
-        asked: type[Asked] | None = None,
+        self, asked: type[Asked], name: str, description: str, epilog: str, usage: str
     ) -> None:
         super().__init__(
             prog=name,
             description=description,
-            usage=usage or f"{name} [OPTIONS]",
+            usage=usage,
             epilog=epilog,
             allow_abbrev=False,
             formatter_class=Formatter,
         )
         self.names = ["--help", "--version"]
-        self.add_argument("--version", action="store_true", help="print the version and stop")
-        if asked is None:
-            self.add(QUIET._replace(help=quiet), VERBOSE, COLOR)
-            return
+        version = f"{name} {VERSION}"
+        self.add_argument(
+            "--version", action="version", version=version, help="print the version and stop"
+        )
         groups: dict[str, argparse._ArgumentGroup] = {}
-        for name, row in asked.rows().items():
+        for field, row in asked.rows().items():
             if isinstance(row, Operand):
-                self.add_operand(name, row.metavar, row.help, row.nargs, row.default)
-            elif row.group:
-                group = groups.setdefault(row.group, self.add_mutually_exclusive_group())
-                self.names.append(row.name)
-                add_option(group, row, name)
-            else:
-                self.add(row, field=name)
-
-    def add(self, *options: Option, field: str = "") -> None:
-        for option in options:
-            self.names.append(option.name)
-            add_option(self, option, field)
-
-    def add_operand(
-        self,
-        name: str,
-        metavar: str,
-        help: str,
-        nargs: str | None = None,
-        default: object = None,
-    ) -> None:
-        """An operand, a text that is not empty; with `nargs` as argparse has it there may be none
-        or several."""
-        words: dict[str, Any] = {"metavar": metavar, "help": help, "default": default}
-        if nargs:
-            words["nargs"] = nargs
-        self.add_argument(name, type=_operand, **words)
+                self.add_argument(field, **words_of_operand(row))
+                continue
+            self.names.append(row.name)
+            names = [each for each in (row.letter, row.name) if each]
+            target: argparse._ActionsContainer = self
+            if row.group:
+                target = groups.setdefault(row.group, self.add_mutually_exclusive_group())
+            target.add_argument(*names, **words_of_option(row, field))
 
     def parse(self, arguments: Sequence[str]) -> argparse.Namespace:
         """What the arguments say; options and operands may stand in any order, and after -- there
         are operands only."""
-        cut = self._cut(arguments)
+        cut = end_of_options(arguments)
         operands = [OPERAND + word for word in arguments[cut + 1 :]]
         args = self.parse_intermixed_args([*arguments[:cut], *operands])
-        progress.tell_steps(getattr(args, "is_verbose", getattr(args, "verbose", False)))
+        progress.tell_steps(args.is_verbose)
         return args
 
     def parse_own(self, arguments: Sequence[str]) -> tuple[argparse.Namespace, list[str]]:
         """What the arguments say by the options of this parser, and all other words in their
         order."""
-        cut = self._cut(arguments)
+        cut = end_of_options(arguments)
         args, others = self.parse_known_args(arguments[:cut])
         return args, [*others, *arguments[cut:]]
 
-    def _cut(self, arguments: Sequence[str]) -> int:
-        """Where the options end. The version is printed here, whatever else is asked for."""
-        cut = end_of_options(arguments)
-        if "--version" in arguments[:cut]:
-            write_all(1, f"{self.prog} {VERSION}\n".encode())
-            raise Done
-        return cut
-
-    def print_help(self, file: object = None) -> None:
-        write_all(1, self.format_help().encode())
+    def _print_message(self, message: str, file: object = None) -> None:
+        write_all(1, message.encode())
 
     def exit(self, status: int = 0, message: str | None = None) -> NoReturn:
-        raise Done  # After --help; faults are in `error`.
+        raise Done  # After --help and --version; faults are in `error`.
 
     def error(self, message: str) -> NoReturn:
         """Refuses the command line, with the option that is nearest to one that is not there."""
@@ -234,11 +202,9 @@ def read(
     defaults: Defaults | None = None,
 ) -> Asks:
     """What the words of a command line ask for, and the defaults where they say nothing."""
-    parser = Parser(name, description, epilog=epilog, usage=usage, asked=asked)
+    parser = Parser(asked, name, description, epilog, usage)
     parser.set_defaults(**named_by_fields(asked, defaults or {}))
-    values = vars(parser.parse(words))
-    del values["version"]
-    return asked(**values)
+    return asked(**vars(parser.parse(words)))
 
 
 def named_by_fields(asked: type[Asked], defaults: Defaults) -> Defaults:

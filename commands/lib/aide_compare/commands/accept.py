@@ -3,12 +3,24 @@ whole, or but for what stays open."""
 from __future__ import annotations
 
 from collections.abc import Iterator, Sequence
-from typing import NamedTuple
+from typing import NamedTuple, Optional
 
 from aide_compare.base.ending import Fault, Status, say, tell
 from aide_compare.base.escapes import shown
-from aide_compare.base.options import KEEP_OPEN, MAX_SIZE, SHA256, STATE, TRUSTED, Option
-from aide_compare.base.parser import Parser
+from aide_compare.base.options import (
+    KEEP_OPEN,
+    MAX_SIZE,
+    QUIET,
+    SHA256,
+    STATE,
+    TRUSTED,
+    Asked,
+    Operand,
+    field,
+    option,
+)
+from aide_compare.base.parser import read
+from aide_compare.base.paths import Pattern
 from aide_compare.base.words import KINDS, date_of
 from aide_compare.commands.accept_question import (
     can_ask,
@@ -32,10 +44,46 @@ that is a link is refused.
 Status: 0 NEW is the baseline; 15 bad arguments; 18 a file cannot be read or written; 22 out of
 memory; 24 refused: NEW is another database, or no sound one, or a part of it cannot stay
 open."""
-TRUSTED_ONLY = Option(
-    "--trusted-only",
-    "only the silent changes: the same, and those of the trusted pair; all others stay open",
-)
+HINT = f"try: {NAME} --help"
+
+
+class AcceptOptions(Asked):
+    """What the options ask for."""
+
+    is_quiet: bool = field(QUIET, help="do not print what was done")
+    digest: Optional[str] = field(SHA256)
+    state: Optional[str] = field(
+        STATE,
+        help="print the time and the counts of the comparison from this file"
+        f" ({DAILY}); it decides nothing",
+    )
+    max_size: int = field(MAX_SIZE)
+    keep_open: Sequence[Pattern] = field(KEEP_OPEN)
+    trusted_only: bool = option(
+        "--trusted-only",
+        "only the silent changes: the same, and those of the trusted pair; all others stay open",
+    )
+    trusted: Sequence[str] = field(TRUSTED, default=())
+    files: Sequence[str] = field(
+        Operand(
+            "NEW BASELINE",
+            "the new database, plain or compressed by gzip, and the file that it replaces (those of"
+            " AIDE's configuration)",
+            "*",
+        )
+    )
+
+    def check(self) -> None:
+        """Refuses what means nothing without another word, or with it."""
+        if len(self.files) not in (0, 2):
+            raise Fault(Status.USAGE, "name NEW and BASELINE, or none", HINT)
+        if not self.digest and (self.is_quiet or not can_ask()):
+            why = "give --sha256 DIGEST, or run this on a terminal to be asked"
+            raise Fault(Status.USAGE, why, HINT)
+        if self.digest and self.trusted and not self.trusted_only:
+            raise Fault(Status.USAGE, "--trusted goes with --trusted-only", HINT)
+        if self.state and not self.digest:
+            raise Fault(Status.USAGE, "--state goes with --sha256", HINT)
 
 
 def counts_line(state: State, accepted: Accepted) -> str:
@@ -116,57 +164,28 @@ def run(request: AcceptRequest, reported: Reported, is_quiet: bool) -> int:
     return Status.OK
 
 
-def own_parser() -> Parser:
-    usage = f"{NAME} [OPTIONS] [NEW BASELINE]"
-    parser = Parser(NAME, DESCRIPTION, "do not print what was done", epilog=EPILOG, usage=usage)
-    state = "print the time and the counts of the comparison from this file"
-    parser.add(
-        SHA256,
-        STATE._replace(help=f"{state} ({DAILY}); it decides nothing"),
-        MAX_SIZE,
-        KEEP_OPEN,
-        TRUSTED_ONLY,
-        TRUSTED,
-    )
-    files = (
-        "the new database, plain or compressed by gzip, and the file that it replaces (those of"
-        " AIDE's configuration)"
-    )
-    parser.add_operand("files", "NEW BASELINE", files, nargs="*")
-    return parser
-
-
 def main(arguments: Sequence[str]) -> int:
-    args = own_parser().parse(arguments)
-    hint = f"try: {NAME} --help"
-    if len(args.files) not in (0, 2):
-        raise Fault(Status.USAGE, "name NEW and BASELINE, or none", hint)
-    if not args.sha256 and (args.quiet or not can_ask()):
-        why = "give --sha256 DIGEST, or run this on a terminal to be asked"
-        raise Fault(Status.USAGE, why, hint)
-    if args.sha256 and args.trusted and not args.trusted_only:
-        raise Fault(Status.USAGE, "--trusted goes with --trusted-only", hint)
-    if args.state and not args.sha256:
-        raise Fault(Status.USAGE, "--state goes with --sha256", hint)
-    new, baseline = args.files or databases_of_aide()
+    usage = f"{NAME} [OPTIONS] [NEW BASELINE]"
+    asked = read(AcceptOptions, arguments, NAME, DESCRIPTION, EPILOG, usage)
+    asked.check()
+    new, baseline = asked.files or databases_of_aide()
     machines = Request(old=baseline, new=new)
     defaults = comparison_defaults(machines, arguments, (STATE, TRUSTED))
-    trusted: Sequence[str] = args.trusted or defaults.get(TRUSTED.attribute, ())
-    if args.sha256:
-        reported = reported_in(args.state, defaults.get(STATE.attribute, DAILY))
-        digest: str = args.sha256
+    if asked.digest:
+        reported = reported_in(asked.state, defaults.get(STATE.attribute, DAILY))
+        digest = asked.digest
     else:
-        state = wanted_after_question(new, baseline, args.trusted or ())
+        state = wanted_after_question(new, baseline, asked.trusted)
         reported = Reported(state)
         digest = state.new_sha256
     request = AcceptRequest(
         new=new,
         baseline=baseline,
         digest=digest,
-        keep_open=args.keep_open,
-        only_trusted=args.trusted_only,
-        max_size=args.max_size,
-        trusted=trusted,
-        exclusions=exclusions_of((), ()) if args.trusted_only else None,
+        keep_open=asked.keep_open,
+        only_trusted=asked.trusted_only,
+        max_size=asked.max_size,
+        trusted=asked.trusted or defaults.get(TRUSTED.attribute, ()),
+        exclusions=exclusions_of((), ()) if asked.trusted_only else None,
     )
-    return run(request, reported, args.quiet)
+    return run(request, reported, asked.is_quiet)

@@ -14,11 +14,14 @@ from aide_compare.base.options import (
     CHECK_DEFAULTS,
     CRITICAL,
     NO_DEFAULTS,
+    QUIET,
     RESULT_AGE,
     STATE,
     WARNING,
+    Asked,
+    field,
 )
-from aide_compare.base.parser import Parser, defaults_for
+from aide_compare.base.parser import defaults_for, read
 from aide_compare.base.words import SEVERITIES, age_in_words, date_of
 from aide_compare.compare.state import DAILY, State, read_state
 from aide_compare.lines.change import Counts
@@ -43,13 +46,17 @@ class Level(IntEnum):
     UNKNOWN = 3
 
 
-class CheckRequest(NamedTuple):
+class CheckRequest(Asked):
     """What the options ask for. Without a limit the standings decide."""
 
-    state: str
-    max_age: int
-    warning: AlarmLimit | None
-    critical: AlarmLimit | None
+    is_quiet: bool = field(QUIET, help="changes nothing here")
+    state: str = field(
+        STATE, default=DAILY, help=f"the state file that aide-compare wrote ({DAILY})"
+    )
+    max_age: int = field(RESULT_AGE, help="an older result is UNKNOWN (26h)")
+    warning: AlarmLimit | None = field(WARNING)
+    critical: AlarmLimit | None = field(CRITICAL)
+    no_defaults: bool = field(NO_DEFAULTS)
 
 
 class Answer(NamedTuple):
@@ -104,17 +111,8 @@ def answer_of(request: CheckRequest) -> Answer:
 
 
 def request_of(arguments: list[str]) -> CheckRequest:
-    parser = Parser(NAME, DESCRIPTION, "changes nothing here", epilog=EPILOG)
-    parser.add(
-        STATE._replace(default=DAILY, help=f"the state file that aide-compare wrote ({DAILY})"),
-        RESULT_AGE._replace(help="an older result is UNKNOWN (26h)"),
-        WARNING,
-        CRITICAL,
-        NO_DEFAULTS,
-    )
-    parser.set_defaults(**defaults_for(CHECK_DEFAULTS, arguments))
-    args = parser.parse(arguments)
-    return CheckRequest(args.state, args.max_age, args.warning, args.critical)
+    defaults = defaults_for(CHECK_DEFAULTS, arguments)
+    return read(CheckRequest, arguments, NAME, DESCRIPTION, EPILOG, defaults=defaults)
 
 
 def main(arguments: Sequence[str]) -> int:

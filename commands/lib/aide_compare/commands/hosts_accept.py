@@ -8,20 +8,24 @@ from functools import partial
 from typing import NamedTuple, Optional
 
 from aide_compare.base.ending import Fault, Status, tell
-from aide_compare.base.options import HOSTS_FILE
 from aide_compare.base.options import (
     EXCLUDE,
     EXCLUDE_FROM,
     HOST_STORE,
     HOST_TIME,
+    HOSTS_FILE,
     JOBS,
     KEEP_OPEN,
     MAX_SIZE,
     NO_DEFAULTS,
+    QUIET,
     SHA256,
-    Option,
+    Asked,
+    Operand,
+    field,
+    option,
 )
-from aide_compare.base.parser import Parser, add_option, defaults_for
+from aide_compare.base.parser import defaults_for, read
 from aide_compare.base.paths import Pattern
 from aide_compare.base.processes import limit_memory
 from aide_compare.base.words import TRUSTED_SIDES, counted
@@ -29,7 +33,6 @@ from aide_compare.commands import accept
 from aide_compare.commands.accept_work import AcceptRequest
 from aide_compare.commands.accept_work import accept as accept_database
 from aide_compare.commands.defaults import exclusions_of
-from aide_compare.compare.exclusions import Exclusions
 from aide_compare.compare.soundness import refuse_unsound
 from aide_compare.compare.state import State, read_state
 from aide_compare.compare.unpack import Copy, copy_database
@@ -52,32 +55,57 @@ aide.db.previous. With --trusted-only: of each host of HOSTS-FILE only what is s
 EPILOG = """Status: 0 accepted; 24 refused: it is another database; 15, 18 or 22 as others."""
 NOTHING = "nothing: "
 HINT = f"try: {NAME} --help"
-FIRST = Option(
-    "--first",
-    "for a HOST without a baseline: print the SHA-256 of what was fetched, and accept it. Compare"
-    " it with that on HOST: zcat -f /var/lib/aide/aide.db.new | sha256sum",
+USAGE = (
+    f"{NAME} --first | --sha256 DIGEST [OPTIONS] HOST\n"
+    f"       {NAME} --trusted-only [OPTIONS] [HOSTS-FILE]"
 )
-TRUSTED_ONLY = Option(
-    "--trusted-only",
-    "on each host of HOSTS-FILE accept the changes that were silent in its last comparison, but"
-    " not on the canary",
-)
+SAME = "with --trusted-only: as for the comparison"
 
 
-class HostAcceptRequest(NamedTuple):
+class HostAcceptRequest(Asked):
     """What the options of `hosts accept` ask for."""
 
-    operand: str  # The host, or the file of hosts.
-    store: str
-    seconds: int
-    is_first: bool
-    digest: str  # "" for a first baseline, and for silent changes.
-    keep_open: Sequence[Pattern]
-    max_size: int
-    jobs: int
-    exclusions: Optional[Exclusions]  # Of silent changes.
-    is_quiet: bool
-    color: str
+    is_quiet: bool = field(QUIET, help="do not print what was done")
+    store: str = field(HOST_STORE)
+    seconds: int = field(HOST_TIME)
+    max_size: int = field(
+        MAX_SIZE,
+        default=MAX_BASELINE,
+        help="refuse a database of more bytes unpacked (4G)",
+    )
+    is_first: bool = option(
+        "--first",
+        "for a HOST without a baseline: print the SHA-256 of what was fetched, and accept it."
+        " Compare it with that on HOST: zcat -f /var/lib/aide/aide.db.new | sha256sum",
+        group="which",
+    )
+    digest: Optional[str] = field(
+        SHA256,
+        help="the SHA-256 of the unpacked database that was read, or its first 16 digits or more",
+        group="which",
+    )
+    trusted_only: bool = option(
+        "--trusted-only",
+        "on each host of HOSTS-FILE accept the changes that were silent in its last comparison, but"
+        " not on the canary",
+        group="which",
+    )
+    keep_open: Sequence[Pattern] = field(
+        KEEP_OPEN,
+        help="with --sha256: all but the changes of these paths; see aide-compare accept",
+    )
+    jobs: int = field(JOBS)
+    exclude_from: Sequence[str] = field(EXCLUDE_FROM, help=SAME)
+    exclude: Sequence[str] = field(EXCLUDE, help=SAME)
+    no_defaults: bool = field(NO_DEFAULTS, help=SAME)
+    operand: str = field(
+        Operand(
+            "HOST",
+            f"its name for ssh; with --trusted-only a file with a name a line ({HOSTS_FILE})",
+            "?",
+            HOSTS_FILE,
+        )
+    )
 
 
 def accept_first(directory: HostDirectory, max_size: int, is_quiet: bool) -> int:
@@ -94,7 +122,7 @@ def accept_first(directory: HostDirectory, max_size: int, is_quiet: bool) -> int
     return Status.OK
 
 
-def accept_next(directory: HostDirectory, request: HostAcceptRequest) -> int:
+def accept_next(directory: HostDirectory, request: HostAcceptRequest, digest: str) -> int:
     """The command aide-compare accept does the work. The state of the host knows when it was
     compared."""
     has_state = os.path.lexists(directory.state_path)
@@ -102,7 +130,7 @@ def accept_next(directory: HostDirectory, request: HostAcceptRequest) -> int:
     next_baseline = AcceptRequest(
         new=directory.file(NEW),
         baseline=directory.file(BASELINE),
-        digest=request.digest,
+        digest=digest,
         keep_open=request.keep_open,
         only_trusted=False,
         max_size=request.max_size,
@@ -164,13 +192,14 @@ def accept_silent(request: HostAcceptRequest, silent: Silent, host: str) -> Host
 
 def silent_in(request: HostAcceptRequest) -> Silent:
     """What was silent in the last run over the hosts of a store."""
+    exclusions = exclusions_of(request.exclude_from, request.exclude, not request.no_defaults)
     run = run_in(request.store)
     if run is None or run.pair is None:
         return Silent("", {})
-    if run.pair.rules != rules_of(request.exclusions, None):
+    if run.pair.rules != rules_of(exclusions, None):
         text = "what is left out has changed since the hosts were compared; compare them again"
         raise Fault(Status.DATABASE, text)
-    return Silent(run.host, copies_of_run(request.store, run, request.seconds, request.exclusions))
+    return Silent(run.host, copies_of_run(request.store, run, request.seconds, exclusions))
 
 
 def accept_all(request: HostAcceptRequest) -> int:
@@ -197,64 +226,26 @@ def accept_all(request: HostAcceptRequest) -> int:
     return max(statuses)
 
 
-def own_parser() -> Parser:
-    quiet = "do not print what was done"
-    usage = (
-        f"{NAME} --first | --sha256 DIGEST [OPTIONS] HOST\n"
-        f"       {NAME} --trusted-only [OPTIONS] [HOSTS-FILE]"
-    )
-    parser = Parser(NAME, DESCRIPTION, quiet, epilog=EPILOG, usage=usage)
-    parser.add(HOST_STORE, HOST_TIME)
-    operand = f"its name for ssh; with --trusted-only a file with a name a line ({HOSTS_FILE})"
-    parser.add_operand("operand", "HOST", operand, nargs="?")
-    size = "refuse a database of more bytes unpacked (4G)"
-    parser.add(MAX_SIZE._replace(default=MAX_BASELINE, help=size))
-    which = parser.add_mutually_exclusive_group(required=True)
-    add_option(which, FIRST)
-    digest = "the SHA-256 of the unpacked database that was read, or its first 16 digits or more"
-    add_option(which, SHA256._replace(help=digest))
-    add_option(which, TRUSTED_ONLY)
-    text = "with --sha256: all but the changes of these paths; see aide-compare accept"
-    parser.add(KEEP_OPEN._replace(help=text), JOBS)
-    same = "with --trusted-only: as for the comparison"
-    parser.add(*(option._replace(help=same) for option in (EXCLUDE_FROM, EXCLUDE, NO_DEFAULTS)))
-    return parser
-
-
 def request_of(arguments: Sequence[str]) -> HostAcceptRequest:
-    parser = own_parser()
-    parser.set_defaults(**defaults_for((EXCLUDE_FROM, EXCLUDE), arguments))
-    args = parser.parse(arguments)
-    if args.keep_open and not args.sha256:
+    defaults = defaults_for((EXCLUDE_FROM, EXCLUDE), arguments)
+    request = read(HostAcceptRequest, arguments, NAME, DESCRIPTION, EPILOG, USAGE, defaults)
+    if not (request.is_first or request.digest or request.trusted_only):
+        raise Fault(Status.USAGE, "give one of --first, --sha256 and --trusted-only", HINT)
+    if request.keep_open and not request.digest:
         raise Fault(Status.USAGE, "--keep-open goes with --sha256", HINT)
-    if not args.operand and not args.trusted_only:
+    if request.operand == HOSTS_FILE and not request.trusted_only:
         raise Fault(Status.USAGE, "the following arguments are required: HOST", HINT)
-    exclusions = None
-    if args.trusted_only:
-        exclusions = exclusions_of(args.exclude_from, args.exclude, not args.no_defaults)
-    return HostAcceptRequest(
-        operand=args.operand or HOSTS_FILE,
-        store=args.store,
-        seconds=args.time,
-        is_first=args.first,
-        digest=args.sha256 or "",
-        keep_open=args.keep_open,
-        max_size=args.max_size,
-        jobs=args.jobs,
-        exclusions=exclusions,
-        is_quiet=args.quiet,
-        color=args.color,
-    )
+    return request
 
 
 def main(arguments: Sequence[str]) -> int:
     request = request_of(arguments)
-    if not request.is_first and not request.digest:
+    if request.trusted_only:
         return accept_all(request)
     limit_memory(MAX_MEMORY)
     directory = HostDirectory(request.store, request.operand, request.seconds)
     if not directory.has(NEW):
         raise directory.fault(MISSING[NEW])
-    if request.is_first:
-        return accept_first(directory, request.max_size, request.is_quiet)
-    return accept_next(directory, request)
+    if request.digest:
+        return accept_next(directory, request, request.digest)
+    return accept_first(directory, request.max_size, request.is_quiet)

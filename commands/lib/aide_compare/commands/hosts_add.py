@@ -6,13 +6,12 @@ import os
 from contextlib import closing
 from functools import partial
 from collections.abc import Sequence
-from typing import NamedTuple
 
 from aide_compare.base.ending import Fault, Status, status_of, tell
 from aide_compare.base.replacement import NewFile
 from aide_compare.base.options import HOSTS_FILE
-from aide_compare.base.options import HOST_STORE, HOST_TIME, Option
-from aide_compare.base.parser import Parser
+from aide_compare.base.options import HOST_STORE, HOST_TIME, Asked, Operand, field, option
+from aide_compare.base.parser import read
 from aide_compare.base.processes import limit_memory
 from aide_compare.base.terminal import answer_to
 from aide_compare.hosts import adding
@@ -29,24 +28,15 @@ EPILOG = """Status, the highest of all hosts: 0 HOST is watched; 15 bad argument
 sound database."""
 
 
-class AddRequest(NamedTuple):
+class AddRequest(Asked):
     """What the options ask for."""
 
-    hosts: Sequence[str]
-    store: str
-    seconds: int
-    hosts_file: str
-    is_quiet: bool
-
-
-def request_of(arguments: Sequence[str]) -> AddRequest:
-    parser = Parser(NAME, DESCRIPTION, epilog=EPILOG, usage=f"{NAME} [OPTIONS] HOST ...")
-    parser.add(HOST_STORE, HOST_TIME)
-    text = f"the file that gets the names ({HOSTS_FILE})"
-    parser.add(Option("--hosts-file", text, metavar="FILE", default=HOSTS_FILE))
-    parser.add_operand("hosts", "HOST", "its name for ssh", nargs="+")
-    args = parser.parse(arguments)
-    return AddRequest(args.hosts, args.store, args.time, args.hosts_file, args.quiet)
+    store: str = field(HOST_STORE)
+    seconds: int = field(HOST_TIME)
+    hosts_file: str = option(
+        "--hosts-file", f"the file that gets the names ({HOSTS_FILE})", "FILE", default=HOSTS_FILE
+    )
+    hosts: Sequence[str] = field(Operand("HOST", "its name for ssh", "+"))
 
 
 def tell_offer(host: str, offer: adding.Offer) -> None:
@@ -96,7 +86,8 @@ def add(request: AddRequest, host: str) -> int:
 
 
 def main(arguments: Sequence[str]) -> int:
-    request = request_of(arguments)
+    usage = f"{NAME} [OPTIONS] HOST ..."
+    request = read(AddRequest, arguments, NAME, DESCRIPTION, EPILOG, usage)
     if not os.isatty(0):
         how = "without one: aide-compare hosts fetch, then aide-compare hosts accept --first"
         raise Fault(Status.USAGE, "it asks a question, so it needs a terminal", how)

@@ -66,7 +66,7 @@ class MailRequest(Asked):
 
 
 def own_parser() -> Parser:
-    return Parser(NAME, DESCRIPTION, epilog=EPILOG, usage=USAGE, asked=MailRequest)
+    return Parser(MailRequest, NAME, DESCRIPTION, EPILOG, USAGE)
 
 
 def with_days(words: Sequence[str]) -> list[str]:

@@ -8,15 +8,15 @@ import stat
 from collections.abc import Callable, Iterator, Sequence
 from contextlib import suppress
 from functools import partial
-from typing import NamedTuple
+from typing import NamedTuple, Optional
 
 from aide_compare.base.ending import Fault, Status, tell
 from aide_compare.base.escapes import shown
 from aide_compare.base.files import reopened
 from aide_compare.base.replacement import replace
 from aide_compare.base.directories import closed_after, open_directory
-from aide_compare.base.options import TO, Option
-from aide_compare.base.parser import Parser
+from aide_compare.base.options import QUIET, TO, Asked, field, option
+from aide_compare.base.parser import read
 from aide_compare.base.program import MAX_DIFFERENT
 from aide_compare.base.words import counted
 from aide_compare.commands.setup_machine import (
@@ -67,15 +67,15 @@ APT::Periodic::AutocleanInterval "7";
 """
 
 
-class SetupRequest(NamedTuple):
+class SetupRequest(Asked):
     """What the options ask for."""
 
-    is_dry_run: bool
-    is_check: bool
-    address: str  # "" for root.
-    wants_cron: bool
-    wants_mail: bool
-    is_quiet: bool
+    is_quiet: bool = field(QUIET, help="print nothing but why a step failed")
+    is_dry_run: bool = option("--dry-run", "print the steps, and change nothing")
+    is_check: bool = option("--check", "print what is missing, compare once, and change nothing")
+    address: Optional[str] = field(TO, help="who gets the mails (root)")
+    wants_cron: bool = option("--cron", "a job of cron instead of the timer")
+    no_mail: bool = option("--no-mail", "send no test mail")
 
     @property
     def changes_nothing(self) -> bool:
@@ -192,7 +192,7 @@ class Machine:
         first = f"The first comparison runs {self.next_run()}."
         example = [SUBJECT.format(host=shown(os.uname().nodename)), *MAIL]
         lines = ["", done, first, mail, "", *example, "", "To compare now: aide-compare"]
-        if self.request.wants_mail:
+        if not self.request.no_mail:
             test = f"A test mail went to {reader}: look now whether it came."
             lines += ["", test]
             if reader == "root":
@@ -250,7 +250,7 @@ class Machine:
             yield Step(title, has_signed(), make_signed)
         self.refuse_other_job()
         yield self.job()
-        if self.request.wants_mail and not self.request.is_check:
+        if not (self.request.no_mail or self.request.is_check):
             yield Step(f"a test mail to {self.reader()}", False, self.send_test)
         title = f"the baseline {shown(self.baseline)}, which takes several minutes"
         yield Step(title, os.path.lexists(self.baseline), self.make_baseline)
@@ -298,29 +298,8 @@ def tell_missing(machine: Machine) -> int:
     return Status.DEVICE
 
 
-def request_of(arguments: Sequence[str]) -> SetupRequest:
-    quiet = "print nothing but why a step failed"
-    parser = Parser(NAME, DESCRIPTION, quiet, epilog=EPILOG)
-    parser.add(
-        Option("--dry-run", "print the steps, and change nothing"),
-        Option("--check", "print what is missing, compare once, and change nothing"),
-        TO._replace(help="who gets the mails (root)"),
-        Option("--cron", "a job of cron instead of the timer"),
-        Option("--no-mail", "send no test mail"),
-    )
-    args = parser.parse(arguments)
-    return SetupRequest(
-        is_dry_run=args.dry_run,
-        is_check=args.check,
-        address=args.to or "",
-        wants_cron=args.cron,
-        wants_mail=not args.no_mail,
-        is_quiet=args.quiet,
-    )
-
-
 def main(arguments: Sequence[str]) -> int:
-    request = request_of(arguments)
+    request = read(SetupRequest, arguments, NAME, DESCRIPTION, EPILOG)
     if request.is_quiet:  # Also the programs that are run.
         os.dup2(os.open("/dev/null", os.O_WRONLY | os.O_CLOEXEC), 1)
     configurations = (PATHS.debian_configuration, PATHS.other_configuration)

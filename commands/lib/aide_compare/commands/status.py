@@ -5,15 +5,23 @@ from __future__ import annotations
 import os
 import re
 from collections.abc import Sequence
-from typing import NamedTuple
 
 from aide_compare.base.ending import Fault, Status, tell, write_all
 from aide_compare.base.escapes import guarded, shown
 from aide_compare.base.files import given_descriptor
 from aide_compare.base.replacement import replace
 from aide_compare.base.rights import become_owner
-from aide_compare.base.options import RESULT_AGE, STATE, STORE, Option
-from aide_compare.base.parser import Parser, defaults_for
+from aide_compare.base.options import (
+    QUIET,
+    RESULT_AGE,
+    STATE,
+    STORE,
+    Asked,
+    Operand,
+    field,
+    option,
+)
+from aide_compare.base.parser import defaults_for, read
 from aide_compare.base.words import SEVERITIES, minute_of
 from aide_compare.compare.state import DAILY, State, read_state
 from aide_compare.show.result import known_counts, result_text, time_text
@@ -52,15 +60,24 @@ CHANGES = {
 }
 
 
-class StatusRequest(NamedTuple):
+class StatusRequest(Asked):
     """What the options ask for."""
 
-    state: str
-    max_age: int
-    format: str  # One of FORMATS.
-    output: str  # Of prometheus: a file, or STDOUT.
-    is_quiet: bool
-    color: str
+    is_quiet: bool = field(QUIET, help="print nothing if there is no difference")
+    format: str = option("--format", "the form (text)", choices=FORMATS, default="text")
+    state: str = field(
+        STATE, default=DAILY, help=f"the state file that aide-compare wrote ({DAILY})"
+    )
+    max_age: int = field(RESULT_AGE)
+    output: str = field(
+        Operand(
+            "OUTPUT",
+            "of prometheus: the file that is replaced; its name should end with .prom; "
+            "standard output without it, and for -",
+            "?",
+            STDOUT,
+        )
+    )
     is_daily: bool  # The state is that of the job of each day.
 
 
@@ -191,33 +208,16 @@ WRITERS = {
 
 
 def request_of(arguments: Sequence[str]) -> StatusRequest:
-    quiet = "print nothing if there is no difference"
     usage = f"{NAME} [OPTIONS] [OUTPUT]"
-    parser = Parser(NAME, DESCRIPTION, quiet, epilog=EPILOG, usage=usage)
-    parser.add(Option("--format", "the form (text)", choices=FORMATS, default="text"))
-    output = (
-        "of prometheus: the file that is replaced; its name should end with .prom; "
-        "standard output without it, and for -"
-    )
-    parser.add_operand("output", "OUTPUT", output, nargs="?", default=STDOUT)
-    state = f"the state file that aide-compare wrote ({DAILY})"
-    parser.add(STATE._replace(default=DAILY, help=state), RESULT_AGE)
-    parser.set_defaults(**defaults_for((STATE,), arguments))
-    args = parser.parse(arguments)
-    is_conditional = args.quiet or args.max_age != RESULT_AGE.default
-    if is_conditional and args.format != "text":
-        parser.error("only --format text has --quiet and --max-age")
-    if args.output != STDOUT and args.format != "prometheus":
-        parser.error("only --format prometheus has an OUTPUT")
-    return StatusRequest(
-        state=args.state,
-        max_age=args.max_age,
-        format=args.format,
-        output=args.output,
-        is_quiet=args.quiet,
-        color=args.color,
-        is_daily=args.state == parser.get_default(STATE.attribute),
-    )
+    defaults = defaults_for((STATE,), arguments)
+    request = read(StatusRequest, arguments, NAME, DESCRIPTION, EPILOG, usage, defaults)
+    is_conditional = request.is_quiet or request.max_age != RESULT_AGE.default
+    hint = f"try: {NAME} --help"
+    if is_conditional and request.format != "text":
+        raise Fault(Status.USAGE, "only --format text has --quiet and --max-age", hint)
+    if request.output != STDOUT and request.format != "prometheus":
+        raise Fault(Status.USAGE, "only --format prometheus has an OUTPUT", hint)
+    return request.but(is_daily=request.state == defaults.get(STATE.attribute, DAILY))
 
 
 def main(arguments: Sequence[str]) -> int:

@@ -10,7 +10,8 @@ from aide_compare import VERSION
 from aide_compare.base.ending import Fault, Status, tell
 from aide_compare.base.escapes import shown
 from aide_compare.base.files import read_file
-from aide_compare.base.parser import Parser
+from aide_compare.base.options import QUIET, Asked, field
+from aide_compare.base.parser import read
 from aide_compare.base.program import LINES, NEWER, PROGRAM, find_installed, installed_builds
 
 MAX_PROGRAM = 1 << 28
@@ -20,9 +21,17 @@ RECORD = ".build"
 UNKNOWN = "not known"
 NO_RECORD = "not known: there is no record of how it was built"
 OTHER_PROGRAM = "not known: it is not the program that was installed"
+NAME = "aide-compare version"
 DESCRIPTION = """\
 Prints the version, and of both programs that the commands run the path, the SHA-256, the kit
 that built it, and whether it is a proved build."""
+EPILOG = "Status: 0 printed; 15 bad arguments; 18 a program cannot be read."
+
+
+class VersionRequest(Asked):
+    """What the options ask for."""
+
+    is_quiet: bool = field(QUIET, help="print the version alone")
 
 
 def record_of(program: str) -> dict[str, str]:
@@ -68,14 +77,9 @@ def program_lines(title: str, name: str) -> Iterator[str]:
 
 
 def main(arguments: Sequence[str]) -> int:
-    args = Parser(
-        "aide-compare version",
-        DESCRIPTION,
-        quiet="print the version alone",
-        epilog="Status: 0 printed; 15 bad arguments; 18 a program cannot be read.",
-    ).parse(arguments)
+    request = read(VersionRequest, arguments, NAME, DESCRIPTION, EPILOG)
     lines = [f"aide-compare {VERSION}"]
-    if not args.quiet:
+    if not request.is_quiet:
         lines += program_lines("program", PROGRAM)
         lines += program_lines("program of lines", LINES)
     tell(*lines)
