@@ -108,7 +108,7 @@ class CheckTest(StateTest):
         self.assertEqual(self.ask(CHECK, before=none).status, 0, "it needs no process")
         with open("/dev/full", "wb") as full:
             self.assertEqual(self.ask(CHECK, stdout=full).status, 3, "a full device")
-        for name in ("commands/check", "compare/state"):
+        for name in ("show/check", "commands/status", "compare/state"):
             module = f"lib/aide_compare/{name}.py"
             for text in ("import a_missing_module", "raise MemoryError", "raise KeyError"):
                 kept = self.read(module)

@@ -145,7 +145,7 @@ class CompletionsTest(InstallTest):
             (["aide-compare", "-E", "--after", "=", "report_l"], ["report_level="]),
             (["aide-compare", "-D", "-B", "report_quiet", "=", "y"], ["yes"]),
             (["aide-compare", "hosts", ""], [words[6:] for words in HOSTS]),
-            (["aide-compare", "status", "--format", ""], ["json", "prometheus", "text"]),
+            (["aide-compare", "status", "--format", ""], ["json", "nagios", "prometheus", "text"]),
             (["aide-compare", "-c", "VERS"], ["VERSION"]),
             (["aide-compare", "--config", "=", "VERS"], ["VERSION"]),
             (["aide-compare", "--exclude-from", "VERS"], ["VERSION"]),

@@ -25,8 +25,8 @@ OF_THE_PROGRAM = ("man/aide-compare-program.8", "man/aide-compare.conf.5", "man/
 FRONT = os.path.join(TOP, "commands", "bin", "aide-compare")
 # check_aide_compare is the command under its other name.
 CHECK = (
-    "import sys; sys.path.insert(0, sys.argv[1]); from aide_compare.commands.check import main; "
-    "main(sys.argv[2:])"
+    "import sys; sys.path.insert(0, sys.argv[1]); from aide_compare.commands.status import check; "
+    "check(sys.argv[2:])"
 )
 # What stands for any text in a message.
 ANY = re.compile(r"\b[A-Z]+\b|\b\d+\b|\.\.\.")

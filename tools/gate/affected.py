@@ -95,7 +95,7 @@ class Tests:
                 yield self.commands["compare"]
                 yield from (self.commands[word] for word in texts & self.commands.keys())
             elif text == CHECK:
-                yield self.commands["check"]
+                yield self.commands["status"]
             elif "." in text and f"aide_compare.{text}" in self.modules:
                 yield f"aide_compare.{text}"
 

@@ -9,10 +9,10 @@ from tests.commands.base.calls import ModuleTest
 
 from aide_compare.base import parser
 from aide_compare.base.kinds import alarm_limit
-from aide_compare.commands import check
-from aide_compare.commands.check import CheckRequest
+from aide_compare.commands import status as status_command
 from aide_compare.compare.state import DAILY
 from aide_compare.lines.change import Counts
+from aide_compare.show import check
 
 SILENT = Counts(same=1)
 LOW = Counts(recorded=1, recorded_low=1)
@@ -53,9 +53,8 @@ ROWS: tuple[tuple[int, int, Optional[Counts], dict[str, str]], ...] = (
 def level(status: int, counts: Optional[Counts], words: dict[str, str]) -> int:
     limits = {name: words.get(name) for name in ("warning", "critical")}
     asked = {name: alarm_limit(limit) if limit else None for name, limit in limits.items()}
-    request = CheckRequest(**asked)
     state: Any = mock.Mock(status=status, standings=counts)
-    return check.level_of(request, state)
+    return check.level_of(state, **asked)
 
 
 class CheckTest(ModuleTest):
@@ -65,14 +64,14 @@ class CheckTest(ModuleTest):
 
     def test_line(self) -> None:
         """Whatever fails is UNKNOWN, in a line of bounded length."""
-        with mock.patch.object(check, "tell") as told:
-            self.gives(UNKNOWN, check.main, ["--state", "x" * 500])
+        with mock.patch.object(status_command, "tell") as told:
+            self.gives(UNKNOWN, status_command.check, ["--state", "x" * 500])
             line = f"AIDE UNKNOWN: there is no {'x' * 500}"
             self.assertEqual(told.call_args[0][0], line[: len("AIDE UNKNOWN: ") + 300])
         with mock.patch.object(parser, "write_all") as written:
-            self.gives(UNKNOWN, check.main, ["--help"])
+            self.gives(UNKNOWN, status_command.check, ["--help"])
         shown = " ".join(written.call_args[0][1].decode().split())
-        parts = ["state file that aide-compare wrote", "older result is"]
-        for text in (*parts, " ".join(check.EPILOG.split())):
+        parts = ["state file that aide-compare wrote", "older result counts"]
+        for text in (*parts, " ".join(status_command.EPILOG.split())):
             self.assertIn(text, shown)
-        self.assertEqual(check.request_of(["--no-defaults"]).state, DAILY)
+        self.assertEqual(status_command.request_of(["--no-defaults"]).state, DAILY)

@@ -208,13 +208,13 @@ WEEKLY = Option(
 )
 WARNING = Option(
     "--warning",
-    "WARNING from this limit on",
+    "of nagios: WARNING from this limit on",
     metavar="LIMIT",
     kind=alarm_limit,
 )
 CRITICAL = Option(
     "--critical",
-    "CRITICAL from this limit on",
+    "of nagios: CRITICAL from this limit on",
     metavar="LIMIT",
     kind=alarm_limit,
 )

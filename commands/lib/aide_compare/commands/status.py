@@ -1,21 +1,26 @@
 """aide-compare status: the result of the last comparison, in the form that people or programs
-read."""
+read. By the name check_aide_compare it is a check for Nagios."""
 from __future__ import annotations
 
 import os
 import re
 from collections.abc import Sequence
 
-from aide_compare.base.ending import Fault, Status, tell, write_all
+from aide_compare.base.ending import Done, Fault, Status, tell, why_of, write_all
 from aide_compare.base.escapes import guarded, shown
 from aide_compare.base.files import given_descriptor
 from aide_compare.base.replacement import replace
 from aide_compare.base.rights import become_owner
+from aide_compare.base.kinds import AlarmLimit
 from aide_compare.base.options import (
+    CHECK_DEFAULTS,
+    CRITICAL,
+    NO_DEFAULTS,
     QUIET,
     RESULT_AGE,
     STATE,
     STORE,
+    WARNING,
     Asked,
     Operand,
     field,
@@ -24,24 +29,27 @@ from aide_compare.base.options import (
 from aide_compare.base.parser import defaults_for, read
 from aide_compare.base.words import SEVERITIES, minute_of
 from aide_compare.compare.state import DAILY, State, read_state
+from aide_compare.show.check import Answer, Level, answer_of
 from aide_compare.show.result import known_counts, result_text, time_text
 from aide_compare.show.told import BOLD, in_colour
 
 NAME = "aide-compare status"
 DESCRIPTION = """\
-Prints the result of the last comparison: for people, for the node exporter of Prometheus, or as
-an object of JSON. The check for Nagios is check_aide_compare."""
+Prints the result of the last comparison: for people, for the node exporter of Prometheus, as an
+object of JSON, or in a line for Nagios, as check_aide_compare does."""
 EPILOG = """\
 In a directory in which another user can write, as Debian's user prometheus can in its own, root
 writes as that user.
 
 Status: 0 written; 15 bad arguments; 18 the state cannot be read, or the result cannot be
-written."""
+written. Of nagios: 0 OK, all changes are silent; 1 WARNING, some are not; 2 CRITICAL, one of these
+is open and of severity high; 3 UNKNOWN, all else. A LIMIT replaces the rule for 1 or 2: a number of
+changes that are not silent, or the least severity of one, high, medium or low."""
 MAX_LINE = 8000
 STDOUT = "-"
 # The baseline of one of many hosts, which has a command of its own.
 HOST_BASELINE = r"(/.*)/hosts/([A-Za-z0-9][A-Za-z0-9._:@-]*)/aide\.db"
-FORMATS = ("text", "json", "prometheus")
+FORMATS = ("text", "json", "prometheus", "nagios")
 PREFIX = "aide_compare_"
 # What Prometheus is told of each standing and of the entries.
 ENTRIES = {
@@ -69,6 +77,9 @@ class StatusRequest(Asked):
         STATE, default=DAILY, help=f"the state file that aide-compare wrote ({DAILY})"
     )
     max_age: int = field(RESULT_AGE)
+    warning: AlarmLimit | None = field(WARNING)
+    critical: AlarmLimit | None = field(CRITICAL)
+    no_defaults: bool = field(NO_DEFAULTS)
     output: str = field(
         Operand(
             "OUTPUT",
@@ -200,21 +211,29 @@ def write_metrics(request: StatusRequest) -> int:
     return Status.OK
 
 
+def write_check(request: StatusRequest) -> int:
+    answer = answer_of(request.state, request.max_age, request.warning, request.critical)
+    tell(answer.line())
+    return answer.level
+
+
 WRITERS = {
     "text": write_text,
     "json": write_json,
     "prometheus": write_metrics,
+    "nagios": write_check,
 }
 
 
 def request_of(arguments: Sequence[str]) -> StatusRequest:
     usage = f"{NAME} [OPTIONS] [OUTPUT]"
-    defaults = defaults_for((STATE,), arguments)
+    defaults = defaults_for(CHECK_DEFAULTS, arguments)
     request = read(StatusRequest, arguments, NAME, DESCRIPTION, EPILOG, usage, defaults)
     is_conditional = request.is_quiet or request.max_age != RESULT_AGE.default
     hint = f"try: {NAME} --help"
-    if is_conditional and request.format != "text":
-        raise Fault(Status.USAGE, "only --format text has --quiet and --max-age", hint)
+    if is_conditional and request.format not in ("text", "nagios"):
+        text = "only --format text and --format nagios have --quiet and --max-age"
+        raise Fault(Status.USAGE, text, hint)
     if request.output != STDOUT and request.format != "prometheus":
         raise Fault(Status.USAGE, "only --format prometheus has an OUTPUT", hint)
     return request.but(is_daily=request.state == defaults.get(STATE.attribute, DAILY))
@@ -223,3 +242,15 @@ def request_of(arguments: Sequence[str]) -> StatusRequest:
 def main(arguments: Sequence[str]) -> int:
     request = request_of(arguments)
     return WRITERS[request.format](request)
+
+
+def check(arguments: Sequence[str]) -> int:
+    """check_aide_compare: the format of Nagios. Every failure is UNKNOWN, since 1 and 2 say what was
+    found."""
+    try:
+        return main(["--format", "nagios", *arguments])
+    except Done:
+        return Level.UNKNOWN
+    except (Fault, MemoryError, OSError) as error:
+        tell(Answer(Level.UNKNOWN, why_of(error)).line())
+        return Level.UNKNOWN
