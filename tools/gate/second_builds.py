@@ -9,15 +9,16 @@ Beside each proved build stands a record, `NAME.proved` or `NAME-v3.proved`: the
 file, and the toolchain. It is written at once after the proof. With --ran-now the builds for
 x86-64-v2, which the caller has just proved, get theirs too. The last line is 'N passed, M failed'.
 """
+from __future__ import annotations
+
 import hashlib
 import os
 import subprocess
 import sys
-from typing import Dict, List
 
-from tools.lib.arguments import parser_of
 from tests.lib.tally import Tally
-from tools.source import checker
+from tools.lib.arguments import add_names, parser_of
+from tools.source.checker import TOP, below, kit, libraries, library_of
 
 PROGRAMS = ("aide", "aide_lines")
 NEWER = "-v3"
@@ -26,7 +27,7 @@ PROCESSOR = "x86-64-v3"
 
 def path_of(crate: str, ending: str = "") -> str:
     """The file of a program, which need not be there."""
-    return os.path.join(checker.TOP, "crates", crate, "out", crate + ending)
+    return os.path.join(TOP, "crates", crate, "out", crate + ending)
 
 
 def write_record(program: str) -> None:
@@ -44,29 +45,45 @@ def is_proved(said: str) -> bool:
     return [line[0] for line in words] == ["logic=proved"] and f"cpu={PROCESSOR}" in words[0]
 
 
-def build(crate: str, uses: Dict[str, List[str]]) -> List[str]:
+def words_of(crate: str, uses: dict[str, list[str]], kit: str) -> list[str]:
+    """The command that builds a program for newer processors over its built libraries."""
+    words = [os.path.join(kit, "bin", "rattle"), "build", "--crate-name", crate, "src/main.rt"]
+    libraries = os.path.join(kit, "rlibs")
+    for name in ["std", *uses[crate]]:
+        place = library_of(name) if name in uses else libraries
+        words += ["--extern", f"{name}={place}/{name}.rlib"]
+    for place in [*map(library_of, below(crate, uses)), libraries]:
+        words += ["-L", f"dependency={place}"]
+    words += ["--jobs", "1", "--logic-built", os.path.join(kit, "logic_built"), "--antt-project"]
+    words += [os.path.join(kit, "rattle", "logic", "antt-project.json")]
+    words += ["--links", f"{crate}=", "--cpu", PROCESSOR, "--backend", "llvm"]
+    return [*words, "--toolchain", os.path.join(kit, "toolchain")]
+
+
+def run(words: list[str], folder: str) -> tuple[int, str]:
+    """The status of a command, and the end of what it prints."""
+    done = subprocess.run(
+        words, cwd=folder, stdout=subprocess.PIPE, stderr=subprocess.STDOUT, check=False
+    )
+    return done.returncode, done.stdout.decode("utf-8", "replace")[-2000:]
+
+
+def build(crate: str, uses: dict[str, list[str]]) -> list[str]:
     """Proves and builds a program for newer processors. Returns what went wrong."""
-    kit, program = checker.kit(), path_of(crate, NEWER)
+    tools, program = kit(), path_of(crate, NEWER)
     for old in (program, program + ".proved"):
         if os.path.lexists(old):
             os.remove(old)
-    words = checker.words_of(crate, uses, "")[:-2]
-    words[1] = "build"
-    words += ["--links", f"{crate}=", "--cpu", PROCESSOR, "--backend", "llvm"]
-    words += ["--toolchain", os.path.join(kit, "toolchain"), "-o", f"{program}.o"]
-    folder = os.path.join(checker.TOP, "crates", crate)
-    proved = subprocess.run(
-        words, cwd=folder, stdout=subprocess.PIPE, stderr=subprocess.STDOUT, check=False
-    )
-    said = proved.stdout.decode("utf-8", "replace")
-    if proved.returncode or not is_proved(said):
-        return [f"it was not proved: {said[-2000:]}"]
-    words = [os.path.join(kit, "bin", "rattle-link"), "--target", "x86_64-unknown-linux-gnu"]
-    words += ["--toolchain", os.path.join(kit, "toolchain"), "-o", program, f"{program}.o"]
-    words += [os.path.join(kit, "c", name) for name in ("libos_c.a", "liblibc_c.a")]
-    linked = subprocess.run(words, stdout=subprocess.PIPE, stderr=subprocess.STDOUT, check=False)
-    if linked.returncode:
-        return [f"it was not linked: {linked.stdout.decode('utf-8', 'replace')[-2000:]}"]
+    folder = os.path.join(TOP, "crates", crate)
+    status, said = run([*words_of(crate, uses, tools), "-o", f"{program}.o"], folder)
+    if status or not is_proved(said):
+        return [f"it was not proved: {said}"]
+    words = [os.path.join(tools, "bin", "rattle-link"), "--target", "x86_64-unknown-linux-gnu"]
+    words += ["--toolchain", os.path.join(tools, "toolchain"), "-o", program, f"{program}.o"]
+    words += [os.path.join(tools, "c", name) for name in ("libos_c.a", "liblibc_c.a")]
+    status, said = run(words, folder)
+    if status:
+        return [f"it was not linked: {said}"]
     write_record(program)
     return []
 
@@ -74,20 +91,14 @@ def build(crate: str, uses: Dict[str, List[str]]) -> List[str]:
 def main() -> None:
     """Builds the programs that were named, or both."""
     parser = parser_of("tools.gate.second_builds", __doc__)
-    parser.add_argument(
-        "names", nargs="*", metavar="NAME", help="one of %s (both)" % " and ".join(PROGRAMS)
-    )
+    add_names(parser, PROGRAMS)
     parser.add_argument(
         "--ran-now",
         action="store_true",
         help="the caller has just proved the builds that are there",
     )
     given = parser.parse_args()
-    if not set(given.names) <= set(PROGRAMS):
-        parser.error(
-            "no program of this name: " + " ".join(sorted(set(given.names) - set(PROGRAMS)))
-        )
-    tally, uses = Tally(), checker.libraries()
+    tally, uses = Tally(), libraries()
     for crate in given.names or PROGRAMS:
         if given.ran_now:
             write_record(path_of(crate))

@@ -26,3 +26,15 @@ def add_program(parser):
         type=executable,
         help="the built program, crates/aide/out/aide",
     )
+
+
+def add_names(parser, names):
+    """Some of these names as arguments; none stands for all."""
+
+    def known(name):
+        if name not in names:
+            raise argparse.ArgumentTypeError("no program of this name")
+        return name
+
+    text = "one of %s (all)" % ", ".join(names)
+    parser.add_argument("names", nargs="*", metavar="NAME", type=known, help=text)

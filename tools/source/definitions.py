@@ -3,7 +3,8 @@ uses."""
 import os
 import re
 
-TOP = os.path.dirname(os.path.dirname(os.path.dirname(os.path.abspath(__file__))))
+from tools.source.checker import TOP, libraries
+
 IMPORT = re.compile(r"use\s+Rattle\.(\w+)\.specs\.([\w.]+?)\.\{([^}]*)\}", re.S)
 ALIAS = re.compile(r"use\s+Rattle\.(\w+)\.specs\.([\w.]+) as (\w+)\s*$", re.M)
 REEXPORT = re.compile(r"^pub use Rattle\.(\w+)\.specs\.([\w.]+)\s*$", re.M)
@@ -16,8 +17,7 @@ CONSTRUCTOR = re.compile(r"^  ([A-Za-z_][\w']*) :")
 
 def crates():
     """The crates of the repository, by crates.txt."""
-    with open(os.path.join(TOP, "crates.txt"), encoding="utf-8") as file:
-        return [line.split(":")[0] for line in file if ":" in line and not line.startswith("#")]
+    return list(libraries())
 
 
 def imports_of(text):

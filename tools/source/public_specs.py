@@ -10,7 +10,8 @@ import re
 import sys
 
 from tools.lib.arguments import parser_of
-from tools.source.definitions import TOP, WORD, Definitions, crates, imports_of
+from tools.source.checker import TOP, below, libraries
+from tools.source.definitions import WORD, Definitions, crates, imports_of
 
 # What is built of the crates, and whose calls are promised to others.
 PROGRAMS = ("aide", "aide_lines", "aide_headline")
@@ -33,19 +34,8 @@ def public_names(crate):
 
 def crates_of_programs():
     """The crates that the programs and the headline are built of, by crates.txt."""
-    uses = {}
-    with open(os.path.join(TOP, "crates.txt"), encoding="utf-8") as file:
-        for line in file:
-            name, colon, used = line.partition(":")
-            if colon and not line.startswith("#"):
-                uses[name] = used.split()
-    found, more = set(), list(PROGRAMS)
-    while more:
-        name = more.pop()
-        if name in uses and name not in found:
-            found.add(name)
-            more += uses[name]
-    return sorted(found)
+    uses = libraries()
+    return sorted(set(PROGRAMS).union(*(below(name, uses) for name in PROGRAMS)))
 
 
 def names_used(crate, users):
