@@ -86,6 +86,16 @@ class InstalledTest(InstallTest):
         lost = [link for link in links if not os.path.exists(self.first(DOCUMENTS, link[1]))]
         self.assertEqual(lost, [])
 
+    def test_readme(self) -> None:
+        """README tells nobody to run what only a clone has, and goes on with how to begin."""
+        with open(self.first(DOCUMENTS, "README.md"), encoding="utf-8") as file:
+            text = file.read()
+        for name in ("packaging/", "./compare", "in a clone", "make_package"):
+            self.assertNotIn(name, text)
+        sections = re.findall("(?m)^## (.*)", text)
+        self.assertEqual(sections[:3], ["Why", "Set up", "What it does not do"])
+        self.assertIn("\n    aide-compare setup\n", text)
+
     def test_prefix(self) -> None:
         """With another prefix no text names the usual one, and what the texts name is there."""
         found = self.installed("elsewhere", "--prefix", "/opt/aide")
