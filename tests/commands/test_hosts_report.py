@@ -222,10 +222,10 @@ class HostsReportTest(CommandTest):
         self.assertTrue(said.output.startswith(first), said)
         for part in (
             "added on 3 of 5 hosts: File /usr/.x\n    on www1, www2 and 1 more\n",
-            "\n    Size 4, Perm -rwsr-xr-x, UID 0",
+            "\n    size 4, mode -rwsr-xr-x, owner 0",
             "added on 1 of 5 hosts: File /usr/.x\n    on www4\n",
             "changed on 4 of 5 hosts: File /etc/p\n",
-            "\n    Perm (various) -> -rw-------, ",
+            "\n    mode (various) -> -rw-------, ",
             "\n  www4: added 1, removed 1, changed 2\n",
         ):
             self.assertIn(part, said.output)

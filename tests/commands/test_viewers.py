@@ -32,12 +32,14 @@ from tests.commands.viewers.schema import Validator, schema_of_lines
 
 from aide_compare.base.words import SEVERITIES
 from aide_compare.lines import reader
+from aide_compare.lines.attributes import FORMS, word_of
 from aide_compare.lines.reader import Reader, Refused
 from aide_compare.show.page import CHOICES, part_of, script_of
 
 # Letters by their class, and yet nothing is seen of them: the Hangul fillers and the empty Braille
 # pattern.
 BLANKS_THAT_ARE_LETTERS = "\u115f\u1160\u2800\u3164\uffa0"
+LABELS = {word_of(label): label for label in FORMS}
 PAIRS = 20 if os.environ.get(QUICK) else 40
 
 
@@ -66,10 +68,10 @@ def values_of(fields: Fields) -> dict[str, list[bytes | None]]:
 
 
 def values_in(entry: Fields) -> dict[str, list[bytes | None]]:
-    """The same as a page shows them."""
+    """The same as a page shows them, under the words of the attributes."""
     return {
-        label: [None if text is None else bytes_shown(text) for text in texts]
-        for label, *texts in entry["rows"]
+        LABELS[word]: [None if text is None else bytes_shown(text) for text in texts]
+        for word, *texts in entry["rows"]
     }
 
 

@@ -51,7 +51,7 @@ ORDER = """{ const order = document.getElementById('order'); order.value = 'size
 PRESSED = """[...document.querySelectorAll('.choices [aria-pressed=true]')].map(
   (one) => one.lastChild.textContent.trim())"""
 DIGESTS = """[...document.querySelectorAll('#list b.changed ~ i')].every(
-  (one) => one.textContent.includes('Digests'))"""
+  (one) => one.textContent.includes('content'))"""
 
 
 def number_of(selector: str) -> str:
@@ -152,7 +152,7 @@ class Trial:
         self.shows("they are shown", number_of("#list b.removed"), count)
         self.shows("all of them are removed", number_of("#list b[class]:not(.removed)"), 0)
         self.click("#kind button", "removed")
-        self.click("#attribute button", "Digests")
+        self.click("#attribute button", "content")
         self.shows("an attribute", DIGESTS, True)
         self.click("#clear")
         self.search("ETC/")
@@ -177,7 +177,7 @@ class Trial:
         self.shows("a new file", FACTS, "-rwsr-xr-x  0:0  18344 bytes")
         self.click("#list summary", "etc/passwd")
         rows = f"[...document.querySelectorAll('{OPENED} th[scope=row]')].map((one) => one.textContent)"
-        self.shows("one digest", rows, ["Size", "Mtime", "SHA256"])
+        self.shows("one digest", rows, ["size", "mtime", "SHA256"])
         self.click(f"{OPENED} + details > summary")
         self.shows("the other digests", number_of(f"{OPENED} + details[open] th[scope=row]"), 4)
         exact = "document.querySelector('#list td details').textContent"
@@ -322,6 +322,6 @@ def script_entry(one: Fields) -> Fields:
         "place": one["place"],
         "standing": one.get("standing", "open"),
         "package": one.get("package", ""),
-        "attribute": " ".join(one["attributes"]),
+        "attribute": ", ".join(one["attributes"]),
         "size": growth,
     }

@@ -12,6 +12,7 @@ from aide_compare.base.words import KINDS, SEVERITIES, counted
 from aide_compare.changes.table import Row, Table
 from aide_compare.hosts.reported import CUT, UNREADABLE, Host, SharedChange, Summary
 from aide_compare.lines.change import Change
+from aide_compare.lines.attributes import word_of
 from aide_compare.show.changes import values_in
 from aide_compare.show.digest import MAIL, Room, digest, entry_line
 
@@ -105,21 +106,22 @@ def change_lines(shared: SharedChange, hosts: int) -> Iterator[str]:
     if values or change.letters:
         yield "    " + (", ".join(values) or shown(change.letters, 18))
     if shared.per_host:
-        yield "    of each host: " + ", ".join(shared.per_host)
+        yield "    of each host: " + ", ".join(map(word_of, shared.per_host))
     yield ""
 
 
 def value_texts(shared: SharedChange) -> Iterator[str]:
     """The attributes of a change with their values."""
-    for label, old, new in values_in(shared.change, shared.various):
-        if label in shared.various:
+    for row in values_in(shared.change, shared.various):
+        old = row.old
+        if row.label in shared.various:
             old = "(various)"
         if shared.change.kind == "added":
-            yield f"{label} {new}"
+            yield f"{row.word} {row.new}"
         elif shared.change.kind == "removed":
-            yield f"{label} {old}"
+            yield f"{row.word} {old}"
         else:
-            yield f"{label} {old or 'none'} -> {new or 'none'}"
+            yield f"{row.word} {old or 'none'} -> {row.new or 'none'}"
 
 
 def list_lines(title: str, lines: Sequence[str]) -> Iterator[str]:

@@ -1,5 +1,5 @@
-"""The attributes of a change as lines and reports name them, with the form of their values, and
-digests by their strength."""
+"""The attributes of a change as lines and reports name them, with the form of their values and the
+words of people, and digests by their strength."""
 from __future__ import annotations
 
 # In the order of the details. Behind a label is the form of its values.
@@ -22,6 +22,25 @@ def _forms() -> dict[str, str]:
 
 
 FORMS = _forms()
+# What people read in place of a label; of those that are not here, the label itself.
+_WORDS = {
+    "Type": "type",
+    "Lname": "target",
+    "Size": "size",
+    "Bcount": "blocks",
+    "Perm": "mode",
+    "UID": "owner",
+    "GID": "group",
+    "Atime": "atime",
+    "Mtime": "mtime",
+    "Ctime": "ctime",
+    "Inode": "inode",
+    "Linkcount": "links",
+    "XAttrs": "extended attributes",
+    "E2FSAttrs": "flags",
+    "Caps": "capabilities",
+}
+CONTENT = "content"
 NUMBERS = frozenset(label for label, form in FORMS.items() if form in ("number", "time"))
 # The digest that people look at first, if an entry has it, and so on.
 STRENGTH = (
@@ -33,3 +52,8 @@ COLUMNS_OF_DIGESTS = {
     label: label.lower().replace("-", "_").replace("/", "_") for label in STRENGTH
 }
 DIGEST_COLUMNS = frozenset(COLUMNS_OF_DIGESTS.values())
+
+
+def word_of(label: str) -> str:
+    """An attribute in the word of people; a digest by its name."""
+    return _WORDS.get(label, label)

@@ -5,7 +5,7 @@ import json
 from typing import TYPE_CHECKING, Iterable, Iterator, NamedTuple, Optional
 
 from aide_compare.base.escapes import guarded, shown
-from aide_compare.lines.attributes import FORMS, STRENGTH
+from aide_compare.lines.attributes import FORMS, STRENGTH, word_of
 from aide_compare.lines.change import Change, Value, change_of
 from aide_compare.lines.decoded import texts_of
 from aide_compare.show.json_lines import marked_lines
@@ -37,13 +37,17 @@ class Row(NamedTuple):
     old: Optional[str]
     new: Optional[str]
 
+    @property
+    def word(self) -> str:
+        return word_of(self.label)
+
     def line(self, kind: str) -> str:
         texts = ["none" if text is None else text for text in (self.old, self.new)]
         if kind == "changed":
-            return f"    {self.label:<10} {texts[0]} -> {texts[1]}\n"
+            return f"    {self.word:<10} {texts[0]} -> {texts[1]}\n"
         if kind == "removed":
-            return f"    {self.label:<10} {texts[0]}\n"
-        return f"    {self.label:<10} {texts[1]}\n"
+            return f"    {self.word:<10} {texts[0]}\n"
+        return f"    {self.word:<10} {texts[1]}\n"
 
 
 def values_in(change: Change, others: Iterable[str] = ()) -> Iterator[Row]:
@@ -74,7 +78,7 @@ def changes_with_values(
             lines = [f"{marks['standing']} {marks.get('severity', '')}".rstrip() + " "]
             lines += change_lines(change)
             if "package" in marks:
-                lines.append(f"    Package    {guarded(marks['package'])}\n")
+                lines.append(f"    package    {guarded(marks['package'])}\n")
             yield "".join(lines).encode("utf-8", "backslashreplace")
             is_there = True
     if not is_there:

@@ -6,29 +6,15 @@ from typing import List, Optional
 
 from aide_compare.base.files import file_kind
 from aide_compare.base.words import date_of, minute_of
-from aide_compare.lines.attributes import STRENGTH
+from aide_compare.lines.attributes import CONTENT, STRENGTH, word_of
 from aide_compare.lines.change import Change, Values
 from aide_compare.lines.decoded import TYPES, kinds_of
 from aide_compare.lines.rights import ROOT
 
 TIMES_IN_ORDER = ("Mtime", "Ctime", "Atime")
-# What is named of an entry with its value of before and of now.
-PAIRS = {
-    "Type": "",
-    "Perm": "mode ",
-    "UID": "owner ",
-    "GID": "group ",
-    "Size": "size ",
-    "Linkcount": "links ",
-}
-OTHERS = {
-    "Lname": "target",
-    "ACL": "ACL",
-    "XAttrs": "extended attributes",
-    "SELinux": "SELinux",
-    "E2FSAttrs": "flags",
-    "Caps": "capabilities",
-}
+# What is named of an entry with its value of before and of now; the types need no word.
+PAIRS = ("Type", "Perm", "UID", "GID", "Size", "Linkcount")
+OTHERS = ("Lname", "ACL", "XAttrs", "SELinux", "E2FSAttrs", "Caps")
 # What is named only if nothing else has changed.
 ALONE = {"Inode": "another inode", "Bcount": "blocks"}
 
@@ -88,7 +74,7 @@ def _side_words(values: Values, kind: Optional[str]) -> List[str]:
     capabilities alone."""
     words = [_one_side(values, kind)]
     if values.get("Caps"):
-        words.append(OTHERS["Caps"])
+        words.append(word_of("Caps"))
     return words
 
 
@@ -108,12 +94,12 @@ def _changed_words(change: Change) -> str:
     differ = {*old, *new}
     words = []
     if not differ.isdisjoint(STRENGTH):
-        words.append("content")
-    for label, word in PAIRS.items():
+        words.append(CONTENT)
+    for label in PAIRS:
         if label in differ:
-            before = _value(old, label, old_kind)
-            words.append(f"{word}{before} -> {_value(new, label, new_kind)}")
-    words += [word for label, word in OTHERS.items() if label in differ]
+            pair = f"{_value(old, label, old_kind)} -> {_value(new, label, new_kind)}"
+            words.append(pair if label == "Type" else f"{word_of(label)} {pair}")
+    words += [word_of(label) for label in OTHERS if label in differ]
     if not words:
         words = [word for label, word in ALONE.items() if label in differ][:1]
     if words:

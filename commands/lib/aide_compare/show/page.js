@@ -31,7 +31,7 @@ function entryOf([head, values]) {
   return {
     head, values, labels, path, standing, severity, kind: head.kind, place: 0, item: null, node: null,
     section: parts[standing] || TITLES[standing], package: standing === 'recorded' ? shownNote(head.package || '') : '',
-    attribute: [...new Set(labels.map(nameOf))].join(' '), size: growthOf(head.kind, values) || 0,
+    attribute: [...new Set(labels.map((label) => names[label]))].join(', '), size: growthOf(head.kind, values) || 0,
     folded: path.toLowerCase(), key: path.replaceAll('/', '\0'),
   };
 }
@@ -149,7 +149,7 @@ function countedWords(name) {
   const whole = new Map(), counts = new Map();
   for (const entry of entries) whole.set(entry[name], (whole.get(entry[name]) || 0) + 1);
   for (const [text, count] of whole) {
-    for (const word of name === 'attribute' ? text.split(' ') : [text]) counts.set(word, (counts.get(word) || 0) + count);
+    for (const word of name === 'attribute' ? text.split(', ') : [text]) counts.set(word, (counts.get(word) || 0) + count);
   }
   const frequent = (one, two) => counts.get(two) - counts.get(one) || (one < two ? -1 : 1);
   const words = choices[name] || [...counts.keys()].sort(frequent);

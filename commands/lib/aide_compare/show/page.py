@@ -14,7 +14,7 @@ from typing import TYPE_CHECKING, Callable, Dict, Iterable, Iterator, List, Opti
 from aide_compare.base.escapes import guarded, shown, shown_note
 from aide_compare.base.files import private_file
 from aide_compare.base.words import KINDS, SEVERITIES, SIDES, minute_of
-from aide_compare.lines.attributes import FORMS, STRENGTH
+from aide_compare.lines.attributes import CONTENT, FORMS, STRENGTH, word_of
 from aide_compare.lines.change import Counts, Fields, Standing
 from aide_compare.lines.reader import ENCODE, Reader
 from aide_compare.lines.rights import differing
@@ -33,14 +33,14 @@ POLICY = (
 )
 SCRIPTS = ("page_logic.js", "page_tree.js", "page_values.js", "page.js")
 # What the script has to know: the words of the filters, and the attributes.
-NAMES = {label: "Digests" if label in STRENGTH else label for label in FORMS}
+NAMES = {label: CONTENT if label in STRENGTH else word_of(label) for label in FORMS}
 CHOICES = {
     "kind": KINDS,
     "standing": [standing.value for standing in reversed(Standing)],
     "severity": SEVERITIES,
     "attribute": list(dict.fromkeys(NAMES.values())),
 }
-KNOWN = {"choices": CHOICES, "labels": list(FORMS), "strength": STRENGTH}
+KNOWN = {"choices": CHOICES, "names": NAMES, "labels": list(FORMS), "strength": STRENGTH}
 VALUES = ("old", "new", "old_text", "new_text")
 HEAD = ("kind", "path", "path_hex", "standing", "severity", "package", "order")
 HEAD_OF_HOSTS = ("note", "old_various", "per_host")

@@ -1,10 +1,11 @@
-// What a reader sees of names and values. `labels` are the attributes in their order, `strength` the digests, the strongest first.
-const UTF8 = new TextEncoder(), TIMES = ['Atime', 'Mtime', 'Ctime'], SIDES = ['old', 'new'], VARIOUS = 'various';
+// What a reader sees of names and values. `labels` are the attributes in their order, `names` their words, the same for all digests,
+// and `strength` the digests, the strongest first.
+const UTF8 = new TextEncoder(), TIMES = ['Atime', 'Mtime', 'Ctime'], SIDES = ['old', 'new'], VARIOUS = 'various',
+  RIGHTS = ['Perm', 'UID', 'GID'];
 // Letters that nobody sees, that are blank, or that turn the direction of text; and the backslash, with which such bytes are shown.
 const UNSEEN = /[\p{C}\p{Z}\u115f\u1160\u2800\u3164\uffa0]/u, ESCAPED = /[\\\p{C}\p{Z}\u115f\u1160\u2800\u3164\uffa0]/gu;
 const octal = (byte) => '\\' + byte.toString(8).padStart(3, '0');
 const octalOf = (letter) => [...UTF8.encode(letter)].map(octal).join('');
-const nameOf = (label) => strength.includes(label) ? 'Digests' : label;
 const bytesOf = (hex) => hex.match(/../g).map((pair) => parseInt(pair, 16));
 
 // A name or a value: what is not seen, and blanks at its ends, as the octal digits of its bytes.
@@ -53,8 +54,9 @@ function cellOf(entry, side, label) {
 
 function tableOf(entry, rows) {
   const titles = ['Attribute', 'Old', 'New'].map((title) => make('th', { scope: 'col' }, title));
+  const titleOf = (label) => make('th', { scope: 'row' }, strength.includes(label) ? label : names[label]);
   return make('table', {}, make('tr', {}, ...titles), ...rows.map((label) =>
-    make('tr', {}, make('th', { scope: 'row' }, label), ...SIDES.map((side) => cellOf(entry, side, label)))));
+    make('tr', {}, titleOf(label), ...SIDES.map((side) => cellOf(entry, side, label)))));
 }
 
 // The values of an entry, null without any. Of its digests the strongest one is seen; the others open on demand.
@@ -68,7 +70,7 @@ function valuesOf(entry) {
     parts.push(make('details', {}, make('summary', {}, title), tableOf(entry, digests.slice(1))));
   }
   const each = entry.head.per_host || [];
-  if (each.length) parts.push(make('p', { class: 'hint' }, 'Of each host: ' + each.join(', ')));
+  if (each.length) parts.push(make('p', { class: 'hint' }, 'Of each host: ' + each.map((label) => names[label]).join(', ')));
   return parts.length ? parts : null;
 }
 
@@ -79,9 +81,19 @@ function growthOf(kind, values) {
   return kind === 'added' ? now : old;
 }
 
-// Permissions, owner and size of an entry that is there on one side only; of a changed one its attributes.
+// An attribute that has changed: of a right both values, of the size by how much.
+function changeOf(entry, label) {
+  const { values, size } = entry;
+  if (label === 'Size' && size) return names.Size + ' ' + (size > 0 ? '+' : '\u2212') + Math.abs(size);
+  if (!values || !RIGHTS.includes(label)) return names[label];
+  const texts = SIDES.map((side) => isVarious(entry, side, label) ? VARIOUS
+    : meaningOf(values, side, label) || exactOf(values[side], label) || 'none');
+  return names[label] + ' ' + texts.join(' -> ');
+}
+
+// Permissions, owner and size of an entry that is there on one side only; of a changed one what has changed.
 function factsOf(entry) {
-  const { kind, values, attribute, size } = entry, side = { added: 'new', removed: 'old' }[kind];
+  const { kind, values, attribute } = entry, side = { added: 'new', removed: 'old' }[kind];
   if (side && values && values[side]) {
     if ((entry.head.old_various || []).length && side === 'old') return VARIOUS;
     const [mode, user, group, bytes] = ['Perm', 'UID', 'GID', 'Size'].map((label) =>
@@ -90,7 +102,8 @@ function factsOf(entry) {
     const facts = [mode, owner, bytes === undefined ? '' : bytes + ' bytes'].filter(Boolean);
     if (facts.length) return facts.join('  ');
   }
-  return kind === 'changed' && size ? attribute.replace('Size', 'Size ' + (size > 0 ? '+' : '\u2212') + Math.abs(size)) : attribute;
+  if (kind !== 'changed') return attribute;
+  return [...new Set(entry.labels.map((label) => changeOf(entry, label)))].join(', ');
 }
 
 // The heading: of what the page is, the counts, and what is missing.
