@@ -7,9 +7,13 @@ use Rattle.clap.specs.declared.builder.action.ArgAction.TheVariants.{Set, SetTru
 use Rattle.aide_words.specs.Job.{option_rule, text_of, with_texts}
 use Rattle.aide_words.specs.declared.beside_job.BesideJob.{BesideJob}
 
--- an option without a letter that has to be given; its long name is its id
+-- an option without a letter; its long name is its id
+abbrev pub long_rule : Text → Rule
+long_rule id = record (new_rule id) { long = Some id; action = Some Set }
+
+-- the same, if it has to be given
 abbrev pub trusted_rule : Text → Rule
-trusted_rule id = record (new_rule id) { long = Some id; action = Some Set; required = true }
+trusted_rule id = record (long_rule id) { required = true }
 
 -- a command with the flag of a comparison, which has to be given
 abbrev pub with_compare : App → App
@@ -22,10 +26,15 @@ with_trusted app = with_rule (with_rule app
     (trusted_rule (codes "trusted-old")))
     (trusted_rule (codes "trusted-new"))
 
+-- a command with the option that gives a list of what is left out
+abbrev pub with_list : App → App
+with_list app = with_rule app (long_rule (codes "without"))
+
 -- The command of a comparison beside a trusted pair. It has the options of `aide` but the one that
--- only checks the configuration.
+-- only checks the configuration, and may be given a list of what is left out.
 unfoldable pub beside_command : App
-beside_command = with_trusted (with_texts (with_compare (new_app (codes "aide_lines"))))
+beside_command = with_list
+    (with_trusted (with_texts (with_compare (new_app (codes "aide_lines")))))
 
 -- what the program is to do
 pub record BesideText : Type 0 where
@@ -34,6 +43,8 @@ pub record BesideText : Type 0 where
   pub after : Text
   pub trusted_old : Text
   pub trusted_new : Text
+  -- the text of the list of what is left out
+  pub without : Text
 
 -- the texts of the options
 abbrev pub beside_text : List Row → BesideText
@@ -43,6 +54,7 @@ beside_text rows = record {
   after = text_of (codes "after") rows;
   trusted_old = text_of (codes "trusted-old") rows;
   trusted_new = text_of (codes "trusted-new") rows;
+  without = text_of (codes "without") rows;
 }
 
 -- the comparison beside a trusted pair that the arguments ask for, if there is one
@@ -59,4 +71,5 @@ text_of_beside j = record {
   after = j.after;
   trusted_old = j.trusted_old;
   trusted_new = j.trusted_new;
+  without = j.without;
 }

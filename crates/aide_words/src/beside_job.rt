@@ -1,8 +1,8 @@
 //! What a command line asks for that names a trusted pair of databases.
 ghost use Rattle.std.specs.Prelude.{◌≡◌, false, Some, None, IfOk, IsErrOf};
 ghost use Rattle.aide_words.specs.BesideJob.{beside_command, beside_job_of, beside_text};
-ghost use Rattle.aide_words.specs.BesideJob.{text_of_beside, trusted_rule, with_compare};
-ghost use Rattle.aide_words.specs.BesideJob.{with_trusted};
+ghost use Rattle.aide_words.specs.BesideJob.{long_rule, text_of_beside, trusted_rule};
+ghost use Rattle.aide_words.specs.BesideJob.{with_compare, with_list, with_trusted};
 ghost use Rattle.clap.specs.Words.{app_of, found_of, rows_of, rule_of};
 
 use crate::job::{WordsFault, add_texts, matches, option, text};
@@ -24,6 +24,16 @@ pub struct BesideJob {
     pub trusted_old: Word,
     /// The path of the new database of the trusted machine.
     pub trusted_new: Word,
+    /// The text of a list of what is left out. Empty if none was given.
+    pub without: Word,
+}
+
+/// Makes the option `--id`, which has no letter.
+fn long_option<'a>(alloc: Global, id: &'a str) -> Arg<'a>
+    ensures rule { rule_of result ≡ long_rule id.now }
+    ensures local { result.global ≡ false }
+{
+    Arg::new(alloc, id).long(id).action(ArgAction::Set)
 }
 
 /// Makes the option `--id`, which has no letter and has to be given.
@@ -53,13 +63,21 @@ fn add_trusted<'a>(alloc: Global, command: Command<'a>) -> Result<Command<'a>, A
         .arg(trusted_option(alloc, "trusted-new"))
 }
 
+/// Adds the option that gives a list of what is left out.
+fn add_list<'a>(alloc: Global, command: Command<'a>) -> Result<Command<'a>, AllocError>
+    ensures { IfOk result (λ c. app_of c ≡ with_list (app_of command.entry)) }
+{
+    command.arg(long_option(alloc, "without"))
+}
+
 /// Makes the command of a comparison beside a trusted pair.
 fn command<'a>(alloc: Global) -> Result<Command<'a>, AllocError>
     ensures { IfOk result (λ c. app_of c ≡ beside_command) }
 {
     let command = add_compare(alloc, Command::new(alloc, "aide_lines"))?;
     let command = add_texts(alloc, command)?;
-    add_trusted(alloc, command)
+    let command = add_trusted(alloc, command)?;
+    add_list(alloc, command)
 }
 
 /// Copies the texts of the options.
@@ -72,16 +90,17 @@ fn beside_job_from(alloc: Global, found: &ArgMatches<'_>) -> Result<BesideJob, M
         after: Word::new(alloc, text(found, "after"))?,
         trusted_old: Word::new(alloc, text(found, "trusted-old"))?,
         trusted_new: Word::new(alloc, text(found, "trusted-new"))?,
+        without: Word::new(alloc, text(found, "without"))?,
     })
 }
 
 /// Reads the arguments of a comparison beside a trusted pair. The first one is the program's name:
 /// `aide_lines (-E | --compare) (-c | --config) FILE --trusted-old FILE --trusted-new FILE
-/// [-B | --before TEXT] [-A | --after TEXT]`.
+/// [-B | --before TEXT] [-A | --after TEXT] [--without TEXT]`.
 ///
-/// All but `-B` and `-A` have to be given, and each option at most once. Everything else is `Usage`,
-/// including a request for help, and arguments that name no trusted pair. Out of memory is
-/// `WordsFault::Memory`.
+/// All but `-B`, `-A` and `--without` have to be given, and each option at most once. Everything
+/// else is `Usage`, including a request for help, and arguments that name no trusted pair. Out of
+/// memory is `WordsFault::Memory`.
 #[inline(never)]
 pub fn read_beside_words(alloc: Global, words: &Words) -> Result<BesideJob, WordsFault>
     ensures ok { IfOk result (λ job. beside_job_of words.now ≡ Some (text_of_beside job)) }
