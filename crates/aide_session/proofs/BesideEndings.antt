@@ -18,6 +18,10 @@ use Rattle.aide_db.specs.declared.side.Side.TheVariants.{Old, New}
 use Rattle.aide_entry.specs.Cause.{is_memory}
 use Rattle.aide_entry.specs.declared.fault_kind.DbFaultKind.{DbFaultKind}
 use Rattle.aide_entry.specs.declared.fault_kind.DbFaultKind.TheVariants as db
+use Rattle.aide_patterns.proofs.Laws.{one_reading}
+use Rattle.aide_patterns.specs.Line.{RuleText}
+use Rattle.aide_patterns.specs.List.{HasFirstFault, HasRules, IsReading}
+use Rattle.aide_patterns.specs.declared.fault.ListFault.{ListFault}
 use Rattle.aide_report.specs.Asked.{Asked}
 use Rattle.aide_report.specs.Failures.{Rose}
 use Rattle.aide_report.specs.FaultStatus.{fault_status, kind_status}
@@ -29,16 +33,18 @@ use Rattle.aide_report.specs.declared.run_fault.RunFault.{RunFault}
 use Rattle.aide_report.specs.declared.run_fault.RunFault.TheVariants.{Open, Database, Changed, Write}
 use Rattle.aide_session.specs.Answer.{Named, asked_by, limits}
 use Rattle.aide_session.specs.BesideAnswer.{IsAnswerBeside, IsFileBeside, IsReadBeside, IsSizedBeside, IsTextBeside, ComparesBeside}
+use Rattle.aide_session.specs.BesideAnswer.{IsGivenBeside, IsListedBeside}
 use Rattle.aide_session.specs.BesideAnswer.{AnswerBeside, GoesOutBeside, OutputBeside, StartsBeside, all_lines, answer_beside, no_line}
 use Rattle.aide_session.specs.BesideAnswer.{out_beside, refused_beside, start_of_lines, trusted_of}
 use Rattle.aide_session.specs.BesideEnds.{BesideFailure, BesideFailureCause, BesideView, ClosesBeside, ComparesPairs, EndsBesideBy}
 use Rattle.aide_session.specs.BesideEnds.{EndsWithin, HasReadBeside, MeansOfPair, StopCause, StopsWith, beside_failure_line}
 use Rattle.aide_session.specs.BesideEnds.{compared_line, compared_status, of_compared, stop_line, stop_status}
 use Rattle.aide_session.specs.BesideEnds.{StarvedBeside, WholeBeside, trusted_unopened, trusted_unread}
-use Rattle.aide_session.specs.BesideEnds.{config_refused, config_too_large, config_unread, no_memory_left, EarlyStop}
+use Rattle.aide_session.specs.BesideEnds.{config_refused, config_too_large, config_unread, list_refused, no_memory_left, EarlyStop}
 use Rattle.aide_session.specs.Closing.{HasText}
 use Rattle.aide_session.specs.Ends.{HasFailed, Puts, Sinks, config_unread as failed_config, unopened, unread, unwritten}
 use Rattle.aide_session.specs.Files.{Files, IsLarge, is_too_large}
+use Rattle.aide_session.specs.GivenList.{IsList, IsListOf, list_line, list_of}
 use Rattle.aide_session.specs.Held.{HoldsWithin, most_held}
 use Rattle.aide_session.specs.Lines.{conf_line, kind_line, outcome_lines, run_fault_line, too_large_line, unread_line}
 use Rattle.aide_session.specs.TrustedLines.{pair_fault_line, pair_fault_status, trusted_fault_line, trusted_kind_line}
@@ -47,6 +53,7 @@ use Rattle.aide_session.proofs.Endings.{by_reliable, rose_later, same_some}
 use Rattle.aide_session.proofs.PutLemmas.{put_as, put_passed}
 use Rattle.aide_trusted.specs.BesideLines.{BeginsBeside, lines_beside}
 use Rattle.aide_trusted.specs.BesideRuns.{AreAllSound, CutsBeside, RunsBeside, SendsWholeOf, StopsForPair, answer_by, changes_between}
+use Rattle.aide_trusted.specs.Listed.{ListRead, leaves_between}
 use Rattle.aide_trusted.proofs.BesideLaws.{begins_what_is_written, begins_with_nothing}
 use Rattle.aide_trusted.specs.Pairs.{OfEach}
 use Rattle.aide_trusted.specs.declared.pair_fault.PairFault.{PairFault}
@@ -58,15 +65,15 @@ use Rattle.aide_words.specs.BesideJob.{BesideText}
 -- nothing is a beginning of anything
 none_starts : (sent : OutputBeside) (before after : Option (List ℕ)) → Appends before after [] → StartsBeside sent before after
 none_starts (all_lines text) before after none = record { front = []; rest = text; whole = refl; bytes = none }
-none_starts (start_of_lines asked trusted changes beside) before after none =
-    begins_with_nothing asked trusted changes beside before after none
+none_starts (start_of_lines leaves asked trusted changes beside) before after none =
+    begins_with_nothing leaves asked trusted changes beside before after none
 
 -- what has gone out is a beginning of itself
 goes_then_starts : (sent : OutputBeside) (before after : Option (List ℕ)) → GoesOutBeside sent before after
     → StartsBeside sent before after
 goes_then_starts (all_lines text) before after all =
     record { front = text; rest = []; whole = sym (append-nil text); bytes = all }
-goes_then_starts (start_of_lines asked trusted changes beside) before after part = part
+goes_then_starts (start_of_lines leaves asked trusted changes beside) before after part = part
 
 -- ---- a run that is kept from its answer
 
@@ -210,20 +217,21 @@ unsound_pair : (wish : Asked) (old new : List ℕ) (fault : RunFault) → RunsOv
     → IsSound limits old → IsSound limits new → ⊥
 unsound_pair wish old new fault runs = unsound_run wish old new fault runs.0 runs.1 runs.2
 
-module _ (wish beside : Asked) (old new trusted_old trusted_new : List ℕ) (before after : Option (List ℕ)) where
+module _ (list : ListRead) (wish beside : Asked) (old new trusted_old trusted_new : List ℕ) (before after : Option (List ℕ)) where
   abbrev AllSound : Type 0
   AllSound = AreAllSound limits old new trusted_old trusted_new
 
   abbrev Cut : PairFault → Type 0
-  Cut fault = CutsBeside limits wish beside old new trusted_old trusted_new before after fault
+  Cut fault = CutsBeside limits list wish beside old new trusted_old trusted_new before after fault
 
   sound_cut : (fault : PairFault) → AllSound → Cut fault
-      → SendsPart (lines_beside wish beside old new trusted_old trusted_new).text before after
+      → SendsPart (lines_beside list wish beside old new trusted_old trusted_new).text before after
   sound_cut (Compared (Write written)) sound cut = cut.0 sound
-  sound_cut fault sound cut = begins_what_is_written limits wish beside old new trusted_old trusted_new sound before after cut
+  sound_cut fault sound cut = begins_what_is_written limits list wish beside old new trusted_old trusted_new sound before after cut
 
   abbrev Begun : Type 0
-  Begun = BeginsBeside wish beside (changes_between old new) (changes_between trusted_old trusted_new) before after
+  Begun = BeginsBeside (leaves_between list old new) wish beside (changes_between old new)
+      (changes_between trusted_old trusted_new) before after
 
   unsound_cut : (fault : PairFault) → (AllSound → ⊥) → Cut fault → Begun
   unsound_cut (Compared (Write written)) unsound cut = cut.1 unsound
@@ -231,15 +239,15 @@ module _ (wish beside : Asked) (old new trusted_old trusted_new : List ℕ) (bef
 
   front_by : (compared trusted : Result Report RunFault) (r : Result Report PairFault) (fault : PairFault)
       → RunsOver limits wish (Some old) (Some new) compared → RunsOver limits beside (Some trusted_old) (Some trusted_new) trusted
-      → answer_by compared trusted (Some (lines_beside wish beside old new trusted_old trusted_new)) r
+      → answer_by compared trusted (Some (lines_beside list wish beside old new trusted_old trusted_new)) r
       → Cut fault
-      → SendsFront (out_beside wish beside (Some old) (Some new) (Some trusted_old) (Some trusted_new)) r before after
+      → SendsFront (out_beside list wish beside (Some old) (Some new) (Some trusted_old) (Some trusted_new)) r before after
   front_by (Err first) trusted r fault runs trusted_runs is cut =
-      subst (λ (x : Result Report PairFault). SendsFront (out_beside wish beside (Some old) (Some new) (Some trusted_old)
+      subst (λ (x : Result Report PairFault). SendsFront (out_beside list wish beside (Some old) (Some new) (Some trusted_old)
       (Some trusted_new)) x before after) (sym is)
       (unsound_cut fault (λ sound. unsound_pair wish old new first runs sound.of_old sound.of_new) cut)
   front_by (Ok report) (Err first) r fault runs trusted_runs is cut =
-      subst (λ (x : Result Report PairFault). SendsFront (out_beside wish beside (Some old) (Some new) (Some trusted_old)
+      subst (λ (x : Result Report PairFault). SendsFront (out_beside list wish beside (Some old) (Some new) (Some trusted_old)
       (Some trusted_new)) x before after) (sym is)
       (unsound_cut fault (λ sound. unsound_pair beside trusted_old trusted_new first trusted_runs sound.of_trusted_old
       sound.of_trusted_new) cut)
@@ -282,19 +290,19 @@ abbrev EndsFor : AnswerBeside → (named trusted : Named) → (status before : �
 EndsFor a named trusted status before v = EndsWithin a named trusted status v.sinks (HasFailed v.is_reliable before v.site_after)
     (HasFailed v.trusted_reliable v.trusted_before v.trusted_after) (Rose v.out_before v.out_after)
 
-module _ (job : BesideText) (status before count : ℕ) (v : BesideView) (s : Configured) (named : Named) (more : before ≤ count)
-    (a : AnswerBeside) (is : ComparesBeside v.files v.trusted_files job s named a) where
+module _ (job : BesideText) (list : ListRead) (status before count : ℕ) (v : BesideView) (s : Configured) (named : Named)
+    (more : before ≤ count) (a : AnswerBeside) (is : ComparesBeside v.files v.trusted_files job list s named a) where
   abbrev sent : OutputBeside
-  sent = out_beside (asked_by s.options named) (asked_by s.options (trusted_of job)) is.old_file is.new_file is.trusted_old_file
+  sent = out_beside list (asked_by s.options named) (asked_by s.options (trusted_of job)) is.old_file is.new_file is.trusted_old_file
       is.trusted_new_file
 
   -- at a fault of four files
   front_of : (fault : PairFault) (old new trusted_old trusted_new : Option (List ℕ)) (r : Result Report PairFault)
-      → ComparesPairs named (trusted_of job) s.options (Err fault) (Rose count v.site_after) v
+      → ComparesPairs list named (trusted_of job) s.options (Err fault) (Rose count v.site_after) v
       → v.files named.old_path ≡ Some old → v.files named.new_path ≡ Some new
       → v.trusted_files job.trusted_old ≡ Some trusted_old → v.trusted_files job.trusted_new ≡ Some trusted_new
-      → RunsBeside limits (asked_by s.options named) (asked_by s.options (trusted_of job)) old new trusted_old trusted_new r
-      → SendsFront (out_beside (asked_by s.options named) (asked_by s.options (trusted_of job)) old new trusted_old trusted_new) r
+      → RunsBeside limits list (asked_by s.options named) (asked_by s.options (trusted_of job)) old new trusted_old trusted_new r
+      → SendsFront (out_beside list (asked_by s.options named) (asked_by s.options (trusted_of job)) old new trusted_old trusted_new) r
       v.sinks.out_old v.sinks.out_new
   front_of fault None new trusted_old trusted_new r compares is_old is_new is_trusted_old is_trusted_new runs =
       none_front r v.sinks.out_old v.sinks.out_new (compares.missing Old is_old)
@@ -305,12 +313,12 @@ module _ (job : BesideText) (status before count : ℕ) (v : BesideView) (s : Co
   front_of fault (Some old) (Some new) (Some trusted_old) None r compares is_old is_new is_trusted_old is_trusted_new runs =
       none_front r v.sinks.out_old v.sinks.out_new (compares.trusted_missing New is_trusted_new)
   front_of fault (Some old) (Some new) (Some trusted_old) (Some trusted_new) r compares is_old is_new is_trusted_old is_trusted_new runs =
-      front_by (asked_by s.options named) (asked_by s.options (trusted_of job)) old new trusted_old trusted_new v.sinks.out_old
+      front_by list (asked_by s.options named) (asked_by s.options (trusted_of job)) old new trusted_old trusted_new v.sinks.out_old
       v.sinks.out_new runs.compared runs.trusted r fault runs.compared_runs runs.trusted_runs runs.answer
       (compares.cut old new trusted_old trusted_new is_old is_new is_trusted_old is_trusted_new)
 
   compared_ends : (result : Result Outcome PairFault)
-      → ComparesPairs named (trusted_of job) s.options result (Rose count v.site_after) v
+      → ComparesPairs list named (trusted_of job) s.options result (Rose count v.site_after) v
       → status ≡ compared_status result → Puts (compared_line named (trusted_of job) result) v.sinks
       → EndsFor (answer_beside sent named (trusted_of job) is.run) named (trusted_of job) status before v
   compared_ends (Ok outcome) compares status_is put =
@@ -334,24 +342,56 @@ module _ (job : BesideText) (status before count : ℕ) (v : BesideView) (s : Co
 
 -- ---- from the answer to a job to that of its configuration
 
-module _ (files trusted_files : Files) (job : BesideText) (named : Named) (a : AnswerBeside) where
+module _ (files trusted_files : Files) (job : BesideText) (list : ListRead) (named : Named) (a : AnswerBeside) where
   of_text : (file : Option (List ℕ)) (text : List ℕ) → file ≡ Some text → is_too_large text ≡ false
-      → IsFileBeside files trusted_files job file named a → IsTextBeside files trusted_files job text named a
+      → IsFileBeside files trusted_files job list file named a → IsTextBeside files trusted_files job list text named a
   of_text file text same small is = search rules
 
-  of_large : (file : Option (List ℕ)) → IsLarge file → IsFileBeside files trusted_files job file named a
+  of_large : (file : Option (List ℕ)) → IsLarge file → IsFileBeside files trusted_files job list file named a
       → a ≡ refused_beside too_large_line 17
   of_large None large is = absurd large
-  of_large (Some text) large is = subst (λ (b : Bool). IsSizedBeside files trusted_files job b text named a) large is
+  of_large (Some text) large is = subst (λ (b : Bool). IsSizedBeside files trusted_files job list b text named a) large is
 
-  of_none : (file : Option (List ℕ)) → file ≡ None → IsFileBeside files trusted_files job file named a
+  of_none : (file : Option (List ℕ)) → file ≡ None → IsFileBeside files trusted_files job list file named a
       → a ≡ refused_beside (unread_line job.config) 18
-  of_none file none is = subst (λ (o : Option (List ℕ)). IsFileBeside files trusted_files job o named a) none is
+  of_none file none is = subst (λ (o : Option (List ℕ)). IsFileBeside files trusted_files job list o named a) none is
 
   -- the answer of the reading that was made
-  of_read : (read : Result Configured ConfFault) → HasReadBeside files job read → IsAnswerBeside files trusted_files job named a
-      → IsReadBeside files trusted_files job read named a
+  of_read : (read : Result Configured ConfFault) → HasReadBeside files job read → IsListedBeside files trusted_files job list named a
+      → IsReadBeside files trusted_files job list read named a
   of_read read has is = search (rules, of_text, no_configuration_has_two_answers)
+
+-- ---- from the answer to a job to that of its list
+
+-- what was read of a list is determined by its text and its rules
+pub list_is : (text : List ℕ) (list : ListRead) → IsListOf text list → list_of text list.rules ≡ list
+list_is text list is = λ i. record { rules = list.rules; digest = sym is.digest i }
+
+rules_are_no_fault : (rules : List RuleText) (fault : ListFault) → Ok rules ≡ Err fault → ⊥
+rules_are_no_fault rules fault e = cc
+
+-- no text has rules and a fault
+pub no_rules_and_fault : (text : List ℕ) (rules : List RuleText) (fault : ListFault) → HasRules text rules → HasFirstFault text fault → ⊥
+no_rules_and_fault text rules fault has refused =
+    rules_are_no_fault rules fault (one_reading text (Ok rules) has ∙ sym (one_reading text (Err fault) refused))
+
+module _ (files trusted_files : Files) (job : BesideText) (named : Named) (a : AnswerBeside)
+    (is : IsAnswerBeside files trusted_files job named a) where
+  -- the answer of a reading of the list
+  of_reading : (reading : Result (List RuleText) ListFault) → IsReading job.without reading
+      → IsGivenBeside files trusted_files job reading named a
+  of_reading reading reads =
+      subst (λ (r : Result (List RuleText) ListFault). IsGivenBeside files trusted_files job r named a)
+      (one_reading job.without is.reading is.list_reads ∙ sym (one_reading job.without reading reads)) is.then_is
+
+  of_rules : (has : IsList job.without) → IsListedBeside files trusted_files job (list_of job.without has.0) named a
+  of_rules has = of_reading (Ok has.0) has.1
+
+  -- the answer of what was read of the list
+  of_list : (list : ListRead) → IsListOf job.without list → IsListedBeside files trusted_files job list named a
+  of_list list listed =
+      subst (λ (l : ListRead). IsListedBeside files trusted_files job l named a) (list_is job.without list listed)
+      (of_reading (Ok list.rules) listed.rules)
 
 -- ---- the end of a session
 
@@ -367,26 +407,46 @@ module _ (job : BesideText) (status before : ℕ) (v : BesideView) (named : Name
       → EndsFor a named (trusted_of job) status before v
   stop_ends no_memory_left cause stops =
       inr (inl (record { status_is = stops.status_is; output = stops.output; put = stops.put }))
+  stop_ends (list_refused fault) cause stops =
+      inl (whole_stop a (list_line fault) 17 status v (of_reading v.files v.trusted_files job named a is (Err fault) cause) stops)
   stop_ends config_unread cause stops =
       by_reliable v.is_reliable (EndsFor a named (trusted_of job) status before v)
-      (λ reliable. inl (whole_stop a (unread_line job.config) 18 status v
-      (of_none v.files v.trusted_files job named a is.file (same_file (v.files job.config) is.file is.known (cause.1 reliable)) is.then_is)
+      (λ reliable.
+      let listed = of_rules v.files v.trusted_files job named a is cause.0 in
+      inl (whole_stop a (unread_line job.config) 18 status v
+      (of_none v.files v.trusted_files job (list_of job.without cause.0.0) named a listed.file
+      (same_file (v.files job.config) listed.file listed.known (cause.2 reliable)) listed.then_is)
       stops))
       (λ unreliable. inr (inr (record {
         status_is = stops.status_is;
         output = none_starts a.output v.sinks.out_old v.sinks.out_new stops.output;
         failure = of_compared failed_config;
-        cause = (unreliable, cause.0);
+        cause = (unreliable, cause.1);
         put = put_as _ _ (ap unread_line (sym is.config_is)) stops.put;
       })))
-  stop_ends config_too_large cause stops = search (rules, whole_stop, of_large)
+  stop_ends config_too_large cause stops =
+      let listed = of_rules v.files v.trusted_files job named a is cause.0 in
+      inl (whole_stop a too_large_line 17 status v
+      (of_large v.files v.trusted_files job (list_of job.without cause.0.0) named a listed.file (cause.1 listed.file listed.known)
+      listed.then_is)
+      stops)
   stop_ends (config_refused fault) cause stops =
-      inl (whole_stop a (conf_line fault) 17 status v (of_read v.files v.trusted_files job named a (Err fault) cause is) stops)
+      inl (whole_stop a (conf_line fault) 17 status v
+      (of_read v.files v.trusted_files job (list_of job.without cause.0.0) named a (Err fault) cause.1
+      (of_rules v.files v.trusted_files job named a is cause.0))
+      stops)
+
+  -- the comparison of the answer
+  answer_compares : (closes : ClosesBeside job status before v)
+      → ComparesBeside v.files v.trusted_files job closes.list closes.settings named a
+  answer_compares closes =
+      of_read v.files v.trusted_files job closes.list named a (Ok closes.settings) closes.read
+      (of_list v.files v.trusted_files job named a is closes.list closes.listed)
 
   -- the paths of the comparison are those of the answer
   same_paths : (closes : ClosesBeside job status before v) → closes.named ≡ named
   same_paths closes =
-      let compares = of_read v.files v.trusted_files job named a (Ok closes.settings) closes.read is in
+      let compares = answer_compares closes in
       let old = same_some closes.settings.old_path closes.named.old_path named.old_path closes.old_is compares.old_is in
       let new = same_some closes.settings.new_path closes.named.new_path named.new_path closes.new_is compares.new_is in
       let config = closes.config_is ∙ sym is.config_is in
@@ -397,12 +457,13 @@ module _ (job : BesideText) (status before : ℕ) (v : BesideView) (named : Name
   ends_beside ends = elim ends [
     | inl early ↦ stop_ends early.stop early.cause early.stops
     | inr closes ↦
-        let compares = of_read v.files v.trusted_files job named a (Ok closes.settings) closes.read is in
+        let compares = answer_compares closes in
         let same = same_paths closes in
         let result = closes.closes.result in
         subst (λ (x : AnswerBeside). EndsFor x named (trusted_of job) status before v) (sym compares.then_is)
-        (compared_ends job status before closes.count v closes.settings named closes.later a compares result
-        (subst (λ (n : Named). ComparesPairs n (trusted_of job) closes.settings.options result (Rose closes.count v.site_after) v) same
+        (compared_ends job closes.list status before closes.count v closes.settings named closes.later a compares result
+        (subst (λ (n : Named). ComparesPairs closes.list n (trusted_of job) closes.settings.options result (Rose closes.count v.site_after)
+        v) same
         closes.closes.compares)
         closes.closes.status_is
         (subst (λ (n : Named). Puts (compared_line n (trusted_of job) result) v.sinks) same closes.closes.put))
@@ -459,9 +520,10 @@ module _ (v : BesideView) (bytes : Option (List ℕ)) (count : ℕ) (kept : Keep
     passed_stop : (line : List ℕ) (code status : ℕ) → StopsWith line code status v → StopsWith line code status (passed_view v bytes count)
     passed_stop line code status stops = search (rules, passed)
 
-    passed_pairs : (named trusted : Named) (options : Options) (result : Result Outcome PairFault) (site : Type 0)
-        → ComparesPairs named trusted options result site v → ComparesPairs named trusted options result site (passed_view v bytes count)
-    passed_pairs named trusted options result site c = search rules
+    passed_pairs : (list : ListRead) (named trusted : Named) (options : Options) (result : Result Outcome PairFault) (site : Type 0)
+        → ComparesPairs list named trusted options result site v
+        → ComparesPairs list named trusted options result site (passed_view v bytes count)
+    passed_pairs list named trusted options result site c = search rules
 
     pub passed_beside : (job : BesideText) (status before : ℕ) → EndsBesideBy job status before v
         → EndsBesideBy job status before (passed_view v bytes count)
@@ -472,6 +534,8 @@ module _ (v : BesideView) (bytes : Option (List ℕ)) (count : ℕ) (kept : Keep
         stops = passed_stop (stop_line job early.stop) (stop_status early.stop) status early.stops;
       })
       | inr closes ↦ inr (record {
+        list = closes.list;
+        listed = closes.listed;
         settings = closes.settings;
         read = closes.read;
         named = closes.named;
@@ -484,7 +548,7 @@ module _ (v : BesideView) (bytes : Option (List ℕ)) (count : ℕ) (kept : Keep
           result = closes.closes.result;
           status_is = closes.closes.status_is;
           put = passed (compared_line closes.named (trusted_of job) closes.closes.result) closes.closes.put;
-          compares = passed_pairs closes.named (trusted_of job) closes.settings.options closes.closes.result
+          compares = passed_pairs closes.list closes.named (trusted_of job) closes.settings.options closes.closes.result
               (Rose closes.count v.site_after) closes.closes.compares;
         };
       })

@@ -9,6 +9,11 @@ use Rattle.aide_conf.specs.declared.task.Need.TheVariants.{Compare}
 use Rattle.aide_conf.proofs.Laws.{every_configuration_has_an_answer, what_is_compared_is_named}
 use Rattle.aide_db.specs.declared.limits.Limits.{Limits}
 use Rattle.aide_db.specs.declared.side.Side.TheVariants.{Old, New}
+use Rattle.aide_patterns.proofs.Laws.{has_reading}
+use Rattle.aide_patterns.specs.Line.{RuleText}
+use Rattle.aide_patterns.specs.List.{IsReading}
+use Rattle.aide_patterns.specs.code.Reading.{read_list}
+use Rattle.aide_patterns.specs.declared.fault.ListFault.{ListFault}
 use Rattle.aide_report.specs.Asked.{Asked}
 use Rattle.aide_report.specs.Missing.{RunsOver}
 use Rattle.aide_report.specs.Runs.{Report}
@@ -17,11 +22,14 @@ use Rattle.aide_report.proofs.MissingLemmas.{RunsOver-exists}
 use Rattle.aide_session.specs.Answer.{Named, asked_by, limits}
 use Rattle.aide_session.specs.BesideAnswer.{HasAnswerBeside, IsReadBeside, IsSizedBeside, IsTextBeside, TellsBeside}
 use Rattle.aide_session.specs.BesideAnswer.{AnswerBeside, ComparesBeside, answer_beside, out_beside, refused_beside, trusted_of}
+use Rattle.aide_session.specs.BesideAnswer.{IsAnswerBeside, IsListedBeside}
 use Rattle.aide_session.specs.Files.{Files, is_too_large}
+use Rattle.aide_session.specs.GivenList.{list_line, list_of}
 use Rattle.aide_session.specs.Lines.{conf_line, too_large_line, unread_line}
 use Rattle.aide_session.proofs.Closings.{only_config}
 use Rattle.aide_trusted.specs.BesideLines.{lines_beside}
 use Rattle.aide_trusted.specs.BesideRuns.{RunsBeside, answer_by, over_sides}
+use Rattle.aide_trusted.specs.Listed.{ListRead}
 use Rattle.aide_trusted.specs.declared.pair_fault.PairFault.{PairFault}
 use Rattle.aide_trusted.specs.declared.pair_fault.PairFault.TheVariants.{Compared, Trusted}
 use Rattle.aide_trusted.proofs.PairLemmas.{IsOkay}
@@ -63,13 +71,13 @@ answer_exists (Ok report) (Ok other) None whole = absurd (whole tt tt)
 answer_exists (Ok report) (Ok other) (Some over) whole = (Ok over, refl)
 
 -- What is at four sides has a right answer.
-pub RunsBeside-exists : (bounds : Limits) (wish beside : Asked) (old new trusted_old trusted_new : Option (List ℕ)) → 14 ≤ bounds.line
-    → (r : Result Report PairFault) × RunsBeside bounds wish beside old new trusted_old trusted_new r
-RunsBeside-exists bounds wish beside old new trusted_old trusted_new least =
+pub RunsBeside-exists : (bounds : Limits) (list : ListRead) (wish beside : Asked) (old new trusted_old trusted_new : Option (List ℕ))
+    → 14 ≤ bounds.line → (r : Result Report PairFault) × RunsBeside bounds list wish beside old new trusted_old trusted_new r
+RunsBeside-exists bounds list wish beside old new trusted_old trusted_new least =
     let compared = RunsOver-exists bounds wish old new least in
     let trusted = RunsOver-exists bounds beside trusted_old trusted_new least in
-    let r = answer_exists compared.0 trusted.0 (over_sides (lines_beside wish beside) old new trusted_old trusted_new)
-    (λ okay other. whole (lines_beside wish beside) old new trusted_old trusted_new
+    let r = answer_exists compared.0 trusted.0 (over_sides (lines_beside list wish beside) old new trusted_old trusted_new)
+    (λ okay other. whole (lines_beside list wish beside) old new trusted_old trusted_new
     (both_there bounds wish old new compared.0 compared.1 okay)
     (both_there bounds beside trusted_old trusted_new trusted.0 trusted.1 other)) in (
       r.0,
@@ -88,10 +96,16 @@ value_of : (path : Option (List ℕ)) → IsSome path → (value : List ℕ) × 
 value_of None some = cc
 value_of (Some value) some = (value, refl)
 
-module _ (files trusted_files : Files) (job : BesideText) (tells : TellsBeside files trusted_files job) where
+module _ (files trusted_files : Files) (job : BesideText) (list : ListRead) (tells : TellsBeside files trusted_files job) where
+  -- an answer over what was read of the list
+  abbrev HasListedAnswer : Type 0
+  HasListedAnswer = (named : Named) × (a : AnswerBeside) × (named.config ≡ job.config)
+      × IsListedBeside files trusted_files job list named a
+
   module _ (text : List ℕ) (known : files job.config ≡ Some (Some text)) where
     abbrev Read : Result Configured ConfFault → Type 0
-    Read read = (named : Named) × (a : AnswerBeside) × (named.config ≡ job.config) × IsReadBeside files trusted_files job read named a
+    Read read = (named : Named) × (a : AnswerBeside) × (named.config ≡ job.config)
+        × IsReadBeside files trusted_files job list read named a
 
     of_read : (read : Result Configured ConfFault) → ReadsAs Compare job.before text job.after read → Read read
     of_read (Err fault) reads = (only_config job.config, refused_beside (conf_line fault) 17, refl, refl)
@@ -104,11 +118,11 @@ module _ (files trusted_files : Files) (job : BesideText) (tells : TellsBeside f
         let new = tells.databases text known s reads new_path.0 (inr new_path.1) in
         let trusted_old = tells.trusted Old in
         let trusted_new = tells.trusted New in
-        let run = RunsBeside-exists limits (asked_by s.options named) (asked_by s.options (trusted_of job)) old.0 new.0 trusted_old.0
+        let run = RunsBeside-exists limits list (asked_by s.options named) (asked_by s.options (trusted_of job)) old.0 new.0 trusted_old.0
         trusted_new.0 (omega arith) in
-        let a = answer_beside (out_beside (asked_by s.options named) (asked_by s.options (trusted_of job)) old.0 new.0 trusted_old.0
+        let a = answer_beside (out_beside list (asked_by s.options named) (asked_by s.options (trusted_of job)) old.0 new.0 trusted_old.0
         trusted_new.0) named (trusted_of job) run.0 in
-        let compares : ComparesBeside files trusted_files job s named a = record {
+        let compares : ComparesBeside files trusted_files job list s named a = record {
           old_is = old_path.1;
           new_is = new_path.1;
           old_file = old.0;
@@ -125,43 +139,57 @@ module _ (files trusted_files : Files) (job : BesideText) (tells : TellsBeside f
         } in
         (named, a, refl, compares)
 
-    of_size : (large : Bool) → is_too_large text ≡ large → HasAnswerBeside files trusted_files job
+    of_size : (large : Bool) → is_too_large text ≡ large → HasListedAnswer
     of_size true large =
         let named = only_config job.config in
         let a = refused_beside too_large_line 17 in (
           named,
           a,
+          refl,
           record {
-            config_is = refl;
             file = Some text;
             known = known;
-            then_is = subst (λ (b : Bool). IsSizedBeside files trusted_files job b text named a) (sym large) refl;
+            then_is = subst (λ (b : Bool). IsSizedBeside files trusted_files job list b text named a) (sym large) refl;
           },
         )
     of_size false small =
         let read = every_configuration_has_an_answer Compare job.before text job.after in
         let answer = of_read read.0 read.1 in
-        let of_text : IsTextBeside files trusted_files job text answer.0 answer.1 =
+        let of_text : IsTextBeside files trusted_files job list text answer.0 answer.1 =
         record { read = read.0; reads = read.1; then_is = answer.3 } in (
           answer.0,
           answer.1,
+          answer.2,
           record {
-            config_is = answer.2;
             file = Some text;
             known = known;
-            then_is = subst (λ (b : Bool). IsSizedBeside files trusted_files job b text answer.0 answer.1) (sym small) of_text;
+            then_is = subst (λ (b : Bool). IsSizedBeside files trusted_files job list b text answer.0 answer.1) (sym small) of_text;
           },
         )
 
-  of_file : (file : Option (List ℕ)) → files job.config ≡ Some file → HasAnswerBeside files trusted_files job
+  of_file : (file : Option (List ℕ)) → files job.config ≡ Some file → HasListedAnswer
   of_file None known = (
     only_config job.config,
     refused_beside (unread_line job.config) 18,
-    record { config_is = refl; file = None; known = known; then_is = refl },
+    refl,
+    record { file = None; known = known; then_is = refl },
   )
   of_file (Some text) known = of_size text known (is_too_large text) refl
 
 -- a job has an answer where it is told what stands at the paths that are named
 pub answered_beside : (files trusted_files : Files) (job : BesideText) → TellsBeside files trusted_files job
     → HasAnswerBeside files trusted_files job
-answered_beside files trusted_files job tells = of_file files trusted_files job tells tells.config.0 tells.config.1
+answered_beside files trusted_files job tells = go (read_list job.without) (has_reading job.without)
+  where
+    go : (reading : Result (List RuleText) ListFault) → IsReading job.without reading → HasAnswerBeside files trusted_files job
+    go (Ok rules) reads =
+        let answer = of_file files trusted_files job (list_of job.without rules) tells tells.config.0 tells.config.1 in
+        let is : IsAnswerBeside files trusted_files job answer.0 answer.1 =
+        record { config_is = answer.2; reading = Ok rules; list_reads = reads; then_is = answer.3 } in
+        (answer.0, answer.1, is)
+    go (Err fault) reads =
+        let named = only_config job.config in
+        let a = refused_beside (list_line fault) 17 in
+        let is : IsAnswerBeside files trusted_files job named a =
+        record { config_is = refl; reading = Err fault; list_reads = reads; then_is = refl } in
+        (named, a, is)

@@ -26,7 +26,7 @@ use Rattle.aide_report.specs.declared.run_fault.RunFault.TheVariants.{Open, Data
 use Rattle.aide_session.specs.Answer.{Named, asked_by, limits}
 use Rattle.aide_session.specs.BesideEnds.{BesideView, ClosesCompared, ComparesPairs, EarlyStop, EndsBesideBy, IsOfReliableFiles}
 use Rattle.aide_session.specs.BesideEnds.{MeansOfPair, StopCause}
-use Rattle.aide_session.specs.BesideEnds.{config_refused, config_too_large, config_unread, no_memory_left}
+use Rattle.aide_session.specs.BesideEnds.{config_refused, config_too_large, config_unread, list_refused, no_memory_left}
 use Rattle.aide_session.specs.BesideSession.{beside_view}
 use Rattle.aide_session.specs.Closing.{Course, HasText}
 use Rattle.aide_session.specs.Files.{Files, is_too_large}
@@ -41,6 +41,7 @@ use Rattle.aide_session.proofs.Endings.{rose_later}
 use Rattle.aide_text.specs.declared.sink.Sink.{Ghosts as AnySink}
 use Rattle.aide_trusted.specs.BesideLines.{AreLinesBeside}
 use Rattle.aide_trusted.specs.BesideRuns.{CutsBeside, IsFaultOfPair, RunsBeside}
+use Rattle.aide_trusted.specs.Listed.{ListRead}
 use Rattle.aide_trusted.specs.PairSeen.{PairSeen, pair_seen}
 use Rattle.aide_trusted.specs.Pairs.{OfEach}
 use Rattle.aide_trusted.specs.RunBeside.{IsRunBeside}
@@ -140,16 +141,16 @@ sound_behind A B (Err (Trusted fault)) f sound = f sound
 
 -- the comparison of both pairs is that of the files at their paths
 pub compares_pairs : {S R W E : Type 0} (src : AnySources S R) (w : AnySink W) (e : AnySink E) (x y p q : S) (out_old out_new : W)
-    (err_old err_new : E) (d f u v : DeskView) (wish beside : Asked) (config : List ℕ) (result : Result Outcome PairFault)
+    (err_old err_new : E) (d f u v : DeskView) (list : ListRead) (wish beside : Asked) (config : List ℕ) (result : Result Outcome PairFault)
     → IsPointed (src.file_at x) wish (src.bytes_of x) (src.is_missing x)
     → IsPointed (src.file_at p) beside (src.bytes_of p) (src.is_missing p)
     → beside.options ≡ wish.options → limits.line ≤ d.room → limits.line ≤ u.room
-    → IsRunBeside limits (pair_seen wish (seen src x) (seen src y) d f) (pair_seen beside (seen src p) (seen src q) u v)
+    → IsRunBeside limits list (pair_seen wish (seen src x) (seen src y) d f) (pair_seen beside (seen src p) (seen src q) u v)
     (sink_seen w out_old) (sink_seen w out_new) result
-    → ComparesPairs (named_by config wish) (named_by config beside) wish.options result (Rose (src.failures x) (src.failures y))
+    → ComparesPairs list (named_by config wish) (named_by config beside) wish.options result (Rose (src.failures x) (src.failures y))
     (beside_view (view_between src w e x y out_old out_new err_old err_new) (view_between src w e p q out_old out_new err_old err_new)
     (record { before = d.peak; after = f.peak; trusted_before = u.peak; trusted_after = v.peak }))
-compares_pairs src w e x y p q out_old out_new err_old err_new d f u v wish beside config result pointed beside_pointed same enough
+compares_pairs src w e x y p q out_old out_new err_old err_new d f u v list wish beside config result pointed beside_pointed same enough
     beside_enough ran =
     let tells = pointed_tells (src.file_at x) wish (src.bytes_of x) (src.is_missing x) pointed config in
     let beside_tells = pointed_tells (src.file_at p) beside (src.bytes_of p) (src.is_missing p) beside_pointed config in
@@ -158,9 +159,9 @@ compares_pairs src w e x y p q out_old out_new err_old err_new d f u v wish besi
       over = λ old new trusted_old trusted_new is_old is_new is_trusted_old is_trusted_new r runs.
           ran.over old new trusted_old trusted_new (pointed.of_old old is_old, pointed.of_new new is_new)
           (beside_pointed.of_old trusted_old is_trusted_old, beside_pointed.of_new trusted_new is_trusted_new) r
-          (subst (λ (o : Asked). RunsBeside limits wish o old new trusted_old trusted_new r) asks runs);
+          (subst (λ (o : Asked). RunsBeside limits list wish o old new trusted_old trusted_new r) asks runs);
       cut = λ old new trusted_old trusted_new has_old has_new has_trusted_old has_trusted_new.
-          subst (λ (o : Asked). IfErr result (CutsBeside limits wish o old new trusted_old trusted_new (w.delivered out_old)
+          subst (λ (o : Asked). IfErr result (CutsBeside limits list wish o old new trusted_old trusted_new (w.delivered out_old)
           (w.delivered out_new))) (sym asks)
           (ran.cut old new trusted_old trusted_new (tells Old old has_old, tells New new has_new)
           (beside_tells Old trusted_old has_trusted_old, beside_tells New trusted_new has_trusted_new));
@@ -170,7 +171,8 @@ compares_pairs src w e x y p q out_old out_new err_old err_new d f u v wish besi
       sound = on_ok_weaker result (λ sound side text has. sound side text (tells side text has)) ran.sound;
       trusted_sound = on_ok_weaker result (λ sound side text has. sound side text (beside_tells side text has)) ran.trusted_sound;
       behind = sound_behind _ _ result (λ sound side text has. sound side text (tells side text has)) ran.behind;
-      consistent = subst (λ (o : Asked). IfOk result (λ outcome. AreLinesBeside wish o outcome (w.delivered out_old) (w.delivered out_new)))
+      consistent = subst (λ (o : Asked). IfOk result (λ outcome. AreLinesBeside list wish o outcome (w.delivered out_old)
+          (w.delivered out_new)))
           (sym asks) ran.consistent;
       flushed = ran.flushed;
       flushes = ran.flushes;
@@ -216,23 +218,24 @@ module _ {S R W E : Type 0} (s : AnySources S R) (w : AnySink W) (e : AnySink E)
   seen_read a b x p last u end opened = rw (opened.files, opened.reliable, opened.openings) refl
 
 -- the comparison as it is seen from an earlier moment
-pub closes_seen : (named trusted : Named) (options : Options) (status : ℕ) (v now : BesideView) (count later end : ℕ) → later ≡ count
-    → now ≡ v → ClosesCompared named trusted options status (Rose later end) now
-    → ClosesCompared named trusted options status (Rose count end) v
-closes_seen named trusted options status v now count later end same seen closes =
-    subst (λ (n : ℕ). ClosesCompared named trusted options status (Rose n end) v) same
-    (subst (λ (x : BesideView). ClosesCompared named trusted options status (Rose later end) x) seen closes)
+pub closes_seen : (list : ListRead) (named trusted : Named) (options : Options) (status : ℕ) (v now : BesideView)
+    (count later end : ℕ) → later ≡ count → now ≡ v → ClosesCompared list named trusted options status (Rose later end) now
+    → ClosesCompared list named trusted options status (Rose count end) v
+closes_seen list named trusted options status v now count later end same seen closes =
+    subst (λ (n : ℕ). ClosesCompared list named trusted options status (Rose n end) v) same
+    (subst (λ (x : BesideView). ClosesCompared list named trusted options status (Rose later end) x) seen closes)
 
 -- the comparison for paths and options that are equal
-pub closes_as : (named trusted other : Named) (options wish : Options) (status : ℕ) (site : Type 0) (v : BesideView) → trusted ≡ other
-    → options ≡ wish → ClosesCompared named trusted options status site v
-    → ClosesCompared named other wish status site v
-closes_as named trusted other options wish status site v same same_wish closes = search (rules, same_wish)
+pub closes_as : (list : ListRead) (named trusted other : Named) (options wish : Options) (status : ℕ) (site : Type 0)
+    (v : BesideView) → trusted ≡ other → options ≡ wish → ClosesCompared list named trusted options status site v
+    → ClosesCompared list named other wish status site v
+closes_as list named trusted other options wish status site v same same_wish closes = search (rules, same_wish)
 
 stop_later : (files : Files) (is_reliable : Bool) (job : BesideText) (site more : Type 0) (stop : EarlyStop) → (site → more)
     → StopCause files is_reliable job site stop → StopCause files is_reliable job more stop
 stop_later files is_reliable job site more no_memory_left then cause = tt
-stop_later files is_reliable job site more config_unread then cause = (then cause.0, cause.1)
+stop_later files is_reliable job site more (list_refused fault) then cause = cause
+stop_later files is_reliable job site more config_unread then cause = (cause.0, then cause.1, cause.2)
 stop_later files is_reliable job site more config_too_large then cause = cause
 stop_later files is_reliable job site more (config_refused fault) then cause = cause
 
@@ -248,6 +251,8 @@ ends_seen job status before later v now more seen ends =
         stops = early.stops;
       })
       | inr closes ↦ inr (record {
+        list = closes.list;
+        listed = closes.listed;
         settings = closes.settings;
         read = closes.read;
         named = closes.named;

@@ -9,17 +9,22 @@ use Rattle.aide_conf.specs.declared.fault.ConfFault.{ConfFault}
 use Rattle.aide_conf.specs.declared.task.Need.TheVariants.{Compare}
 use Rattle.aide_db.specs.Side.{by_side}
 use Rattle.aide_db.specs.declared.side.Side.{Side}
+use Rattle.aide_patterns.specs.Line.{RuleText}
+use Rattle.aide_patterns.specs.List.{IsReading}
+use Rattle.aide_patterns.specs.declared.fault.ListFault.{ListFault}
 use Rattle.aide_report.specs.Asked.{Asked}
 use Rattle.aide_report.specs.Entries.{PathChange}
 use Rattle.aide_report.specs.Report.{status_of}
 use Rattle.aide_report.specs.Runs.{Report}
 use Rattle.aide_session.specs.Answer.{Named, asked_by, limits}
 use Rattle.aide_session.specs.Files.{Files, is_too_large}
+use Rattle.aide_session.specs.GivenList.{list_line, list_of}
 use Rattle.aide_session.specs.Lines.{conf_line, outcome_lines, too_large_line, unread_line}
 use Rattle.aide_session.specs.TrustedLines.{pair_fault_line, pair_fault_status}
 use Rattle.aide_text.specs.Sent.{SendsPart}
 use Rattle.aide_trusted.specs.BesideLines.{BeginsBeside}
 use Rattle.aide_trusted.specs.BesideRuns.{RunsBeside, changes_between}
+use Rattle.aide_trusted.specs.Listed.{Leaves, ListRead, leaves_between}
 use Rattle.aide_trusted.specs.declared.pair_fault.PairFault.{PairFault}
 use Rattle.aide_words.specs.BesideJob.{BesideText}
 
@@ -32,10 +37,11 @@ trusted_of job = record {
 }
 
 -- What goes out: all of a text. Or no more than a beginning of the first line and of the lines of some changes, each
--- with what accounts for it by those of a trusted pair.
+-- with what accounts for it by those of a trusted pair or by what a list leaves out.
 pub data OutputBeside : Type 0 where
   all_lines : List ℕ → OutputBeside
-  start_of_lines : (asked trusted : Asked) → (changes beside : List PathChange) → OutputBeside
+  start_of_lines : Leaves → (asked trusted : Asked) → (changes beside : List PathChange)
+      → OutputBeside
 
 -- nothing goes out
 abbrev pub no_line : OutputBeside
@@ -44,14 +50,14 @@ no_line = all_lines []
 -- this has gone out between two moments
 abbrev pub GoesOutBeside : OutputBeside → (before after : Option (List ℕ)) → Type 0
 GoesOutBeside (all_lines text) before after = Appends before after text
-GoesOutBeside (start_of_lines asked trusted changes beside) before after =
-    BeginsBeside asked trusted changes beside before after
+GoesOutBeside (start_of_lines leaves asked trusted changes beside) before after =
+    BeginsBeside leaves asked trusted changes beside before after
 
 -- no more than a beginning of it has gone out
 abbrev pub StartsBeside : OutputBeside → (before after : Option (List ℕ)) → Type 0
 StartsBeside (all_lines text) before after = SendsPart text before after
-StartsBeside (start_of_lines asked trusted changes beside) before after =
-    BeginsBeside asked trusted changes beside before after
+StartsBeside (start_of_lines leaves asked trusted changes beside) before after =
+    BeginsBeside leaves asked trusted changes beside before after
 
 -- what a session beside a trusted pair writes to standard output and to standard error, and its
 -- status
@@ -66,11 +72,12 @@ refused_beside lines status = record { output = no_line; errors = lines; status 
 
 -- What has gone out when a fault is the answer, by what is at the four paths: a beginning of what comes before the
 -- last line, and nothing if a file is not there.
-abbrev pub out_beside : (asked trusted : Asked)
+abbrev pub out_beside : ListRead → (asked trusted : Asked)
     → (old new trusted_old trusted_new : Option (List ℕ)) → OutputBeside
-out_beside asked trusted (Some old) (Some new) (Some trusted_old) (Some trusted_new) =
-    start_of_lines asked trusted (changes_between old new) (changes_between trusted_old trusted_new)
-out_beside asked trusted _ _ _ _ = no_line
+out_beside list asked trusted (Some old) (Some new) (Some trusted_old) (Some trusted_new) =
+    start_of_lines (leaves_between list old new) asked trusted
+    (changes_between old new) (changes_between trusted_old trusted_new)
+out_beside list asked trusted _ _ _ _ = no_line
 
 -- The answer of a comparison beside a trusted pair, by the paths of both: what is written, or the
 -- line and the status of the fault. What has gone out at a fault is given.
@@ -90,8 +97,8 @@ answer_beside at_fault named trusted (Err fault) = record {
 -- The comparison of what is at the paths that the settings and the arguments name. At each path
 -- there is a database or no file. The answer is that of `RunsBeside`: the lines over four maps, or
 -- the first fault, in the order old, new, trusted old, trusted new.
-pub record ComparesBeside (files trusted_files : Files) (job : BesideText) (s : Configured)
-    (named : Named) (a : AnswerBeside) : Type 0 where
+pub record ComparesBeside (files trusted_files : Files) (job : BesideText) (list : ListRead)
+    (s : Configured) (named : Named) (a : AnswerBeside) : Type 0 where
   pub old_is : s.old_path ≡ Some named.old_path
   pub new_is : s.new_path ≡ Some named.new_path
   pub old_file : Option (List ℕ)
@@ -103,52 +110,69 @@ pub record ComparesBeside (files trusted_files : Files) (job : BesideText) (s : 
   pub trusted_old_told : trusted_files job.trusted_old ≡ Some trusted_old_file
   pub trusted_new_told : trusted_files job.trusted_new ≡ Some trusted_new_file
   pub run : Result Report PairFault
-  pub runs : RunsBeside limits (asked_by s.options named) (asked_by s.options (trusted_of job))
-      old_file new_file trusted_old_file trusted_new_file run
-  pub then_is : a ≡ answer_beside (out_beside (asked_by s.options named)
+  pub runs : RunsBeside limits list (asked_by s.options named)
+      (asked_by s.options (trusted_of job)) old_file new_file trusted_old_file trusted_new_file run
+  pub then_is : a ≡ answer_beside (out_beside list (asked_by s.options named)
       (asked_by s.options (trusted_of job)) old_file new_file trusted_old_file trusted_new_file)
       named (trusted_of job) run
 
 -- the answer, by whether the configuration reads as settings or has a fault
-abbrev pub IsReadBeside : (files trusted_files : Files) → BesideText
+abbrev pub IsReadBeside : (files trusted_files : Files) → BesideText → ListRead
     → Result Configured ConfFault → Named → AnswerBeside
     → Type 0
-IsReadBeside files trusted_files job (Ok s) named a =
-    ComparesBeside files trusted_files job s named a
-IsReadBeside files trusted_files job (Err fault) named a = a ≡ refused_beside (conf_line fault) 17
+IsReadBeside files trusted_files job list (Ok s) named a =
+    ComparesBeside files trusted_files job list s named a
+IsReadBeside files trusted_files job list (Err fault) named a =
+    a ≡ refused_beside (conf_line fault) 17
 
 -- the answer if the configuration has this text
-pub record IsTextBeside (files trusted_files : Files) (job : BesideText) (text : List ℕ)
-    (named : Named) (a : AnswerBeside) : Type 0 where
+pub record IsTextBeside (files trusted_files : Files) (job : BesideText) (list : ListRead)
+    (text : List ℕ) (named : Named) (a : AnswerBeside) : Type 0 where
   pub read : Result Configured ConfFault
   pub reads : ReadsAs Compare job.before text job.after read
-  pub then_is : IsReadBeside files trusted_files job read named a
+  pub then_is : IsReadBeside files trusted_files job list read named a
 
 -- the answer, by whether the configuration is too large
-abbrev pub IsSizedBeside : (files trusted_files : Files) → BesideText → Bool → List ℕ → Named
-    → AnswerBeside
+abbrev pub IsSizedBeside : (files trusted_files : Files) → BesideText → ListRead → Bool → List ℕ
+    → Named → AnswerBeside
     → Type 0
-IsSizedBeside files trusted_files job true text named a = a ≡ refused_beside too_large_line 17
-IsSizedBeside files trusted_files job false text named a =
-    IsTextBeside files trusted_files job text named a
+IsSizedBeside files trusted_files job list true text named a = a ≡ refused_beside too_large_line 17
+IsSizedBeside files trusted_files job list false text named a =
+    IsTextBeside files trusted_files job list text named a
 
 -- the answer, by what is at the configuration's path
-abbrev pub IsFileBeside : (files trusted_files : Files) → BesideText → Option (List ℕ) → Named
-    → AnswerBeside
+abbrev pub IsFileBeside : (files trusted_files : Files) → BesideText → ListRead
+    → Option (List ℕ) → Named → AnswerBeside
     → Type 0
-IsFileBeside files trusted_files job None named a = a ≡ refused_beside (unread_line job.config) 18
-IsFileBeside files trusted_files job (Some text) named a =
-    IsSizedBeside files trusted_files job (is_too_large text) text named a
+IsFileBeside files trusted_files job list None named a =
+    a ≡ refused_beside (unread_line job.config) 18
+IsFileBeside files trusted_files job list (Some text) named a =
+    IsSizedBeside files trusted_files job list (is_too_large text) text named a
+
+-- the answer if this was read of the list: it is known what is at the configuration's path
+pub record IsListedBeside (files trusted_files : Files) (job : BesideText) (list : ListRead)
+    (named : Named) (a : AnswerBeside) : Type 0 where
+  pub file : Option (List ℕ)
+  pub known : files job.config ≡ Some file
+  pub then_is : IsFileBeside files trusted_files job list file named a
+
+-- the answer, by whether the list has rules or a fault
+abbrev pub IsGivenBeside : (files trusted_files : Files) → BesideText
+    → Result (List RuleText) ListFault → Named → AnswerBeside
+    → Type 0
+IsGivenBeside files trusted_files job (Ok rules) named a =
+    IsListedBeside files trusted_files job (list_of job.without rules) named a
+IsGivenBeside files trusted_files job (Err fault) named a = a ≡ refused_beside (list_line fault) 17
 
 -- The answer to a job beside a trusted pair, over the files of both sites. It is the first fault of
--- the configuration or of a database, or else the lines. A named file that is not there counts as a
--- fault. `named` has the paths that the arguments and the configuration name.
+-- the list, of the configuration or of a database, or else the lines. A named file that is not there
+-- counts as a fault. `named` has the paths that the arguments and the configuration name.
 pub record IsAnswerBeside (files trusted_files : Files) (job : BesideText) (named : Named)
     (a : AnswerBeside) : Type 0 where
   pub config_is : named.config ≡ job.config
-  pub file : Option (List ℕ)
-  pub known : files job.config ≡ Some file
-  pub then_is : IsFileBeside files trusted_files job file named a
+  pub reading : Result (List RuleText) ListFault
+  pub list_reads : IsReading job.without reading
+  pub then_is : IsGivenBeside files trusted_files job reading named a
 
 -- It is known what is at the configuration's path, at the paths of the databases that it names, and
 -- at those of the trusted pair.

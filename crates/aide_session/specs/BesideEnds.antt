@@ -12,6 +12,8 @@ use Rattle.aide_db.specs.declared.fault.DbFault.{DbFault}
 use Rattle.aide_db.specs.declared.side.Side.{Side}
 use Rattle.aide_db.specs.declared.side.Side.TheVariants.{Old, New}
 use Rattle.aide_entry.specs.declared.fault_kind.DbFaultKind.TheVariants.{Read}
+use Rattle.aide_patterns.specs.List.{HasFirstFault}
+use Rattle.aide_patterns.specs.declared.fault.ListFault.{ListFault}
 use Rattle.aide_report.specs.Failures.{Rose}
 use Rattle.aide_report.specs.LinesRun.{KeepsUnopened}
 use Rattle.aide_report.specs.Missing.{IsHindered}
@@ -26,6 +28,7 @@ use Rattle.aide_session.specs.BesideAnswer.{AnswerBeside, GoesOutBeside, StartsB
 use Rattle.aide_session.specs.Closing.{AreBothSound, Course, HasText, RunCause}
 use Rattle.aide_session.specs.Ends.{Failure, FailureCause, Puts, Sinks, failure_line}
 use Rattle.aide_session.specs.Files.{Files, IsLarge, is_too_large}
+use Rattle.aide_session.specs.GivenList.{IsList, IsListOf, list_line}
 use Rattle.aide_session.specs.Held.{HoldsWithin, most_held}
 use Rattle.aide_session.specs.Lines.{conf_line, memory_line, outcome_lines, too_large_line}
 use Rattle.aide_session.specs.Lines.{unread_line}
@@ -34,6 +37,7 @@ use Rattle.aide_session.specs.TrustedLines.{trusted_database_line, trusted_open_
 use Rattle.aide_text.specs.Failures.{CountsFlush}
 use Rattle.aide_trusted.specs.BesideLines.{AreLinesBeside}
 use Rattle.aide_trusted.specs.BesideRuns.{CutsBeside, EndsBeside, RunsBeside}
+use Rattle.aide_trusted.specs.Listed.{ListRead}
 use Rattle.aide_trusted.specs.Pairs.{OfEach}
 use Rattle.aide_trusted.specs.declared.pair_fault.PairFault.{PairFault}
 use Rattle.aide_words.specs.BesideJob.{BesideText}
@@ -124,6 +128,7 @@ EndsWithin a named trusted status sinks site trusted_site out = WholeBeside a st
 -- why a session stops before it opens a database
 pub data EarlyStop : Type 0 where
   no_memory_left : EarlyStop
+  list_refused : ListFault → EarlyStop
   config_unread : EarlyStop
   config_too_large : EarlyStop
   config_refused : ConfFault → EarlyStop
@@ -131,6 +136,7 @@ pub data EarlyStop : Type 0 where
 -- the status of such a stop
 abbrev pub stop_status : EarlyStop → ℕ
 stop_status no_memory_left = 22
+stop_status (list_refused fault) = 17
 stop_status config_unread = 18
 stop_status config_too_large = 17
 stop_status (config_refused fault) = 17
@@ -138,6 +144,7 @@ stop_status (config_refused fault) = 17
 -- the line of such a stop on standard error
 abbrev pub stop_line : BesideText → EarlyStop → List ℕ
 stop_line job no_memory_left = memory_line
+stop_line job (list_refused fault) = list_line fault
 stop_line job config_unread = unread_line job.config
 stop_line job config_too_large = too_large_line
 stop_line job (config_refused fault) = conf_line fault
@@ -151,16 +158,18 @@ pub record HasReadBeside (files : Files) (job : BesideText)
   pub small : is_too_large text ≡ false
   pub reads : ReadsAs Compare job.before text job.after read
 
--- The cause of an early stop. A reliable site fails to give a configuration only if it is not
--- there.
+-- The cause of an early stop. A fault of the list comes before those of the configuration. A
+-- reliable site fails to give a configuration only if it is not there.
 abbrev pub StopCause : Files → (is_reliable : Bool) → BesideText → (site : Type 0) → EarlyStop
     → Type 0
 StopCause files is_reliable job site no_memory_left = ⊤
+StopCause files is_reliable job site (list_refused fault) = HasFirstFault job.without fault
 StopCause files is_reliable job site config_unread =
-    site × (is_reliable ≡ true → files job.config ≡ Some None)
-StopCause files is_reliable job site config_too_large =
-    (file : Option (List ℕ)) → files job.config ≡ Some file → IsLarge file
-StopCause files is_reliable job site (config_refused fault) = HasReadBeside files job (Err fault)
+    IsList job.without × site × (is_reliable ≡ true → files job.config ≡ Some None)
+StopCause files is_reliable job site config_too_large = IsList job.without
+    × ((file : Option (List ℕ)) → files job.config ≡ Some file → IsLarge file)
+StopCause files is_reliable job site (config_refused fault) =
+    IsList job.without × HasReadBeside files job (Err fault)
 
 -- The session stops with this status and this line. It has opened no database and written nothing,
 -- and neither desk has held more than before.
@@ -211,9 +220,9 @@ compared_line named trusted (Ok outcome) = outcome_lines outcome
 compared_line named trusted (Err fault) =
     pair_fault_line named.old_path named.new_path trusted.old_path trusted.new_path fault
 
--- The session compares the databases at the paths of both pairs with this result. `site` means that
--- the first site has counted a failure in the comparison.
-pub record ComparesPairs (named trusted : Named) (options : Options)
+-- The session compares the databases at the paths of both pairs with this result, and with what was
+-- read of a list. `site` means that the first site has counted a failure in the comparison.
+pub record ComparesPairs (list : ListRead) (named trusted : Named) (options : Options)
     (result : Result Outcome PairFault) (site : Type 0) (v : BesideView) : Type 0 where
   -- If it is known what is at each of the four paths, a text or nothing: the comparison ends with
   -- the right answer and sends its lines, unless an allocation, a file that is there, or the output
@@ -223,7 +232,7 @@ pub record ComparesPairs (named trusted : Named) (options : Options)
       → v.trusted_files trusted.old_path ≡ Some trusted_old
       → v.trusted_files trusted.new_path ≡ Some trusted_new
       → (r : Result Report PairFault)
-      → RunsBeside limits (asked_by options named) (asked_by options trusted)
+      → RunsBeside limits list (asked_by options named) (asked_by options trusted)
       old new trusted_old trusted_new r
       → EndsBeside r (OfEach (IsHindered old new site (Rose v.out_before v.out_after))
       (IsHindered trusted_old trusted_new (Rose v.trusted_before v.trusted_after) ⊥))
@@ -233,7 +242,7 @@ pub record ComparesPairs (named trusted : Named) (options : Options)
   pub cut : (old new trusted_old trusted_new : List ℕ) → HasText v.files named Old old
       → HasText v.files named New new → HasText v.trusted_files trusted Old trusted_old
       → HasText v.trusted_files trusted New trusted_new
-      → IfErr result (CutsBeside limits (asked_by options named) (asked_by options trusted)
+      → IfErr result (CutsBeside limits list (asked_by options named) (asked_by options trusted)
       old new trusted_old trusted_new v.sinks.out_old v.sinks.out_new)
   -- Before all four databases are open nothing goes out.
   pub unopened : IfErr result (OfEach (KeepsUnopened v.sinks.out_old v.sinks.out_new)
@@ -247,7 +256,7 @@ pub record ComparesPairs (named trusted : Named) (options : Options)
   pub behind : IfErr result (OfEach (λ fault. ⊤) (λ fault. AreBothSound v.files named))
   -- For any sites, also those that tell no files: what has gone out is of the very outcome that is
   -- returned.
-  pub consistent : IfOk result (λ outcome. AreLinesBeside (asked_by options named)
+  pub consistent : IfOk result (λ outcome. AreLinesBeside list (asked_by options named)
       (asked_by options trusted) outcome v.sinks.out_old v.sinks.out_new)
   -- The lines are flushed once, after their last byte, and after a fault not at all.
   pub flushed : OnOk result (v.course.is_flushed ≡ true)
@@ -273,12 +282,12 @@ pub record ComparesPairs (named trusted : Named) (options : Options)
       v.trusted_peak_after
 
 -- The comparison, its status and its line.
-pub record ClosesCompared (named trusted : Named) (options : Options) (status : ℕ) (site : Type 0)
-    (v : BesideView) : Type 0 where
+pub record ClosesCompared (list : ListRead) (named trusted : Named) (options : Options)
+    (status : ℕ) (site : Type 0) (v : BesideView) : Type 0 where
   pub result : Result Outcome PairFault
   pub status_is : status ≡ compared_status result
   pub put : Puts (compared_line named trusted result) v.sinks
-  pub compares : ComparesPairs named trusted options result site v
+  pub compares : ComparesPairs list named trusted options result site v
 
 -- The session of a job stops before it opens a database. The first site had failed `before` times
 -- before it.
@@ -287,10 +296,12 @@ pub record StopsEarly (job : BesideText) (status before : ℕ) (v : BesideView) 
   pub cause : StopCause v.files v.is_reliable job (Rose before v.site_after) stop
   pub stops : StopsWith (stop_line job stop) (stop_status stop) status v
 
--- The session of a job compares the databases that its configuration and its arguments name. The
--- first site had failed `before` times before it, and `count` times when the configuration had been
--- read.
+-- The session of a job compares the databases that its configuration and its arguments name, with
+-- what was read of its list. The first site had failed `before` times before it, and `count` times
+-- when the configuration had been read.
 pub record ClosesBeside (job : BesideText) (status before : ℕ) (v : BesideView) : Type 0 where
+  pub list : ListRead
+  pub listed : IsListOf job.without list
   pub settings : Configured
   pub read : HasReadBeside v.files job (Ok settings)
   pub named : Named
@@ -299,7 +310,7 @@ pub record ClosesBeside (job : BesideText) (status before : ℕ) (v : BesideView
   pub new_is : settings.new_path ≡ Some named.new_path
   pub count : ℕ
   pub later : before ≤ count
-  pub closes : ClosesCompared named (trusted_of job) settings.options status
+  pub closes : ClosesCompared list named (trusted_of job) settings.options status
       (Rose count v.site_after) v
 
 -- over any sites: the session of a job stops early, or compares the databases

@@ -1,6 +1,8 @@
 -- What a session promises whose arguments may name a trusted pair.
 use Rattle.std.specs.Prelude.{◌≡◌, ◌≤◌, ◌⊎◌, ℕ, true, List, Some, None, max}
 use Rattle.aide_db.specs.Count.{one_more}
+use Rattle.aide_patterns.specs.List.{HasFirstFault}
+use Rattle.aide_patterns.specs.declared.fault.ListFault.{ListFault}
 use Rattle.aide_report.specs.Failures.{Rose}
 use Rattle.aide_session.specs.Answer.{Named}
 use Rattle.aide_session.specs.BesideAnswer.{AnswerBeside, HasAnswerBeside, IsAnswerBeside}
@@ -75,6 +77,9 @@ pub record IsSessionBeside (job : BesideText) (status : ℕ) (s t : SessionView)
   -- Besides the databases at most one file is opened, at most once.
   pub lookups : s.lookups_after ≤ one_more s.lookups_before
   pub trusted_lookups : t.lookups_after ≡ t.lookups_before
+  -- If the list has a fault, none is.
+  pub unlooked : (fault : ListFault) → HasFirstFault job.without fault
+      → s.lookups_after ≡ s.lookups_before
   -- The peak of neither desk falls, and it rises at most to three lines as long as the limit.
   pub peak : desks.before ≤ desks.after
   pub below : desks.after ≤ max desks.before most_held

@@ -2,6 +2,7 @@ pub use Rattle.aide_words.specs.Job
 pub mod Put
 pub mod Lines
 pub mod TrustedLines
+pub mod GivenList
 pub mod Files
 pub mod Pointing
 pub mod Sites

@@ -7,6 +7,7 @@ ghost use Rattle.aide_session.specs.Lines.{memory_line};
 ghost use Rattle.aide_session.specs.Pointing.{KeepsFiles};
 ghost use Rattle.aide_session.specs.code.BesideParts.{IsPointed, beside_between, named_by};
 ghost use Rattle.aide_session.specs.code.Parts.{AreSame};
+ghost use Rattle.aide_trusted.specs.ListView.{list_read};
 ghost use Rattle.aide_trusted.specs.SamePair.{AreSamePair};
 
 use crate::comparison::{AsLines, LIMITS, LONGEST};
@@ -18,7 +19,7 @@ use crate::trusted_lines::{pair_status, put_pair_fault};
 use aide_conf::Task;
 use aide_db::{Desk, Side};
 use aide_report::Sink;
-use aide_trusted::{TrustedPair, run_lines_beside};
+use aide_trusted::{Tasks, TrustedPair, run_lines_beside};
 use aide_words::Memory;
 use std::alloc::Global;
 
@@ -49,7 +50,7 @@ fn prepare<S: Site>(
 
 /// Compares the databases that both sites are pointed at. Each desk has room for any line.
 fn compare_pairs<S: Site, W: Sink, E: Sink>(
-    task: &Task<'_>,
+    tasks: &Tasks<'_>,
     devices: &mut Devices<'_, AsLines, S, W, E>,
     pair: &mut TrustedPair<'_, S, Global>,
 ) -> u8
@@ -58,27 +59,27 @@ fn compare_pairs<S: Site, W: Sink, E: Sink>(
     ensures same { AreSame devices.old devices.new }
     ensures same_pair { AreSamePair pair.old pair.new }
     ensures closes { (config : List ℕ)
-        → IsPointed (S.file_at devices.old.site.now) (asked task.now)
+        → IsPointed (S.file_at devices.old.site.now) (asked tasks.now.compared.now)
         (S.bytes_of devices.old.site.now) (S.is_missing devices.old.site.now)
-        → IsPointed (S.file_at pair.old.sources.now) (asked pair.old.task.now)
+        → IsPointed (S.file_at pair.old.sources.now) (asked tasks.now.trusted.now)
         (S.bytes_of pair.old.sources.now) (S.is_missing pair.old.sources.now)
-        → pair.old.task.now.options ≡ task.now.options
-        → ClosesCompared (named_by config (asked task.now))
-        (named_by config (asked pair.old.task.now)) task.now.options result
+        → tasks.now.trusted.now.options ≡ tasks.now.compared.now.options
+        → ClosesCompared (list_read tasks.now.list)
+        (named_by config (asked tasks.now.compared.now))
+        (named_by config (asked tasks.now.trusted.now)) tasks.now.compared.now.options result
         (Rose (S.failures devices.old.site.now) (S.failures devices.new.site.now))
         (beside_between S.Sources W.Sink E.Sink devices.old devices.new
         pair.old.desk.now pair.new.desk.now pair.old.sources.now pair.new.sources.now) }
     ensures lookups { S.lookups devices.new.site.now ≡ S.lookups devices.old.site.now }
     ensures trusted_lookups { S.lookups pair.new.sources.now ≡ S.lookups pair.old.sources.now }
 {
-    let trusted_task = pair.task;
-    match run_lines_beside(task, LIMITS, devices.desk, devices.site, pair, devices.out) {
+    match run_lines_beside(tasks, LIMITS, devices.desk, devices.site, pair, devices.out) {
         Ok(outcome) => {
             put_outcome_lines(devices.err, &outcome);
             outcome.status()
         }
         Err(fault) => {
-            put_pair_fault(devices.err, task, trusted_task, fault);
+            put_pair_fault(devices.err, tasks.compared, tasks.trusted, fault);
             pair_status(fault)
         }
     }
@@ -86,8 +87,7 @@ fn compare_pairs<S: Site, W: Sink, E: Sink>(
 
 /// Compares the databases of both tasks, which the sites are pointed at.
 fn run_pairs<S: Site, W: Sink, E: Sink>(
-    task: &Task<'_>,
-    trusted_task: &Task<'_>,
+    tasks: &Tasks<'_>,
     devices: &mut Devices<'_, AsLines, S, W, E>,
     trusted_desk: &mut Desk<Global>,
     trusted: &mut S,
@@ -96,13 +96,14 @@ fn run_pairs<S: Site, W: Sink, E: Sink>(
     requires trusted_room { 1048576 ≤ trusted_desk.old.room }
     ensures same { AreSame devices.old devices.new }
     ensures closes { (config : List ℕ)
-        → IsPointed (S.file_at devices.old.site.now) (asked task.now)
+        → IsPointed (S.file_at devices.old.site.now) (asked tasks.now.compared.now)
         (S.bytes_of devices.old.site.now) (S.is_missing devices.old.site.now)
-        → IsPointed (S.file_at trusted.old) (asked trusted_task.now)
+        → IsPointed (S.file_at trusted.old) (asked tasks.now.trusted.now)
         (S.bytes_of trusted.old) (S.is_missing trusted.old)
-        → trusted_task.now.options ≡ task.now.options
-        → ClosesCompared (named_by config (asked task.now))
-        (named_by config (asked trusted_task.now)) task.now.options result
+        → tasks.now.trusted.now.options ≡ tasks.now.compared.now.options
+        → ClosesCompared (list_read tasks.now.list)
+        (named_by config (asked tasks.now.compared.now))
+        (named_by config (asked tasks.now.trusted.now)) tasks.now.compared.now.options result
         (Rose (S.failures devices.old.site.now) (S.failures devices.new.site.now))
         (beside_between S.Sources W.Sink E.Sink devices.old devices.new
         trusted_desk.old trusted_desk.new trusted.old trusted.new) }
@@ -110,42 +111,42 @@ fn run_pairs<S: Site, W: Sink, E: Sink>(
     ensures trusted_lookups { S.lookups trusted.new ≡ S.lookups trusted.old }
 {
     let mut pair = TrustedPair {
-        task: &*trusted_task,
         desk: trusted_desk,
         sources: trusted,
     };
-    compare_pairs(task, devices, &mut pair)
+    compare_pairs(tasks, devices, &mut pair)
 }
 
 /// Points both sites at their databases, reserves what a comparison may hold, and compares the
 /// databases.
 pub(crate) fn compare_beside<S: Site, W: Sink, E: Sink>(
-    task: &Task<'_>,
-    trusted_task: &Task<'_>,
+    tasks: &Tasks<'_>,
     devices: &mut Devices<'_, AsLines, S, W, E>,
     trusted_desk: &mut Desk<Global>,
     trusted: &mut S,
 ) -> u8
     ensures same { AreSame devices.old devices.new }
-    ensures closes { (config : List ℕ) → trusted_task.now.options ≡ task.now.options
+    ensures closes { (config : List ℕ)
+        → tasks.now.trusted.now.options ≡ tasks.now.compared.now.options
         → StopsWith memory_line 22 result
         (beside_between S.Sources W.Sink E.Sink devices.old devices.new
         trusted_desk.old trusted_desk.new trusted.old trusted.new)
-        ⊎ ClosesCompared (named_by config (asked task.now))
-        (named_by config (asked trusted_task.now)) task.now.options result
+        ⊎ ClosesCompared (list_read tasks.now.list)
+        (named_by config (asked tasks.now.compared.now))
+        (named_by config (asked tasks.now.trusted.now)) tasks.now.compared.now.options result
         (Rose (S.failures devices.old.site.now) (S.failures devices.new.site.now))
         (beside_between S.Sources W.Sink E.Sink devices.old devices.new
         trusted_desk.old trusted_desk.new trusted.old trusted.new) }
     ensures lookups { S.lookups devices.new.site.now ≡ S.lookups devices.old.site.now }
     ensures trusted_lookups { S.lookups trusted.new ≡ S.lookups trusted.old }
 {
-    if let Err(Memory) = prepare(devices.alloc, devices.desk, devices.site, task) {
+    if let Err(Memory) = prepare(devices.alloc, devices.desk, devices.site, tasks.compared) {
         put_memory_line(devices.err);
         return Status::Memory as u8;
     }
-    if let Err(Memory) = prepare(devices.alloc, trusted_desk, trusted, trusted_task) {
+    if let Err(Memory) = prepare(devices.alloc, trusted_desk, trusted, tasks.trusted) {
         put_memory_line(devices.err);
         return Status::Memory as u8;
     }
-    run_pairs(task, trusted_task, devices, trusted_desk, trusted)
+    run_pairs(tasks, devices, trusted_desk, trusted)
 }

@@ -8,6 +8,7 @@ mod config_file;
 mod databases;
 mod devices;
 mod file_site;
+mod given_list;
 mod lines;
 mod lines_program;
 mod machine;

@@ -5,18 +5,23 @@ ghost use Rattle.aide_conf.specs.ReadResult.{ReadsAs};
 ghost use Rattle.aide_conf.specs.declared.fault.ConfFaultKind.TheVariants.{Memory};
 ghost use Rattle.aide_conf.specs.declared.task.Need.TheVariants.{Compare};
 ghost use Rattle.aide_db.specs.Count.{one_more};
+ghost use Rattle.aide_patterns.specs.List.{HasFirstFault, HasRules};
+ghost use Rattle.aide_patterns.specs.declared.fault.ListFault.{ListFault};
 ghost use Rattle.aide_session.specs.BesideEnds.{EndsBesideBy, HasReadBeside};
 ghost use Rattle.aide_session.specs.BesideSession.{IsLineSession};
+ghost use Rattle.aide_session.specs.GivenList.{IsListOf};
 ghost use Rattle.aide_session.specs.Session.{view_between};
 ghost use Rattle.aide_session.specs.code.BesideParts.{HasTextBeside, RunsAlone, beside_between};
 ghost use Rattle.aide_session.specs.code.BesideParts.{peaks_between, trusted_between};
 ghost use Rattle.aide_session.specs.code.Parts.{AreSame, part_between};
+ghost use Rattle.aide_trusted.specs.ListView.{list_read};
 ghost use Rattle.aide_words.specs.BesideJob.{BesideText, beside_job_of, text_of_beside};
 
 use crate::beside::compare_beside;
 use crate::comparison::AsLines;
 use crate::config_file::{ConfigFault, read_config};
 use crate::devices::Devices;
+use crate::given_list::{digest_of, put_list_line};
 use crate::lines::{put_conf_line, put_memory_line, put_too_large_line, put_unread_line};
 use crate::program::run_words;
 use crate::put::pass_on;
@@ -24,7 +29,9 @@ use crate::site::Site;
 use crate::status::Status;
 use aide_conf::{ConfFault, ConfFaultKind, Need, Settings, Task};
 use aide_db::Desk;
+use aide_patterns::{Exclusions, ListFaultKind};
 use aide_report::Sink;
+use aide_trusted::{LeftOutList, Tasks};
 use aide_words::{BesideJob, Words, WordsFault, read_beside_words};
 use std::alloc::Global;
 
@@ -41,9 +48,11 @@ fn read_settings_beside(alloc: Global, job: &BesideJob, text: &[u8]) -> Result<S
     Settings::read(alloc, before, text, after, Need::Compare)
 }
 
-/// Compares the databases that the settings name beside the trusted pair of a job.
+/// Compares the databases that the settings name beside the trusted pair of a job, whose list has
+/// been read.
 fn compare_settings<S: Site, W: Sink, E: Sink>(
     job: &BesideJob,
+    list: LeftOutList<'_>,
     settings: &Settings,
     devices: &mut Devices<'_, AsLines, S, W, E>,
     trusted_desk: &mut Desk<Global>,
@@ -51,7 +60,8 @@ fn compare_settings<S: Site, W: Sink, E: Sink>(
 ) -> u8
     requires { IsSome settings.now.old_path × IsSome settings.now.new_path }
     ensures same { AreSame devices.old devices.new }
-    ensures closes { HasReadBeside (S.file_at devices.old.site.now) (text_of_beside job.now)
+    ensures closes { IsListOf job.now.without (list_read list.entry)
+        → HasReadBeside (S.file_at devices.old.site.now) (text_of_beside job.now)
         (Ok settings.now)
         → EndsBesideBy (text_of_beside job.now) result
         (S.failures devices.old.site.now)
@@ -68,20 +78,26 @@ fn compare_settings<S: Site, W: Sink, E: Sink>(
         new_path: job.trusted_new.as_str(),
         options: task.options,
     };
-    compare_beside(&task, &trusted_task, devices, trusted_desk, trusted)
+    let tasks = Tasks {
+        compared: &task,
+        trusted: &trusted_task,
+        list,
+    };
+    compare_beside(&tasks, devices, trusted_desk, trusted)
 }
 
-/// Runs the session of a job beside a trusted pair, whose configuration has been read.
+/// Runs the session of a job beside a trusted pair, whose list and configuration have been read.
 fn run_text_beside<S: Site, W: Sink, E: Sink>(
     job: &BesideJob,
+    list: LeftOutList<'_>,
     text: &[u8],
     devices: &mut Devices<'_, AsLines, S, W, E>,
     trusted_desk: &mut Desk<Global>,
     trusted: &mut S,
 ) -> u8
     ensures same { AreSame devices.old devices.new }
-    ensures closes { HasTextBeside (S.file_at devices.old.site.now) (text_of_beside job.now)
-        text.now
+    ensures closes { IsListOf job.now.without (list_read list.entry)
+        → HasTextBeside (S.file_at devices.old.site.now) (text_of_beside job.now) text.now
         → EndsBesideBy (text_of_beside job.now) result
         (S.failures devices.old.site.now)
         (beside_between S.Sources W.Sink E.Sink devices.old devices.new
@@ -90,7 +106,7 @@ fn run_text_beside<S: Site, W: Sink, E: Sink>(
     ensures trusted_lookups { S.lookups trusted.new ≡ S.lookups trusted.old }
 {
     match read_settings_beside(devices.alloc, job, text) {
-        Ok(settings) => compare_settings(job, &settings, devices, trusted_desk, trusted),
+        Ok(settings) => compare_settings(job, list, &settings, devices, trusted_desk, trusted),
         Err(fault) => match fault.kind {
             ConfFaultKind::Memory => {
                 put_memory_line(devices.err);
@@ -102,6 +118,66 @@ fn run_text_beside<S: Site, W: Sink, E: Sink>(
             }
         },
     }
+}
+
+/// Runs the session of a job beside a trusted pair, whose list has been read.
+fn run_listed<S: Site, W: Sink, E: Sink>(
+    job: &BesideJob,
+    list: LeftOutList<'_>,
+    devices: &mut Devices<'_, AsLines, S, W, E>,
+    trusted_desk: &mut Desk<Global>,
+    trusted: &mut S,
+) -> u8
+    ensures same { AreSame devices.old devices.new }
+    ensures closes { IsListOf job.now.without (list_read list.entry)
+        → EndsBesideBy (text_of_beside job.now) result
+        (S.failures devices.old.site.now)
+        (beside_between S.Sources W.Sink E.Sink devices.old devices.new
+        trusted_desk.old trusted_desk.new trusted.old trusted.new) }
+    ensures lookups { S.lookups devices.new.site.now ≤ one_more (S.lookups devices.old.site.now) }
+    ensures trusted_lookups { S.lookups trusted.new ≡ S.lookups trusted.old }
+{
+    let path = job.config.as_str();
+    match read_config(devices.alloc, devices.site, path) {
+        Ok(text) => run_text_beside(job, list, text.as_slice(), devices, trusted_desk, trusted),
+        Err(ConfigFault::TooLarge) => {
+            put_too_large_line(devices.err);
+            Status::Configuration as u8
+        }
+        Err(ConfigFault::Unread) => {
+            put_unread_line(devices.err, path);
+            Status::Device as u8
+        }
+        Err(ConfigFault::Memory) => {
+            put_memory_line(devices.err);
+            Status::Memory as u8
+        }
+    }
+}
+
+/// Runs the session of a job beside a trusted pair, whose list has these rules.
+fn run_ruled<S: Site, W: Sink, E: Sink>(
+    job: &BesideJob,
+    rules: &Exclusions<'_>,
+    devices: &mut Devices<'_, AsLines, S, W, E>,
+    trusted_desk: &mut Desk<Global>,
+    trusted: &mut S,
+) -> u8
+    ensures same { AreSame devices.old devices.new }
+    ensures closes { HasRules job.now.without rules.now
+        → EndsBesideBy (text_of_beside job.now) result
+        (S.failures devices.old.site.now)
+        (beside_between S.Sources W.Sink E.Sink devices.old devices.new
+        trusted_desk.old trusted_desk.new trusted.old trusted.new) }
+    ensures lookups { S.lookups devices.new.site.now ≤ one_more (S.lookups devices.old.site.now) }
+    ensures trusted_lookups { S.lookups trusted.new ≡ S.lookups trusted.old }
+{
+    let digest = digest_of(job.without.as_str().as_bytes());
+    let list = LeftOutList {
+        rules,
+        digest: &digest,
+    };
+    run_listed(job, list, devices, trusted_desk, trusted)
 }
 
 /// Runs the session of a job beside a trusted pair.
@@ -116,24 +192,24 @@ fn run_job_beside<S: Site, W: Sink, E: Sink>(
         (S.failures devices.old.site.now)
         (beside_between S.Sources W.Sink E.Sink devices.old devices.new
         trusted_desk.old trusted_desk.new trusted.old trusted.new) }
+    ensures unlooked { (fault : ListFault) → HasFirstFault job.now.without fault
+        → S.lookups devices.new.site.now ≡ S.lookups devices.old.site.now }
     ensures lookups { S.lookups devices.new.site.now ≤ one_more (S.lookups devices.old.site.now) }
     ensures trusted_lookups { S.lookups trusted.new ≡ S.lookups trusted.old }
 {
-    let path = job.config.as_str();
-    match read_config(devices.alloc, devices.site, path) {
-        Ok(text) => run_text_beside(job, text.as_slice(), devices, trusted_desk, trusted),
-        Err(ConfigFault::TooLarge) => {
-            put_too_large_line(devices.err);
-            Status::Configuration as u8
-        }
-        Err(ConfigFault::Unread) => {
-            put_unread_line(devices.err, path);
-            Status::Device as u8
-        }
-        Err(ConfigFault::Memory) => {
-            put_memory_line(devices.err);
-            Status::Memory as u8
-        }
+    let text = job.without.as_str().as_bytes();
+    match Exclusions::read(devices.alloc, text) {
+        Ok(rules) => run_ruled(job, &rules, devices, trusted_desk, trusted),
+        Err(fault) => match fault.kind {
+            ListFaultKind::Memory => {
+                put_memory_line(devices.err);
+                Status::Memory as u8
+            }
+            _ => {
+                put_list_line(devices.err, fault);
+                Status::Configuration as u8
+            }
+        },
     }
 }
 
@@ -154,6 +230,9 @@ fn run_line_words<S: Site, W: Sink, E: Sink>(
         → EndsBesideBy job result (S.failures devices.old.site.now)
         (beside_between S.Sources W.Sink E.Sink devices.old devices.new
         trusted_desk.old trusted_desk.new trusted.old trusted.new) }
+    ensures unlooked { (job : BesideText) → beside_job_of words.now ≡ Some job
+        → (fault : ListFault) → HasFirstFault job.without fault
+        → S.lookups devices.new.site.now ≡ S.lookups devices.old.site.now }
     ensures lookups { S.lookups devices.new.site.now ≤ one_more (S.lookups devices.old.site.now) }
     ensures trusted_lookups { S.lookups trusted.new ≡ S.lookups trusted.old }
 {
@@ -189,8 +268,9 @@ fn run_lines_and_pass_on<S: Site, W: Sink, E: Sink>(
 /// JSON in place of the report. Of a configuration that is only checked it writes one line, which says what the
 /// configuration sets.
 ///
-/// The arguments may name a trusted pair of databases too, which are then read from the second site. If they name
-/// none, the second site and its desk are left alone.
+/// The arguments may name a trusted pair of databases too, which are then read from the second site, and beside it
+/// give a list of what is left out. A fault of the list ends the session before any file is opened. If they name no
+/// trusted pair, the second site and its desk are left alone.
 pub fn lines_session_on<S: Site, W: Sink, E: Sink>(
     alloc: Global,
     words: &Words,

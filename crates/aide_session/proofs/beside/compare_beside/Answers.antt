@@ -1,6 +1,7 @@
 use Rattle.std.proofs.Common.{inr, rules}
 use Rattle.aide_report.specs.Asked.{asked}
 use Rattle.aide_session.specs.code.BesideParts.{named_by}
+use Rattle.aide_trusted.specs.ListView.{list_read}
 use Rattle.aide_session.proofs.BesideParts.{closes_seen, pointed_later, seen_pointed}
 use Rattle.aide_session.proofs.PutLemmas.{appends_none}
 use Rattle.aide_session.proofs.beside.compare_beside.Goals as goal
@@ -17,9 +18,11 @@ returns-clause-closes g c = λ config same.
     let second = c.prepare-2.ensures in
     let devices = c.args.devices.now in
     let ran = c.run_pairs.new in
-    let wish = asked c.args.task.now in
-    let beside = asked c.args.trusted_task.now in
-    inr (closes_seen (named_by config wish) (named_by config beside) c.args.task.now.options _ _ _ _ _ _ first.keeps.failures
+    let tasks = c.args.tasks.now in
+    let wish = asked tasks.compared.now in
+    let beside = asked tasks.trusted.now in
+    inr (closes_seen (list_read tasks.list) (named_by config wish) (named_by config beside) tasks.compared.now.options _ _ _ _ _ _
+    first.keeps.failures
     (seen_pointed g.S.Sources g.W.Sink g.E.Sink ran.devices.site.now ran.trusted devices.out.now ran.devices.out.now devices.err.now
     ran.devices.err.now devices.site.now c.prepare.new.site c.args.trusted.now c.prepare-2.new.site _ _ _ _ _ _ first.keeps second.keeps
     first.peak second.peak)

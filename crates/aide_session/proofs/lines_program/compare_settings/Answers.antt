@@ -5,11 +5,12 @@ use Rattle.aide_session.specs.BesideAnswer.{trusted_of}
 use Rattle.aide_session.specs.BesideEnds.{no_memory_left}
 use Rattle.aide_session.specs.code.BesideParts.{named_by}
 use Rattle.aide_words.specs.BesideJob.{text_of_beside}
+use Rattle.aide_trusted.specs.ListView.{list_read}
 use Rattle.aide_session.proofs.BesideParts.{closes_as}
 use Rattle.aide_session.proofs.lines_program.compare_settings.Goals as goal
 
 pub returns-clause-closes : goal.returns-clause-closes
-returns-clause-closes g c = λ read.
+returns-clause-closes g c = λ listed read.
     let job = text_of_beside c.args.job.now in
     let settings = c.args.settings.now in
     let task = c.in-Some.task in
@@ -19,6 +20,8 @@ returns-clause-closes g c = λ read.
     elim (c.compare_beside.ensures.closes job.config refl) [
       | inl stops ↦ inl (record { stop = no_memory_left; cause = tt; stops = stops })
       | inr closes ↦ inr (record {
+        list = list_read c.args.list;
+        listed = listed;
         settings = settings;
         read = read;
         named = named_by job.config (asked task);
@@ -27,7 +30,8 @@ returns-clause-closes g c = λ read.
         new_is = c.in-Some.ensures.some.1;
         count = g.S.Sources.failures c.args.devices.now.site.now;
         later = omega arith;
-        closes = closes_as (named_by job.config (asked task)) trusted (trusted_of job) task.options settings.options _ _ _ trusted_is
+        closes = closes_as (list_read c.args.list) (named_by job.config (asked task)) trusted (trusted_of job) task.options
+            settings.options _ _ _ trusted_is
             c.in-Some.ensures.some.2 closes;
       })
     ]

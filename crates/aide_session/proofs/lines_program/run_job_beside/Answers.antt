@@ -1,25 +1,29 @@
-use Rattle.std.proofs.Common.{rules}
-use Rattle.aide_words.specs.BesideJob.{text_of_beside}
-use Rattle.aide_session.proofs.BesideParts.{ends_seen, has_text, seen_read}
-use Rattle.aide_session.proofs.PutLemmas.{appends_none, put_as}
+use Rattle.std.proofs.Common.{◌∙◌, ℕ, List, inl, refl, sym}
+use Rattle.std.proofs.Math.Path.{subst}
+use Rattle.aide_patterns.specs.List.{HasFirstFault}
+use Rattle.aide_session.specs.BesideEnds.{list_refused}
+use Rattle.aide_session.proofs.BesideEndings.{no_rules_and_fault}
+use Rattle.aide_session.proofs.PutLemmas.{appends_none}
 use Rattle.aide_session.proofs.lines_program.run_job_beside.Goals as goal
 
-pub returns-in-Ok-clause-closes : goal.returns-in-Ok-clause-closes
-returns-in-Ok-clause-closes g c =
-    let devices = c.args.devices.now in
-    let ran = c.run_text_beside.new in
-    ends_seen (text_of_beside c.args.job.now) _ _ _ _ _ c.read_config.ensures.opens.never_falls
-    (seen_read g.S.Sources g.W.Sink g.E.Sink ran.devices.site.now ran.trusted devices.out.now ran.devices.out.now devices.err.now
-    ran.devices.err.now devices.site.now c.read_config.new.site c.args.trusted.now _ _ _ _ c.read_config.ensures.opens)
-    (c.run_text_beside.ensures.closes
-    (has_text _ _ (text_of_beside c.args.job.now) _ _ _ c.as_str-path.ensures c.as_slice.ensures.value c.read_config.ensures.opens.files
-    c.in-Ok.ensures.ok c.in-Ok.ensures.small))
+pub returns-in-Ok-clause-unlooked : goal.returns-in-Ok-clause-unlooked
+returns-in-Ok-clause-unlooked g c = λ fault has.
+    absurd (no_rules_and_fault c.as_bytes-text.result.now _ fault c.in-Ok.ensures.ok
+    (subst (λ (t : List ℕ). HasFirstFault t fault) (sym (c.as_bytes-text.ensures.value ∙ c.as_str.ensures)) has))
 
-pub returns-in-Err-TooLarge-clause-closes : goal.returns-in-Err-TooLarge-clause-closes
-returns-in-Err-TooLarge-clause-closes g c = search (rules, appends_none)
-
-pub returns-in-Err-Unread-clause-closes : goal.returns-in-Err-Unread-clause-closes
-returns-in-Err-Unread-clause-closes g c = search (rules, put_as, appends_none)
-
-pub returns-in-Err-Memory-clause-closes : goal.returns-in-Err-Memory-clause-closes
-returns-in-Err-Memory-clause-closes g c = search (rules, appends_none)
+pub returns-in_default-clause-closes : goal.returns-in_default-clause-closes
+returns-in_default-clause-closes g c = inl (record {
+  stop = list_refused c.in-Err.fault;
+  cause = subst (λ (t : List ℕ). HasFirstFault t c.in-Err.fault) (c.as_bytes-text.ensures.value ∙ c.as_str.ensures)
+      (c.in-Err.ensures.err c.in_default.not-Memory);
+  stops = record {
+    status_is = refl;
+    put = c.put_list_line.ensures;
+    output = appends_none (g.W.Sink.delivered c.args.devices.now.out.now);
+    unopened = refl;
+    trusted_unopened = refl;
+    unflushed = refl;
+    still = refl;
+    trusted_still = refl;
+  };
+})

@@ -64,6 +64,7 @@ returns-clause-session g c =
             closes = ends;
             lookups = ran.ensures.lookups;
             trusted_lookups = ran.ensures.trusted_lookups;
+            unlooked = ran.ensures.unlooked job is;
             peak = peaks.0;
             below = peaks.1;
             trusted_peak = peaks.2;

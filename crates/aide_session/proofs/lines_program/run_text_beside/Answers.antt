@@ -10,14 +10,17 @@ pub returns-in-Memory-clause-closes : goal.returns-in-Memory-clause-closes
 returns-in-Memory-clause-closes g c = search (rules, appends_none)
 
 pub returns-in_default-clause-closes : goal.returns-in_default-clause-closes
-returns-in_default-clause-closes g c = λ has. inl (record {
+returns-in_default-clause-closes g c = λ listed has. inl (record {
   stop = config_refused c.in-Err.fault;
-  cause = record {
-    text = c.args.text.now;
-    text_is = has.text_is;
-    small = has.small;
-    reads = c.in-Err.ensures.err c.in_default.not-Memory;
-  };
+  cause = (
+    (_, listed.rules),
+    record {
+      text = c.args.text.now;
+      text_is = has.text_is;
+      small = has.small;
+      reads = c.in-Err.ensures.err c.in_default.not-Memory;
+    },
+  );
   stops = record {
     status_is = refl;
     put = c.put_conf_line.ensures;
