@@ -12,6 +12,7 @@ use Rattle.aide_report.specs.declared.run_fault.RunFault.{RunFault}
 use Rattle.aide_report.specs.declared.run_fault.RunFault.TheVariants.{Database}
 use Rattle.aide_report.proofs.MissingLemmas.{RunsOver-exists}
 use Rattle.aide_trusted.specs.BesideRuns.{RunsBeside}
+use Rattle.aide_trusted.specs.Listed.{ListRead}
 use Rattle.aide_trusted.specs.declared.pair_fault.PairFault.{PairFault}
 use Rattle.aide_trusted.specs.declared.pair_fault.PairFault.TheVariants.{Compared, Trusted}
 
@@ -27,18 +28,18 @@ module _ (limits : Limits) (wish : Asked) (old new : List ℕ) where
   fault_runs fault first same is = (Err first, is, ap (λ (f : RunFault). Err f) same)
 
 -- The right answer over four texts is what a run beside a trusted pair has for its answer.
-pub right_is_the_answer : (limits : Limits) (wish beside : Asked) (old new trusted_old trusted_new : List ℕ)
+pub right_is_the_answer : (limits : Limits) (list : ListRead) (wish beside : Asked) (old new trusted_old trusted_new : List ℕ)
     (right : Result Report PairFault) → 14 ≤ limits.line
-    → IsRightBeside limits wish beside old new trusted_old trusted_new right
-    → RunsBeside limits wish beside (Some old) (Some new) (Some trusted_old) (Some trusted_new) right
-right_is_the_answer limits wish beside old new trusted_old trusted_new (Ok report) least is = record {
+    → IsRightBeside limits list wish beside old new trusted_old trusted_new right
+    → RunsBeside limits list wish beside (Some old) (Some new) (Some trusted_old) (Some trusted_new) right
+right_is_the_answer limits list wish beside old new trusted_old trusted_new (Ok report) least is = record {
   compared = Ok (report_over wish old new);
   trusted = Ok (report_over beside trusted_old trusted_new);
   compared_runs = sound_runs limits wish old new is.0 is.1;
   trusted_runs = sound_runs limits beside trusted_old trusted_new is.2 is.3;
   answer = ap (λ (r : Report). Ok r) is.4;
 }
-right_is_the_answer limits wish beside old new trusted_old trusted_new (Err (Compared fault)) least is =
+right_is_the_answer limits list wish beside old new trusted_old trusted_new (Err (Compared fault)) least is =
     let other = RunsOver-exists limits beside (Some trusted_old) (Some trusted_new) least in
     record {
       compared = Err fault;
@@ -47,7 +48,7 @@ right_is_the_answer limits wish beside old new trusted_old trusted_new (Err (Com
       trusted_runs = other.1;
       answer = refl;
     }
-right_is_the_answer limits wish beside old new trusted_old trusted_new (Err (Trusted fault)) least is = record {
+right_is_the_answer limits list wish beside old new trusted_old trusted_new (Err (Trusted fault)) least is = record {
   compared = Ok (report_over wish old new);
   trusted = Err fault;
   compared_runs = sound_runs limits wish old new is.0 is.1;

@@ -8,6 +8,7 @@ use Rattle.aide_report.specs.Asked.{Asked}
 use Rattle.aide_report.specs.Runs.{IsFirstFaultOf, Report}
 use Rattle.aide_report.specs.declared.run_fault.RunFault.TheVariants.{Database}
 use Rattle.aide_trusted.specs.BesideLines.{lines_beside}
+use Rattle.aide_trusted.specs.Listed.{ListRead}
 use Rattle.aide_trusted.specs.declared.pair_fault.PairFault.{PairFault}
 use Rattle.aide_trusted.specs.declared.pair_fault.PairFault.TheVariants.{Compared, Trusted}
 
@@ -16,18 +17,20 @@ abbrev pub IsFirstOfPair : Limits → (old new : List ℕ) → DbFault → Type 
 IsFirstOfPair limits old new fault = IsFirstFaultOf limits Old old fault
     ⊎ (IsSound limits old × IsFirstFaultOf limits New new fault)
 
--- The right answer over four texts: the lines over the four maps if all are sound, and otherwise the
--- first fault, in the order old, new, trusted old, trusted new.
-abbrev pub IsRightBeside : Limits → (asked trusted_asked : Asked)
+-- The right answer over four texts and a list: the lines over the four maps if all texts are sound,
+-- and otherwise the first fault, in the order old, new, trusted old, trusted new.
+abbrev pub IsRightBeside : Limits → ListRead → (asked trusted_asked : Asked)
     → (old new trusted_old trusted_new : List ℕ) → Result Report PairFault
     → Type 0
-IsRightBeside limits asked trusted_asked old new trusted_old trusted_new (Ok report) =
+IsRightBeside limits list asked trusted_asked old new trusted_old trusted_new (Ok report) =
     IsSound limits old × IsSound limits new
     × IsSound limits trusted_old × IsSound limits trusted_new
-    × (report ≡ lines_beside asked trusted_asked old new trusted_old trusted_new)
-IsRightBeside limits asked trusted_asked old new trusted_old trusted_new (Err (Compared fault)) =
+    × (report ≡ lines_beside list asked trusted_asked old new trusted_old trusted_new)
+IsRightBeside limits list asked trusted_asked old new trusted_old trusted_new
+    (Err (Compared fault)) =
     (first : DbFault) × (fault ≡ Database first) × IsFirstOfPair limits old new first
-IsRightBeside limits asked trusted_asked old new trusted_old trusted_new (Err (Trusted fault)) =
+IsRightBeside limits list asked trusted_asked old new trusted_old trusted_new
+    (Err (Trusted fault)) =
     IsSound limits old × IsSound limits new
     × ((first : DbFault) × (fault ≡ Database first)
     × IsFirstOfPair limits trusted_old trusted_new first)

@@ -14,6 +14,7 @@ ghost use Rattle.aide_session.specs.BesideEnds.{StarvedBeside, WholeBeside};
 ghost use Rattle.aide_session.specs.Ends.{Starved, Whole, sinks_between};
 ghost use Rattle.aide_session.specs.Output.{start_of};
 ghost use Rattle.aide_session.specs.Put.{HasNoFailure};
+ghost use Rattle.aide_trusted.specs.Listed.{ListRead};
 ghost use Rattle.aide_trusted.specs.declared.pair_fault.PairFault.{PairFault};
 ghost use Rattle.aide_words.specs.BesideJob.{BesideText, beside_job_of};
 
@@ -28,12 +29,13 @@ use std::alloc::Global;
 /// lines in place of the report (`answer`, `bound`). But at the first fault of a text a beginning of what comes
 /// before the last line has gone out.
 ///
-/// If they name one, three clauses begin with a comparison, and a text at each of the four paths:
+/// If they name one, three clauses begin with a comparison, a list without a fault (the empty text, if the arguments
+/// give none), and a text at each of the four paths:
 ///
 /// - If no device counts a failure, the program ends with the right answer over the four texts or out of memory. If
-///   all four are sound, exactly the lines go out that the definitions assign to the four maps. Otherwise the first
-///   fault is named, in the order old, new, trusted old, trusted new, and a beginning of what comes before the last
-///   line has gone out (`trusted_answer`).
+///   all four are sound, exactly the lines go out that the definitions assign to the four maps, to the rules of the
+///   list and to the SHA-256 of its text. Otherwise the first fault is named, in the order old, new, trusted old,
+///   trusted new, and a beginning of what comes before the last line has gone out (`trusted_answer`).
 /// - Neither desk holds more than the longest line of each text of its pair and one more line no longer than these
 ///   (`compared_bound`, `trusted_bound`).
 ///
@@ -67,34 +69,37 @@ pub fn run_lines_program<S: Site, W: Sink, E: Sink>(
         → desk.new.peak ≤ max desk.old.peak
         (longest_line limits old + longest_line limits new
         + max (longest_line limits old) (longest_line limits new)) }
-    ensures trusted_answer { (job : BesideText) (named : Named) (settings : Configured)
+    ensures trusted_answer { (job : BesideText) (list : ListRead) (named : Named)
+        (settings : Configured)
         (old new trusted_old trusted_new : List ℕ)
-        → AsksBeside (S.file_at site.old) (S.file_at trusted.old) words.now job named settings
-        old new trusted_old trusted_new
+        → AsksBeside (S.file_at site.old) (S.file_at trusted.old) words.now job list named
+        settings old new trusted_old trusted_new
         → HasNoFailure (S.failures site.old) (S.failures site.new)
         → HasNoFailure (S.failures trusted.old) (S.failures trusted.new)
         → HasNoFailure (W.failures out.old) (W.failures out.new)
         → (right : Result Report PairFault)
-        → IsRightBeside limits (asked_by settings.options named)
+        → IsRightBeside limits list (asked_by settings.options named)
         (asked_by settings.options (trusted_of job)) old new trusted_old trusted_new right
-        → WholeBeside (answer_beside (out_beside (asked_by settings.options named)
+        → WholeBeside (answer_beside (out_beside list (asked_by settings.options named)
         (asked_by settings.options (trusted_of job))
         (Some old) (Some new) (Some trusted_old) (Some trusted_new))
         named (trusted_of job) right) result
         (sinks_between W.delivered E.delivered E.failures out.old out.new err.old err.new)
         ⊎ StarvedBeside result
         (sinks_between W.delivered E.delivered E.failures out.old out.new err.old err.new) }
-    ensures compared_bound { (job : BesideText) (named : Named) (settings : Configured)
+    ensures compared_bound { (job : BesideText) (list : ListRead) (named : Named)
+        (settings : Configured)
         (old new trusted_old trusted_new : List ℕ)
-        → AsksBeside (S.file_at site.old) (S.file_at trusted.old) words.now job named settings
-        old new trusted_old trusted_new
+        → AsksBeside (S.file_at site.old) (S.file_at trusted.old) words.now job list named
+        settings old new trusted_old trusted_new
         → desk.new.peak ≤ max desk.old.peak
         (longest_line limits old + longest_line limits new
         + max (longest_line limits old) (longest_line limits new)) }
-    ensures trusted_bound { (job : BesideText) (named : Named) (settings : Configured)
+    ensures trusted_bound { (job : BesideText) (list : ListRead) (named : Named)
+        (settings : Configured)
         (old new trusted_old trusted_new : List ℕ)
-        → AsksBeside (S.file_at site.old) (S.file_at trusted.old) words.now job named settings
-        old new trusted_old trusted_new
+        → AsksBeside (S.file_at site.old) (S.file_at trusted.old) words.now job list named
+        settings old new trusted_old trusted_new
         → trusted_desk.new.peak ≤ max trusted_desk.old.peak
         (longest_line limits trusted_old + longest_line limits trusted_new
         + max (longest_line limits trusted_old) (longest_line limits trusted_new)) }

@@ -29,34 +29,34 @@ returns-clause-bound g c named settings old new none asks =
     old new asks.old_there asks.new_there
 
 pub returns-clause-trusted_answer : goal.returns-clause-trusted_answer
-returns-clause-trusted_answer g c job named settings old new trusted_old trusted_new asks site trusted out right is =
+returns-clause-trusted_answer g c job list named settings old new trusted_old trusted_new asks site trusted out right is =
     (c.lines_session_on.ensures.session.beside job asks.job_is).exact named
-    (answer_beside (out_beside (asked_by settings.options named) (asked_by settings.options (trusted_of job)) (Some old) (Some new)
+    (answer_beside (out_beside list (asked_by settings.options named) (asked_by settings.options (trusted_of job)) (Some old) (Some new)
     (Some trusted_old) (Some trusted_new)) named (trusted_of job) right)
     (answer_by_what_is_asked_beside (g.S.Sources.file_at c.args.site.now) (g.S.Sources.file_at c.args.trusted.now) c.args.words.now job
-    named settings old new trusted_old trusted_new right asks
-    (right_is_the_answer limits (asked_by settings.options named) (asked_by settings.options (trusted_of job)) old new trusted_old
+    list named settings old new trusted_old trusted_new right asks
+    (right_is_the_answer limits list (asked_by settings.options named) (asked_by settings.options (trusted_of job)) old new trusted_old
     trusted_new right (omega arith) is))
     site trusted out
 
 pub returns-clause-compared_bound : goal.returns-clause-compared_bound
-returns-clause-compared_bound g c job named settings old new trusted_old trusted_new asks =
-    let right = RunsBeside-exists limits (asked_by settings.options named) (asked_by settings.options (trusted_of job)) (Some old)
+returns-clause-compared_bound g c job list named settings old new trusted_old trusted_new asks =
+    let right = RunsBeside-exists limits list (asked_by settings.options named) (asked_by settings.options (trusted_of job)) (Some old)
     (Some new) (Some trusted_old) (Some trusted_new) (omega arith) in
     (c.lines_session_on.ensures.session.beside job asks.job_is).bound named
-    (answer_beside (out_beside (asked_by settings.options named) (asked_by settings.options (trusted_of job)) (Some old) (Some new)
+    (answer_beside (out_beside list (asked_by settings.options named) (asked_by settings.options (trusted_of job)) (Some old) (Some new)
     (Some trusted_old) (Some trusted_new)) named (trusted_of job) right.0)
     (answer_by_what_is_asked_beside (g.S.Sources.file_at c.args.site.now) (g.S.Sources.file_at c.args.trusted.now) c.args.words.now job
-    named settings old new trusted_old trusted_new right.0 asks right.1)
+    list named settings old new trusted_old trusted_new right.0 asks right.1)
     old new asks.old_there asks.new_there
 
 pub returns-clause-trusted_bound : goal.returns-clause-trusted_bound
-returns-clause-trusted_bound g c job named settings old new trusted_old trusted_new asks =
-    let right = RunsBeside-exists limits (asked_by settings.options named) (asked_by settings.options (trusted_of job)) (Some old)
+returns-clause-trusted_bound g c job list named settings old new trusted_old trusted_new asks =
+    let right = RunsBeside-exists limits list (asked_by settings.options named) (asked_by settings.options (trusted_of job)) (Some old)
     (Some new) (Some trusted_old) (Some trusted_new) (omega arith) in
     (c.lines_session_on.ensures.session.beside job asks.job_is).trusted_bound named
-    (answer_beside (out_beside (asked_by settings.options named) (asked_by settings.options (trusted_of job)) (Some old) (Some new)
+    (answer_beside (out_beside list (asked_by settings.options named) (asked_by settings.options (trusted_of job)) (Some old) (Some new)
     (Some trusted_old) (Some trusted_new)) named (trusted_of job) right.0)
     (answer_by_what_is_asked_beside (g.S.Sources.file_at c.args.site.now) (g.S.Sources.file_at c.args.trusted.now) c.args.words.now job
-    named settings old new trusted_old trusted_new right.0 asks right.1)
+    list named settings old new trusted_old trusted_new right.0 asks right.1)
     trusted_old trusted_new asks.trusted_old_there asks.trusted_new_there
