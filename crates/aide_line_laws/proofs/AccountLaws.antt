@@ -1,10 +1,11 @@
 -- What a trusted pair accounts for is listed in the lines of its own two databases.
 use Rattle.std.proofs.Common.{◌≡◌, ◌∙◌, ℕ, List, Bool, true, false, refl, ap}
-use Rattle.std.specs.Prelude.{◌||◌, ◌&&◌, not, Some, None}
+use Rattle.std.specs.Prelude.{◌||◌, ◌&&◌, not, Option, Some, None}
 use Rattle.std.specs.FinMap.{get}
 use Rattle.std.specs.List.{list_any}
-use Rattle.aide_agreement.specs.Account.{Pair, is_change}
-use Rattle.aide_agreement.specs.declared.account.SameAs.TheVariants.{Trusted}
+use Rattle.aide_agreement.specs.Account.{Pair, is_change, same_as}
+use Rattle.aide_agreement.specs.declared.account.SameAs.{SameAs}
+use Rattle.aide_agreement.specs.declared.account.SameAs.TheVariants as same
 use Rattle.aide_agreement.proofs.Laws.{trusted_changed}
 use Rattle.aide_attr.specs.Attr.{all_attrs}
 use Rattle.aide_attr.specs.Difference.{Sides, any_reported, is_added, is_affected, is_changed, is_removed}
@@ -14,10 +15,13 @@ use Rattle.aide_attr.specs.declared.delta.Ignore.{Ignore}
 use Rattle.aide_conf.specs.declared.options.Options.{Options}
 use Rattle.aide_db.specs.Map.{Database}
 use Rattle.aide_entry.specs.Attributes.{sides_between}
+use Rattle.aide_line_text.specs.Account.{account_as}
+use Rattle.aide_line_text.specs.declared.account.Account.TheVariants.{Trusted}
 use Rattle.aide_report.specs.Changed.{differ_by}
 use Rattle.aide_report.specs.ChangeLines.{by_old}
 use Rattle.aide_report.specs.Sections.{all_listed, is_in}
 use Rattle.aide_trusted.specs.BesideLines.{by_trusted}
+use Rattle.aide_trusted.specs.Listed.{Leaves, account_by}
 
 -- options ignore no attribute
 pub record IgnoresNothing (ignore : Ignore) : Type 0 where
@@ -46,12 +50,19 @@ listed options path (None, Some new) nothing e = refl
 listed options path (Some old, None) nothing e = refl
 listed options path (Some old, Some new) nothing e = reported (sides_between old new) options.ignore nothing ∙ e
 
+is_same : (found : Option SameAs) (line : Option ℕ) → account_by found line ≡ Some Trusted → found ≡ Some same.Trusted
+is_same None None e = cc
+is_same None (Some number) e = cc
+is_same (Some same.Old) line e = cc
+is_same (Some same.Trusted) line e = refl
+
 -- At each path for which a trusted pair accounts, the lines of its own two databases list a change if the options ignore
 -- nothing, and nothing accounts for it there.
-pub trusted_is_listed : (options : Options) (trusted_old trusted_new : Database) (path : List ℕ) (found : Pair)
-    → IgnoresNothing options.ignore → by_trusted trusted_old trusted_new (path, found) ≡ Some Trusted
+pub trusted_is_listed : (options : Options) (leaves : Leaves) (trusted_old trusted_new : Database) (path : List ℕ) (found : Pair)
+    → IgnoresNothing options.ignore → by_trusted leaves trusted_old trusted_new (path, found) ≡ Some Trusted
     → (is_in options all_listed (path, (get trusted_old path, get trusted_new path)) ≡ true)
     × (by_old (path, (get trusted_old path, get trusted_new path)) ≡ None)
-trusted_is_listed options trusted_old trusted_new path found nothing e =
-    let own = trusted_changed found (get trusted_old path, get trusted_new path) e in
-    (listed options path (get trusted_old path, get trusted_new path) nothing own.changed, own.alone)
+trusted_is_listed options leaves trusted_old trusted_new path found nothing e =
+    let there : Pair = (get trusted_old path, get trusted_new path) in
+    let own = trusted_changed found there (is_same (same_as found there) (leaves (path, found)) e) in
+    (listed options path there nothing own.changed, ap account_as own.alone)

@@ -1,9 +1,10 @@
 -- The lines of two databases beside a trusted pair: they are lines of JSON, a reader finds in them the paths and digests of
 -- all four, and without their last line they are never complete.
-use Rattle.std.proofs.Common.{◌≡◌, ◌∙◌, ℕ, true, false, List, [], ◌∷◌, ◌++◌, Some, Ok, Err, refl, append_assoc}
+use Rattle.std.proofs.Common.{◌≡◌, ◌∙◌, ℕ, true, false, List, [], ◌∷◌, ◌++◌, Some, Ok, Err, refl, ap, append_assoc}
 use Rattle.std.proofs.Common.{if◌then◌else◌, Option}
 use Rattle.std.specs.Prelude.{codes, ⊤}
 use Rattle.std.specs.List.{AllByRecursion}
+use Rattle.sha2.specs.Sha256.{sha256}
 use Rattle.aide_conf.specs.declared.options.Options.{Options}
 use Rattle.aide_db.specs.Database.{IsSound}
 use Rattle.aide_db.specs.Map.{database_of}
@@ -21,9 +22,10 @@ use Rattle.aide_report.specs.Sections.{all_listed, is_in}
 use Rattle.aide_report.specs.Seen.{SinkSeen}
 use Rattle.aide_report.specs.declared.outcome.Outcome.{Outcome}
 use Rattle.aide_report.specs.declared.run_fault.RunFault.TheVariants.{Open, Database, Changed, Write}
-use Rattle.aide_trusted.specs.BesideLines.{BeginsBeside, all_lines_beside, by_trusted, closing_beside, facts_of_texts, lines_beside}
+use Rattle.aide_trusted.specs.BesideLines.{BeginsBeside, all_lines_beside, by_texts, closing_beside, facts_of_texts, lines_beside}
 use Rattle.aide_trusted.specs.BesideLines.{opening_beside}
 use Rattle.aide_trusted.specs.BesideRuns.{AreAllSound, CutsBeside, changes_between}
+use Rattle.aide_trusted.specs.Listed.{ListRead, leaves_between}
 use Rattle.aide_trusted.specs.PairSeen.{Gives, PairSeen}
 use Rattle.aide_trusted.specs.RunBeside.{IsRunBeside}
 use Rattle.aide_trusted.specs.Sought.{Accounted, accounted_lines, changes_of}
@@ -50,21 +52,23 @@ ArePathsOfBytes asked = AreBytes asked.old_path × AreBytes asked.new_path
 -- ---- lines of JSON
 
 -- The lines over two sound texts of bytes beside a trusted pair are lines of JSON, whatever is asked and whatever the
--- trusted texts are: each has the members that belong to the changes of the two databases, in their order, and says
--- what accounts for its change by the trusted maps.
-pub lines_beside_are_json : (limits : Limits) (wish trusted : Asked) (old new trusted_old trusted_new : List ℕ)
+-- trusted texts and the rules of the list are: each has the members that belong to the changes of the two databases, in
+-- their order, and says what accounts for its change by the trusted maps and by the list.
+pub lines_beside_are_json : (limits : Limits) (list : ListRead) (wish trusted : Asked) (old new trusted_old trusted_new : List ℕ)
     → IsSound limits old → IsSound limits new → AreBytes old → AreBytes new → ArePathsOfBytes wish → ArePathsOfBytes trusted
-    → AreJsonLines (lines_beside wish trusted old new trusted_old trusted_new).text
-    (fields_beside wish trusted old new trusted_old trusted_new)
+    → AreBytes list.digest
+    → AreJsonLines (lines_beside list wish trusted old new trusted_old trusted_new).text
+    (fields_beside list wish trusted old new trusted_old trusted_new)
 unfolding lines_beside all_lines_beside
-lines_beside_are_json limits wish trusted old new trusted_old trusted_new old_sound new_sound old_bytes new_bytes paths others =
-    let account = by_trusted (database_of trusted_old) (database_of trusted_new) in
+lines_beside_are_json limits list wish trusted old new trusted_old trusted_new old_sound new_sound old_bytes new_bytes paths
+    others digest =
+    let account = by_texts list old new trusted_old trusted_new in
     let found = line_counts wish.options account (database_of old) (database_of new) in
     all_lines_are_json wish.options account (changes (database_of old) (database_of new)) _ _ _ _
     (changes_bytes limits old new old_sound new_sound old_bytes new_bytes)
     (opening_line_trusted_is_json wish.old_path wish.new_path trusted.old_path trusted.new_path paths.0 paths.1 others.0 others.1)
-    (closing_line_trusted_is_json (read_of old) (read_of new) (read_of trusted_old) (read_of trusted_new) found (status_by found)
-    (sha256_bytes old) (sha256_bytes new) (sha256_bytes trusted_old) (sha256_bytes trusted_new))
+    (closing_line_trusted_is_json (read_of old) (read_of new) (read_of trusted_old) (read_of trusted_new) list.digest found
+    (status_by found) (sha256_bytes old) (sha256_bytes new) (sha256_bytes trusted_old) (sha256_bytes trusted_new) digest)
 
 -- the members of the line of a change, by what accounts for it, if it has a line
 abbrev accounted_fields : Options → Accounted → List (List Field)
@@ -132,29 +136,32 @@ paths_beside_are_read_back old_path new_path trusted_old trusted_new h k l m =
           ∙ text_is_read (codes "trusted_new") trusted_new [] m refl refl refl refl,
     )
 
--- In the last line a reader finds the digests of all four.
-pub digests_beside_are_read_back : (old new trusted_old trusted_new : ReadFacts) (counts : LineCounts) (status : ℕ)
-    → AreBytes old.digest → AreBytes new.digest → AreBytes trusted_old.digest → AreBytes trusted_new.digest
-    → (digest_under (codes "old") (closing_fields_trusted old new trusted_old trusted_new counts status) ≡ Some old.digest)
-    × (digest_under (codes "new") (closing_fields_trusted old new trusted_old trusted_new counts status) ≡ Some new.digest)
-    × (digest_under (codes "trusted_old") (closing_fields_trusted old new trusted_old trusted_new counts status)
+-- In the last line a reader finds the digests of all four, and of the list.
+pub digests_beside_are_read_back : (old new trusted_old trusted_new : ReadFacts) (list : List ℕ) (counts : LineCounts)
+    (status : ℕ)
+    → AreBytes old.digest → AreBytes new.digest → AreBytes trusted_old.digest → AreBytes trusted_new.digest → AreBytes list
+    → (digest_under (codes "old") (closing_fields_trusted old new trusted_old trusted_new list counts status) ≡ Some old.digest)
+    × (digest_under (codes "new") (closing_fields_trusted old new trusted_old trusted_new list counts status) ≡ Some new.digest)
+    × (digest_under (codes "trusted_old") (closing_fields_trusted old new trusted_old trusted_new list counts status)
     ≡ Some trusted_old.digest)
-    × (digest_under (codes "trusted_new") (closing_fields_trusted old new trusted_old trusted_new counts status)
+    × (digest_under (codes "trusted_new") (closing_fields_trusted old new trusted_old trusted_new list counts status)
     ≡ Some trusted_new.digest)
-digests_beside_are_read_back old new trusted_old trusted_new counts status h k l m = (
+    × (digest_under (codes "list") (closing_fields_trusted old new trusted_old trusted_new list counts status) ≡ Some list)
+digests_beside_are_read_back old new trusted_old trusted_new list counts status h k l m n = (
   read_in_base_16 old.digest h,
   read_in_base_16 new.digest k,
   read_in_base_16 trusted_old.digest l,
   read_in_base_16 trusted_new.digest m,
+  read_in_base_16 list n,
 )
 
 -- ---- which lines are complete
 
 -- The lines over four texts are complete.
-pub lines_beside_are_complete : (wish trusted : Asked) (old new trusted_old trusted_new : List ℕ)
-    → AreComplete (fields_beside wish trusted old new trusted_old trusted_new)
-lines_beside_are_complete wish trusted old new trusted_old trusted_new =
-    complete_by (fields_begun wish.options (by_trusted (database_of trusted_old) (database_of trusted_new))
+pub lines_beside_are_complete : (list : ListRead) (wish trusted : Asked) (old new trusted_old trusted_new : List ℕ)
+    → AreComplete (fields_beside list wish trusted old new trusted_old trusted_new)
+lines_beside_are_complete list wish trusted old new trusted_old trusted_new =
+    complete_by (fields_begun wish.options (by_texts list old new trusted_old trusted_new)
     (opening_fields_trusted wish.old_path wish.new_path trusted.old_path trusted.new_path)
     (changes (database_of old) (database_of new))) _ refl
 
@@ -195,20 +202,24 @@ begun_beside_is_never_complete wish trusted old new accounted same old_bytes new
     (opening_is_no_end wish.old_path wish.new_path trusted.old_path trusted.new_path, accounted_has_no_end wish.options accounted)
 
 -- Lines that are cut are not complete: the lines over four sound texts begin with no complete lines but themselves.
-pub cut_beside_is_never_complete : (limits : Limits) (wish trusted : Asked) (old new trusted_old trusted_new : List ℕ)
+pub cut_beside_is_never_complete : (limits : Limits) (list : ListRead) (wish trusted : Asked)
+    (old new trusted_old trusted_new : List ℕ)
     → IsSound limits old → IsSound limits new → AreBytes old → AreBytes new → ArePathsOfBytes wish → ArePathsOfBytes trusted
+    → AreBytes list.digest
     → (whole rest : List ℕ) (all : List (List Field)) → AreJsonLines whole all → AreComplete all
-    → (lines_beside wish trusted old new trusted_old trusted_new).text ≡ whole ++ rest → rest ≡ []
-cut_beside_is_never_complete limits wish trusted old new trusted_old trusted_new old_sound new_sound old_bytes new_bytes paths
-    others =
-    let account = by_trusted (database_of trusted_old) (database_of trusted_new) in
+    → (lines_beside list wish trusted old new trusted_old trusted_new).text ≡ whole ++ rest → rest ≡ []
+cut_beside_is_never_complete limits list wish trusted old new trusted_old trusted_new old_sound new_sound old_bytes new_bytes
+    paths others digest =
+    let account = by_texts list old new trusted_old trusted_new in
     let counts = line_counts wish.options account (database_of old) (database_of new) in
     let all = changes (database_of old) (database_of new) in
-    only_all (lines_beside wish trusted old new trusted_old trusted_new).text
+    only_all (lines_beside list wish trusted old new trusted_old trusted_new).text
     (fields_begun wish.options account
     (opening_fields_trusted wish.old_path wish.new_path trusted.old_path trusted.new_path) all)
-    (closing_fields_trusted (read_of old) (read_of new) (read_of trusted_old) (read_of trusted_new) counts (status_by counts))
-    (lines_beside_are_json limits wish trusted old new trusted_old trusted_new old_sound new_sound old_bytes new_bytes paths others) (
+    (closing_fields_trusted (read_of old) (read_of new) (read_of trusted_old) (read_of trusted_new) list.digest counts
+    (status_by counts))
+    (lines_beside_are_json limits list wish trusted old new trusted_old trusted_new old_sound new_sound old_bytes new_bytes paths
+    others digest) (
       opening_is_no_end wish.old_path wish.new_path trusted.old_path trusted.new_path,
       no_end wish.options account (listed_changes wish.options all),
     )
@@ -221,28 +232,29 @@ LeavesUnfinishedBeside limits old new trusted_old trusted_new (Compared (Write w
     AreAllSound limits old new trusted_old trusted_new → ⊥
 LeavesUnfinishedBeside limits old new trusted_old trusted_new _ = ⊤
 
-begun_at : (limits : Limits) (wish trusted : Asked) (old new trusted_old trusted_new : List ℕ)
+begun_at : (limits : Limits) (list : ListRead) (wish trusted : Asked) (old new trusted_old trusted_new : List ℕ)
     (before after : Option (List ℕ)) (fault : PairFault)
-    → CutsBeside limits wish trusted old new trusted_old trusted_new before after fault
+    → CutsBeside limits list wish trusted old new trusted_old trusted_new before after fault
     → LeavesUnfinishedBeside limits old new trusted_old trusted_new fault
-    → BeginsBeside wish trusted (changes_between old new) (changes_between trusted_old trusted_new) before after
-begun_at limits wish trusted old new trusted_old trusted_new before after (Compared (Write written)) cut left = cut.1 left
-begun_at limits wish trusted old new trusted_old trusted_new before after (Compared (Open side)) cut left = cut
-begun_at limits wish trusted old new trusted_old trusted_new before after (Compared (Database fault)) cut left = cut
-begun_at limits wish trusted old new trusted_old trusted_new before after (Compared (Changed side)) cut left = cut
-begun_at limits wish trusted old new trusted_old trusted_new before after (Trusted fault) cut left = cut
+    → BeginsBeside (leaves_between list old new) wish trusted (changes_between old new)
+    (changes_between trusted_old trusted_new) before after
+begun_at limits list wish trusted old new trusted_old trusted_new before after (Compared (Write written)) cut left = cut.1 left
+begun_at limits list wish trusted old new trusted_old trusted_new before after (Compared (Open side)) cut left = cut
+begun_at limits list wish trusted old new trusted_old trusted_new before after (Compared (Database fault)) cut left = cut
+begun_at limits list wish trusted old new trusted_old trusted_new before after (Compared (Changed side)) cut left = cut
+begun_at limits list wish trusted old new trusted_old trusted_new before after (Trusted fault) cut left = cut
 
-module _ (limits : Limits) (p q : PairSeen) (o s : SinkSeen) (old new trusted_old trusted_new : List ℕ)
+module _ (limits : Limits) (list : ListRead) (p q : PairSeen) (o s : SinkSeen) (old new trusted_old trusted_new : List ℕ)
     (gives : Gives p old new) (trusted_gives : Gives q trusted_old trusted_new) where
   -- After such a fault a run has not sent complete lines.
-  pub no_fault_completes_lines_beside : (fault : PairFault) → IsRunBeside limits p q o s (Err fault)
+  pub no_fault_completes_lines_beside : (fault : PairFault) → IsRunBeside limits list p q o s (Err fault)
       → LeavesUnfinishedBeside limits old new trusted_old trusted_new fault
       → AreBytes old → AreBytes new → ArePathsOfBytes p.asked → ArePathsOfBytes q.asked
       → (before whole rest : List ℕ) (all : List (List Field)) → o.delivered ≡ Some before
       → s.delivered ≡ Some (before ++ (whole ++ rest)) → AreJsonLines whole all → AreComplete all → ⊥
   no_fault_completes_lines_beside fault run left old_bytes new_bytes paths others before whole rest all was is h complete =
       let begun =
-      begun_at limits p.asked q.asked old new trusted_old trusted_new o.delivered s.delivered fault
+      begun_at limits list p.asked q.asked old new trusted_old trusted_new o.delivered s.delivered fault
       (run.cut old new trusted_old trusted_new gives trusted_gives) left
       in
       let begins =
@@ -252,16 +264,19 @@ module _ (limits : Limits) (p q : PairSeen) (o s : SinkSeen) (old new trusted_ol
       begun_beside_is_never_complete p.asked q.asked old new begun.accounted begun.all old_bytes new_bytes paths others
       whole (rest ++ begins.0) all h complete (begins.1 ∙ append_assoc whole rest begins.0)
 
-  -- After `Ok` it has sent a last line in which a reader finds the SHA-256 of all four texts.
-  pub digests_are_of_all_texts : (outcome : Outcome) → IsRunBeside limits p q o s (Ok outcome)
+  -- After `Ok` it has sent a last line in which a reader finds the SHA-256 of all four texts, and that of the list, if
+  -- its digest was that of its text.
+  pub digests_are_of_all_texts : (outcome : Outcome) → IsRunBeside limits list p q o s (Ok outcome)
+      → (list_text : List ℕ) → list.digest ≡ sha256 list_text
       → EndsWithDigests ((codes "old", old) ∷ (codes "new", new) ∷ (codes "trusted_old", trusted_old)
-      ∷ (codes "trusted_new", trusted_new) ∷ []) o.delivered s.delivered
+      ∷ (codes "trusted_new", trusted_new) ∷ (codes "list", list_text) ∷ []) o.delivered s.delivered
   unfolding lines_beside all_lines_beside
-  digests_are_of_all_texts outcome run =
-      let account = by_trusted (database_of trusted_old) (database_of trusted_new) in
+  digests_are_of_all_texts outcome run list_text of_list =
+      let digest : AreBytes list.digest = rw of_list (sha256_bytes list_text) in
+      let account = by_texts list old new trusted_old trusted_new in
       let counts = line_counts p.asked.options account (database_of old) (database_of new) in
       let all = changes (database_of old) (database_of new) in
-      let lines = lines_beside p.asked q.asked old new trusted_old trusted_new in
+      let lines = lines_beside list p.asked q.asked old new trusted_old trusted_new in
       let ends =
       run.over (Some old) (Some new) (Some trusted_old) (Some trusted_new) gives trusted_gives (Ok lines) (record {
         compared = Ok (report_over p.asked old new);
@@ -280,17 +295,18 @@ module _ (limits : Limits) (p q : PairSeen) (o s : SinkSeen) (old new trusted_ol
       })
       in
       let read =
-      digests_beside_are_read_back (read_of old) (read_of new) (read_of trusted_old) (read_of trusted_new) counts
-      (status_by counts) (sha256_bytes old) (sha256_bytes new) (sha256_bytes trusted_old) (sha256_bytes trusted_new)
+      digests_beside_are_read_back (read_of old) (read_of new) (read_of trusted_old) (read_of trusted_new) list.digest counts
+      (status_by counts) (sha256_bytes old) (sha256_bytes new) (sha256_bytes trusted_old) (sha256_bytes trusted_new) digest
       in
       record {
         begun = opening_beside p.asked q.asked ++ change_lines p.asked.options account all;
-        last = closing_beside (facts_of_texts old new trusted_old trusted_new) counts;
-        fields = closing_fields_trusted (read_of old) (read_of new) (read_of trusted_old) (read_of trusted_new) counts
-            (status_by counts);
+        last = closing_beside list (facts_of_texts old new trusted_old trusted_new) counts;
+        fields = closing_fields_trusted (read_of old) (read_of new) (read_of trusted_old) (read_of trusted_new) list.digest
+            counts (status_by counts);
         bytes = ends.1;
-        is_line = closing_line_trusted_is_json (read_of old) (read_of new) (read_of trusted_old) (read_of trusted_new) counts
-            (status_by counts) (sha256_bytes old) (sha256_bytes new) (sha256_bytes trusted_old) (sha256_bytes trusted_new);
+        is_line = closing_line_trusted_is_json (read_of old) (read_of new) (read_of trusted_old) (read_of trusted_new)
+            list.digest counts (status_by counts) (sha256_bytes old) (sha256_bytes new) (sha256_bytes trusted_old)
+            (sha256_bytes trusted_new) digest;
         is_last = refl;
-        digests = (read.0, (read.1, (read.2, (read.3, tt))));
+        digests = (read.0, (read.1, (read.2, (read.3, (read.4 ∙ ap Some of_list, tt)))));
       }

@@ -2,42 +2,44 @@
 use Rattle.std.proofs.Common.{◌≡◌, ℕ, Bool, true, false, List, [], ◌∷◌, ◌++◌, map, refl, arith}
 use Rattle.std.specs.Prelude.{codes}
 use Rattle.std.specs.List.{filter}
-use Rattle.json.specs.Json.{array, boolean}
+use Rattle.hex.specs.Hex.{encode_lower}
+use Rattle.json.specs.Json.{array, boolean, string}
 use Rattle.aide_json.specs.Json.{hex_string}
 use Rattle.aide_json.specs.Member.{member}
 use Rattle.aide_json.specs.Number.{json_count}
 use Rattle.aide_line_text.specs.Ends
 use Rattle.aide_line_text.specs.Ends.{count_member, is_skipped, numbers, skipped_array}
-use Rattle.aide_line_text.specs.Frame.{ReadFacts, closing_line, closing_line_trusted, opening_line, opening_line_trusted, read_object}
+use Rattle.aide_line_text.specs.Frame.{ReadFacts, closing_line, closing_line_trusted, list_member, opening_line, opening_line_trusted}
+use Rattle.aide_line_text.specs.Frame.{read_object}
 use Rattle.aide_line_text.specs.declared.counts.LineCounts.{LineCounts}
 use Rattle.aide_line_laws.specs.ByteValues.{AreBytes}
-use Rattle.aide_line_laws.specs.Field.{count_field, count_json, items_of}
-use Rattle.aide_line_laws.specs.Fields.{closing_fields, closing_fields_trusted, number_fields, object_field, opening_fields}
-use Rattle.aide_line_laws.specs.Fields.{opening_fields_trusted, read_fields, trusted_fields}
+use Rattle.aide_line_laws.specs.Field.{Field, count_field, count_json, items_of}
+use Rattle.aide_line_laws.specs.Fields.{closing_fields, closing_fields_trusted, list_field, number_fields, object_field}
+use Rattle.aide_line_laws.specs.Fields.{opening_fields, opening_fields_trusted, read_fields, status_fields, trusted_fields}
 use Rattle.aide_line_laws.specs.JsonLine.{IsJsonLine}
 use Rattle.aide_line_laws.proofs.Strings.{are_plain}
 use Rattle.aide_line_laws.proofs.Values.{IsMember, hex_value, count_value, truth_value, member_of, text_member_of}
 use Rattle.aide_line_laws.proofs.Objects.{AreMembers, array_of, object_of, line_of}
 use Rattle.aide_line_laws.proofs.Members.{all_mapped, flat_member, count_member_of}
 
-accounts_of : (most : ℕ) (has_trusted : Bool) (counts : LineCounts) (status : ℕ)
-    → AreMembers most
-    ((Ends.trusted_members has_trusted counts ++ count_member (codes "others") counts.others ∷ [])
-    ++ count_member (codes "status") status ∷ [])
-    (trusted_fields has_trusted counts
-    ++ count_field (codes "others") counts.others ∷ count_field (codes "status") status ∷ [])
-accounts_of most false counts status =
-    (count_member_of most (codes "others") counts.others refl, (count_member_of most (codes "status") status refl, tt))
-accounts_of most true counts status = (
+accounts_of : (most : ℕ) (has_trusted : Bool) (counts : LineCounts) (texts : List (List ℕ)) (behind : List Field)
+    → AreMembers most texts behind
+    → AreMembers most ((Ends.trusted_members has_trusted counts ++ count_member (codes "others") counts.others ∷ []) ++ texts)
+    (trusted_fields has_trusted counts ++ count_field (codes "others") counts.others ∷ behind)
+accounts_of most false counts texts behind h = (count_member_of most (codes "others") counts.others refl, h)
+accounts_of most true counts texts behind h = (
   count_member_of most (codes "same_as_trusted") counts.same_as_trusted refl,
-  (count_member_of most (codes "others") counts.others refl, (count_member_of most (codes "status") status refl, tt)),
+  (
+    count_member_of most (codes "left_out") counts.left_out refl,
+    (count_member_of most (codes "others") counts.others refl, h),
+  ),
 )
 
-numbers_of : (most : ℕ) (has_trusted : Bool) (counts : LineCounts) (status : ℕ)
-    → AreMembers most
-    (Ends.count_members counts ++ (Ends.account_members has_trusted counts ++ count_member (codes "status") status ∷ []))
-    (number_fields has_trusted counts status)
-numbers_of most has_trusted counts status = (
+numbers_of : (most : ℕ) (has_trusted : Bool) (counts : LineCounts) (texts : List (List ℕ)) (behind : List Field)
+    → AreMembers most texts behind
+    → AreMembers most (Ends.count_members counts ++ (Ends.account_members has_trusted counts ++ texts))
+    (number_fields has_trusted counts behind)
+numbers_of most has_trusted counts texts behind h = (
   count_member_of most (codes "total") counts.total refl,
   (
     count_member_of most (codes "added") counts.added refl,
@@ -45,11 +47,17 @@ numbers_of most has_trusted counts status = (
       count_member_of most (codes "removed") counts.removed refl,
       (
         count_member_of most (codes "changed") counts.changed refl,
-        (count_member_of most (codes "same_as_old") counts.same_as_old refl, accounts_of most has_trusted counts status),
+        (
+          count_member_of most (codes "same_as_old") counts.same_as_old refl,
+          accounts_of most has_trusted counts texts behind h,
+        ),
       ),
     ),
   ),
 )
+
+status_of : (most status : ℕ) → AreMembers most (count_member (codes "status") status ∷ []) (status_fields status)
+status_of most status = (count_member_of most (codes "status") status refl, tt)
 
 end_of : (most : ℕ) → IsMember most (member (codes "end") (codes "true")) (codes "end", boolean true)
 end_of most = flat_member most (codes "end") (codes "true") (boolean true) refl (truth_value true)
@@ -88,7 +96,10 @@ closing_line_is_json old new has_trusted counts status h k =
       end_of 2,
       (
         read_member_of (codes "old") old refl h,
-        (read_member_of (codes "new") new refl k, numbers_of 2 has_trusted counts status),
+        (
+          read_member_of (codes "new") new refl k,
+          numbers_of 2 has_trusted counts _ (status_fields status) (status_of 2 status),
+        ),
       ),
     )
 
@@ -113,12 +124,20 @@ opening_line_trusted_is_json old_path new_path trusted_old trusted_new h k l m =
       ),
     )
 
-pub closing_line_trusted_is_json : (old new trusted_old trusted_new : ReadFacts) (counts : LineCounts) (status : ℕ)
-    → AreBytes old.digest → AreBytes new.digest → AreBytes trusted_old.digest → AreBytes trusted_new.digest
-    → IsJsonLine (closing_line_trusted old new trusted_old trusted_new counts status)
-    (closing_fields_trusted old new trusted_old trusted_new counts status)
+list_member_of : (digest : List ℕ) → AreBytes digest → IsMember 2 (list_member digest) (list_field digest)
+list_member_of digest bytes =
+    member_of 2 (codes "list") _ _ refl (object_of 1 _ ((codes "sha256", string (encode_lower digest)) ∷ [])
+    (flat_member 1 (codes "sha256") (hex_string digest) _ refl (hex_value digest bytes), tt))
+
+pub closing_line_trusted_is_json : (old new trusted_old trusted_new : ReadFacts) (list : List ℕ) (counts : LineCounts)
+    (status : ℕ)
+    → AreBytes old.digest → AreBytes new.digest → AreBytes trusted_old.digest → AreBytes trusted_new.digest → AreBytes list
+    → IsJsonLine (closing_line_trusted old new trusted_old trusted_new list counts status)
+    (closing_fields_trusted old new trusted_old trusted_new list counts status)
 unfolding closing_line_trusted
-closing_line_trusted_is_json old new trusted_old trusted_new counts status h k l m =
+closing_line_trusted_is_json old new trusted_old trusted_new list counts status h k l m n =
+    let texts = list_member list ∷ count_member (codes "status") status ∷ [] in
+    let behind : AreMembers 2 texts (list_field list ∷ status_fields status) = (list_member_of list n, status_of 2 status) in
     line_of 2 _ _ (omega arith) (
       end_of 2,
       (
@@ -127,7 +146,10 @@ closing_line_trusted_is_json old new trusted_old trusted_new counts status h k l
           read_member_of (codes "new") new refl k,
           (
             read_member_of (codes "trusted_old") trusted_old refl l,
-            (read_member_of (codes "trusted_new") trusted_new refl m, numbers_of 2 true counts status),
+            (
+              read_member_of (codes "trusted_new") trusted_new refl m,
+              numbers_of 2 true counts texts (list_field list ∷ status_fields status) behind,
+            ),
           ),
         ),
       ),

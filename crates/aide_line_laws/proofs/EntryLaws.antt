@@ -18,19 +18,20 @@ use Rattle.aide_entry.specs.Attributes.{Attributes, Value, number_value, mode_va
 use Rattle.aide_json.specs.Json.{hex_string, quoted}
 use Rattle.aide_json.specs.Number.{json_integer}
 use Rattle.aide_line_text.specs.Attribute.{type_string, value_member, attribute_member, entry_object}
-use Rattle.aide_agreement.specs.declared.account.SameAs.{SameAs}
-use Rattle.aide_agreement.specs.declared.account.SameAs.TheVariants.{Old, Trusted}
 use Rattle.aide_line_text.specs.Entry
-use Rattle.aide_line_text.specs.Entry.{account_word, kind_word, type_at, type_members, entry_members, entry_line}
+use Rattle.aide_line_text.specs.Entry.{kind_word, type_at, type_members, entry_members, entry_line}
+use Rattle.aide_line_text.specs.declared.account.Account.{Account}
+use Rattle.aide_line_text.specs.declared.account.Account.TheVariants.{LeftOut, Old, Trusted}
 use Rattle.aide_text.specs.ValueText.{type_text, octal_text}
 use Rattle.aide_line_laws.specs.ByteValues.{AreBytes, IsOfForm, IsOfFormIfAny, AreOfForms, AreOfFormsIfAny}
 use Rattle.aide_line_laws.specs.Field.{Field, members_of, integer_json}
-use Rattle.aide_line_laws.specs.Fields.{attribute_field, entry_fields, field_if_any, object_field, path_fields, value_field}
+use Rattle.aide_line_laws.specs.Fields.{account_field, attribute_field, entry_fields, field_if_any, object_field, path_fields}
+use Rattle.aide_line_laws.specs.Fields.{value_field}
 use Rattle.aide_line_laws.specs.JsonLine.{IsJsonLine}
 use Rattle.aide_line_laws.proofs.Strings.{is_plain, are_plain}
-use Rattle.aide_line_laws.proofs.Values.{IsValue, plain_value, hex_value, integer_value, member_of, text_member_of}
+use Rattle.aide_line_laws.proofs.Values.{IsMember, IsValue, plain_value, hex_value, integer_value, member_of, text_member_of}
 use Rattle.aide_line_laws.proofs.Objects.{AreMembers, deeper, object_of, line_of}
-use Rattle.aide_line_laws.proofs.Members.{members_both, flat_member, null_or_text_member_of}
+use Rattle.aide_line_laws.proofs.Members.{count_member_of, members_both, flat_member, null_or_text_member_of}
 
 plain_type : (k : FileType) → are_plain (type_text k) ≡ true
 plain_type kind.File = refl
@@ -138,22 +139,17 @@ plain_kind (None, Some new_entry) = refl
 plain_kind (Some old_entry, None) = refl
 plain_kind (Some old_entry, Some new_entry) = refl
 
-plain_account : (account : SameAs) → are_plain (account_word account) ≡ true
-plain_account Old = refl
-plain_account Trusted = refl
+account_member_of : (account : Account) → IsMember 1 (Entry.account_member account) (account_field account)
+account_member_of Old = flat_member 1 (codes "same_as") (quoted (codes "old")) _ refl (plain_value (codes "old") refl)
+account_member_of Trusted = flat_member 1 (codes "same_as") (quoted (codes "trusted")) _ refl (plain_value (codes "trusted") refl)
+account_member_of (LeftOut number) = count_member_of 1 (codes "left_out") number refl
 
-account_members_of : (account : Option SameAs)
-    → AreMembers 1 (Entry.account_members account)
-    (field_if_any (λ same. (codes "same_as", string (account_word same))) account)
+account_members_of : (account : Option Account) → AreMembers 1 (Entry.account_members account) (field_if_any account_field account)
 account_members_of None = tt
-account_members_of (Some account) = (
-  flat_member 1 (codes "same_as") (quoted (account_word account)) _ refl
-      (plain_value (account_word account) (plain_account account)),
-  tt,
-)
+account_members_of (Some account) = (account_member_of account, tt)
 
 -- The line of a path is one, if the path is of bytes, the letters need no escape, and each value is of its form.
-pub path_line_is_json : (path letters : List ℕ) (account : Option SameAs) (shows : Attr → Bool) (found : Pair)
+pub path_line_is_json : (path letters : List ℕ) (account : Option Account) (shows : Attr → Bool) (found : Pair)
     → AreBytes path → are_plain letters ≡ true → AreOfFormsIfAny found.0 → AreOfFormsIfAny found.1
     → IsJsonLine (entry_line path letters account shows found) (path_fields path letters account shows found)
 unfolding entry_line

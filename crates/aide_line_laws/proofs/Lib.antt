@@ -18,5 +18,6 @@ pub mod Cutting
 pub mod CompleteLaws
 pub mod BesideLaws
 pub mod AccountLaws
+pub mod ListLaws
 pub mod MapLaws
 pub mod RunMapLaws

@@ -1,18 +1,18 @@
 -- A path has a line exactly if the databases differ there, and the line says what accounts for this.
-use Rattle.std.proofs.Common.{◌≡◌, ◌∙◌, ℕ, Bool, true, false, List, [], ◌∷◌, ◌++◌, map, Option, Some, None, inl, inr, refl, sym, ap, subst}
+use Rattle.std.proofs.Common.{◌≡◌, ◌∙◌, ℕ, Bool, true, false, List, [], ◌∷◌, map, Option, Some, None, inl, inr, refl, sym, ap, subst}
 use Rattle.std.proofs.Common.{if◌then◌else◌}
 use Rattle.std.specs.Prelude.{◌&&◌, cond, not, T}
-use Rattle.std.specs.List.{AllByRecursion, filter}
+use Rattle.std.specs.List.{AllByRecursion}
 use Rattle.std.specs.Ordering.{is_eq, is_lt, eq_by_cmp, ordering_reverse}
 use Rattle.std.specs.declared.cmp.Ordering.{Ordering}
 use Rattle.std.specs.declared.cmp.Ordering.TheVariants.{Less, Equal, Greater}
-use Rattle.std.specs.Cmp.{IsTotalOrder, tied_itself}
+use Rattle.std.specs.Cmp.{tied_itself}
 use Rattle.std.specs.FinMap.{entries_sorted, get, get-entries}
 use Rattle.std.specs.FinMap.Entries.{below_all, find, is_sorted}
 use Rattle.aide_agreement.specs.Account.{Pair, is_as_old, is_as_trusted, same_as}
 use Rattle.aide_agreement.specs.Agreement.{agree}
 use Rattle.aide_agreement.specs.declared.account.SameAs.{SameAs}
-use Rattle.aide_agreement.specs.declared.account.SameAs.TheVariants.{Old, Trusted}
+use Rattle.aide_agreement.specs.declared.account.SameAs.TheVariants as same
 use Rattle.aide_agreement.proofs.Laws.{agree_from_meaning, meaning_of_agree}
 use Rattle.aide_attr.specs.declared.delta.Ignore.{Ignore}
 use Rattle.aide_conf.specs.declared.options.Options.{Options}
@@ -22,16 +22,23 @@ use Rattle.aide_db.specs.declared.limits.Limits.{Limits}
 use Rattle.aide_entry.specs.Attributes.{Attributes}
 use Rattle.aide_entry.specs.Path.{path_cmp}
 use Rattle.aide_entry.proofs.PathLaws.{path_cmp_total, path_cmp-IsAntisymmetric}
+use Rattle.aide_left_out.specs.Meaning.{IsLeftOut}
+use Rattle.aide_left_out.proofs.Laws.{left_out_from, left_out_means}
+use Rattle.aide_line_text.specs.Account.{account_as}
+use Rattle.aide_line_text.specs.declared.account.Account.{Account}
+use Rattle.aide_line_text.specs.declared.account.Account.TheVariants.{LeftOut, Old, Trusted}
 use Rattle.aide_report.specs.Asked.{Asked}
-use Rattle.aide_report.specs.ChangeLines.{Accounts, listed_changes}
+use Rattle.aide_report.specs.ChangeLines.{Accounts, by_old, listed_changes}
 use Rattle.aide_report.specs.Compare.{changes, compared}
 use Rattle.aide_report.specs.Entries.{PathChange}
 use Rattle.aide_report.specs.Sections.{all_listed, is_in}
 use Rattle.aide_report.proofs.MergeLemmas.{and_first, and_second, get-compared, lt_less, paired}
+use Rattle.aide_trusted.specs.BesideLines.{by_texts}
+use Rattle.aide_trusted.specs.Listed.{ListRead, account_by, left_by, measures_between}
 use Rattle.aide_line_laws.specs.ByteValues.{AreBytes}
 use Rattle.aide_line_laws.specs.Field.{Field}
-use Rattle.aide_line_laws.specs.OverMaps.{AreApart, HappenedThere, IsAbout, IsAccount, IsFramed, IsOneOf, SayAll, SaysOne}
-use Rattle.aide_line_laws.specs.OverMaps.{StayedAsOld, differ_beyond}
+use Rattle.aide_line_laws.specs.OverMaps.{AreApart, HappenedThere, IsAbout, IsAccount, IsFramed, IsOneOf, LeavesOut, SayAll}
+use Rattle.aide_line_laws.specs.OverMaps.{SaysOne, StayedAsOld, differ_beyond, left_out_of, nothing_left_out}
 use Rattle.aide_line_laws.specs.TextFields.{change_fields, fields_beside, fields_read}
 use Rattle.aide_line_laws.proofs.ReadingLaws.{account_is_read_back, path_is_read_back}
 use Rattle.aide_line_laws.proofs.TextLaws.{IsChangeOfBytes, changes_bytes}
@@ -90,33 +97,70 @@ happened_is (None, None) (None, Some trusted_new) h = absurd h
 happened_is (None, None) (Some trusted_old, None) h = absurd h
 happened_is (None, None) (Some trusted_old, Some trusted_new) h = absurd h
 
--- what the tests give: the old entry first, then the trusted machine
-abbrev chosen_by : Bool → Bool → Option SameAs
-chosen_by old trusted = cond old (Some Old) (cond trusted (Some Trusted) None)
+not_happened : (found trusted : Pair) → (HappenedThere found trusted → ⊥) → is_as_trusted found trusted ≡ false
+not_happened found trusted apart =
+    elim (is_as_trusted found trusted) as (λ b. is_as_trusted found trusted ≡ b → b ≡ false) [
+      | true ↦ λ e. absurd (apart (is_happened found trusted e))
+      | false ↦ λ e. refl
+    ] refl
 
-is_old : (a b : Bool) → chosen_by a b ≡ Some Old → a ≡ true
-is_old true b e = refl
-is_old false true e = cc
-is_old false false e = cc
+-- what the tests give: the old entry first, then the trusted machine, then the line of a list
+abbrev chosen_by : Bool → Bool → Option ℕ → Option Account
+chosen_by old trusted line = account_by (cond old (Some same.Old) (cond trusted (Some same.Trusted) None)) line
 
-is_trusted : (a b : Bool) → chosen_by a b ≡ Some Trusted → (a ≡ false) × (b ≡ true)
-is_trusted true b e = cc
-is_trusted false true e = (refl, refl)
-is_trusted false false e = cc
+is_old : (a b : Bool) (line : Option ℕ) → chosen_by a b line ≡ Some Old → a ≡ true
+is_old true b line e = refl
+is_old false true line e = cc
+is_old false false None e = cc
+is_old false false (Some number) e = cc
 
-never : (pair : Pair) → is_as_old pair ≡ false → StayedAsOld pair → ⊥
-never pair e stayed = let f = sym e ∙ stayed_is pair stayed in cc
+is_trusted : (a b : Bool) (line : Option ℕ) → chosen_by a b line ≡ Some Trusted → (a ≡ false) × (b ≡ true)
+is_trusted true b line e = cc
+is_trusted false true line e = (refl, refl)
+is_trusted false false None e = cc
+is_trusted false false (Some number) e = cc
 
--- What is said to account for a change does, and is said if it does.
-pub same_as_is_account : (found trusted : Pair) → IsAccount found trusted (same_as found trusted)
+is_left_out : (a b : Bool) (line : Option ℕ) (number : ℕ) → chosen_by a b line ≡ Some (LeftOut number)
+    → (a ≡ false) × (b ≡ false) × (line ≡ Some number)
+is_left_out true b line number e = cc
+is_left_out false true line number e = cc
+is_left_out false false None number e = cc
+is_left_out false false (Some other) number e = (refl, refl, cc e)
+
+never_old : (pair : Pair) → is_as_old pair ≡ false → StayedAsOld pair → ⊥
+never_old pair e stayed = let f = sym e ∙ stayed_is pair stayed in cc
+
+never_trusted : (found trusted : Pair) → is_as_trusted found trusted ≡ false → HappenedThere found trusted → ⊥
+never_trusted found trusted e happened = let f = sym e ∙ happened_is found trusted happened in cc
+
+-- What is said to account for a change does, and is said if it does: an entry, or the line of a list.
+pub account_by_is_account : (found trusted : Pair) (line : Option ℕ) (leaves : ℕ → Type 0)
+    → ((number : ℕ) → line ≡ Some number → leaves number) → ((number : ℕ) → leaves number → line ≡ Some number)
+    → IsAccount found trusted leaves (account_by (same_as found trusted) line)
 unfolding same_as
-same_as_is_account found trusted = record {
-  old = λ e. is_stayed found (is_old (is_as_old found) (is_as_trusted found trusted) e);
-  from_old = λ stayed. rw (stayed_is found stayed) refl;
-  trusted = λ e. let h = is_trusted (is_as_old found) (is_as_trusted found trusted) e in
-      (is_happened found trusted h.1, never found h.0);
-  from_trusted = λ happened apart. rw (not_stayed found apart, happened_is found trusted happened) refl;
-}
+account_by_is_account found trusted line leaves means from =
+    let a = is_as_old found in
+    let b = is_as_trusted found trusted in
+    record {
+      old = λ e. is_stayed found (is_old a b line e);
+      from_old = λ stayed. rw (stayed_is found stayed) refl;
+      trusted = λ e. let h = is_trusted a b line e in (is_happened found trusted h.1, never_old found h.0);
+      from_trusted = λ happened apart. rw (not_stayed found apart, happened_is found trusted happened) refl;
+      left_out = λ number e. let h = is_left_out a b line number e in
+          (means number h.2, never_old found h.0, never_trusted found trusted h.1);
+      from_left_out = λ number is apart others.
+          rw (not_stayed found apart, not_happened found trusted others, from number is) refl;
+    }
+
+without_a_line : (found : Option SameAs) → account_by found None ≡ account_as found
+without_a_line None = refl
+without_a_line (Some one) = refl
+
+-- Without a trusted machine and without a list the old entry alone accounts for a change.
+pub old_is_account : (change : PathChange) → IsAccount change.1 (None, None) (λ line. ⊥) (by_old change)
+old_is_account change =
+    subst (IsAccount change.1 (None, None) (λ line. ⊥)) (without_a_line (same_as change.1 (None, None)))
+    (account_by_is_account change.1 (None, None) None (λ line. ⊥) (λ number e. cc e) (λ number is. absurd is))
 
 -- ---- each change has what both databases have at its path
 
@@ -163,10 +207,8 @@ listed_is options path (None, Some new) = refl
 listed_is options path (Some old, None) = refl
 listed_is options path (Some old, Some new) = refl
 
-module _ (options : Options) (old new : Database) (trusted : List ℕ → Pair) where
-  abbrev accounts : Accounts
-  accounts change = same_as change.1 (trusted change.0)
-
+module _ (options : Options) (old new : Database) (there : List ℕ → Pair) (leaves : LeavesOut) (accounts : Accounts)
+    (right : (change : PathChange) → IsAccount change.1 (there change.0) (leaves change.0 change.1) (accounts change)) where
   -- the change has what both databases have at its path, which is of bytes
   abbrev IsTrue : PathChange → Type 0
   IsTrue change = AreBytes change.0 × (change.1 ≡ (get old change.0, get new change.0))
@@ -181,26 +223,25 @@ module _ (options : Options) (old new : Database) (trusted : List ℕ → Pair) 
   about change h = path_is_read_back options accounts change h.0
 
   says : (change : PathChange) → IsTrue change → is_in options all_listed change ≡ true
-      → SaysOne options.ignore old new trusted (line change)
+      → SaysOne options.ignore old new there leaves (line change)
   says change h e = record {
     path = change.0;
     about = about change h;
     differs = ap (differ_beyond options.ignore) (sym h.1) ∙ sym (listed_is options change.0 change.1) ∙ e;
     account = accounts change;
     said = account_is_read_back options accounts change;
-    right = subst (λ pair. IsAccount pair (trusted change.0) (accounts change)) h.1
-        (same_as_is_account change.1 (trusted change.0));
+    right = subst (λ pair. IsAccount pair (there change.0) (leaves change.0 pair) (accounts change)) h.1 (right change);
   }
 
   says_each : (all : List PathChange) → AllByRecursion IsTrue all → (fields : List Field) → IsOneOf fields (lines_of all)
-      → SaysOne options.ignore old new trusted fields
+      → SaysOne options.ignore old new there leaves fields
   says_each [] h fields is = absurd is
   says_each (change ∷ all) h fields is =
       elim (is_in options all_listed change) as (λ b. is_in options all_listed change ≡ b
       → IsOneOf fields (map line (if b then change ∷ listed_changes options all else listed_changes options all))
-      → SaysOne options.ignore old new trusted fields) [
+      → SaysOne options.ignore old new there leaves fields) [
         | true ↦ λ e found. elim found [
-          | inl same ↦ subst (SaysOne options.ignore old new trusted) (sym same) (says change h.0 e)
+          | inl one ↦ subst (SaysOne options.ignore old new there leaves) (sym one) (says change h.0 e)
           | inr rest ↦ says_each all h.1 fields rest
         ]
         | false ↦ λ e rest. says_each all h.1 fields rest
@@ -259,7 +300,7 @@ module _ (options : Options) (old new : Database) (trusted : List ℕ → Pair) 
       elim (is_in options all_listed change) as (λ b. IsOneOf other
       (map line (if b then change ∷ listed_changes options all else listed_changes options all)) → ⊥) [
         | true ↦ λ found. elim found [
-          | inl same ↦ unlike key change (and_first _ _ below) h.0 (subst (IsAbout key) same about_key)
+          | inl one ↦ unlike key change (and_first _ _ below) h.0 (subst (IsAbout key) one about_key)
           | inr rest ↦ no_later key all (and_second _ _ below) h.1 other rest about_key
         ]
         | false ↦ λ rest. no_later key all (and_second _ _ below) h.1 other rest about_key
@@ -293,7 +334,7 @@ module _ (options : Options) (old new : Database) (trusted : List ℕ → Pair) 
   -- The lines of the changes of two databases say all: a path has a line exactly if the databases differ there beyond what
   -- the options ignore, only one, and it says what accounts for the change.
   pub lines_say_all : AllByRecursion IsChangeOfBytes (changes old new)
-      → SayAll options.ignore old new trusted (lines_of (changes old new))
+      → SayAll options.ignore old new there leaves (lines_of (changes old new))
   lines_say_all bytes =
       let sorted = entries_sorted (compared old new) in
       let true_ones = all_true (changes old new) bytes (all_found (changes old new) sorted) in record {
@@ -306,28 +347,40 @@ module _ (options : Options) (old new : Database) (trusted : List ℕ → Pair) 
 
 -- ---- texts
 
--- The lines over two sound texts of bytes say all, without a trusted machine.
+-- The lines over two sound texts of bytes say all, without a trusted machine and without a list.
 pub lines_read_say_all : (limits : Limits) (wish : Asked) (old new : List ℕ) → IsSound limits old → IsSound limits new
     → AreBytes old → AreBytes new
     → (lines : List (List Field)) × IsFramed lines (fields_read wish old new)
-    × SayAll wish.options.ignore (database_of old) (database_of new) (λ path. (None, None)) lines
+    × SayAll wish.options.ignore (database_of old) (database_of new) (λ path. (None, None)) nothing_left_out lines
 lines_read_say_all limits wish old new old_sound new_sound old_bytes new_bytes = (
   _,
   record { first = _; last = _; parts = refl },
-  lines_say_all wish.options (database_of old) (database_of new) (λ path. (None, None))
-      (changes_bytes limits old new old_sound new_sound old_bytes new_bytes),
+  lines_say_all wish.options (database_of old) (database_of new) (λ path. (None, None)) nothing_left_out by_old
+      old_is_account (changes_bytes limits old new old_sound new_sound old_bytes new_bytes),
 )
 
--- Those over four texts, of which the first two are sound and of bytes, say all by what the trusted texts have.
-pub lines_beside_say_all : (limits : Limits) (wish trusted : Asked) (old new trusted_old trusted_new : List ℕ)
+-- What is said beside a trusted pair and a list to account for a change does, and is said if it does.
+pub by_texts_is_account : (list : ListRead) (old new trusted_old trusted_new : List ℕ) (change : PathChange)
+    → IsAccount change.1 (get (database_of trusted_old) change.0, get (database_of trusted_new) change.0)
+    (left_out_of list old new change.0 change.1) (by_texts list old new trusted_old trusted_new change)
+by_texts_is_account list old new trusted_old trusted_new change =
+    let measures = measures_between old new in
+    account_by_is_account change.1 (get (database_of trusted_old) change.0, get (database_of trusted_new) change.0)
+    (left_by list measures change) (IsLeftOut list.rules measures change.0 change.1)
+    (left_out_means list.rules measures change.0 change.1) (left_out_from list.rules measures change.0 change.1)
+
+-- The lines over four texts, of which the first two are sound and of bytes, say all by what the trusted texts have and by
+-- what the list leaves out.
+pub lines_beside_say_all : (limits : Limits) (list : ListRead) (wish trusted : Asked) (old new trusted_old trusted_new : List ℕ)
     → IsSound limits old → IsSound limits new → AreBytes old → AreBytes new
-    → (lines : List (List Field)) × IsFramed lines (fields_beside wish trusted old new trusted_old trusted_new)
+    → (lines : List (List Field)) × IsFramed lines (fields_beside list wish trusted old new trusted_old trusted_new)
     × SayAll wish.options.ignore (database_of old) (database_of new)
-    (λ path. (get (database_of trusted_old) path, get (database_of trusted_new) path)) lines
-lines_beside_say_all limits wish trusted old new trusted_old trusted_new old_sound new_sound old_bytes new_bytes = (
+    (λ path. (get (database_of trusted_old) path, get (database_of trusted_new) path)) (left_out_of list old new) lines
+lines_beside_say_all limits list wish trusted old new trusted_old trusted_new old_sound new_sound old_bytes new_bytes = (
   _,
   record { first = _; last = _; parts = refl },
   lines_say_all wish.options (database_of old) (database_of new)
-      (λ path. (get (database_of trusted_old) path, get (database_of trusted_new) path))
+      (λ path. (get (database_of trusted_old) path, get (database_of trusted_new) path)) (left_out_of list old new)
+      (by_texts list old new trusted_old trusted_new) (by_texts_is_account list old new trusted_old trusted_new)
       (changes_bytes limits old new old_sound new_sound old_bytes new_bytes),
 )

@@ -8,20 +8,21 @@ use Rattle.hex.specs.Hex.{encode_lower}
 use Rattle.hex.proofs.HexLemmas.{decode_of-encode_lower}
 use Rattle.json.specs.Json.{Json, object, string}
 use Rattle.aide_agreement.specs.Account.{Pair}
-use Rattle.aide_agreement.specs.declared.account.SameAs.{SameAs}
 use Rattle.aide_attr.specs.declared.attr.Attr.{Attr}
 use Rattle.aide_attr.specs.declared.file_type.FileType.{FileType}
 use Rattle.aide_conf.specs.declared.options.Options.{Options}
 use Rattle.aide_entry.specs.Attributes.{Attributes}
-use Rattle.aide_line_text.specs.Entry.{account_word, kind_word, type_at}
+use Rattle.aide_line_text.specs.Entry.{kind_word, type_at}
+use Rattle.aide_line_text.specs.declared.account.Account.{Account}
+use Rattle.aide_line_text.specs.declared.account.Account.TheVariants.{LeftOut, Old, Trusted}
 use Rattle.aide_report.specs.ChangeLines.{Accounts, widest}
 use Rattle.aide_report.specs.Entries.{PathChange, letters_of, shows_at}
 use Rattle.aide_text.specs.ValueText.{type_text}
 use Rattle.aide_line_laws.specs.ByteValues.{AreBytes}
 use Rattle.aide_line_laws.specs.Field.{Field, members_of, text_field}
-use Rattle.aide_line_laws.specs.Fields.{entry_fields, field_if_any, object_field}
+use Rattle.aide_line_laws.specs.Fields.{account_field, entry_fields, field_if_any, object_field}
 use Rattle.aide_line_laws.specs.TextFields.{change_fields}
-use Rattle.aide_line_laws.specs.Reading.{bytes_of, text_of, text_under, value_under}
+use Rattle.aide_line_laws.specs.Reading.{SaysAccount, bytes_of, line_number, same_word, text_of, text_under, value_under}
 use Rattle.aide_line_laws.proofs.Base64.{byte_at}
 
 -- behind a text, whatever it is, the rest is read
@@ -56,12 +57,36 @@ last_any : {X : Type 0} (name : List ℕ) (json : X → Json) (found : Option X)
 last_any name json None same = refl
 last_any name json (Some x) same = rw same refl
 
+-- ---- what accounts for a change
+
+other_account : (name : List ℕ) → bytes_eq (codes "same_as") name ≡ false → bytes_eq (codes "left_out") name ≡ false
+    → (account : Account) → bytes_eq (account_field account).0 name ≡ false
+other_account name e f Old = e
+other_account name e f Trusted = e
+other_account name e f (LeftOut number) = f
+
+under_account : (name : List ℕ) (json : Account → Option Json) (found : Option Account) (fields : List Field)
+    → value_under name fields ≡ None
+    → ((account : Account) → value_under name (account_field account ∷ fields) ≡ json account)
+    → value_under name (field_if_any account_field found ++ fields) ≡ option_and_then json found
+under_account name json None fields none h = none
+under_account name json (Some account) fields none h = h account
+
+word_of : (fields : List Field) → value_under (codes "same_as") fields ≡ None → (account : Account)
+    → value_under (codes "same_as") (account_field account ∷ fields) ≡ same_word account
+word_of fields none Old = refl
+word_of fields none Trusted = refl
+word_of fields none (LeftOut number) = none
+
+number_of : (fields : List Field) → value_under (codes "left_out") fields ≡ None → (account : Account)
+    → value_under (codes "left_out") (account_field account ∷ fields) ≡ line_number account
+number_of fields none Old = none
+number_of fields none Trusted = none
+number_of fields none (LeftOut number) = refl
+
 -- ---- the parts behind the summary string
 
-module _ (account : Option SameAs) (shows : Attr → Bool) (found : Pair) where
-  abbrev same : SameAs → Field
-  same account = (codes "same_as", string (account_word account))
-
+module _ (account : Option Account) (shows : Attr → Bool) (found : Pair) where
   abbrev type : FileType → Field
   type kind = (codes "type", string (type_text kind))
 
@@ -72,7 +97,7 @@ module _ (account : Option SameAs) (shows : Attr → Bool) (found : Pair) where
   sides = field_if_any (side (codes "old")) found.0 ++ field_if_any (side (codes "new")) found.1
 
   abbrev parts : List Field
-  parts = field_if_any same account ++ (field_if_any type (type_at found) ++ sides)
+  parts = field_if_any account_field account ++ (field_if_any type (type_at found) ++ sides)
 
   nothing_in_sides : (name : List ℕ) → bytes_eq (codes "old") name ≡ false → bytes_eq (codes "new") name ≡ false
       → value_under name sides ≡ None
@@ -80,21 +105,31 @@ module _ (account : Option SameAs) (shows : Attr → Bool) (found : Pair) where
       past_any name (side (codes "old")) found.0 (field_if_any (side (codes "new")) found.1) (λ x. e)
       ∙ nothing_any name (side (codes "new")) found.1 (λ x. f)
 
-  nothing_in_parts : (name : List ℕ) → bytes_eq (codes "same_as") name ≡ false → bytes_eq (codes "type") name ≡ false
-      → bytes_eq (codes "old") name ≡ false → bytes_eq (codes "new") name ≡ false → value_under name parts ≡ None
-  nothing_in_parts name e f g h =
-      past_any name same account (field_if_any type (type_at found) ++ sides) (λ x. e)
-      ∙ past_any name type (type_at found) sides (λ x. f) ∙ nothing_in_sides name g h
+  nothing_behind : (name : List ℕ) → bytes_eq (codes "type") name ≡ false → bytes_eq (codes "old") name ≡ false
+      → bytes_eq (codes "new") name ≡ false → value_under name (field_if_any type (type_at found) ++ sides) ≡ None
+  nothing_behind name f g h = past_any name type (type_at found) sides (λ x. f) ∙ nothing_in_sides name g h
 
-  same_in_parts : value_under (codes "same_as") parts ≡ option_map (λ account. string (account_word account)) account
-  same_in_parts =
-      under_any (codes "same_as") (λ account. string (account_word account)) account (field_if_any type (type_at found) ++ sides)
-      refl
-      (past_any (codes "same_as") type (type_at found) sides (λ x. refl) ∙ nothing_in_sides (codes "same_as") refl refl)
+  nothing_in_parts : (name : List ℕ) → bytes_eq (codes "same_as") name ≡ false → bytes_eq (codes "left_out") name ≡ false
+      → bytes_eq (codes "type") name ≡ false → bytes_eq (codes "old") name ≡ false → bytes_eq (codes "new") name ≡ false
+      → value_under name parts ≡ None
+  nothing_in_parts name d e f g h =
+      past_any name account_field account (field_if_any type (type_at found) ++ sides) (other_account name d e)
+      ∙ nothing_behind name f g h
+
+  account_in_parts : SaysAccount account parts
+  account_in_parts =
+      let behind = field_if_any type (type_at found) ++ sides in
+      let no_word = nothing_behind (codes "same_as") refl refl refl in
+      let no_number = nothing_behind (codes "left_out") refl refl refl in
+      record {
+        same_as = under_account (codes "same_as") same_word account behind no_word (word_of behind no_word);
+        left_out = under_account (codes "left_out") line_number account behind no_number (number_of behind no_number);
+      }
 
   old_in_parts : value_under (codes "old") parts ≡ option_map (λ entry. object (members_of (entry_fields shows entry))) found.0
   old_in_parts =
-      past_any (codes "old") same account (field_if_any type (type_at found) ++ sides) (λ x. refl)
+      past_any (codes "old") account_field account (field_if_any type (type_at found) ++ sides)
+      (other_account (codes "old") refl refl)
       ∙ past_any (codes "old") type (type_at found) sides (λ x. refl)
       ∙ under_any (codes "old") (λ entry. object (members_of (entry_fields shows entry))) found.0
       (field_if_any (side (codes "new")) found.1) refl
@@ -102,7 +137,8 @@ module _ (account : Option SameAs) (shows : Attr → Bool) (found : Pair) where
 
   new_in_parts : value_under (codes "new") parts ≡ option_map (λ entry. object (members_of (entry_fields shows entry))) found.1
   new_in_parts =
-      past_any (codes "new") same account (field_if_any type (type_at found) ++ sides) (λ x. refl)
+      past_any (codes "new") account_field account (field_if_any type (type_at found) ++ sides)
+      (other_account (codes "new") refl refl)
       ∙ past_any (codes "new") type (type_at found) sides (λ x. refl)
       ∙ past_any (codes "new") (side (codes "old")) found.0 (field_if_any (side (codes "new")) found.1) (λ x. refl)
       ∙ last_any (codes "new") (λ entry. object (members_of (entry_fields shows entry))) found.1 refl
@@ -144,7 +180,7 @@ pub path_is_read_back : (options : Options) (account : Accounts) (change : PathC
 path_is_read_back options account change bytes =
     let shows = shows_at (widest options) change.1 in
     text_is_read (codes "path") change.0 (parts (account change) shows change.1) bytes refl refl refl
-    (nothing_in_parts (account change) shows change.1 (codes "path") refl refl refl refl)
+    (nothing_in_parts (account change) shows change.1 (codes "path") refl refl refl refl refl)
 
 -- What is under "kind" is the word for what became of it.
 pub kind_is_read_back : (options : Options) (account : Accounts) (change : PathChange)
@@ -159,13 +195,16 @@ summary_is_read_back options account change =
     (past_text (codes "summary") (codes "path") change.0 ((codes "summary", string (letters_of options.ignore change.1))
     ∷ parts (account change) (shows_at (widest options) change.1) change.1) refl refl)
 
--- Under "same_as" is what accounts for it, and nothing if nothing does.
+-- What accounts for it is there: an entry by its word, the line of a list by its number, or nothing.
 pub account_is_read_back : (options : Options) (account : Accounts) (change : PathChange)
-    → value_under (codes "same_as") (change_fields options account change)
-    ≡ option_map (λ same. string (account_word same)) (account change)
+    → SaysAccount (account change) (change_fields options account change)
 account_is_read_back options account change =
-    past_text (codes "same_as") (codes "path") change.0 (parts (account change) (shows_at (widest options) change.1) change.1) refl refl
-    ∙ same_in_parts (account change) (shows_at (widest options) change.1) change.1
+    let behind = parts (account change) (shows_at (widest options) change.1) change.1 in
+    let said = account_in_parts (account change) (shows_at (widest options) change.1) change.1 in
+    record {
+      same_as = past_text (codes "same_as") (codes "path") change.0 behind refl refl ∙ said.same_as;
+      left_out = past_text (codes "left_out") (codes "path") change.0 behind refl refl ∙ said.left_out;
+    }
 
 -- Under "old" are the attributes of the old entry that pass, and nothing if there is none.
 pub old_is_read_back : (options : Options) (account : Accounts) (change : PathChange)
@@ -189,4 +228,4 @@ pub no_change_is_the_end : (options : Options) (account : Accounts) (change : Pa
 no_change_is_the_end options account change =
     let shows = shows_at (widest options) change.1 in
     past_text (codes "end") (codes "path") change.0 (parts (account change) shows change.1) refl refl
-    ∙ nothing_in_parts (account change) shows change.1 (codes "end") refl refl refl refl
+    ∙ nothing_in_parts (account change) shows change.1 (codes "end") refl refl refl refl refl

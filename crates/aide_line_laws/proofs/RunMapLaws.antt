@@ -12,10 +12,11 @@ use Rattle.aide_report.specs.Runs.{report_over}
 use Rattle.aide_report.specs.Seen.{Seen, SinkSeen}
 use Rattle.aide_report.specs.declared.outcome.Outcome.{Outcome}
 use Rattle.aide_trusted.specs.BesideLines.{lines_beside}
+use Rattle.aide_trusted.specs.Listed.{ListRead}
 use Rattle.aide_trusted.specs.PairSeen.{Gives, PairSeen}
 use Rattle.aide_trusted.specs.RunBeside.{IsRunBeside}
 use Rattle.aide_line_laws.specs.ByteValues.{AreBytes}
-use Rattle.aide_line_laws.specs.OverMaps.{HasSaidAll}
+use Rattle.aide_line_laws.specs.OverMaps.{HasSaidAll, left_out_of, nothing_left_out}
 use Rattle.aide_line_laws.specs.TextFields.{fields_beside, fields_read}
 use Rattle.aide_line_laws.proofs.BesideLaws.{ArePathsOfBytes, lines_beside_are_complete, lines_beside_are_json}
 use Rattle.aide_line_laws.proofs.CompleteLaws.{lines_read_are_complete}
@@ -26,7 +27,8 @@ use Rattle.aide_line_laws.proofs.TextLaws.{lines_read_are_json}
 pub a_run_says_all : (limits : Limits) (wish : Asked) (a b : Seen) (d e : DeskView) (o p : SinkSeen) (old new : List ℕ)
     → a.bytes_of Old ≡ Some old → a.bytes_of New ≡ Some new → AreBytes old → AreBytes new → ArePathsOfBytes wish
     → (outcome : Outcome) → IsLinesRun limits wish a b d e o p (Ok outcome)
-    → HasSaidAll wish.options.ignore (database_of old) (database_of new) (λ path. (None, None)) o.delivered p.delivered
+    → HasSaidAll wish.options.ignore (database_of old) (database_of new) (λ path. (None, None)) nothing_left_out
+    o.delivered p.delivered
 a_run_says_all limits wish a b d e o p old new told_old told_new old_bytes new_bytes paths outcome run =
     let old_sound = run.sound Old old told_old in
     let new_sound = run.sound New new told_new in
@@ -50,18 +52,20 @@ a_run_says_all limits wish a b d e o p old new told_old told_new old_bytes new_b
     }
 
 -- After `Ok` a run over four texts of bytes has written lines that say all of the first two maps, by what the trusted two
--- have at each path.
-pub a_trusted_run_says_all : (limits : Limits) (p q : PairSeen) (o s : SinkSeen) (old new trusted_old trusted_new : List ℕ)
+-- have at each path and by what the list leaves out.
+pub a_trusted_run_says_all : (limits : Limits) (list : ListRead) (p q : PairSeen) (o s : SinkSeen)
+    (old new trusted_old trusted_new : List ℕ)
     → Gives p old new → Gives q trusted_old trusted_new → AreBytes old → AreBytes new
-    → ArePathsOfBytes p.asked → ArePathsOfBytes q.asked
-    → (outcome : Outcome) → IsRunBeside limits p q o s (Ok outcome)
+    → ArePathsOfBytes p.asked → ArePathsOfBytes q.asked → AreBytes list.digest
+    → (outcome : Outcome) → IsRunBeside limits list p q o s (Ok outcome)
     → HasSaidAll p.asked.options.ignore (database_of old) (database_of new)
-    (λ path. (get (database_of trusted_old) path, get (database_of trusted_new) path)) o.delivered s.delivered
-a_trusted_run_says_all limits p q o s old new trusted_old trusted_new gives trusted_gives old_bytes new_bytes paths others
-    outcome run =
+    (λ path. (get (database_of trusted_old) path, get (database_of trusted_new) path)) (left_out_of list old new)
+    o.delivered s.delivered
+a_trusted_run_says_all limits list p q o s old new trusted_old trusted_new gives trusted_gives old_bytes new_bytes paths others
+    digest outcome run =
     let old_sound = run.sound Old old gives.0 in
     let new_sound = run.sound New new gives.1 in
-    let lines = lines_beside p.asked q.asked old new trusted_old trusted_new in
+    let lines = lines_beside list p.asked q.asked old new trusted_old trusted_new in
     let ends =
     run.over (Some old) (Some new) (Some trusted_old) (Some trusted_new) gives trusted_gives (Ok lines) (record {
       compared = Ok (report_over p.asked old new);
@@ -76,15 +80,15 @@ a_trusted_run_says_all limits p q o s old new trusted_old trusted_new gives trus
     })
     in
     let says =
-    lines_beside_say_all limits p.asked q.asked old new trusted_old trusted_new old_sound new_sound old_bytes new_bytes
+    lines_beside_say_all limits list p.asked q.asked old new trusted_old trusted_new old_sound new_sound old_bytes new_bytes
     in
     record {
       text = lines.text;
       bytes = ends.1;
-      all = fields_beside p.asked q.asked old new trusted_old trusted_new;
-      are_lines = lines_beside_are_json limits p.asked q.asked old new trusted_old trusted_new old_sound new_sound
-          old_bytes new_bytes paths others;
-      complete = lines_beside_are_complete p.asked q.asked old new trusted_old trusted_new;
+      all = fields_beside list p.asked q.asked old new trusted_old trusted_new;
+      are_lines = lines_beside_are_json limits list p.asked q.asked old new trusted_old trusted_new old_sound new_sound
+          old_bytes new_bytes paths others digest;
+      complete = lines_beside_are_complete list p.asked q.asked old new trusted_old trusted_new;
       lines = says.0;
       framed = says.1;
       say = says.2;

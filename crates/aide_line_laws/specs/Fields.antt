@@ -5,7 +5,6 @@ use Rattle.std.specs.List.{filter, flat_map}
 use Rattle.hex.specs.Hex.{encode_lower}
 use Rattle.json.specs.Json.{boolean, string, array, object}
 use Rattle.aide_agreement.specs.Account.{Pair}
-use Rattle.aide_agreement.specs.declared.account.SameAs.{SameAs}
 use Rattle.aide_attr.specs.Attr.{all_attrs, detail_name_of, form_of}
 use Rattle.aide_attr.specs.declared.attr.Attr.{Attr}
 use Rattle.aide_attr.specs.declared.form.Form.{Form}
@@ -14,8 +13,10 @@ use Rattle.aide_attr.specs.declared.form.Form.TheVariants.{Opaque}
 use Rattle.aide_entry.specs.Attributes.{Attributes, Value, type_in, link_in, number_in, digest_in}
 use Rattle.aide_entry.specs.Attributes.{opaque_in}
 use Rattle.aide_line_text.specs.Ends.{is_skipped, numbers}
-use Rattle.aide_line_text.specs.Entry.{account_word, kind_word, type_at}
+use Rattle.aide_line_text.specs.Entry.{kind_word, type_at}
 use Rattle.aide_line_text.specs.Frame.{ReadFacts}
+use Rattle.aide_line_text.specs.declared.account.Account.{Account}
+use Rattle.aide_line_text.specs.declared.account.Account.TheVariants.{LeftOut, Old, Trusted}
 use Rattle.aide_line_text.specs.declared.counts.LineCounts.{LineCounts}
 use Rattle.aide_text.specs.ValueText.{type_text, mode_text}
 use Rattle.aide_line_laws.specs.Field.{Field, members_of, items_of, text_field, integer_json}
@@ -53,15 +54,21 @@ attribute_field values a = value_field (detail_name_of a) (form_of a) (values a)
 abbrev pub entry_fields : (Attr → Bool) → Attributes → List Field
 entry_fields shows values = flat_map (attribute_field values) (filter shows all_attrs)
 
+-- what accounts for a change: an entry by its word, or a list by the number of its line
+abbrev pub account_field : Account → Field
+account_field Old = (codes "same_as", string (codes "old"))
+account_field Trusted = (codes "same_as", string (codes "trusted"))
+account_field (LeftOut number) = count_field (codes "left_out") number
+
 -- The members of the line of a path: what became of it, the path, the summary string, what accounts for the
 -- change, the type, and the attributes that pass on either side.
-abbrev pub path_fields : (path letters : List ℕ) → Option SameAs → (Attr → Bool) → Pair
+abbrev pub path_fields : (path letters : List ℕ) → Option Account → (Attr → Bool) → Pair
     → List Field
 path_fields path letters account shows found =
     (codes "kind", string (kind_word found))
     ∷ text_field (codes "path") path
     ∷ (codes "summary", string letters)
-    ∷ (field_if_any (λ same. (codes "same_as", string (account_word same))) account
+    ∷ (field_if_any account_field account
     ++ (field_if_any (λ kind. (codes "type", string (type_text kind))) (type_at found)
     ++ (field_if_any (λ entry. object_field (codes "old") (entry_fields shows entry)) found.0
     ++ field_if_any (λ entry. object_field (codes "new") (entry_fields shows entry)) found.1)))
@@ -94,22 +101,27 @@ read_fields facts =
       array (items_of (map count_json (filter (is_skipped facts.skipped) (numbers 1 64)))),
     ) ∷ []
 
--- for how many lines a trusted machine accounts, if there is one
+-- for how many lines a trusted machine accounts, and how many a list leaves out, if there is such a machine
 abbrev pub trusted_fields : (has_trusted : Bool) → LineCounts → List Field
 trusted_fields false counts = []
-trusted_fields true counts = count_field (codes "same_as_trusted") counts.same_as_trusted ∷ []
+trusted_fields true counts =
+    count_field (codes "same_as_trusted") counts.same_as_trusted
+    ∷ count_field (codes "left_out") counts.left_out ∷ []
 
--- the numbers of entries and of what accounts for them, and the status
-abbrev pub number_fields : (has_trusted : Bool) → LineCounts → ℕ → List Field
-number_fields has_trusted counts status =
+-- the numbers of entries and of what accounts for them, and what is behind these
+abbrev pub number_fields : (has_trusted : Bool) → LineCounts → (behind : List Field) → List Field
+number_fields has_trusted counts behind =
     count_field (codes "total") counts.total
     ∷ count_field (codes "added") counts.added
     ∷ count_field (codes "removed") counts.removed
     ∷ count_field (codes "changed") counts.changed
     ∷ count_field (codes "same_as_old") counts.same_as_old
     ∷ (trusted_fields has_trusted counts
-    ++ count_field (codes "others") counts.others
-    ∷ count_field (codes "status") status ∷ [])
+    ++ count_field (codes "others") counts.others ∷ behind)
+
+-- the status
+abbrev pub status_fields : ℕ → List Field
+status_fields status = count_field (codes "status") status ∷ []
 
 -- the members of the last line
 abbrev pub closing_fields : (old new : ReadFacts) → (has_trusted : Bool) → LineCounts → ℕ
@@ -118,15 +130,21 @@ closing_fields old new has_trusted counts status =
     (codes "end", boolean true)
     ∷ object_field (codes "old") (read_fields old)
     ∷ object_field (codes "new") (read_fields new)
-    ∷ number_fields has_trusted counts status
+    ∷ number_fields has_trusted counts (status_fields status)
 
--- the same beside a trusted pair
-abbrev pub closing_fields_trusted : (old new trusted_old trusted_new : ReadFacts) → LineCounts → ℕ
+-- the SHA-256 of a list that says what is left out
+abbrev pub list_field : List ℕ → Field
+list_field digest =
+    object_field (codes "list") ((codes "sha256", string (encode_lower digest)) ∷ [])
+
+-- the same beside a trusted pair, with the list
+abbrev pub closing_fields_trusted : (old new trusted_old trusted_new : ReadFacts)
+    → (list : List ℕ) → LineCounts → ℕ
     → List Field
-closing_fields_trusted old new trusted_old trusted_new counts status =
+closing_fields_trusted old new trusted_old trusted_new list counts status =
     (codes "end", boolean true)
     ∷ object_field (codes "old") (read_fields old)
     ∷ object_field (codes "new") (read_fields new)
     ∷ object_field (codes "trusted_old") (read_fields trusted_old)
     ∷ object_field (codes "trusted_new") (read_fields trusted_new)
-    ∷ number_fields true counts status
+    ∷ number_fields true counts (list_field list ∷ status_fields status)

@@ -1,22 +1,22 @@
 -- What the lines of changes say of four databases, path by path.
 use Rattle.std.specs.Prelude.{◌≡◌, ◌⊎◌, ℕ, Bool, true, false, List, [], ◌∷◌, ◌++◌, Option, Some}
-use Rattle.std.specs.Prelude.{None, ⊤, codes, option_map}
+use Rattle.std.specs.Prelude.{None, ⊤, codes}
 use Rattle.std.specs.FinMap.{get}
 use Rattle.std.specs.Io.KnownBytes.{Appends}
-use Rattle.json.specs.Json.{string}
 use Rattle.aide_agreement.specs.Account.{Pair}
 use Rattle.aide_agreement.specs.Meaning.{Agrees}
-use Rattle.aide_agreement.specs.declared.account.SameAs.{SameAs}
-use Rattle.aide_agreement.specs.declared.account.SameAs.TheVariants.{Old, Trusted}
 use Rattle.aide_attr.specs.declared.delta.Ignore.{Ignore}
 use Rattle.aide_db.specs.Map.{Database}
 use Rattle.aide_entry.specs.Attributes.{Attributes}
-use Rattle.aide_line_text.specs.Entry.{account_word}
+use Rattle.aide_left_out.specs.Meaning.{IsLeftOut}
+use Rattle.aide_line_text.specs.declared.account.Account.{Account}
+use Rattle.aide_line_text.specs.declared.account.Account.TheVariants.{LeftOut, Old, Trusted}
 use Rattle.aide_report.specs.Changed.{differ_by}
+use Rattle.aide_trusted.specs.Listed.{ListRead, measures_between}
 use Rattle.aide_line_laws.specs.Complete.{AreComplete}
 use Rattle.aide_line_laws.specs.Field.{Field}
 use Rattle.aide_line_laws.specs.JsonLine.{AreJsonLines}
-use Rattle.aide_line_laws.specs.Reading.{text_under, value_under}
+use Rattle.aide_line_laws.specs.Reading.{SaysAccount, text_under}
 
 -- ---- one path
 
@@ -44,13 +44,32 @@ HappenedThere (old, Some new) (trusted_old, Some trusted_new) =
 HappenedThere (Some old, None) (Some trusted_old, None) = Agrees old trusted_old
 HappenedThere _ _ = ⊥
 
+-- which lines of a list leave out the change at a path
+abbrev pub LeavesOut : Type 1
+LeavesOut = (path : List ℕ) → Pair → (line : ℕ) → Type 0
+
+-- those of no list
+abbrev pub nothing_left_out : LeavesOut
+nothing_left_out path pair line = ⊥
+
+-- those of a list, beside two texts, which say whether they have the column of capabilities
+abbrev pub left_out_of : ListRead → (old new : List ℕ) → LeavesOut
+left_out_of list old new path pair line =
+    IsLeftOut list.rules (measures_between old new) path pair line
+
 -- What accounts for a change: the old entry exactly if it stayed as it was; otherwise the trusted
--- machine exactly if the same happened there.
-pub record IsAccount (found there : Pair) (account : Option SameAs) : Type 0 where
+-- machine exactly if the same happened there; otherwise a line of the list exactly if it leaves the
+-- change out; otherwise nothing.
+pub record IsAccount (found there : Pair) (leaves : (line : ℕ) → Type 0)
+    (account : Option Account) : Type 0 where
   pub old : account ≡ Some Old → StayedAsOld found
   pub from_old : StayedAsOld found → account ≡ Some Old
   pub trusted : account ≡ Some Trusted → HappenedThere found there × (StayedAsOld found → ⊥)
   pub from_trusted : HappenedThere found there → (StayedAsOld found → ⊥) → account ≡ Some Trusted
+  pub left_out : (line : ℕ) → account ≡ Some (LeftOut line) → leaves line
+      × (StayedAsOld found → ⊥) × (HappenedThere found there → ⊥)
+  pub from_left_out : (line : ℕ) → leaves line → (StayedAsOld found → ⊥)
+      → (HappenedThere found there → ⊥) → account ≡ Some (LeftOut line)
 
 -- ---- lines
 
@@ -78,27 +97,28 @@ pub record IsFramed (lines all : List (List Field)) : Type 0 where
 
 -- a line is about a path at which the databases differ, and says what accounts for this
 pub record SaysOne (ignore : Ignore) (old new : Database) (there : List ℕ → Pair)
-    (fields : List Field) : Type 0 where
+    (leaves : LeavesOut) (fields : List Field) : Type 0 where
   pub path : List ℕ
   pub about : IsAbout path fields
   pub differs : differ_beyond ignore (get old path, get new path) ≡ true
-  pub account : Option SameAs
-  pub said : value_under (codes "same_as") fields
-      ≡ option_map (λ one. string (account_word one)) account
-  pub right : IsAccount (get old path, get new path) (there path) account
+  pub account : Option Account
+  pub said : SaysAccount account fields
+  pub right : IsAccount (get old path, get new path) (there path)
+      (leaves path (get old path, get new path)) account
 
--- Lines about two databases, by what a trusted pair has at each path: a path has a line exactly if the two differ there
--- beyond what the options ignore. It has one, which says what accounts for this.
+-- Lines about two databases, by what a trusted pair has at each path and by what a list leaves out: a path has a line
+-- exactly if the two differ there beyond what the options ignore. It has one, which says what accounts for this.
 pub record SayAll (ignore : Ignore) (old new : Database) (there : List ℕ → Pair)
-    (lines : List (List Field)) : Type 0 where
-  pub each : (fields : List Field) → IsOneOf fields lines → SaysOne ignore old new there fields
+    (leaves : LeavesOut) (lines : List (List Field)) : Type 0 where
+  pub each : (fields : List Field) → IsOneOf fields lines
+      → SaysOne ignore old new there leaves fields
   pub all : (path : List ℕ) → differ_beyond ignore (get old path, get new path) ≡ true
       → (fields : List Field) × IsOneOf fields lines × IsAbout path fields
   pub apart : AreApart lines
 
 -- What has gone out since is complete lines of JSON, and those between the first and the last one say all.
 pub record HasSaidAll (ignore : Ignore) (old new : Database) (there : List ℕ → Pair)
-    (before after : Option (List ℕ)) : Type 0 where
+    (leaves : LeavesOut) (before after : Option (List ℕ)) : Type 0 where
   pub text : List ℕ
   pub bytes : Appends before after text
   pub all : List (List Field)
@@ -106,4 +126,4 @@ pub record HasSaidAll (ignore : Ignore) (old new : Database) (there : List ℕ �
   pub complete : AreComplete all
   pub lines : List (List Field)
   pub framed : IsFramed lines all
-  pub say : SayAll ignore old new there lines
+  pub say : SayAll ignore old new there leaves lines

@@ -1,12 +1,15 @@
 -- What a reader gets back from the members of an object.
-use Rattle.std.specs.Prelude.{ℕ, ◌||◌, Bool, if◌then◌else◌, List, [], ◌∷◌, ◌++◌, Option, Some, None}
+use Rattle.std.specs.Prelude.{◌≡◌, ℕ, ◌||◌, Bool, if◌then◌else◌, List, [], ◌∷◌, ◌++◌, Option, Some}
+use Rattle.std.specs.Prelude.{None}
 use Rattle.std.specs.Prelude.{codes, option_and_then}
 use Rattle.std.specs.List.{filter}
 use Rattle.std.specs.Result.{result_ok}
 use Rattle.std.specs.Str.{bytes_eq}
 use Rattle.hex.specs.Hex.{decode_of}
 use Rattle.json.specs.Json.{Json, string}
-use Rattle.aide_line_laws.specs.Field.{Field}
+use Rattle.aide_line_text.specs.declared.account.Account.{Account}
+use Rattle.aide_line_text.specs.declared.account.Account.TheVariants.{LeftOut, Old, Trusted}
+use Rattle.aide_line_laws.specs.Field.{Field, count_json}
 
 -- the value under a name: that of the first member of this name
 abbrev pub value_under : List ℕ → List Field → Option Json
@@ -37,3 +40,21 @@ is_name_of name own = bytes_eq own name || bytes_eq own (name ++ codes "_hex")
 -- all members under a name, or under the one for base 16
 abbrev pub all_under : List ℕ → List Field → List Field
 all_under name fields = filter (λ field. is_name_of name field.0) fields
+
+-- ---- what accounts for a change
+
+-- the word for an entry that accounts for a change
+abbrev pub same_word : Account → Option Json
+same_word Old = Some (string (codes "old"))
+same_word Trusted = Some (string (codes "trusted"))
+same_word (LeftOut number) = None
+
+-- the number of the line of a list that leaves a change out
+abbrev pub line_number : Account → Option Json
+line_number (LeftOut number) = Some (count_json number)
+line_number _ = None
+
+-- A reader finds what accounts for a change: an entry by its word, the line of a list by its number, or nothing.
+pub record SaysAccount (account : Option Account) (fields : List Field) : Type 0 where
+  pub same_as : value_under (codes "same_as") fields ≡ option_and_then same_word account
+  pub left_out : value_under (codes "left_out") fields ≡ option_and_then line_number account

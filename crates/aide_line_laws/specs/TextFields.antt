@@ -8,7 +8,8 @@ use Rattle.aide_report.specs.Compare.{changes}
 use Rattle.aide_report.specs.Entries.{PathChange, letters_of, shows_at}
 use Rattle.aide_report.specs.LineCounts.{line_counts, status_by}
 use Rattle.aide_report.specs.LinesRead.{read_of}
-use Rattle.aide_trusted.specs.BesideLines.{by_trusted}
+use Rattle.aide_trusted.specs.BesideLines.{by_texts}
+use Rattle.aide_trusted.specs.Listed.{ListRead}
 use Rattle.aide_line_laws.specs.Field.{Field}
 use Rattle.aide_line_laws.specs.Fields.{closing_fields, closing_fields_trusted, opening_fields}
 use Rattle.aide_line_laws.specs.Fields.{opening_fields_trusted, path_fields}
@@ -38,13 +39,14 @@ fields_read asked old new =
     (closing_fields (read_of old) (read_of new) false counts (status_by counts))
     (changes (database_of old) (database_of new))
 
--- those of the lines over two texts beside a trusted pair
-abbrev pub fields_beside : (asked trusted : Asked) → (old new trusted_old trusted_new : List ℕ)
+-- those of the lines over two texts beside a trusted pair and a list
+abbrev pub fields_beside : ListRead → (asked trusted : Asked)
+    → (old new trusted_old trusted_new : List ℕ)
     → List (List Field)
-fields_beside asked trusted old new trusted_old trusted_new =
-    let account = by_trusted (database_of trusted_old) (database_of trusted_new) in
+fields_beside list asked trusted old new trusted_old trusted_new =
+    let account = by_texts list old new trusted_old trusted_new in
     let counts = line_counts asked.options account (database_of old) (database_of new) in
     fields_of_lines asked.options account
     (opening_fields_trusted asked.old_path asked.new_path trusted.old_path trusted.new_path)
     (closing_fields_trusted (read_of old) (read_of new) (read_of trusted_old) (read_of trusted_new)
-    counts (status_by counts)) (changes (database_of old) (database_of new))
+    list.digest counts (status_by counts)) (changes (database_of old) (database_of new))
