@@ -1,6 +1,7 @@
-"""Prints docs/HEADLINE.md, docs/HEADLINE_LINES.md and docs/HEADLINE_JSON.md: the headline of the
-report, what the lines of JSON say of the databases, and what the calls that write lines promise;
-and each definition that these rest on, with the sentence over it.
+"""Prints docs/HEADLINE.md, docs/HEADLINE_LINES.md, docs/HEADLINE_LISTS.md and
+docs/HEADLINE_JSON.md: the headline of the report, what the lines of JSON say of the databases, what
+a list leaves out, and what the calls that write lines promise; and each definition that these rest
+on, with the sentence over it.
 
 From the contracts of `aide_headline`, and from the laws of `aide_line_laws` that the second page
 begins with, this follows each name to its definition, and from there to
@@ -18,8 +19,16 @@ from tools.source.definitions import TOP, WORD, Definitions, crates, imports_of
 from tools.source.headline_tables import library_words, members_of, read, types_of
 
 PAGE, THEOREM_PAGE = "docs/HEADLINE.md", "docs/HEADLINE_LINES.md"
-LINES_PAGE = "docs/HEADLINE_JSON.md"
+LISTS_PAGE, LINES_PAGE = "docs/HEADLINE_LISTS.md", "docs/HEADLINE_JSON.md"
 LAWS = "crates/aide_line_laws/proofs/RunMapLaws.antt"
+LIST_LAWS = "crates/aide_line_laws/proofs/ListLaws.antt"
+OF_LISTS = (
+    "entries_come_first",
+    "rights_are_told",
+    "empty_list_is_none",
+    "longer_list_keeps",
+    "outcome_is_without_list",
+)
 COMPARE = "crates/aide_headline/src/comparison.rt"
 PROGRAM = "crates/aide_headline/src/program.rt"
 COMPARE_LINES = "crates/aide_headline/src/lines.rt"
@@ -33,6 +42,15 @@ PREMISES = [("aide_conf", "ReadResult", "ReadsAs"), ("aide_words", "Job", "job_o
 PREMISES_TRUSTED = [("aide_words", "BesideJob", "beside_job_of")]
 # The map of a text, which the second page has in a part of its own.
 MAP = ("aide_db", "Map", "database_of")
+# What the page of lists has, and the page of the theorem leaves to it.
+LEFT_OUT = ("aide_left_out", "Meaning", "IsLeftOut")
+NAMES = ("aide_patterns", "Rules", "IsFirst")
+RIGHTS = ("aide_left_out", "Meaning", "GivesRight")
+READING = ("aide_patterns", "List", "IsReading")
+MEASURES = ("aide_trusted", "Listed", "measures_between")
+# What a field means, which the page of the report has.
+VALUES = ("aide_entry", "Values", "value_of")
+OF_VALUES = "[HEADLINE.md](HEADLINE.md) has what a field means by its form (`value_of`)."
 # The records of a run, and what contracts see of devices: HEADLINE_JSON.md has them.
 RUNS = [
     ("aide_report", "LinesRun", "IsLinesRun"),
@@ -92,13 +110,30 @@ read a definition. Read this page to know which changes are silent:
 > entries are there and agree; otherwise it says that the trusted machine does
 > exactly if the same happened there: it has an entry that agrees with the new
 > one and that its own old entry does not agree with, or it had an entry that
-> agrees with the one that is gone, and has none any more. Nothing else is ever
-> said to account for a change.
+> agrees with the one that is gone, and has none any more. Otherwise it has the
+> number of a line of the list exactly if that line leaves the change out.
+> Nothing else is ever said to account for a change.
 
 At any fault, and if the output fails, no last line has gone out, so that a
-reader never takes the lines for complete. [HEADLINE_JSON.md](HEADLINE_JSON.md)
-has the contracts of the calls that write lines, with all that they promise
-besides, and the text of each line.
+reader never takes the lines for complete. [HEADLINE_LISTS.md](HEADLINE_LISTS.md)
+says when a line of a list leaves a change out, and what no list does.
+[HEADLINE_JSON.md](HEADLINE_JSON.md) has the calls that write lines, all that
+they promise, and the text of each line.
+"""
+INTRO_OF_LISTS = """\
+# What a list leaves out, and what it never does
+
+`python3 -m tools.source.headline_page --write` writes this page too, and the
+tests compare it with the definitions. [HEADLINE.md](HEADLINE.md) tells how to
+read a definition, and [HEADLINE_LINES.md](HEADLINE_LINES.md) what else makes a
+change silent. Read this page to know what a list can make silent:
+
+> A line of a list leaves a change out only if neither the old entry nor a
+> trusted machine accounts for it. It is the first line that names the path, and
+> that names programs too if one of the two entries is that of a program. The
+> path is not that of the settings. Each entry that is there gives nobody a
+> right, and nobody may write a directory who could not before. A name that
+> begins with a dot is named only by a component that begins with one.
 """
 INTRO_OF_LINES = """\
 # The calls that write lines of JSON, and what they rest on besides
@@ -110,6 +145,11 @@ changes, the summary string, what arguments ask for. This page adds those that
 only the lines need. [HEADLINE_LINES.md](HEADLINE_LINES.md) says what the lines
 mean.
 """
+OF_LIST_LAWS = f"""\
+These laws (`{LIST_LAWS}`) are of the lines over any four texts, beside a list:
+what an entry accounts for, and what gives a right, is the same as without one;
+so is all with an empty list; a longer list changes no account that there was;
+and the status is that of the report."""
 OF_LAWS = f"""\
 Both laws (`{LAWS}`) are proved of the
 record that the public call promises, for two databases alone and for two beside
@@ -134,8 +174,10 @@ def contract_of(text, name):
 
 def law_of(text: str, name: str) -> str:
     """What a law says: its name and its type."""
-    begin = text.index(f"pub {name} :")
-    return text[begin : text.index(f"\n{name} ", begin)]
+    found = re.search(rf"^( *)(pub {name} :.*?)\n\1{name}\b", text, re.DOTALL | re.MULTILINE)
+    if found is None:
+        sys.exit(f"no law {name}")
+    return found.group(2).replace("\n" + found.group(1), "\n")
 
 
 def fields_of(text: str, names: list[str]) -> list[str]:
@@ -231,10 +273,28 @@ def theorem(definitions):
     made.block("text", "\n\n".join(laws))
     silent = {name: ("aide_line_laws", "OverMaps", name) for name in ("IsAccount", "differ_beyond")}
     made.part("What is silent, and what differs", [], " ".join(silent), silent)
-    made.part("What the lines say", [], "\n".join(laws), imports_of(text), [*RUNS, MAP])
-    made.part("What the maps are", [], "database_of", {"database_of": MAP})
+    stops = [*RUNS, MAP, LEFT_OUT, MEASURES]
+    made.part("What the lines say", [], "\n".join(laws), imports_of(text), stops)
+    made.part("What the maps are", [OF_VALUES, ""], MAP[2], {MAP[2]: MAP}, [VALUES])
     made.add(*types_of(made, []))
     made.add(*library_words(made.outside))
+    return made
+
+
+def lists(definitions, printed):
+    """The page of what a list leaves out, with the definitions that are not printed yet."""
+    text = read(LIST_LAWS)
+    made = Page(definitions, INTRO_OF_LISTS, printed)
+    made.add("", "## The laws", "", *OF_LIST_LAWS.split("\n"), "")
+    made.block("text", "\n\n".join(law_of(text, name) for name in OF_LISTS))
+    for title, place, stops in (
+        ("When a line leaves a change out", LEFT_OUT, [NAMES]),
+        ("What gives somebody a right", RIGHTS, []),
+        ("Which databases say that a program has no capabilities", MEASURES, []),
+        ("Which paths a line names", NAMES, []),
+        ("What a text says as a list", READING, []),
+    ):
+        made.part(title, [], place[2], {place[2]: place}, stops)
     return made
 
 
@@ -267,9 +327,15 @@ def pages():
     )
     made.add(*types_of(made, []))
     made.add(*library_words(made.outside))
+    silent = theorem(definitions)
+    listed = lists(definitions, silent.printed)
+    listed.add(*types_of(listed, silent.outside))
+    listed.add(*library_words(listed.outside, silent.outside))
     calls = [(OF_TWO, COMPARE_LINES, "compare_as_lines")]
     calls.append((OF_PROGRAM, PROGRAM_LINES, "run_lines_program"))
-    lines, (compare, program) = begun(INTRO_OF_LINES, definitions, calls, printed)
+    lines, (compare, program) = begun(
+        INTRO_OF_LINES, definitions, calls, [*printed, *listed.printed]
+    )
     lines.part("What the first call has besides", [], compare, imports_of(read(COMPARE_LINES)))
     lines.part(
         "What the second call has besides",
@@ -280,7 +346,7 @@ def pages():
     )
     lines.add(*types_of(lines, made.outside))
     lines.add(*library_words(lines.outside, made.outside))
-    named = {PAGE: made, THEOREM_PAGE: theorem(definitions), LINES_PAGE: lines}
+    named = {PAGE: made, THEOREM_PAGE: silent, LISTS_PAGE: listed, LINES_PAGE: lines}
     return {name: "\n".join(page.lines) + "\n" for name, page in named.items()}
 
 

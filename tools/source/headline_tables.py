@@ -31,6 +31,7 @@ MEANINGS = {
     "encode_of": "the base64 text of bytes",
     "Json": "a value of JSON (RFC 8259): an object, an array, a string, a number, true or false, or null",
     "boolean": "true or false, as a value of JSON",
+    "number": "a number in digits, as a value of JSON",
     "string": "a text, as a value of JSON",
     "object": "an object with these members, as a value of JSON",
     "Members": "the members of an object in their order, each a name and a value",
