@@ -154,12 +154,11 @@ class CommandTest(ScratchTest):
         self.write("bin/aide-compare", FRONT, 0o755)
         os.symlink("aide-compare", self.path("bin/check_aide_compare"))
         self.replaced: dict[str, object] = {}
-        # The records of packages, the administrator's directory and AIDE's configuration are those
-        # of the test, never those of this machine.
+        # The records of packages and the administrator's directory are those of the test, never
+        # those of this machine.
         self.set_names("changes.packages", DPKG=self.path("dpkg"), DPKG_LOG=self.path("dpkg.log"))
         self.after_import("changes.packages", "Dpkg.__init__.__defaults__ = (DPKG,)\n")
         self.set_names("base.parser", DIRECTORY=self.path("etc"))
-        self.set_names("compare.configuration", DEFAULTS=(self.path("aide.conf"),))
         for name, text in (("old", OLD), ("new", NEW)):
             self.write(name + ".db", text)
             self.write(name + ".db.gz", gzip.compress(text))

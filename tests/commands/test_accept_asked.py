@@ -54,9 +54,8 @@ class AcceptAskedTest(AcceptingTest):
         self.assertIn(b"is not the database that was reported", text)
 
     def test_configuration(self) -> None:
-        """Without names they are those of AIDE's configuration."""
-        lines = "database_in=file:%s\ndatabase_out=file:%s\n"
-        self.write("aide.conf", lines % (self.path(FILES[1]), self.path(FILES[0])))
+        """Without names they are those of the defaults."""
+        self.write("etc/defaults", f"--databases {self.path(FILES[1])} {self.path(FILES[0])}\n")
         status, text = self.asked(b"y\n", ())
         self.assertEqual((status, contents(self)[0]), (0, NEW), text)
 

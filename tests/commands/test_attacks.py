@@ -11,7 +11,7 @@ from typing import Any
 
 from tests.lib.program_test import slow
 
-from .sandbox import AS_NOBODY, Answer, CommandTest, DIFFER, NEW, NOBODY, OLD, UMASK, sha256
+from .sandbox import AS_NOBODY, Answer, CommandTest, NEW, NOBODY, OLD, UMASK, sha256
 from .states import state_text
 
 TOOL = "aide-compare compare --report"
@@ -256,20 +256,10 @@ class AttacksTest(CommandTest):
         self.assertEqual(self.call(*words, "new.db", "-A", "report_level=summary").output, MINIMAL)
 
     def test_places(self) -> None:
-        """Lines that include files are passed over and said; HOSTNAME is defined; the numbers of
-        lines stay."""
-        self.write(os.uname().nodename + ".db", NEW)
-        lines = "@@include /etc/aide.d/x\n@@x_include /y\ndatabase_in=file:%s\ndatabase_out=file:%s/@@{HOSTNAME}.db\n"
-        self.write("conf", lines % (self.path("old.db"), self.root))
-        answer = self.compared("-c", "conf")
-        self.assertIn(b"conf: 2 lines that include", answer.errors)
-        self.assertIn(b"@@include /etc/aide.d/x", answer.errors)
-        self.write("one", "@@include /etc/aide.d/x\n")
-        note = b"one: 1 line that includes other files is passed over"
-        self.answered(7, None, [note, *DIFFER], TOOL, "-c", "one", "old.db", "new.db")
-        quiet = b"NO differences"
-        equal = [b"both databases are equal"]
-        plain = self.answered(0, quiet, equal, TOOL, "-c", "one", "new.db", "new.db.gz")
-        self.assertNotIn(note, plain.errors)
-        self.answered(0, quiet, note, TOOL, "-v", "-c", "one", "new.db", "new.db.gz")
+        """A configuration that includes files is refused, and none is read; one of a person is read
+        whatever the umask is."""
+        self.write("conf", "report_level=summary\n@@include /etc/aide.d/x\n")
+        refused = b"aide: config:2: left out of this profile\n"
+        self.refused(17, refused, TOOL, "-c", "conf", "old.db", "new.db")
+        self.write("conf", "report_level=summary\n")
         self.compared("-c", "conf", "old.db", "new.db", before=UMASK % 0o77)

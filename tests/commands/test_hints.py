@@ -59,34 +59,6 @@ class HintsTest(CommandTest):
             self.assertIn(SHOWN + b"; it is " + hint, told.splitlines()[1])
             self.assertNotIn(b"line 1:", told)
 
-    def test_misspelt(self) -> None:
-        """A group with a name like that of an option is told, where it is used; the report and the
-        status stay."""
-        lines = "@@ifdef X\nreport_z=s\n@@endif\nreport_level=summary\nreport_url=stdout\n"
-        self.write("odd conf", lines)
-        words = ("-c", "odd conf", "old.db", "new.db")
-        right = self.call(TOOL, *words)
-        self.assertNotIn(b"is no option", right.errors, "right options are not told")
-        lines += " report_ignore_chnaged_attrs = s\ndatabases=p\nreports=p\n"
-        self.write("odd conf", lines)
-        group = b"%s is no option, but a group; did you mean %s?\n"
-        told = [
-            b"odd conf:6: "
-            + group % (b"report_ignore_chnaged_attrs", b"report_ignore_changed_attrs"),
-            b"odd conf:7: " + group % (b"databases", b"database"),
-        ]
-        nine = "".join("report_%d=p\n" % number for number in range(9))
-        unknown = b"-A:1: report_xxxxxxxxxxxx is no option, but a group\n"
-        for more, errors, count in (
-            ((), b"", 2),
-            (("-A", "\nreport_levl=p"), b"-A:2: " + group % (b"report_levl", b"report_level"), 3),
-            (("-A", "report_xxxxxxxxxxxx=p"), unknown, 3),
-            (("-A", nine), b"6 more such groups\n", 5),
-        ):
-            wanted = told + [errors] if errors else told
-            answer = self.answered(7, right.output, wanted, TOOL, *words, *more)
-            self.assertEqual(answer.errors.count(b"is no option"), count, answer)
-
     def test_configuration_hints(self) -> None:
         left_out = b"aide: config:1: left out of this profile\n"
         misspelt = [
@@ -97,8 +69,8 @@ class HintsTest(CommandTest):
         ]
         level = [b"aide: config:1: bad value\n", b"a level is minimal, summary"]
         unknown = [
-            b"aide: config:3: unknown directive\n",
-            b"line 3: @@odd\n",
+            b"aide: config:2: unknown directive\n",
+            b"line 2: @@odd\n",
             b"aide-compare does not support it",
         ]
         for text, errors in (
@@ -107,7 +79,8 @@ class HintsTest(CommandTest):
             ("report_format=json", [left_out, b"for JSON: aide-compare json OLD NEW\n"]),
             ("report_ignore_changed_attrs=xyz", [b"line 1: report_ignore_changed_attrs=xyz\n"]),
             ("@@ifhost x", [left_out, b"leave AIDE's own configuration as it is"]),
-            ("@@include /etc/x\n@@x_include /x\n@@odd", unknown),
+            ("\n@@odd", unknown),
+            ("@@include /etc/x", [left_out, b"leave AIDE's own configuration as it is"]),
             ("a\x1b[1m\x80", [b"line 1: a\\033[1m"]),
         ):
             self.write("odd conf", text)

@@ -57,9 +57,8 @@ class OneTruthTest(CommandTest):
         keep_as_apt(self, self.place)
         self.place.new.file(LEFT_OUT, b"a log\n")
         self.write("etc/without", os.fsdecode(LEFT_OUT) + "\n")
-        self.write("etc/defaults", self.below(DEFAULTS))
-        names = map(self.path, PAIR)
-        self.write("aide.conf", "database_in=file:{}\ndatabase_out=file:{}\n".format(*names))
+        databases = " ".join(map(self.path, PAIR))
+        self.write("etc/defaults", f"--databases {databases}\n{self.below(DEFAULTS)}")
         self.put(self.place)
 
     def put(self, place: Place) -> None:
@@ -178,11 +177,8 @@ class OneTruthTest(CommandTest):
         answer = self.call("aide-compare", *copied)
         self.assertRegex(answer.output, rb"\A1\d open ")
         self.assertFalse(os.path.lexists(self.path("base/state")))
-        self.write("other.conf", self.read("aide.conf").replace(b"aide.db", b"aide.db.copied"))
-        self.write("base/aide.db.copied.new", self.place.new.database())
-        self.assertRegex(self.call("aide-compare", "-c", "other.conf").output, rb"\A1\d open ")
-        option = f"database_in=file:{self.path(copied[0])}"
-        self.assertRegex(self.call("aide-compare", "-A", option).output, rb"\A1\d open ")
+        self.assertRegex(self.call("aide-compare", PAIR[0], copied[1]).output, rb"\A1\d open ")
+        self.assertRegex(self.call("aide-compare", *PAIR).output, rb"\A4 open ")
 
     def test_before_archive(self) -> None:
         """Without the pair of tonight nothing is trusted, and that is said."""
@@ -202,6 +198,6 @@ class OneTruthTest(CommandTest):
         answer = self.call("aide-compare", "--trusted", *PAIR[:1], *PAIR[:1])
         self.assertRegex(answer.output, rb"\A1\d open ")
         self.refused(15, b"is given twice", "aide-compare", *trusted, *trusted)
-        answer = self.call("aide-compare", "--no-defaults")
+        answer = self.call("aide-compare", "--no-defaults", *PAIR)
         self.assertRegex(answer.output, rb"\A1\d open ")
         self.assertIn(CONFIGURATION, answer.output)

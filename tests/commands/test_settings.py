@@ -1,5 +1,5 @@
-"""Lines in AIDE's own configuration, which is on the host that is watched: it names the two
-databases, and silences nothing."""
+"""Lines in AIDE's own configuration, which is on the host that is watched, silence nothing; and the
+databases of this machine are those of the defaults."""
 from __future__ import annotations
 
 import os
@@ -12,18 +12,8 @@ from .sandbox import Answer, CommandTest
 PLACES = ("/etc/passwd", "/etc/shadow", "/etc/aide/aide.conf", "/usr/sbin/sshd", "/usr/bin/vi")
 # All attributes that the changes have.
 ALL = "p+u+g+s+b+l+m+c+i+n+acl+xattrs+selinux+caps+e2fsattrs+md5+sha1+sha256+sha512"
-NAMED = "database_in=file:{0}/aide.db\ndatabase_out=file:{0}/aide.db.new\n"
-STOCK = NAMED + "database_new=file:{0}/aide.db.new\nreport_ignore_e2fsattrs=VNIE\n"
 TOLD = "5 open (5 high) of 5 changes"
-# One line more, or an option of the report.
-SILENCING = (
-    "report_ignore_changed_attrs=s+b+sha256+sha512\n",
-    f"report_ignore_changed_attrs={ALL}\n",
-    f"report_ignore_changed_attrs={ALL}\nreport_url=stdout\n",
-    "report_level=minimal\nreport_quiet=yes\n",
-    "report_force_attrs=p\n",
-    f"report_ignore_added_attrs={ALL}\nreport_ignore_removed_attrs={ALL}\n",
-)
+SILENCING = f"report_ignore_changed_attrs={ALL}\n"
 
 
 class SettingsTest(CommandTest):
@@ -38,19 +28,25 @@ class SettingsTest(CommandTest):
         self.write("aide.db", old.database())
         self.write("aide.db.new", new.database())
 
-    def morning(self, text: str) -> Answer:
-        """What the command of each day says of this configuration of AIDE."""
-        self.write("aide.conf", text.format(self.root))
+    def morning(self, names: str = "{0}/aide.db {0}/aide.db.new") -> Answer:
+        """What the command of each day says of these databases."""
+        self.write("etc/defaults", f"--databases {names.format(self.root)}\n")
         return mail.call(self, "--state", "state", "--max-age", "50h")
 
     def test_silencing(self) -> None:
-        """Each change is told, whatever options AIDE's configuration has."""
-        for lines in ("", *SILENCING):
-            answer = self.morning(lines + STOCK)
-            self.assertEqual(answer.status, 4, (lines, answer))
-            self.assertIn(TOLD, mail.subject(mail.sent(self)), lines)
-            counts = self.state()
-            self.assertEqual((counts["open"], counts["changed"]), ("5", "5"), lines)
+        """Each change is told: no command reads AIDE's configuration, whatever it says."""
+        self.assertEqual(self.morning().status, 4)
+        self.assertIn(TOLD, mail.subject(mail.sent(self)))
+        counts = self.state()
+        self.assertEqual((counts["open"], counts["changed"]), ("5", "5"))
+        own = os.path.join(self.root, "lib", "aide_compare")
+        named = set()
+        for above, _, files in os.walk(own):
+            for name in files:
+                path = os.path.join(above, name)
+                if name.endswith(".py") and b'aide.conf"' in self.read(path):
+                    named.add(name)
+        self.assertEqual(named, {"setup_machine.py"})
 
     def test_other_names(self) -> None:
         """One file is never compared with itself, by whatever names."""
@@ -58,7 +54,7 @@ class SettingsTest(CommandTest):
         os.link(self.path("aide.db.new"), link)
         odd = f"{self.root}//./aide.db.new"
         for name in (odd, link, self.path("aide.db.new")):
-            self.morning(STOCK.replace("{0}/aide.db\n", f"{name}\n"))
+            self.morning(name + " {0}/aide.db.new")
             self.assertEqual(self.state()["status"], "17", name)
             self.assertIn("no comparison", mail.subject(mail.sent(self)), name)
             said = b"one file as the old and as the new database: "
@@ -71,10 +67,10 @@ class SettingsTest(CommandTest):
 
     def test_word_of_a_person(self) -> None:
         """What a person names counts. A run that is silent for it says how much it leaves out."""
-        self.write("aide.conf", STOCK.format(self.root))
-        self.write("own.conf", (STOCK + SILENCING[1]).format(self.root))
+        self.morning()
+        self.write("own.conf", SILENCING)
         note = b"aide-compare: report_ignore_changed_attrs leaves 19 attributes out of the comparison\n"
-        for words in (("-c", "own.conf"), ("-A", SILENCING[1])):
+        for words in (("-c", "own.conf", "aide.db", "aide.db.new"), ("-A", SILENCING)):
             self.answered(0, None, note, "aide-compare", *words)
             answer = self.call("aide-compare", "--report", *words)
             self.assertEqual(answer.errors, note, words)
@@ -83,20 +79,22 @@ class SettingsTest(CommandTest):
         self.assertEqual(answer.status, 4)
 
     def test_missing(self) -> None:
-        """Without AIDE, and without a baseline, the line says what to do."""
-        said = b"aide.conf, which would name the databases: name OLD and NEW\n"
-        self.refused(18, said, "aide-compare", state="state")
+        """Without the line of the defaults, and without a baseline, it is said what to do."""
+        said = [b"no databases are named\n", b"name OLD and NEW, or as root: aide-compare setup\n"]
+        self.refused(15, said, "aide-compare", state="state")
+        self.refused(15, said, "aide-compare", "--no-defaults", state="state")
+        self.morning()
+        named = b"--config names no databases: name OLD and NEW\n"
+        self.refused(15, named, "aide-compare", "-c", "/dev/null")
         os.remove(self.path("aide.db"))
-        self.assertEqual(self.morning(STOCK).status, 18)
+        self.assertEqual(self.morning().status, 18)
         text = mail.body(mail.sent(self)).replace(b"\n  ", b" ")
-        self.assertIn(b"/aide.db yet\n", text)
-        self.assertIn(b"as root: aide-compare setup\n", text)
+        self.assertIn(b"cannot open the old database", text)
+        os.remove(self.path("etc/defaults"))
+        self.assertEqual(mail.call(self, "--state", "state").status, 15)
+        self.assertIn(b"no databases are named", mail.body(mail.sent(self)))
 
     def test_own_file(self) -> None:
-        """AIDE's configuration itself is compared like any other file, and the note on the lines
-        that include files is of no use there."""
-        answer = self.morning("@@x_include /etc/aide/aide.conf.d\n" + STOCK)
-        self.assertNotIn(b"passed over", answer.errors)
-        text = mail.body(mail.sent(self))
-        self.assertIn(b"/etc/aide/aide.conf: content", text)
-        self.assertNotIn(b"passed over", text)
+        """AIDE's configuration itself is compared like any other file."""
+        self.morning()
+        self.assertIn(b"/etc/aide/aide.conf: content", mail.body(mail.sent(self)))

@@ -6,9 +6,10 @@ import os
 import pwd
 import shutil
 import stat
+import time
 from typing import Any
 
-from .sandbox import AS_NOBODY, CommandTest, NOBODY, OLD, UMASK
+from .sandbox import AS_NOBODY, CommandTest, NEW, NOBODY, OLD, UMASK
 
 TOOL = "aide-compare setup"
 NOBODY_NAME = pwd.getpwuid(NOBODY).pw_name
@@ -19,7 +20,7 @@ PROGRAM_PATH = {stubs!r} + ":" + PROGRAM_PATH
 ENVIRONMENT["PATH"] = PROGRAM_PATH
 AIDES_USER = {user!r}
 """
-DAYS_OPTIONS = ["--max-age", "--state", "--trusted"]
+DAYS_OPTIONS = ["--databases", "--max-age", "--state", "--trusted"]
 DATABASES, DAILY = "root/var/lib/aide/", "root/var/lib/aide-compare/daily"
 DEFAULTS, WITHOUT = "root/etc/aide-compare/defaults", "root/etc/aide-compare/without"
 STUBS = {
@@ -30,11 +31,7 @@ is-enabled) grep -q "^enable --now" "{calls}";;
 is-active) [ ! -e "{stopped}" ];;
 show) echo "Sat 2026-11-28 08:12:33 UTC";;
 esac""",
-    # What it says of a comparison of now is chosen by a file.
-    "aide-compare": """echo "$*" >> "{calls}"
-[ "$1" = --quiet ] || exit 0
-[ ! -e "{stale}" ] || {{ echo 'aide-compare: the new database is 3 days old' >&2; exit 18; }}
-exit 4""",
+    "aide-compare": """echo "$*" >> "{calls}\"""",
 }
 FILES = {
     "root/keep": "",
@@ -78,12 +75,11 @@ class SetupTest(CommandTest):
         self.set_machine(NOBODY_NAME)
         for name, text in FILES.items():
             self.write(name, text.format(databases=self.path("root/var/lib/aide")))
-        configurations = ("root/etc/aide/aide.conf", "root/etc/aide.conf")
-        self.set_names("compare.configuration", DEFAULTS=tuple(map(self.path, configurations)))
+        self.set_names("base.parser", DIRECTORY=self.path("root/etc/aide-compare"))
         self.set_names("mail.sending", MAILERS=(self.path("stubs/sendmail"),))
         self.stub("sendmail", "cat > /dev/null")
-        paths = {name: self.path(name) for name in ("stopped", "stale")}
-        paths.update(old=self.path("old.db"), baseline=self.path(DATABASES + "aide.db"))
+        paths = {"stopped": self.path("stopped"), "old": self.path("old.db")}
+        paths["baseline"] = self.path(DATABASES + "aide.db")
         for name, body in STUBS.items():
             self.stub(name, body.format(calls=self.path("calls/log"), **paths))
         os.chown(self.path("root/var/lib/aide"), NOBODY, NOBODY)
@@ -170,18 +166,26 @@ class SetupTest(CommandTest):
     def test_check(self) -> None:
         """Afterwards --check says what a comparison of now finds, and what is missing again."""
         self.call(TOOL)
-        os.chown(self.write(DATABASES + "aide.db.new", "@@begin_db\n"), NOBODY, NOBODY)
+        new = self.write(DATABASES + "aide.db.new", NEW)
+        os.chown(new, NOBODY, NOBODY)
+        there = self.owners()
         said = b"a comparison of now finds differences: aide-compare\n"
-        self.set_up("--check, after", ("--check",), 0, said, b"nothing is missing\n")
+        answer = self.call(TOOL, "--check")
+        self.expect("--check, after", answer, 0, [said, b"nothing is missing\n"])
         one = b"1 thing is missing\n"
-        self.write("stale", "")
+        now = time.time()
+        os.utime(new, (now, now - 3 * 86400))
         answer = self.call(TOOL, "--check")
         told = [b"missing: a comparison: it ends with status 18\n", one]
-        self.expect("an old database", answer, 18, told, b"the new database is 3 days old")
-        os.remove(self.path("stale"))
+        self.expect("an old database", answer, 18, told, b"is 3 days old")
+        self.write(DATABASES + "aide.db.new", OLD)
+        said = b"a comparison of now finds no difference\n"
+        self.expect("--check, the same", self.call(TOOL, "--check"), 0, [said])
+        self.assertEqual(self.owners(), there, "no state is written")
         self.write("stopped", "")
         timer = b"missing: the timer aide-compare.timer\n"
-        self.set_up("the timer is stopped", ("--check",), 18, timer, one)
+        answer = self.call(TOOL, "--check")
+        self.expect("the timer is stopped", answer, 18, [timer, one])
 
     def test_again(self) -> None:
         """A second run passes over what is there, and what an administrator wrote stays."""
@@ -198,7 +202,8 @@ class SetupTest(CommandTest):
         self.assertEqual(self.calls()[-2:], [f"mail --test --user {NOBODY_NAME}"] * 2)
         lines = self.read(DEFAULTS).decode().splitlines()
         self.assertEqual([line.split()[0] for line in lines], ["--attach-page", *DAYS_OPTIONS])
-        self.write(DEFAULTS, "--attach-page\n# --trusted: no\n--state=x\n --max-age 9h")
+        text = "--attach-page\n# --trusted: no\n#--databases\n--state=x\n --max-age 9h"
+        self.write(DEFAULTS, text)
         self.set_up("what an administrator wrote stays", ("--no-mail",), 0, b"All was there")
         self.assertNotIn(b"signed.db", self.read(DEFAULTS))
 
@@ -213,7 +218,7 @@ class SetupTest(CommandTest):
         self.set_up("after an upgrade", ("--no-mail",), 0, b"Done: 2 steps now.")
         self.assertEqual(self.read(signed), b"[Service]\n")
         lines = self.read(DEFAULTS).decode().splitlines()
-        options = ["--max-age", "--weekly", "--to", "--state", "--trusted"]
+        options = ["--max-age", "--weekly", "--to", "--databases", "--state", "--trusted"]
         self.assertEqual([line.split()[0] for line in lines], options)
 
     def test_cron(self) -> None:
@@ -253,9 +258,12 @@ class SetupTest(CommandTest):
         self.assertEqual(there, made)
         self.assertEqual(set(owners.values()), {0}, "all of it is root's")
         self.set_up("nothing is missing there", ("--check",), 0, b"nothing is missing")
+        line = f"--databases {databases}aide.db.gz {databases}aide.db.new.gz"
+        self.assertIn(line, self.read(DEFAULTS).decode().splitlines())
 
     def test_other_paths(self) -> None:
-        """The databases are where AIDE's configuration has them. One that names none is refused."""
+        """The databases are where AIDE's configuration has them, until the defaults name them. One
+        that names none is refused."""
         aide = "root/etc/aide/aide.conf"
         lines = "database_in=file:{0}/its.db\ndatabase_out=file:{0}/its.new\n"
         self.write(aide, lines.format(self.path("root/srv")))
@@ -271,8 +279,11 @@ class SetupTest(CommandTest):
         said = f"AIDE has not written {made}\n".encode()
         self.expect("no baseline was made", self.call(TOOL, "--no-mail"), 18, None, said)
         self.write(aide, "gzip_dbout=yes\n")
+        self.expect("no baseline", self.call(TOOL, "--check"), 18, made.encode(), b"")
+        os.remove(self.path(DEFAULTS))
         for words in ((), ("--check",)):
-            self.expect("no paths", self.call(TOOL, *words), 17, b"", b"names no old database")
+            said = b"does not name two databases"
+            self.expect("no paths", self.call(TOOL, *words), 17, b"", said)
 
     def test_mails(self) -> None:
         """What keeps mails from their reader is named."""

@@ -223,7 +223,7 @@ class TrustedTest(mail.MailTest):
         """The administrator may write the pair down once, for the databases of this machine."""
         put(self)
         names = map(self.path, BOTH)
-        self.write("aide.conf", "database_in=file:{}\ndatabase_new=file:{}\n".format(*names))
+        databases = "--databases {} {}\n".format(*names)
         for line, status, words in (
             ("--trusted canary-old.db canary-new.db", 7, TOLD),
             ("--trusted=canary-old.db  canary-new.db", 7, TOLD),
@@ -231,7 +231,7 @@ class TrustedTest(mail.MailTest):
             ("--trusted a b c", 15, b"--trusted needs 2 values"),
             ("--trusted", 15, b"--trusted needs a value"),
         ):
-            self.write("etc/defaults", line + "\n")
+            self.write("etc/defaults", f"{databases}{line}\n")
             self.expect(f"a default {line}", self.call(TOOL, *BOTH), status, errors=[words])
         told = b"aide-compare: 6 open (6 high) of 7 changes\n"
         self.expect("no defaults", self.call(TOOL, "--no-defaults", *BOTH), 7, errors=[told])

@@ -129,10 +129,12 @@ class MachineTest(ScratchTest):
             self.write(name, gzip.compress(data), 0o600)
 
     def put_pair(self, old: str | bytes, new: str | bytes) -> None:
-        """The two databases, and a configuration that names them."""
+        """The two databases, and a line of the defaults that names them."""
         self.put_databases(old, new)
-        names = f"database_in=file:{BASELINE}\ndatabase_new=file:{NEWEST}\n"
-        self.write("/etc/aide/aide.conf", self.below(names))
+        path = "/etc/aide-compare/defaults"
+        if "--databases" not in self.read(path):
+            line = f"--databases {BASELINE} {NEWEST}\n"
+            self.write(path, self.read(path) + self.below(line))
 
     def below(self, text: str) -> str:
         """A text with the directories that it names put below the root."""

@@ -151,7 +151,6 @@ class Day:
         else:
             self.test.assertTrue(output.startswith("18 open (4 high) of 22 changes\n"), output)
             self.test.assertEqual(errors.count(", SHA-256 "), 2, errors)
-            self.test.prints("compare", errors)
 
     def jobs(self) -> None:
         for name, commands in self.test.jobs():

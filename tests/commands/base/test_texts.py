@@ -11,12 +11,11 @@ from typing import Any
 from tests.commands.base import TOP
 from tests.commands.base.calls import ModuleTest
 from tests.lib.scratch import read
-from tests.oracle.configuration import BOOL_OPTIONS, SET_OPTIONS
 
 from aide_compare import VERSION
 from aide_compare.base import ending, escapes, kinds, options, words
 from aide_compare.base.parser import read as read_options
-from aide_compare.compare import configuration, state
+from aide_compare.compare import state
 from aide_compare.lines import attributes, reader
 from aide_compare.lines.change import Change, Counts, Values, change_of
 from aide_compare.show import entry
@@ -63,7 +62,7 @@ def change_between(old: Values | None, new: Values | None) -> Change:
 class TextsTest(ModuleTest):
     def test_tables(self) -> None:
         """The tables of attributes say the same: each digest is in the order of strength, in
-        databases and in the schema. The options of the definitions are none that is misspelt."""
+        databases and in the schema."""
         labels = [label for label, form in attributes.FORMS.items() if form == "digest"]
         columns = sorted(label.lower().replace("-", "_").replace("/", "_") for label in labels)
         self.assertEqual(sorted(attributes.STRENGTH), sorted(labels))
@@ -73,8 +72,6 @@ class TextsTest(ModuleTest):
             side = json.load(file)["$defs"]["side"]["properties"]
         names = [name for name in side if not name.endswith("_hex")]
         self.assertEqual(names, list(attributes.FORMS), "attributes of the schema")
-        options = {"report_level", "report_url", "report_format", *BOOL_OPTIONS, *SET_OPTIONS}
-        self.assertEqual({name.encode() for name in options} - configuration.OPTIONS, set())
 
     def test_escapes(self) -> None:
         for text, want in ESCAPED:

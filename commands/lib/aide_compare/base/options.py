@@ -112,11 +112,12 @@ class Asked:
 
 CONFIG = Option(
     "--config",
-    "the configuration (/dev/null with OLD NEW, otherwise AIDE's, /etc/aide/aide.conf or"
-    " /etc/aide.conf)",
+    "a configuration, as in aide-compare.conf(5), with OLD and NEW (none)",
     metavar="CONF",
     letter="-c",
 )
+# In the file of defaults only, for a command line that names none.
+DATABASES = Option("--databases", "", metavar="OLD NEW", kind=file_path, number_of_values=2)
 AFTER = Option(
     "--after",
     "lines to read after the configuration, as report_level=summary",
@@ -249,7 +250,7 @@ NO_DEFAULTS = Option("--no-defaults", "do not read the defaults in /etc/aide-com
 
 # The options of a comparison that may stand in the file of defaults, those of them that are for the
 # databases of this machine only, those of a mail, and those of a check.
-COMPARISON_DEFAULTS = (CONFIG, MAX_SIZE, MAX_AGE, EXCLUDE_FROM, EXCLUDE, TRUSTED, STATE)
-MACHINES_DEFAULTS = (TRUSTED, STATE)
+COMPARISON_DEFAULTS = (DATABASES, CONFIG, MAX_SIZE, MAX_AGE, EXCLUDE_FROM, EXCLUDE, TRUSTED, STATE)
+MACHINES_DEFAULTS = (DATABASES, TRUSTED, STATE)
 MAIL_DEFAULTS = (TO, MAIL_TIME, ATTACH_PAGE, WEEKLY)
 CHECK_DEFAULTS = (WARNING, CRITICAL, STATE)

@@ -211,8 +211,9 @@ def named_by_fields(asked: type[Asked], defaults: Defaults) -> Defaults:
     """The values of defaults by the fields of a request in place of their options."""
     named: Defaults = {}
     for field, row in asked.rows().items():
-        if isinstance(row, Option) and row.attribute in defaults:
-            named[field] = defaults[row.attribute]
+        name = row.attribute if isinstance(row, Option) else field
+        if name in defaults:
+            named[field] = defaults[name]
     return named
 
 

@@ -24,12 +24,14 @@ from aide_compare.base.paths import Pattern
 from aide_compare.base.words import KINDS, date_of
 from aide_compare.commands.accept_question import (
     can_ask,
-    databases_of_aide,
     wanted_after_question,
 )
 from aide_compare.commands.accept_work import Accepted, AcceptRequest, accept
-from aide_compare.commands.defaults import comparison_defaults, exclusions_of
-from aide_compare.compare.comparison import Request
+from aide_compare.commands.defaults import (
+    comparison_defaults,
+    exclusions_of,
+    machines_databases,
+)
 from aide_compare.compare.state import DAILY, State, read_state
 
 NAME = "aide-compare accept"
@@ -68,7 +70,7 @@ class AcceptOptions(Asked):
         Operand(
             "NEW BASELINE",
             "the new database, plain or compressed by gzip, and the file that it replaces (those of"
-            " AIDE's configuration)",
+            " the defaults)",
             "*",
         )
     )
@@ -168,9 +170,8 @@ def main(arguments: Sequence[str]) -> int:
     usage = f"{NAME} [OPTIONS] [NEW BASELINE]"
     asked = read(AcceptOptions, arguments, NAME, DESCRIPTION, EPILOG, usage)
     asked.check()
-    new, baseline = asked.files or databases_of_aide()
-    machines = Request(old=baseline, new=new)
-    defaults = comparison_defaults(machines, arguments, (STATE, TRUSTED))
+    new, baseline = asked.files or reversed(machines_databases(arguments))
+    defaults = comparison_defaults((baseline, new), arguments, (STATE, TRUSTED))
     if asked.digest:
         reported = reported_in(asked.state, defaults.get(STATE.attribute, DAILY))
         digest = asked.digest

@@ -11,9 +11,7 @@ from aide_compare.base.terminal import answer_to
 from aide_compare.base.words import minute_of
 from aide_compare.commands.compare import Printer
 from aide_compare.commands.compare_task import request_with_defaults
-from aide_compare.compare.comparison import Request
 from aide_compare.compare.state import State
-from aide_compare.compare.work import named_databases
 
 YES = ("y", "yes")
 
@@ -21,12 +19,6 @@ YES = ("y", "yes")
 def can_ask() -> bool:
     """Whether a person can read the question and answer it."""
     return os.isatty(0) and os.isatty(1)
-
-
-def databases_of_aide() -> tuple[str, str]:
-    """The new database and the baseline that AIDE's configuration names."""
-    old, new = named_databases(Request())
-    return new, old
 
 
 def compare_and_print(new: str, baseline: str, trusted: Sequence[str]) -> State:

@@ -19,11 +19,10 @@ from aide_compare.base.words import counted
 from aide_compare.changes.applied import INFO, KEPT, FieldsByColumn, Upgrades
 from aide_compare.changes.applied import content_of, fits, upgraded
 from aide_compare.changes.signed import Catalog, releases_of
-from aide_compare.compare.comparison import Request
+from aide_compare.commands.defaults import machines_databases
 from aide_compare.compare.kept_open import OLD, EntryReader
 from aide_compare.compare.soundness import refuse_unsound
 from aide_compare.compare.unpack import Copy, copy_database
-from aide_compare.compare.work import named_databases
 
 NAME = "aide-compare archive"
 DEBIANS_KEYRING = "/usr/share/keyrings/debian-archive-keyring.gpg"
@@ -46,7 +45,7 @@ class ArchiveRequest(Asked):
 
     is_quiet: bool = field(QUIET, help="say only what is new or not applied")
     databases: Sequence[str] = field(
-        Operand("OLD NEW", "two databases of one host (those of AIDE's configuration)", nargs="*")
+        Operand("OLD NEW", "two databases of one host (those of the defaults)", nargs="*")
     )
     # With the signed indexes and packages.
     directories: Sequence[str] = option(
@@ -192,7 +191,7 @@ def request_of(arguments: Sequence[str]) -> ArchiveRequest:
     if len(request.databases) not in (0, 2) or not request.directories:
         why = "name --from, and both databases, OLD and NEW, or none"
         raise Fault(Status.USAGE, why, f"try: {NAME} --help")
-    databases = request.databases or named_databases(Request())
+    databases = request.databases or machines_databases(arguments)
     output = request.output
     if output and os.path.realpath(output) in [os.path.realpath(path) for path in databases]:
         raise Fault(Status.USAGE, "--output is one of the databases, which would be replaced")

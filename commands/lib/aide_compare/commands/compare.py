@@ -152,7 +152,7 @@ def task_of(arguments: Sequence[str]) -> Task:
 
 def main(arguments: Sequence[str]) -> int:
     own_request = compare_request(arguments)
-    check_databases(own_request.databases)
+    check_databases(own_request)
     if own_request.user:
         give_up(own_request.user)
     try:

@@ -30,8 +30,9 @@ from aide_compare.base.options import (
 from aide_compare.base.parser import Defaults, read
 from aide_compare.base.replacement import ANYBODY_READS
 from aide_compare.base.rights import become_owner, rights_hint
-from aide_compare.commands.defaults import comparison_defaults, exclusions_of
+from aide_compare.commands.defaults import ADVICE, comparison_defaults, exclusions_of
 from aide_compare.compare.comparison import Comparison, Request
+from aide_compare.compare.configuration import NONE
 from aide_compare.compare.outputs import FileOutput, Output, descriptor_of, open_output
 from aide_compare.compare.state import State
 from aide_compare.compare.unpack import Opened
@@ -65,7 +66,7 @@ class CompareRequest(Asked):
     databases: Sequence[str] = field(
         Operand(
             "OLD NEW",
-            "the databases, - for standard input; without them the configuration names both",
+            "the databases, - for standard input (those of the defaults)",
             nargs="*",
         )
     )
@@ -109,33 +110,37 @@ def compare_request(
     return read(CompareRequest, arguments, NAME, DESCRIPTION, EPILOG, usage, defaults)
 
 
-def check_databases(databases: Sequence[str]) -> None:
+def check_databases(request: CompareRequest) -> None:
     """Refuses operands that do not name both databases."""
+    databases = request.databases
     if len(databases) == 1:
         raise Fault(Status.USAGE, "name both databases, OLD and NEW, or none", TRY)
     if len(databases) > 2:
         raise Fault(Status.USAGE, f"more than two databases: {shown(databases[-1], 200)}", TRY)
-
-
-def plain_request(request: CompareRequest) -> Request:
-    """The databases that are compared, and how."""
-    old, new = request.databases or (None, None)
-    return Request(old=old, new=new, configuration=request.configuration, after=request.after)
+    if request.configuration and not databases:
+        raise Fault(Status.USAGE, "--config names no databases: name OLD and NEW", TRY)
 
 
 def request_with_defaults(arguments: Sequence[str]) -> CompareRequest:
     """What the arguments ask for, and the administrator's defaults where these say nothing."""
     request = compare_request(arguments)
-    check_databases(request.databases)
-    return compare_request(arguments, comparison_defaults(plain_request(request), arguments))
+    check_databases(request)
+    return compare_request(arguments, comparison_defaults(request.databases, arguments))
 
 
 def work_request(request: CompareRequest) -> Request:
     """What is compared, and how."""
-    check_databases(request.databases)
+    check_databases(request)
+    if not request.databases:
+        raise Fault(Status.USAGE, "no databases are named", ADVICE)
     if [*request.databases, *request.trusted].count("-") > 1:
         raise Fault(Status.USAGE, "standard input can hold only one database")
-    return plain_request(request)._replace(
+    old, new = request.databases
+    return Request(
+        old=old,
+        new=new,
+        configuration=request.configuration or NONE,
+        after=request.after,
         max_size=request.max_size,
         max_age=request.max_age,
         exclusions=exclusions_of(request.exclude_from, request.exclude, not request.no_defaults),
@@ -244,7 +249,7 @@ class Task:
             failure = error
         user = None
         if not self.options.user:
-            user = self._become_owner(work.databases.old)
+            user = self._become_owner(self.request.old)
         self._open_outputs(user)
         if failure is not None:
             return self._end(self._made(work.failed(failure)))

@@ -7,40 +7,51 @@ from collections.abc import Callable, Iterable, Sequence
 from contextlib import suppress
 from typing import TYPE_CHECKING, Optional
 
-from aide_compare.base.ending import Fault, say
+from aide_compare.base.ending import Fault, Status, say
 from aide_compare.base.escapes import shown
-from aide_compare.base.options import COMPARISON_DEFAULTS, MACHINES_DEFAULTS, TRUSTED, Option
+from aide_compare.base.options import (
+    COMPARISON_DEFAULTS,
+    DATABASES,
+    MACHINES_DEFAULTS,
+    TRUSTED,
+    Option,
+)
 from aide_compare.base.parser import Defaults, administrators_file, defaults_for
-from aide_compare.compare.comparison import Request
-from aide_compare.compare.work import named_databases
 
 if TYPE_CHECKING:
     from aide_compare.compare.exclusions import Exclusions
 
 
-def is_of_machine(request: Request) -> bool:
-    """Whether the databases that a request names are those of AIDE's own configuration, by whatever
-    names."""
-    if request == Request():
-        return True
-    with suppress(Fault, OSError):
-        named = named_databases(Request())
-        wanted = named_databases(request)
-        return all(map(os.path.samefile, wanted, named))
+ADVICE = "name OLD and NEW, or as root: aide-compare setup"
+
+
+def machines_databases(words: Sequence[str]) -> Sequence[str]:
+    """The baseline and the new database of this machine, as the administrator's defaults name
+    them."""
+    named = defaults_for((DATABASES,), words).get(DATABASES.attribute)
+    if not named:
+        raise Fault(Status.USAGE, "no databases are named", ADVICE)
+    return list(named)
+
+
+def are_same(databases: Sequence[str], named: Sequence[str]) -> bool:
+    """Whether databases are those that the defaults name, by whatever names."""
+    with suppress(OSError):
+        return bool(named) and all(map(os.path.samefile, databases, named))
     return False
 
 
 def comparison_defaults(
-    request: Request,
+    databases: Sequence[str],
     words: Sequence[str],
     options: Iterable[Option] = COMPARISON_DEFAULTS,
     note: Callable[[str], None] = say,
 ) -> Defaults:
-    """What the administrator's defaults give these options of a comparison. `request` has the
-    databases, as the words of the command line name them."""
-    defaults = defaults_for(options, words)
-    names = {option.attribute for option in MACHINES_DEFAULTS} & defaults.keys()
-    if names and not is_of_machine(request):
+    """What the administrator's defaults give these options of a comparison. `databases` are those
+    that the words of the command line name, if they name some."""
+    defaults = defaults_for((DATABASES, *options), words)
+    if databases and not are_same(databases, defaults.get(DATABASES.attribute, ())):
+        names = {option.attribute for option in MACHINES_DEFAULTS}
         return {name: value for name, value in defaults.items() if name not in names}
     missing = [path for path in defaults.get(TRUSTED.attribute, ()) if not os.path.lexists(path)]
     if missing:

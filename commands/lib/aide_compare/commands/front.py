@@ -34,7 +34,7 @@ usage: aide-compare [compare] [OPTIONS] [OLD NEW]
        aide-compare SUBCOMMAND [OPTIONS] ...
 
   aide-compare old.db new.db             what differs, the most severe first
-  aide-compare                           the databases of AIDE's configuration
+  aide-compare                           this machine, after setup
   aide-compare setup                     each day on this machine, with a mail
 
   compare    compare two databases       json     what differs as lines of JSON

@@ -27,7 +27,6 @@ from aide_compare.base.parser import named_by_fields
 from aide_compare.commands.compare_task import (
     CompareRequest,
     compare_request,
-    plain_request,
 )
 from aide_compare.commands.defaults import comparison_defaults
 
@@ -131,7 +130,7 @@ def others_of(request: MailRequest, words: Sequence[str], note: Callable[[str], 
         return {}
     if len(asked.databases) not in (0, 2):
         return {}
-    return comparison_defaults(plain_request(asked), words, note=note)
+    return comparison_defaults(asked.databases, words, note=note)
 
 
 def own_of(request: MailRequest, words: Sequence[str], state: object) -> Defaults:

@@ -15,7 +15,7 @@ from aide_compare.base.escapes import shown
 from aide_compare.base.files import reopened
 from aide_compare.base.replacement import replace
 from aide_compare.base.directories import closed_after, open_directory
-from aide_compare.base.options import QUIET, TO, Asked, field, option
+from aide_compare.base.options import DATABASES, QUIET, TO, Asked, field, option
 from aide_compare.base.parser import read
 from aide_compare.base.program import MAX_DIFFERENT
 from aide_compare.base.words import counted
@@ -30,11 +30,11 @@ from aide_compare.commands.setup_machine import (
     rename_safely,
     run_shown,
     says_yes,
-    status_of_errors,
 )
 from aide_compare.commands.setup_options import DAILY, has_options, options_there, write_options
-from aide_compare.compare.comparison import Request
-from aide_compare.compare.work import named_databases
+from aide_compare.commands.compare import Printer
+from aide_compare.commands.compare_task import request_with_defaults
+from aide_compare.commands.setup_databases import databases_there
 from aide_compare.mail.waiting import hint_for_exim, troubles
 
 NAME = "aide-compare setup"
@@ -48,7 +48,6 @@ EPILOG = (
 TIMER = "aide-compare.timer"
 DATABASE_STARTS = (b"\x1f\x8b", b"@@begin_db", b"#")
 SECONDS_OF_INIT = 6 * 3600
-SECONDS_OF_COMPARISON = 600
 # What a mail looks like.
 SUBJECT = "    Subject: aide on {host}: 3 open (1 high), 41 recorded of 512 changes"
 MAIL = (
@@ -98,7 +97,16 @@ class Machine:
         self.user = aides_user()
         self.has_timer = os.path.isdir(PATHS.systemd) and not request.wants_cron
         self.is_debian = os.path.lexists(PATHS.debian_configuration)
-        self.baseline, self.new = named_databases(Request())
+        self.baseline, self.new = databases_there()
+        daily = os.path.join(PATHS.own_directory, DAILY)
+        # What the job of each day needs.
+        self.needed = [
+            f"{DATABASES.name} {self.baseline} {self.new}",
+            "--max-age 50h",
+            f"--state {daily}/state",
+        ]
+        if self.is_debian:
+            self.needed.append(f"--trusted {daily}/signed.db.old {daily}/signed.db")
 
     def owns(self, path: str) -> bool:
         """Whether what is by a path is the user's; False if there is nothing."""
@@ -209,8 +217,8 @@ class Machine:
         paths = (self.baseline, self.new)
         if os.geteuid() != 0 or not all(map(os.path.lexists, paths)):
             return None
-        words = ["aide-compare", "--quiet", "--state", "-"]  # And not in its usual place.
-        return status_of_errors(words, SECONDS_OF_COMPARISON)
+        request = request_with_defaults(["--quiet"]).but(state=None)
+        return Printer(request, ()).task().carry_out().status
 
     def send_test(self) -> None:
         words = ["aide-compare", "mail", "--test", "--user", self.user.pw_name]
@@ -240,8 +248,8 @@ class Machine:
             yield Step(title, os.path.lexists(PATHS.apt), keep)
         title = f"options of each day: {PATHS.defaults}"
         asked = self.options_asked()
-        write = partial(write_options, asked, self.is_debian)
-        yield Step(title, has_options(asked, self.is_debian), write)
+        write = partial(write_options, asked, self.needed)
+        yield Step(title, has_options(asked, self.needed), write)
         directory = os.path.join(PATHS.own_directory, DAILY)
         title = f"a directory of {user}'s: {directory}"
         yield Step(title, self.owns(directory), self.make_directory)
@@ -282,13 +290,14 @@ def take_steps(machine: Machine) -> None:
 def tell_missing(machine: Machine) -> int:
     """Says what is missing, and changes nothing."""
     missing = [step.title for step in machine.steps() if not step.is_done]
+    troubles = list(machine.troubles())
     status = machine.comparison()
     if status is not None and status > MAX_DIFFERENT:
         missing.append(f"a comparison: it ends with status {status}")
     elif status is not None:
         found = "differences: aide-compare" if status else "no difference"
         tell(f"a comparison of now finds {found}")
-    missing += machine.troubles()
+    missing += troubles
     if not missing:
         tell("nothing is missing")
         return Status.OK

@@ -110,13 +110,6 @@ def status_of(words: Sequence[str], seconds: int) -> int:
         return run_here(words, seconds, ENVIRONMENT)
 
 
-def status_of_errors(words: Sequence[str], seconds: int) -> int:
-    """The same of a program of which only the errors are shown."""
-    takers = {1: Drain(0, bytearray().extend).take}
-    with failing(f"cannot run {words[0]}"):
-        return run(words, takers, {2: 2}, ENVIRONMENT, time.monotonic() + seconds)
-
-
 def says_yes(words: Sequence[str]) -> bool:
     """Whether a program of the system ends with 0. It is not shown, and says nothing."""
     with suppress(Fault, OSError):

@@ -3,7 +3,7 @@ from __future__ import annotations
 
 import os
 import re
-from collections.abc import Mapping
+from collections.abc import Mapping, Sequence
 from contextlib import suppress
 
 from aide_compare.base.ending import Fault, Status
@@ -19,9 +19,6 @@ FIRST_LINES = """\
 # aide-compare-setup(8).
 --weekly Mon
 """
-# What the job of each day needs there. A line that an administrator has made a comment stays one.
-NEEDED = ("--max-age 50h", "--state {daily}/state")
-NEEDED_ON_DEBIAN = (*NEEDED, "--trusted {daily}/signed.db.old {daily}/signed.db")
 MAX_BYTES = 1 << 16
 
 
@@ -39,25 +36,25 @@ def options_there() -> dict[str, str]:
     return {match.group(1): match.group(2) or "" for match in found if match}
 
 
-def missing_lines(is_debian: bool) -> list[str]:
-    """The lines that the job of each day needs, and that no line of the file mentions."""
+def missing_lines(needed: Sequence[str]) -> list[str]:
+    """Those of the lines that the job of each day needs that no line of the file mentions. One that
+    an administrator has made a comment stays one."""
     there = text_there()
-    daily = os.path.join(PATHS.own_directory, DAILY)
-    missing = []
-    for line in NEEDED_ON_DEBIAN if is_debian else NEEDED:
-        name = re.escape(line.split()[0])
-        if not re.search(rf"(?m)^[ \t#]*{name}(?![a-z-])", there):
-            missing.append(line.format(daily=daily))
-    return missing
+    names = [re.escape(line.split()[0]) for line in needed]
+    return [
+        line
+        for line, name in zip(needed, names)
+        if not re.search(rf"(?m)^[ \t#]*{name}(?![a-z-])", there)
+    ]
 
 
-def has_options(asked: Mapping[str, str], is_debian: bool) -> bool:
+def has_options(asked: Mapping[str, str], needed: Sequence[str]) -> bool:
     """Whether nothing is missing, and the options that are asked for are there."""
     has_all = asked.items() <= options_there().items()
-    return os.path.lexists(PATHS.defaults) and has_all and not missing_lines(is_debian)
+    return os.path.lexists(PATHS.defaults) and has_all and not missing_lines(needed)
 
 
-def write_options(asked: Mapping[str, str], is_debian: bool) -> None:
+def write_options(asked: Mapping[str, str], needed: Sequence[str]) -> None:
     """Writes the file as it is at first, or adds what it lacks of the job of each day."""
     lines = [f"{name} {value}" for name, value in asked.items()]
     text = FIRST_LINES
@@ -67,5 +64,5 @@ def write_options(asked: Mapping[str, str], is_debian: bool) -> None:
             raise Fault(Status.DEVICE, why)
         text = text_there()
         lines = []
-    text += "".join(f"{line}\n" for line in [*missing_lines(is_debian), *lines])
+    text += "".join(f"{line}\n" for line in [*missing_lines(needed), *lines])
     replace(PATHS.defaults, text.encode("utf-8", "surrogateescape"))

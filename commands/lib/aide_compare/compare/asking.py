@@ -3,9 +3,9 @@ from __future__ import annotations
 
 import json
 import os
-import re
 from collections.abc import Collection, Iterator, Mapping
 from contextlib import contextmanager, suppress
+from typing import Any
 
 from aide_compare.base.ending import Fault, Status
 from aide_compare.base.escapes import shown
@@ -14,14 +14,16 @@ from aide_compare.base.processes import Taker
 from aide_compare.base.program import CONFIGURATION, DATABASES, DESCRIPTORS, LINES, Answer, Drain
 from aide_compare.base.program import find_installed, run_program
 from aide_compare.base.words import TRUSTED_SIDES
-from aide_compare.compare.configuration import NONE, Settings, Texts
+from aide_compare.compare.configuration import NONE, Texts
 from aide_compare.lines.rights import RIGHTS
+
+# What the program says of a configuration: the values of its options by their names.
+Settings = Mapping[str, Any]
 
 MAX_SETTINGS = 1 << 16
 FORMAT = 3  # Of the line that says what a configuration means.
 FORCE_NAME = b"report_force_attrs"
 FORCE = FORCE_NAME + b"="
-LINE_BEFORE = rb"aide: before:(\d+):"
 
 
 def odd_answer(program: str, answer: Answer) -> Fault:
@@ -55,27 +57,17 @@ def _ask(
     take: Taker,
     first: bytes = b"",
 ) -> Answer:
-    """Runs a program over texts, by these words and those that name the texts. `first`: lines
+    """Runs a program over texts, by these words and those that name the texts. `first`: a line
     before all of them."""
-    defined = texts.defining_host()
-    before = first + defined.texts.before
-    if before:
-        words = [*words, b"--before=" + before]
-    with _configuration_places(defined.texts.config) as configuration:
+    if first:
+        words = [*words, b"--before=" + first]
+    with _configuration_places(texts.config) as configuration:
         name = NONE
         if configuration:
             name = f"/proc/self/fd/{CONFIGURATION}"
-        descriptors = {**places, **configuration}
-        answer = run_program(program, [*words, b"-c", name.encode()], descriptors, take)
-    return Answer(answer.status, _moved_back(answer.errors, defined.moved + first.count(b"\n")))
-
-
-def _moved_back(errors: bytes, moved: int) -> bytes:
-    """Error lines whose line of -B, if there is one, has the number that it has for the caller."""
-    match = re.match(LINE_BEFORE, errors)
-    if match is None:
-        return errors
-    return b"aide: before:%d:" % (int(match.group(1)) - moved) + errors[match.end() :]
+        return run_program(
+            program, [*words, b"-c", name.encode()], {**places, **configuration}, take
+        )
 
 
 def ask_for_changes(
@@ -108,35 +100,20 @@ def ask_for_lines(texts: Texts, databases: Mapping[str, int], take: Taker) -> An
     the texts force themselves."""
     forced = set(RIGHTS)
     if any(FORCE_NAME in text for text in texts):
-        forced.update((Question(texts).settings or {}).get(FORCE_NAME.decode(), ()))
+        forced.update((settings_of(texts) or {}).get(FORCE_NAME.decode(), ()))
     return ask_for_changes(find_installed(LINES), texts, databases, take, sorted(forced))
 
 
-def ask_for_settings(texts: Texts, take: Taker) -> Answer:
-    """Asks what texts say, without any database."""
-    return _ask(find_installed(LINES), [b"-D", b"--after=" + texts.after], texts, {}, take)
-
-
-class Question:
-    """What the program says of texts: its settings, if it does not refuse them, and its answer."""
-
-    def __init__(self, texts: Texts) -> None:
-        written = bytearray()
-        self.texts = texts
-        self.answer = ask_for_settings(texts, Drain(MAX_SETTINGS, written.extend).take)
-        self.settings = self._settings_in(bytes(written))
-
-    def _settings_in(self, written: bytes) -> Settings | None:
-        if self.answer.status > 7:
-            return None
-        with suppress(ValueError, KeyError, TypeError):
-            settings = json.loads(written)
-            if settings["format"] == FORMAT:
-                return dict(settings)
-        raise odd_answer(find_installed(LINES), self.answer)
-
-
-def defines_group(texts: Texts, name: bytes) -> bool:
-    """Whether texts define a group of this name: only then an option can have it as its value."""
-    more = texts._replace(after=texts.after + b"\nreport_force_attrs=" + name)
-    return ask_for_settings(more, len).status == 0
+def settings_of(texts: Texts) -> Settings | None:
+    """What the program says of texts, without any database; None if it refuses them."""
+    written = bytearray()
+    program = find_installed(LINES)
+    take = Drain(MAX_SETTINGS, written.extend).take
+    answer = _ask(program, [b"-D", b"--after=" + texts.after], texts, {}, take)
+    if answer.status > 7:
+        return None
+    with suppress(ValueError, KeyError, TypeError):
+        settings = json.loads(written)
+        if settings["format"] == FORMAT:
+            return dict(settings)
+    raise odd_answer(program, answer)

@@ -1,7 +1,6 @@
 """What is compared, and what comes out of it, as values."""
 from __future__ import annotations
 
-import os
 from collections.abc import Mapping, Sequence
 from types import MappingProxyType
 from typing import TYPE_CHECKING, Any, NamedTuple
@@ -11,7 +10,7 @@ from aide_compare.base.escapes import shown, shown_lines
 from aide_compare.base.options import MAX_DATABASE_BYTES, MAX_REPORT_BYTES
 from aide_compare.base.program import Answer
 from aide_compare.base.words import TRUSTED_SIDES
-from aide_compare.compare.configuration import DEFAULTS, NONE, Texts
+from aide_compare.compare.configuration import NONE, Texts
 from aide_compare.compare.state import State
 from aide_compare.compare.unpack import Copy
 from aide_compare.lines.change import Counts
@@ -31,9 +30,9 @@ Digests = Mapping[str, str]
 class Request(NamedTuple):
     """Two databases to compare, and how."""
 
-    old: str | None = None  # Its path; None, as of the other one, if the configuration names both.
-    new: str | None = None
-    configuration: str | None = None  # None: none for two paths, otherwise that of AIDE.
+    old: str  # Its path.
+    new: str
+    configuration: str = NONE
     after: str = ""  # The text of -A.
     max_size: int = MAX_DATABASE_BYTES  # Of a database, unpacked.
     max_report: int = MAX_REPORT_BYTES  # Of the lines or the report.
@@ -43,14 +42,6 @@ class Request(NamedTuple):
     copies: Mapping[str, Copy] = NO_COPIES  # By side, of databases that were opened before.
     wants_lines: bool = True  # The changes, and not only the report.
     target: int | None = None  # The descriptor of a file for the lines.
-
-    @property
-    def configuration_path(self) -> str:
-        if self.configuration:
-            return self.configuration
-        if self.old is not None:
-            return NONE
-        return next(filter(os.path.exists, DEFAULTS), DEFAULTS[0])
 
 
 class Refusal(Fault):
@@ -78,14 +69,11 @@ class Comparison(NamedTuple):
 
     request: Request
     texts: Texts  # What the program has read beside the databases.
-    old: str  # The names of both databases, as far as they are known.
-    new: str
     time: int  # When it ended.
     status: int
     fault: Fault | None  # Why nothing was compared, unless the program says it.
     errors: bytes  # The error lines of the program.
     hints: Sequence[str]  # What explains them.
-    included: Sequence[str]  # What includes other files, and was passed over.
     notes: Sequence[str]  # What was not compared, or not as it was meant.
     doubts: Sequence[str]  # What was not judged.
     warnings: Sequence[str]  # What is mailed even if nothing differs.
@@ -138,8 +126,8 @@ class Comparison(NamedTuple):
         state = State(
             self.status,
             self.time,
-            old=shown(self.old, MAX_NAME),
-            new=shown(self.new, MAX_NAME),
+            old=shown(self.request.old, MAX_NAME),
+            new=shown(self.request.new, MAX_NAME),
             old_sha256=digests.get("old", ""),
             new_sha256=digests.get("new", ""),
             old_written=written.get("old"),

@@ -13,7 +13,7 @@ from aide_compare.base.rights import entry_of
 from aide_compare.compare.configuration import Texts
 from aide_compare.compare.unpack import Copy
 
-LINE = rb"aide: ((?:trusted )?(?:old|new) database|config|before|after):(\d+): (.*)"
+LINE = rb"aide: ((?:trusted )?(?:old|new) database|config|after):(\d+): (.*)"
 OPENING = (
     rb"aide: (?:cannot open the ((?:trusted )?(?:old|new)) database"
     rb"|the ((?:trusted )?(?:old|new)) database changed)"
@@ -144,7 +144,6 @@ def hints_of(errors: bytes, texts: Texts, path: str, copies: Mapping[str, Copy])
             return []
         return list(_database_hints(where, number, words, copy))
     places = {
-        "before": ("this is the text of -B", texts.before),
         "after": ("this is the text of -A", texts.after),
         "config": (f"the configuration is {shown(path)}", texts.config),
     }

@@ -32,6 +32,7 @@ def spec_line_of(copy: Copy) -> bytes:
 def read_by_program(old: Copy, new: Copy) -> Comparison:
     request = Request(
         old="",
+        new="",
         copies={"old": old, "new": new},
         after=SHORTEST,
         wants_lines=False,

@@ -13,10 +13,9 @@ from aide_compare.base.escapes import shown
 from aide_compare.base.files import nameless
 from aide_compare.base.program import LINES, Answer, Drain, Tail, find_installed
 from aide_compare.base.words import SIDES, TRUSTED_SIDES, age_in_words, counted, words_of_side
-from aide_compare.compare.asking import Question, ask_for_lines, defines_group, odd_answer
+from aide_compare.compare.asking import Settings, ask_for_lines, odd_answer, settings_of
 from aide_compare.compare.comparison import Comparison, Digests, Lines, Refusal, Request
-from aide_compare.compare.configuration import ADVICE, Databases, Settings, Texts, databases_of
-from aide_compare.compare.configuration import without_includes
+from aide_compare.compare.configuration import Texts, configuration_in
 from aide_compare.compare.hints import column_notes, equal_notes, hints_of, order_notes, skipped_in
 from aide_compare.compare.report import write_report
 from aide_compare.compare.unpack import Copy, Opened, copy_opened, open_database
@@ -43,12 +42,8 @@ class Work:
 
     def __init__(self, request: Request) -> None:
         self.request = request
-        self.path = request.configuration_path
-        self.texts = Texts(b"", b"", b"")  # As the program reads them for the comparison.
-        self.asked = self.texts  # As it has read them last.
+        self.texts = Texts(b"", b"")
         self.answer = Answer(0, b"")
-        self.databases = Databases(request.old or "", request.new or "")
-        self.included: list[str] = []
         self.notes: list[str] = []
         self.warnings: list[str] = []
         self.copies: dict[str, Copy] = {}
@@ -59,44 +54,16 @@ class Work:
         """Both databases, opened, unless there are copies already; a Refusal or a Fault if they
         cannot be compared."""
         request = self.request
-        self.texts = self._given_texts()
+        config = configuration_in(request.configuration)
+        self.texts = Texts(config, os.fsencode(request.after))
         if request.copies:
             return ()
-        if request.old is None:
-            self.databases = self.named_databases()
-            if not request.configuration and not os.path.lexists(self.databases.old):
-                why = f"there is no baseline {shown(self.databases.old)} yet"
-                raise Fault(Status.DEVICE, why, "as root: aide-compare setup")
-        opened = [open_database(*names) for names in zip(SIDES, self.databases)]
+        names = (request.old, request.new)
+        opened = [open_database(*each) for each in zip(SIDES, names)]
         check_age(opened[1], request.max_age)
-        opened += [open_database(*names) for names in zip(TRUSTED_SIDES, request.trusted)]
+        opened += [open_database(*each) for each in zip(TRUSTED_SIDES, request.trusted)]
         refuse_one_file(opened)
         return opened
-
-    def named_databases(self) -> Databases:
-        """The databases that the configuration names, that of a person or AIDE's."""
-        texts = self._given_texts()
-        if not self.request.configuration:
-            if not os.path.lexists(self.path):
-                why = f"there is no {self.path}, which would name the databases: {ADVICE}"
-                raise Fault(Status.DEVICE, why)
-            texts = texts._replace(config=without_includes(self.path).text)
-        try:
-            return databases_of(texts, self.path, self._settings)
-        except Fault:
-            if self._settings(texts) is None:
-                raise self._refusal()
-            raise
-
-    def _given_texts(self) -> Texts:
-        """The texts that a person names. AIDE's own configuration is none of them."""
-        request = self.request
-        config = b""
-        if request.configuration:
-            configuration = without_includes(request.configuration)
-            self.included = configuration.notes
-            config = configuration.text
-        return Texts(b"", config, os.fsencode(request.after))
 
     def compare(self, opened: Sequence[Opened]) -> Comparison:
         """Compares the databases. What ends it is told by the status and the fault, never by an
@@ -119,16 +86,16 @@ class Work:
 
     def _refusal(self) -> Refusal:
         """The program has refused the texts or the databases."""
-        hints = hints_of(self.answer.errors, self.asked, self.path, self.copies)
+        path = self.request.configuration
+        hints = hints_of(self.answer.errors, self.texts, path, self.copies)
         return Refusal(self.answer, hints)
 
     def _ended(self, lines: Lines | None, report: int | None) -> Comparison:
         skipped = skipped_in(self.answer.errors, self.compared)
-        self.notes += self.texts.misspelt(self.path, lambda name: defines_group(self.texts, name))
         self.notes += [*column_notes(skipped), *order_notes(self.copies)]
         self.notes += equal_notes(self.copies)
         if any(self.texts) and self._is_silent(lines):
-            self.notes += ignored_notes(Question(self.texts).settings)
+            self.notes += ignored_notes(settings_of(self.texts))
         return self._comparison(lines, report)._replace(skipped=skipped)
 
     def _is_silent(self, lines: Lines | None) -> bool:
@@ -139,14 +106,11 @@ class Work:
         return Comparison(
             request=self.request,
             texts=self.texts,
-            old=self.databases.old,
-            new=self.databases.new,
             time=int(time.time()),
             status=self.answer.status,
             fault=None,
             errors=self.answer.errors,
             hints=(),
-            included=self.included,
             notes=self.notes,
             doubts=(),
             warnings=self.warnings,
@@ -157,16 +121,6 @@ class Work:
             lines=lines,
             report=report,
         )
-
-    def _settings(self, texts: Texts) -> Settings | None:
-        """What the program says of texts, None if it refuses them."""
-        question = Question(texts)
-        self._note_answer(question.answer, texts)
-        return question.settings
-
-    def _note_answer(self, answer: Answer, texts: Texts) -> None:
-        self.answer = answer
-        self.asked = texts
 
     def _copy(self, opened: Sequence[Opened]) -> None:
         """Makes private copies, without the entries that are left out."""
@@ -203,7 +157,7 @@ class Work:
             tail.take(block)
 
         answer = ask_for_lines(self.texts, self.compared, take)
-        self._note_answer(answer, self.texts)
+        self.answer = answer
         if answer.status > 7:
             raise self._refusal()
         try:
@@ -225,7 +179,7 @@ class Work:
 
     def _report(self) -> int:
         report = write_report(self.texts, _pair(self.compared), self.request.max_report)
-        self._note_answer(report.answer, self.texts)
+        self.answer = report.answer
         if report.answer.status > 7:
             raise self._refusal()
         return report.known_descriptor()
@@ -260,19 +214,12 @@ def report_of(comparison: Comparison) -> int:
     limit = comparison.request.max_report
     report = write_report(comparison.texts, _pair(comparison.compared), limit)
     if report.answer.status > 7:
-        path = comparison.request.configuration_path
+        path = comparison.request.configuration
         hints = hints_of(report.answer.errors, comparison.texts, path, comparison.copies)
         raise Refusal(report.answer, hints)
     if report.answer != Answer(comparison.status, comparison.errors):
         raise report.odd_answer()
     return report.known_descriptor()
-
-
-def named_databases(request: Request) -> Databases:
-    """The databases that a request names, or those of its configuration."""
-    if request.old is not None and request.new is not None:
-        return Databases(request.old, request.new)
-    return Work(request).named_databases()
 
 
 def ignored_notes(settings: Settings | None) -> Iterator[str]:

@@ -13,6 +13,7 @@ from aide_compare.base.ending import Fault, Status
 from aide_compare.base.replacement import NewFile, replace
 from aide_compare.compare import work
 from aide_compare.compare.comparison import Comparison, Request
+from aide_compare.compare.configuration import NONE
 from aide_compare.compare.exclusions import Exclusions
 from aide_compare.compare.state import State
 from aide_compare.compare.unpack import Copy, copy_database
@@ -60,7 +61,7 @@ def run_comparison(directory: HostDirectory, settings: Settings, part: NewFile) 
         Request(
             old=directory.file(BASELINE),
             new=directory.file(NEW),
-            configuration=settings.configuration,
+            configuration=settings.configuration or NONE,
             copies={"old": old, "new": new, **settings.trusted},
             exclusions=settings.exclusions,
             target=part.fd,

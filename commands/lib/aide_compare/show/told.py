@@ -75,13 +75,8 @@ def left_out_numbers(comparison: Comparison) -> str:
 
 
 def _notes_of(comparison: Comparison, verbose: bool) -> list[str]:
-    """What was not compared: with `verbose` how many entries each line of a list has left out.
-    AIDE's own configuration includes files on each machine, so that is told only if there is a
-    difference, or by `verbose`."""
-    notes: list[str] = []
-    if verbose or comparison.status:
-        notes.extend(comparison.included)
-    notes.extend(comparison.notes)
+    """What was not compared: with `verbose` how many entries each line of a list has left out."""
+    notes = list(comparison.notes)
     numbers = left_out_numbers(comparison)
     if verbose:
         for side, left_out in comparison.left_out.items():
