@@ -12,7 +12,7 @@ from aide_compare.base.ending import Fault
 from aide_compare.base.options import COMPARISON_DEFAULTS
 from aide_compare.base.parser import defaults_for
 from aide_compare.commands import mail_request
-from aide_compare.commands.mail_request import own_parser, parsed, request_of
+from aide_compare.commands.mail_request import own_parser, request_of
 
 
 class MailRequestTest(ModuleTest):
@@ -25,7 +25,7 @@ class MailRequestTest(ModuleTest):
     def asks(self, words: str, **wanted: Any) -> Any:
         """The comparison of some words, which ask for nothing else that no words ask for."""
         request = request_of(words.split())
-        usual = parsed([]).but(comparison=request.comparison, asked=request.asked)
+        usual = request_of(["o", "n"]).but(comparison=request.comparison, asked=request.asked)
         self.expect(words, request, usual.but(**wanted))
         return request.comparison
 

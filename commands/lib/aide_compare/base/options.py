@@ -45,6 +45,11 @@ class Option(NamedTuple):
         return bool(self.metavar or self.choices)
 
     @property
+    def usual(self) -> object:
+        """Its value if nobody gives it."""
+        return self.default if self.has_value else False
+
+    @property
     def attribute(self) -> str:
         """Its name once it is parsed."""
         return self.name.removeprefix("--").replace("-", "_")

@@ -34,6 +34,9 @@ from aide_compare.base.options import (
 # What the lines of the defaults give, by the names that the options have once they are parsed.
 Defaults = dict[str, Any]
 
+# What a command line gives, by the fields of a request.
+Given = dict[str, Any]
+
 OPERAND = "\0"  # Before a word that follows --. No argument has this byte.
 UNKNOWN_OPTION = r"unrecognized arguments: (--?[\w-]+)"
 DIRECTORY = "/etc/aide-compare"
@@ -84,7 +87,7 @@ class Once(argparse.Action):
         values: object,
         option_string: str | None = None,
     ) -> None:
-        if getattr(namespace, self.dest) is not self.default:
+        if hasattr(namespace, self.dest):
             names = "/".join(self.option_strings)
             parser.error(f"{names} is given twice")
         setattr(namespace, self.dest, values)
@@ -95,7 +98,6 @@ def words_of_option(option: Option, name: str) -> dict[str, Any]:
     words: dict[str, Any] = {"help": option.help, "dest": name}
     if not option.has_value:
         return {**words, "action": "store_true"}
-    words["default"] = option.default
     if option.metavar:
         words["metavar"] = option.metavar
     if option.choices:
@@ -105,7 +107,7 @@ def words_of_option(option: Option, name: str) -> dict[str, Any]:
     if option.bare:
         words.update(nargs="?", const=option.bare)
     if option.is_repeated:
-        words.update(action="append", default=[])
+        words["action"] = "append"
     if option.number_of_values > 1:
         words.update(nargs=option.number_of_values, metavar=tuple(option.metavar.split()))
     if option.is_single:
@@ -117,7 +119,7 @@ def words_of_operand(operand: Operand) -> dict[str, Any]:
     """What argparse is told of an operand, a text that is not empty."""
     words: dict[str, Any] = {"metavar": operand.metavar, "help": operand.help, "type": _operand}
     if operand.nargs:
-        words.update(nargs=operand.nargs, default=operand.default)
+        words.update(nargs=operand.nargs, default=None)
     return words
 
 
@@ -138,6 +140,7 @@ class Parser(argparse.ArgumentParser):
             usage=usage,
             epilog=epilog,
             allow_abbrev=False,
+            argument_default=argparse.SUPPRESS,
             formatter_class=Formatter,
         )
         self.names = ["--help", "--version"]
@@ -157,21 +160,23 @@ class Parser(argparse.ArgumentParser):
                 target = groups.setdefault(row.group, self.add_mutually_exclusive_group())
             target.add_argument(*names, **words_of_option(row, field))
 
-    def parse(self, arguments: Sequence[str]) -> argparse.Namespace:
-        """What the arguments say; options and operands may stand in any order, and after -- there
+    def parse(self, arguments: Sequence[str]) -> Given:
+        """What the arguments give; options and operands may stand in any order, and after -- there
         are operands only."""
         cut = end_of_options(arguments)
         operands = [OPERAND + word for word in arguments[cut + 1 :]]
-        args = self.parse_intermixed_args([*arguments[:cut], *operands])
-        progress.tell_steps(args.is_verbose)
-        return args
+        given = vars(self.parse_intermixed_args([*arguments[:cut], *operands]))
+        progress.tell_steps(given.get("is_verbose", False))
+        return given
 
-    def parse_own(self, arguments: Sequence[str]) -> tuple[argparse.Namespace, list[str]]:
-        """What the arguments say by the options of this parser, and all other words in their
+    def parse_own(self, arguments: Sequence[str]) -> tuple[Given, list[str]]:
+        """What the arguments give by the options of this parser, and all other words in their
         order."""
         cut = end_of_options(arguments)
         args, others = self.parse_known_args(arguments[:cut])
-        return args, [*others, *arguments[cut:]]
+        given = vars(args)
+        progress.tell_steps(given.get("is_verbose", False))
+        return given, [*others, *arguments[cut:]]
 
     def _print_message(self, message: str, file: object = None) -> None:
         write_all(1, message.encode())
@@ -202,19 +207,22 @@ def read(
     defaults: Defaults | None = None,
 ) -> Asks:
     """What the words of a command line ask for, and the defaults where they say nothing."""
-    parser = Parser(asked, name, description, epilog, usage)
-    parser.set_defaults(**named_by_fields(asked, defaults or {}))
-    return asked(**vars(parser.parse(words)))
+    given = Parser(asked, name, description, epilog, usage).parse(words)
+    return filled(asked, given, defaults or {})
 
 
-def named_by_fields(asked: type[Asked], defaults: Defaults) -> Defaults:
-    """The values of defaults by the fields of a request in place of their options."""
-    named: Defaults = {}
+def filled(asked: type[Asks], given: Given, defaults: Defaults) -> Asks:
+    """What a command line asks for that gives these values, and the defaults where it gives none. A
+    list has those of both."""
+    values: Given = {}
     for field, row in asked.rows().items():
-        name = row.attribute if isinstance(row, Option) else field
-        if name in defaults:
-            named[field] = defaults[name]
-    return named
+        if isinstance(row, Operand):
+            values[field] = given[field] or defaults.get(field, row.default)
+        elif row.is_repeated:
+            values[field] = [*defaults.get(row.attribute, ()), *given.get(field, ())]
+        else:
+            values[field] = given.get(field, defaults.get(row.attribute, row.usual))
+    return asked(**values)
 
 
 def _operand(text: str) -> str:

@@ -72,6 +72,7 @@ class AcceptOptions(Asked):
             "the new database, plain or compressed by gzip, and the file that it replaces (those of"
             " the defaults)",
             "*",
+            (),
         )
     )
 

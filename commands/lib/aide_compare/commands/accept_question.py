@@ -10,7 +10,7 @@ from aide_compare.base.options import TRUSTED
 from aide_compare.base.terminal import answer_to
 from aide_compare.base.words import minute_of
 from aide_compare.commands.compare import Printer
-from aide_compare.commands.compare_task import request_with_defaults
+from aide_compare.commands.compare_task import given_by, with_defaults
 from aide_compare.compare.state import State
 
 YES = ("y", "yes")
@@ -27,7 +27,7 @@ def compare_and_print(new: str, baseline: str, trusted: Sequence[str]) -> State:
     words = ["--", baseline, new]
     if trusted:
         words = [TRUSTED.name, *trusted, *words]
-    request = request_with_defaults(words)
+    request = with_defaults(given_by(words), words)
     ended = Printer(request, words).task().carry_out()
     if ended.status > 7:
         raise Fault(Status(ended.status), "nothing was compared, so nothing is accepted")

@@ -45,7 +45,7 @@ class ArchiveRequest(Asked):
 
     is_quiet: bool = field(QUIET, help="say only what is new or not applied")
     databases: Sequence[str] = field(
-        Operand("OLD NEW", "two databases of one host (those of the defaults)", nargs="*")
+        Operand("OLD NEW", "two databases of one host (those of the defaults)", "*", ())
     )
     # With the signed indexes and packages.
     directories: Sequence[str] = option(

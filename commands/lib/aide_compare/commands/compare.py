@@ -14,10 +14,10 @@ from aide_compare.commands.compare_task import (
     CompareRequest,
     Row,
     Task,
-    check_databases,
-    compare_request,
+    checked,
+    given_by,
     keep_failure,
-    request_with_defaults,
+    with_defaults,
 )
 from aide_compare.compare.comparison import Comparison
 from aide_compare.compare.outputs import STDOUT, Notes, StreamOutput, descriptor_of
@@ -144,19 +144,13 @@ class Printer:
             yield text.partition(b"\n")[0] + b"\n"
 
 
-def task_of(arguments: Sequence[str]) -> Task:
-    """The comparison that arguments ask for with the administrator's defaults."""
-    request = request_with_defaults(arguments)
-    return Printer(request, arguments).task()
-
-
 def main(arguments: Sequence[str]) -> int:
-    own_request = compare_request(arguments)
-    check_databases(own_request)
+    given = given_by(arguments)
+    own_request = checked(given)
     if own_request.user:
         give_up(own_request.user)
     try:
-        task = task_of(arguments)
+        task = Printer(with_defaults(given, arguments), arguments).task()
     except Fault as fault:
         keep_failure(own_request.state, fault)
         raise

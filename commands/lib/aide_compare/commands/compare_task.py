@@ -27,7 +27,7 @@ from aide_compare.base.options import (
     field,
     option,
 )
-from aide_compare.base.parser import Defaults, read
+from aide_compare.base.parser import Defaults, Given, Parser, filled
 from aide_compare.base.replacement import ANYBODY_READS
 from aide_compare.base.rights import become_owner, rights_hint
 from aide_compare.commands.defaults import ADVICE, comparison_defaults, exclusions_of
@@ -67,7 +67,8 @@ class CompareRequest(Asked):
         Operand(
             "OLD NEW",
             "the databases, - for standard input (those of the defaults)",
-            nargs="*",
+            "*",
+            (),
         )
     )
     configuration: Optional[str] = field(CONFIG)
@@ -103,11 +104,9 @@ class CompareRequest(Asked):
         return {name: path for name, path in places.items() if path}
 
 
-def compare_request(
-    arguments: Sequence[str], defaults: Optional[Defaults] = None, usage: str = USAGE
-) -> CompareRequest:
-    """What the arguments ask for, and the defaults where these say nothing."""
-    return read(CompareRequest, arguments, NAME, DESCRIPTION, EPILOG, usage, defaults)
+def given_by(arguments: Sequence[str], usage: str = USAGE) -> Given:
+    """What the arguments give."""
+    return Parser(CompareRequest, NAME, DESCRIPTION, EPILOG, usage).parse(arguments)
 
 
 def check_databases(request: CompareRequest) -> None:
@@ -121,11 +120,18 @@ def check_databases(request: CompareRequest) -> None:
         raise Fault(Status.USAGE, "--config names no databases: name OLD and NEW", TRY)
 
 
-def request_with_defaults(arguments: Sequence[str]) -> CompareRequest:
-    """What the arguments ask for, and the administrator's defaults where these say nothing."""
-    request = compare_request(arguments)
+def checked(given: Given) -> CompareRequest:
+    """What a command line alone asks for."""
+    request = filled(CompareRequest, given, {})
     check_databases(request)
-    return compare_request(arguments, comparison_defaults(request.databases, arguments))
+    return request
+
+
+def with_defaults(given: Given, arguments: Sequence[str]) -> CompareRequest:
+    """What the arguments ask for that give these values, and the administrator's defaults where
+    these say nothing."""
+    defaults = comparison_defaults(given["databases"], arguments)
+    return filled(CompareRequest, given, defaults)
 
 
 def work_request(request: CompareRequest) -> Request:

@@ -6,7 +6,6 @@ import argparse
 from collections.abc import Callable, Sequence
 from typing import Optional, Union
 
-from aide_compare.base import progress
 from aide_compare.base.ending import Fault, Status, say
 from aide_compare.base.kinds import unit_name
 from aide_compare.base.options import (
@@ -22,12 +21,15 @@ from aide_compare.base.options import (
     field,
     option,
 )
-from aide_compare.base.parser import Defaults, Parser, defaults_for, end_of_options
-from aide_compare.base.parser import named_by_fields
-from aide_compare.commands.compare_task import (
-    CompareRequest,
-    compare_request,
+from aide_compare.base.parser import (
+    Defaults,
+    Given,
+    Parser,
+    defaults_for,
+    end_of_options,
+    filled,
 )
+from aide_compare.commands.compare_task import CompareRequest, checked, given_by
 from aide_compare.commands.defaults import comparison_defaults
 
 NAME = "aide-compare mail"
@@ -79,39 +81,10 @@ def with_days(words: Sequence[str]) -> list[str]:
     return [*complete, *words[cut:]]
 
 
-def comparison_of(
-    words: Sequence[str], own: argparse.Namespace, defaults: Optional[Defaults] = None
-) -> Union[CompareRequest, Fault]:
-    """What is compared; the Fault if the words do not say it."""
-    try:
-        return compare_request(words, defaults).but(user=own.user, state=own.state)
-    except Fault as fault:
-        return fault
-
-
-def parsed(
-    words: Sequence[str], own: Optional[Defaults] = None, others: Optional[Defaults] = None
-) -> MailRequest:
-    """What the words ask for, and the defaults of a mail and those of a comparison where these say
-    nothing; a Fault for words that mean nothing without another one."""
-    parser = own_parser()
-    parser.set_defaults(**named_by_fields(MailRequest, own or {}))
-    args, rest = parser.parse_own(with_days(words))
-    request = MailRequest(
-        **vars(args),
-        comparison=comparison_of(rest, args, others),
-        asked=comparison_of(rest, args),
-        default_fault="",
-    )
-    progress.tell_steps(request.is_verbose)
-    if not isinstance(request.comparison, Fault):
-        check(request, request.comparison.databases)
-    return request
-
-
-def check(request: MailRequest, databases: Sequence[str]) -> None:
+def check(request: MailRequest) -> None:
     """Refuses options that mean nothing without another one, or with it."""
     state = request.state
+    compares_nothing = request.send_queue or request.is_test
     if request.weekly and not state:
         text = "--weekly needs --state, beside which the number of quiet runs is kept"
         raise Fault(Status.USAGE, text)
@@ -119,25 +92,41 @@ def check(request: MailRequest, databases: Sequence[str]) -> None:
         raise Fault(Status.USAGE, "--unit-failed needs --send-queue")
     if request.send_queue and (request.queue or request.is_test or state):
         raise Fault(Status.USAGE, "--send-queue goes with none of --queue, --test and --state")
-    if databases and (request.send_queue or request.is_test):
+    if compares_nothing and not isinstance(request.asked, Fault) and request.asked.databases:
         raise Fault(Status.USAGE, "with --send-queue or --test no databases are compared")
 
 
-def others_of(request: MailRequest, words: Sequence[str], note: Callable[[str], None]) -> Defaults:
+def asked_by(words: Sequence[str]) -> Union[Given, Fault]:
+    """What words give that are those of a comparison; the Fault if they mean nothing."""
+    try:
+        given = given_by(words)
+        checked(given)
+        return given
+    except Fault as fault:
+        return fault
+
+
+def comparison_of(
+    asked: Union[Given, Fault], own: MailRequest, defaults: Defaults
+) -> Union[CompareRequest, Fault]:
+    """The comparison that a mail is about."""
+    if isinstance(asked, Fault):
+        return asked
+    return filled(CompareRequest, asked, defaults).but(user=own.user, state=own.state)
+
+
+def others_of(
+    asked: Union[Given, Fault], own: Given, words: Sequence[str], note: Callable[[str], None]
+) -> Defaults:
     """The defaults of the comparison that a mail is about, if it is about one."""
-    asked = request.asked
-    if isinstance(asked, Fault) or request.send_queue or request.is_test:
+    if isinstance(asked, Fault) or "send_queue" in own or "is_test" in own:
         return {}
-    if len(asked.databases) not in (0, 2):
-        return {}
-    return comparison_defaults(asked.databases, words, note=note)
+    return comparison_defaults(asked["databases"], words, note=note)
 
 
-def own_of(request: MailRequest, words: Sequence[str], state: object) -> Defaults:
+def own_of(words: Sequence[str], state: object) -> Defaults:
     """The defaults of a mail. A run that keeps no state keeps no number of quiet runs."""
-    keeps_state = state is not None or request.state is not None
-    rows = [row for row in MAIL_DEFAULTS if keeps_state or row != WEEKLY]
-    return defaults_for(rows, words)
+    return defaults_for([row for row in MAIL_DEFAULTS if state or row != WEEKLY], words)
 
 
 def attempted(read: Callable[[], Defaults]) -> tuple[Defaults, Optional[Fault]]:
@@ -151,18 +140,21 @@ def attempted(read: Callable[[], Defaults]) -> tuple[Defaults, Optional[Fault]]:
 def request_of(words: Sequence[str]) -> MailRequest:
     """What the options ask for, and the administrator's defaults where they say nothing. A fault in
     the defaults costs no mail, and the mail says it."""
-    plain = parsed(words)
+    given, rest = own_parser().parse_own(with_days(words))
+    asked = asked_by(rest)
     notes: list[str] = []
-    others, fault = attempted(lambda: others_of(plain, words, notes.append))
-    state = others.pop(STATE.attribute, None)
-    own, own_fault = attempted(lambda: own_of(plain, words, state))
-    if state is not None:
-        own[STATE.attribute] = state
-    request = parsed(words, own, others)
-    if fault:
-        request = request.but(comparison=fault)
+    others, fault = attempted(lambda: others_of(asked, given, words, notes.append))
+    state = given.get("state", others.get(STATE.attribute))
+    own, own_fault = attempted(lambda: own_of(words, state))
+    request = filled(MailRequest, given, {**own, STATE.attribute: state})
     why = fault or own_fault
     if why:
         say(why.text)
         notes.insert(0, why.text)
-    return request.but(default_fault="; ".join(notes))
+    request = request.but(
+        comparison=fault or comparison_of(asked, request, others),
+        asked=comparison_of(asked, request, {}),
+        default_fault="; ".join(notes),
+    )
+    check(request)
+    return request

@@ -33,7 +33,7 @@ from aide_compare.commands.setup_machine import (
 )
 from aide_compare.commands.setup_options import DAILY, has_options, options_there, write_options
 from aide_compare.commands.compare import Printer
-from aide_compare.commands.compare_task import request_with_defaults
+from aide_compare.commands.compare_task import given_by, with_defaults
 from aide_compare.commands.setup_databases import databases_there
 from aide_compare.mail.waiting import hint_for_exim, troubles
 
@@ -217,7 +217,8 @@ class Machine:
         paths = (self.baseline, self.new)
         if os.geteuid() != 0 or not all(map(os.path.lexists, paths)):
             return None
-        request = request_with_defaults(["--quiet"]).but(state=None)
+        words = ["--quiet"]
+        request = with_defaults(given_by(words), words).but(state=None)
         return Printer(request, ()).task().carry_out().status
 
     def send_test(self) -> None:

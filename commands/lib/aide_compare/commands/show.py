@@ -8,7 +8,7 @@ from aide_compare.base.ending import Fault, Status
 from aide_compare.base.escapes import shown, unshown
 from aide_compare.base.paths import WILD
 from aide_compare.commands import compare
-from aide_compare.commands.compare_task import compare_request
+from aide_compare.commands.compare_task import given_by
 
 USAGE = "aide-compare show PATH [OPTIONS] [OLD NEW]"
 
@@ -24,6 +24,6 @@ def pattern_of(text: str) -> str:
 def main(arguments: Sequence[str]) -> int:
     path, *others = arguments or ["--help"]
     if path.startswith("-"):
-        compare_request(arguments, usage=USAGE)
+        given_by(arguments, USAGE)
         raise Fault(Status.USAGE, f"PATH comes first: {USAGE}")
     return compare.main([f"--only={pattern_of(path)}", *others])
