@@ -1,0 +1,51 @@
+"""Streams of lines as aide_lines writes them, made of a few values of changes."""
+from __future__ import annotations
+
+import json
+from typing import Any
+
+from aide_compare.base.files import in_memory
+from aide_compare.base.paths import key_of_path
+from aide_compare.lines.change import Fields
+from aide_compare.lines.reader import ENCODE, Outline
+
+UNCHANGED = "f................."
+MTIME = 1795600000
+
+
+def fields_of(path: str, kind: str = "added", owner: int = 0, **more: Any) -> Fields:
+    """The object of the line of a plain file; `old` and `new` are further values of its sides."""
+    side = {"Type": "File", "Perm": "0644", "UID": owner, "GID": owner, "Mtime": MTIME}
+    sides = {"old": {**side, **more.pop("old", {})}, "new": {**side, **more.pop("new", {})}}
+    if kind != "changed":
+        del sides["old" if kind == "added" else "new"]
+    head = {"kind": kind, "path": path, "summary": UNCHANGED, **more}
+    return {**head, "type": head.pop("type", "File"), **sides}
+
+
+def line_of(fields: Fields) -> bytes:
+    return ENCODE(fields).encode() + b"\n"
+
+
+def outline_of(fields: Fields) -> Outline:
+    """What a reader says of a line that is not silent."""
+    path = fields["path"].encode()
+    return Outline(fields["kind"], path, None, key_of_path(path), line_of(fields))
+
+
+def stream_of(*changes: Fields) -> int:
+    """The descriptor of a whole stream of changes, which come in any order here."""
+    ordered = sorted(changes, key=lambda each: key_of_path(each["path"].encode()))
+    kinds = [each["kind"] for each in changes]
+    same = sum(each.get("same_as") == "old" for each in changes)
+    counts = {kind: kinds.count(kind) for kind in ("added", "removed", "changed")}
+    status = sum(bit for bit, count in zip((1, 2, 4), counts.values()) if count)
+    side = {"sha256": "00" * 32, "skipped": []}
+    end: Fields = {"end": True, "status": status, "total": len(changes), **counts}
+    end = {**end, "same_as_old": same, "others": len(changes) - same, "old": side, "new": side}
+    first = {"format": 4, "old": "o", "new": "n"}
+    return in_memory(b"".join(map(line_of, [first, *ordered, end])))
+
+
+def objects_in(data: bytes) -> list[Fields]:
+    return [json.loads(line) for line in data.splitlines()]
