@@ -48,9 +48,9 @@ class AgeTest(CommandTest):
         self.too_old("late.db", limit=str(3 * HOUR))
         self.too_old("late.db.gz")
         self.too_old("years.db", age="730 days", limit="180000")
-        lines = "database_in=file:%s\ndatabase_out=file:%s\n"
-        self.write("conf", lines % (self.path("old.db"), self.path("late.db")))
-        self.too_old("late.db", "-c", "conf", name=self.path("late.db"))
+        names = [self.path(name) for name in ("old.db", "late.db")]
+        self.write("etc/defaults", f"--databases {' '.join(names)}\n")
+        self.too_old("late.db", "--color", "never", name=names[1])
         self.write_aged("minute.db", NEW, 100)
         answer = self.call(TOOL, "--max-age", "60", "old.db", "minute.db")
         self.assertEqual(answer.status, 18, answer)

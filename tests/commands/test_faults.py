@@ -189,8 +189,8 @@ class FaultsTest(CommandTest):
                 self.refused(18, said, "aide-compare", "-q", "old.db", "new.db", state="state")
                 self.refused(18, said, "aide-compare", "-v", "old.db", "new.db")
         self.stub("aide_lines", 'echo "{}"', "libexec/aide-compare")
-        self.write("conf", "database_in=file:/a\n")
-        self.refused(18, other, TOOL, "-c", "conf")
+        words = ("--state", "state", "-A", "report_force_attrs=p", "old.db", "new.db")
+        self.refused(18, other, "aide-compare", *words)
 
     def test_other_errors(self) -> None:
         """A report beside error lines that the program never prints is none."""

@@ -227,11 +227,12 @@ class FrontTest(CommandTest):
         changed = b"\naide_compare_changed_entries 2\n"
         self.answered(0, changed, b"", tool, "--format", "prometheus", *words)
         for faulty in (
-            ("--format", "nagios"),
+            ("--format", "line"),
             ("--format",),
             ("--format=",),
             ("--format", "json", "x"),
-            ("--critical", "5"),
+            ("--critical", "5x"),
+            ("--format", "nagios", "x"),
         ):
             self.refused(15, b"aide-compare", tool, *faulty)
         self.refused(18, b"cannot open", tool, "--format", "json", "--state", "none")

@@ -27,7 +27,7 @@ from aide_compare.base.options import (
     field,
     option,
 )
-from aide_compare.base.parser import Defaults, Given, Parser, filled
+from aide_compare.base.parser import Given, Parser, filled
 from aide_compare.base.replacement import ANYBODY_READS
 from aide_compare.base.rights import become_owner, rights_hint
 from aide_compare.commands.defaults import ADVICE, comparison_defaults, exclusions_of
