@@ -1,4 +1,4 @@
-"""Short ways to what a slower one says: names in a directory, and beginnings of lines."""
+"""A short way to what a slower one says: the beginnings of lines."""
 from __future__ import annotations
 
 import io
@@ -8,14 +8,8 @@ from typing import Any, Dict, List
 from tests.commands.base.calls import ModuleTest
 from tests.commands.viewers.expected import RIGHTS, SLOTS
 
-from aide_compare.base.paths import Pattern
 from aide_compare.lines.reader import ENCODE, Reader
 
-PIECES = (b"a", b"b", b"a.so", b"", b".ssh", b"x-y", b"[", b"a\n")
-PATTERNS = (
-    *(b"/**", b"/a", b"/*", b"/a/**", b"/**/a", b"/**/.ssh/**", b"/a/*.so", b"/a/b*", b"/*/b"),
-    *(b"/a/**/**/b", b"/**/*-*/?.so", b"/a/[ab]", b"/a/x*y", b"/**/a/**/b", b"/a*/**"),
-)
 HEAD = b'{"format":4,"old":"o","new":"n"}\n'
 # What looks like members in a path.
 ODD_PATHS = ("/a", '/a"Ctime":5', '/"new":{"Ctime":1}', "/\u00e4", '/","same_as":"old', "/\\")
@@ -28,10 +22,6 @@ VALUES: Dict[str, List[Any]] = {
     "Perm": ["0644", "4755"],
     "ACL": ["POSIX,0,0"],
 }
-
-
-def random_path(draw: random.Random) -> bytes:
-    return b"/a/" + b"/".join(draw.choice(PIECES) for _ in range(draw.randint(1, 5)))
 
 
 def letters_of(old: Dict[str, Any], new: Dict[str, Any]) -> str:
@@ -63,18 +53,6 @@ class LookupsTest(ModuleTest):
     def setUp(self) -> None:
         super().setUp()
         self.draw = random.Random(20261128)
-
-    def test_names_in(self) -> None:
-        """The names that a pattern means in a directory are those whose paths it means."""
-        for _ in range(4000):
-            path = random_path(self.draw)[self.draw.choice((0, 2)) :]
-            pieces = path[1:].split(b"/")
-            for text in PATTERNS:
-                pattern = Pattern(text)
-                test = pattern.names_in(pieces[:-1])
-                got = test is not None and bool(test(pieces[-1]))
-                if got != pattern.matches(pieces):
-                    self.fail(f"{text!r} and {path!r}: {got}")
 
     def test_beginnings(self) -> None:
         """The beginning of a line says what its object says."""

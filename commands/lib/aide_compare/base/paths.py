@@ -109,10 +109,6 @@ def _never(_piece: bytes) -> bool:
     return False
 
 
-def _always(_piece: bytes) -> bool:
-    return True
-
-
 class Pattern:
     """A pattern over whole paths; a ValueError says why a text is none. `fixed` are its first
     pieces without a wildcard."""
@@ -151,22 +147,6 @@ class Pattern:
     def named(self) -> set[bytes]:
         """For a quick no: a path has these pieces."""
         return set(filter(_is_fixed, self.pieces))
-
-    def names_in(self, pieces: list[bytes]) -> Callable[[bytes], object] | None:
-        """A test of the names in a directory, given by its pieces, that the pattern means; None if
-        it means none there, whatever its name."""
-        above = self.text.rpartition(b"/")[0]
-        last = self.tests[-1]
-        if last is None and self.matches([*pieces, b""]):
-            return _always
-        if above.endswith(b"/**"):  # Before a name it may also take no piece.
-            pieces = [*pieces, b""]
-        is_there = not pieces
-        if above:
-            is_there = Pattern(above).matches(pieces)
-        if is_there:
-            return last
-        return None
 
     def matches(self, pieces: list[bytes]) -> bool:
         """Whether the pattern means the pieces of a path. `**` takes as few as will do, and one
@@ -221,14 +201,8 @@ class Table(Generic[RowType]):
 
     def __init__(self, rows: Iterable[RowType]) -> None:
         self.by_start: dict[tuple[bytes, ...], list[tuple[int, RowType]]] = {}
-        # The same by the pieces of the directories in which their patterns may mean names.
-        self.by_directory: dict[tuple[bytes, ...], list[tuple[int, RowType]]] = {}
         for place, row in enumerate(rows):
-            pattern = row.pattern
-            self.by_start.setdefault(pattern.fixed, []).append((place, row))
-            self.by_directory.setdefault(pattern.fixed[: len(pattern.pieces) - 1], []).append(
-                (place, row)
-            )
+            self.by_start.setdefault(row.pattern.fixed, []).append((place, row))
         self.longest = max(map(len, self.by_start), default=0)
 
     @lru_cache(maxsize=1024)
@@ -237,13 +211,6 @@ class Table(Generic[RowType]):
         found = []
         for size in range(len(start) + 1):
             found += self.by_start.get(start[:size], [])
-        return [row for _, row in sorted(found, key=itemgetter(0))]
-
-    def rows_in(self, pieces: list[bytes]) -> list[RowType]:
-        """The rows that may mean a name in a directory, given by its pieces, in their order."""
-        found = []
-        for size in range(min(len(pieces), self.longest) + 1):
-            found += self.by_directory.get(tuple(pieces[:size]), [])
         return [row for _, row in sorted(found, key=itemgetter(0))]
 
     def rows(self, path: bytes, test: Callable[[RowType], bool] | None = None) -> Iterator[RowType]:

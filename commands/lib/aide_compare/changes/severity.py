@@ -6,13 +6,13 @@ import binascii
 import os
 import stat
 from collections.abc import Callable, Iterator
-from typing import NamedTuple, Tuple
+from typing import NamedTuple
 
 from aide_compare.base.database import RUN_BITS, SET_ID
 from aide_compare.base.ending import Fault, Status
 from aide_compare.base.escapes import shown
 from aide_compare.base.files import lines_of
-from aide_compare.base.paths import MAX_PATH, Pattern, Table, pattern_of
+from aide_compare.base.paths import Pattern, Table, pattern_of
 from aide_compare.base.words import SEVERITIES
 from aide_compare.lines.rights import ROOT, Rights, Side
 
@@ -209,13 +209,8 @@ def held_by(old: Side, new: Side) -> Held:
     return Held(held, opens_programs and not has_same_rights(old, new))
 
 
-# A weight, and a test of the names in a directory that have it.
-Names = Tuple[Weight, Callable[[bytes], object]]
-
-
 # The bit of each test in a number that says which hold.
 BITS = {word: 1 << place for place, word in enumerate(TESTS)}
-MAX_DIRECTORIES = 1 << 8
 OTHER_WEIGHT = Weight(OTHERWISE, SEVERITIES.index(OTHERWISE) * RANKS)
 
 
@@ -240,8 +235,6 @@ class Severity:
         lines = lines_of(path, "the table of severities")
         rows = [self._rows(number, *line) for number, line in enumerate(lines)]
         self.table = Table([row for each in rows for row in each])
-        # What is known of names in these directories.
-        self.names: dict[tuple[bytes, int], list[Names]] = {}
 
     @staticmethod
     def _rows(number: int, line: bytes, place: str) -> Iterator[Row]:
@@ -276,27 +269,9 @@ class Severity:
         return min(weight, inside, key=lambda each: each.rank)
 
     def _first(self, path: bytes, held: int) -> Weight:
-        if len(path) > MAX_PATH:
-            return OTHER_WEIGHT
-        directory, _, name = path.rpartition(b"/")
-        for weight, test in self._names_in(directory, held):
-            if test(name):
-                return weight
-        return OTHER_WEIGHT
+        def holds(row: Row) -> bool:
+            return not row.tests & ~held
 
-    def _names_in(self, directory: bytes, held: int) -> list[Names]:
-        """The weights of names in a directory if these tests hold, the first line first. Most
-        entries are in the directory of many others."""
-        key = (directory, held)
-        names = self.names.get(key)
-        if names is None:
-            pieces = directory[1:].split(b"/") if directory else []
-            names = []
-            for row in self.table.rows_in(pieces):
-                test = None if row.tests & ~held else row.pattern.names_in(pieces)
-                if test is not None:
-                    names.append((row.weight, test))
-            if len(self.names) >= MAX_DIRECTORIES:
-                self.names.clear()
-            self.names[key] = names
-        return names
+        for row in self.table.rows(path, holds):
+            return row.weight
+        return OTHER_WEIGHT

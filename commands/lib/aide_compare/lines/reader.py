@@ -221,14 +221,6 @@ class Reader:
         return key
 
 
-def with_members(line: bytes, members: Fields) -> bytes:
-    """The line of an object with further members at its end."""
-    if not members:
-        return line
-    end = line.rindex(b"}")
-    return line[:end] + b"," + ENCODE(members)[1:-1].encode() + line[end:]
-
-
 def reader_over(descriptor: int) -> Reader:
     """A Reader of all lines that the file of a descriptor has."""
     file = open(os.dup(descriptor), "rb", BLOCK)
