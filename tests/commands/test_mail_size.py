@@ -158,24 +158,21 @@ class SizesTest(MailTest):
 
     def test_weight(self) -> None:
         """An alarm takes three processes and seven files without a name at the most, of any number
-        of changes, also as the unit of systemd asks for it: then the program is asked first which
-        databases the configuration names.
-        """
+        of changes, also as the unit of systemd asks for it."""
         for name, more in (("o.db", 0), ("n.db", 1)):
             lines = [b"/x/%05d 36 100644 %d\n" % (at, at + more) for at in range(6000)]
             self.write(name, HEAD + b"".join(lines) + END)
-        for name, old, new in (("conf", "old.db", "new.db"), ("large", "o.db", "n.db")):
-            text = f"database_in=file:{self.path(old)}\ndatabase_new=file:{self.path(new)}\n"
-            self.write(name, text)
+        names = [self.path(name) for name in ("old.db", "new.db")]
+        self.write("etc/defaults", f"--databases {' '.join(names)}\n")
         queue = ["--queue", "queue"]
         unit = [*queue, "--max-age", "50h", "--state", "state"]
         short = [*queue, "-A", "report_level=summary", "old.db", "new.db"]
         for label, words, wanted in (
             ("with a page", ["--attach-page", *queue, "old.db", "new.db"], (7, 2, 5)),
-            ("the unit's", [*unit, "-c", "conf"], (7, 3, 5)),
+            ("the unit's", unit, (7, 2, 5)),
             ("of a short report", short, (7, 2, 4)),
             ("by sendmail", ["old.db", "new.db"], (7, 3, 3)),
-            ("a large one of the unit", [*unit, "-c", "large"], (4, 3, 5)),
-            ("without some paths", [*unit, "-c", "large", "--exclude", "/y"], (4, 3, 7)),
+            ("a large one", [*unit, "o.db", "n.db"], (4, 2, 5)),
+            ("without some paths", [*unit, "o.db", "n.db", "--exclude", "/y"], (4, 2, 7)),
         ):
             self.assertEqual(self.weight_of(*words), wanted, "processes and files: " + label)
