@@ -1,6 +1,6 @@
 #!/usr/bin/env python3
 """Checks the layout of every crate: cycles of modules, wide contracts, long argument lists, long
-lines, long files, and imports on more lines than they need.
+lines and long files.
 
 Each finding fails unless docs/DECISIONS.md has a row for it in the table under the heading
 "Exceptions from the layout". A row that matches no finding fails too, so the table stays as short
@@ -12,7 +12,6 @@ as it can be. A row about lines or files may name a folder. The rules:
   column     a line of src/ or specs/ has at most 100 characters, a line of comment at most 120, and a line of proofs/
              at most 140
   length     a file of src/ or specs/ has at most 350 lines
-  imports    the names that a head of a file imports from one module for its proofs are on as few lines as they need
 
 The last line is 'N passed, M failed': each crate counts once for each rule. The status is 1 if
 something failed or if no crate was found.
@@ -25,7 +24,7 @@ import sys
 from tools.lib.arguments import parser_of
 
 HEADING = "Exceptions from the layout"
-RULES = ("cycle", "ensures", "arguments", "column", "length", "imports")
+RULES = ("cycle", "ensures", "arguments", "column", "length")
 MOST_ENSURES = 8
 MOST_ARGUMENTS = 6
 MOST_COLUMNS = 100
@@ -33,7 +32,6 @@ MOST_COMMENT_COLUMNS = 120
 MOST_PROOF_COLUMNS = 140
 MOST_LINES = 350
 
-IMPORT = re.compile(r"(\s*)((?:ghost )?use )(\S+)\.\{(.*)\}(;?)")
 SKIPPED = re.compile(r"""//[^\n]*|/\*.*?\*/|b?"(?:\\.|[^"\\])*"|b?'(?:\\.[^']*|[^'\\\n])'""", re.S)
 OPENING, CLOSING = "([{", ")]}"
 
@@ -213,58 +211,14 @@ def findings_of(crate):
             found["column"][where] = "lines " + ", ".join(wide)
         if len(lines) > MOST_LINES:
             found["length"][where] = f"{len(lines)} lines"
-    proofs = sorted((crate / "proofs").rglob("*.antt"))
-    for file in proofs:
+    for file in sorted((crate / "proofs").rglob("*.antt")):
         lines = file.read_text(encoding="utf-8").splitlines()
         wide = [
             str(number) for number, line in enumerate(lines, 1) if len(line) > MOST_PROOF_COLUMNS
         ]
         if wide:
             found["column"][str(file.relative_to(crate.parent))] = "lines " + ", ".join(wide)
-    for file in [*texts, *sorted((crate / "specs").rglob("*.antt")), *proofs]:
-        spread = spread_imports(file.read_text(encoding="utf-8").splitlines())
-        if spread:
-            found["imports"][str(file.relative_to(crate.parent))] = "lines " + ", ".join(spread)
     return found
-
-
-def heads_of(lines):
-    """The imports that follow one another with the same indent: for each module the lines that name
-    it."""
-    head, last = {}, None
-    for number, line in enumerate(lines, 1):
-        found = IMPORT.fullmatch(line)
-        if head and not (found and found.group(1) == last):
-            yield head
-            head = {}
-        if found:
-            last = found.group(1)
-            head.setdefault(found.group(3), []).append((number, found))
-    if head:
-        yield head
-
-
-def lines_needed(imports):
-    """How many lines of the usual width the names of these imports of one module need, in their
-    order."""
-    indent, use, module, _, end = imports[0].groups()
-    room = MOST_COLUMNS - len(f"{indent}{use}{module}.{{}}{end}")
-    count, filled = 0, room
-    for name in (name.strip() for found in imports for name in found.group(4).split(",")):
-        filled += len(", ") + len(name)
-        if filled > room:
-            count, filled = count + 1, len(name)
-    return count
-
-
-def spread_imports(lines):
-    """The first line of each module in a head whose names would fit on fewer lines."""
-    return [
-        str(imports[0][0])
-        for head in heads_of(lines)
-        for imports in head.values()
-        if lines_needed([found for _, found in imports]) < len(imports)
-    ]
 
 
 def width_of(line):
