@@ -11,6 +11,7 @@ from __future__ import annotations
 
 import argparse
 import ast
+import copy
 import difflib
 import os
 import random
@@ -19,6 +20,7 @@ import subprocess
 import sys
 import tempfile
 from collections.abc import Iterator
+from typing import Any, NamedTuple
 
 from tests.lib import signals
 from tests.lib.apart import apart
@@ -27,9 +29,112 @@ from tests.lib.programs import VARIABLE
 from tests.lib.scratch import TOP
 from tests.lib.tally import Tally, side_by_side
 from tools.lib.arguments import add_program, parser_of
-from tools.lib.mutants import mutants
 
-Mutant = tuple[int, str, str]
+TURNED: dict[type[ast.cmpop], type[ast.cmpop]] = {
+    ast.Eq: ast.NotEq,
+    ast.NotEq: ast.Eq,
+    ast.Lt: ast.LtE,
+    ast.LtE: ast.Lt,
+    ast.Gt: ast.GtE,
+    ast.GtE: ast.Gt,
+    ast.Is: ast.IsNot,
+    ast.IsNot: ast.Is,
+    ast.In: ast.NotIn,
+    ast.NotIn: ast.In,
+}
+OTHER: dict[type[ast.operator], type[ast.operator]] = {
+    ast.Add: ast.Sub,
+    ast.Sub: ast.Add,
+    ast.BitOr: ast.BitAnd,
+}
+
+
+class Mutant(NamedTuple):
+    """A text with a mistake in a line."""
+
+    line: int
+    kind: str
+    text: str
+
+
+def changed(node: ast.AST, **fields: Any) -> ast.AST:
+    """A copy of a node with other fields."""
+    made = copy.copy(node)
+    for name, value in fields.items():
+        setattr(made, name, value)
+    return made
+
+
+def of_expression(node: ast.AST) -> Iterator[tuple[str, ast.AST]]:
+    """What may stand in the place of an expression, by kind."""
+    if isinstance(node, ast.Compare):
+        for at, sign in enumerate(node.ops):
+            signs = [*node.ops[:at], TURNED[type(sign)](), *node.ops[at + 1 :]]
+            yield "comparison", changed(node, ops=signs)
+    elif isinstance(node, ast.BoolOp):
+        yield "and/or", changed(node, op=ast.Or() if isinstance(node.op, ast.And) else ast.And())
+        for value in node.values:
+            rest = [other for other in node.values if other is not value]
+            yield "condition", rest[0] if len(rest) == 1 else changed(node, values=rest)
+    elif isinstance(node, ast.UnaryOp) and isinstance(node.op, ast.Not):
+        yield "not", node.operand
+    elif isinstance(node, ast.BinOp) and type(node.op) in OTHER:
+        if isinstance(node.op, ast.BitOr):
+            yield from (("flag", node.left), ("flag", node.right))
+        yield "operator", changed(node, op=OTHER[type(node.op)]())
+    elif isinstance(node, ast.Constant) and isinstance(node.value, bool):
+        yield "constant", ast.Constant(not node.value)
+    elif isinstance(node, ast.Constant) and isinstance(node.value, int):
+        yield from (("constant", ast.Constant(node.value + step)) for step in (1, -1))
+    elif isinstance(node, ast.Call):
+        for word in node.keywords:
+            rest_of_words = [other for other in node.keywords if other is not word]
+            yield "argument", changed(node, keywords=rest_of_words)
+
+
+def alternatives(node: ast.AST) -> Iterator[tuple[str, ast.AST]]:
+    """What may stand in the place of a node, by kind."""
+    if isinstance(node, (ast.If, ast.IfExp, ast.While)):
+        for value in (True, False):
+            yield "branch", changed(node, test=ast.Constant(value))
+    elif isinstance(node, ast.Expr) and isinstance(node.value, ast.Call):
+        yield "statement", ast.Pass()
+    elif isinstance(node, ast.Return) and getattr(node.value, "value", "") is not None:
+        yield "result", ast.Return(ast.Constant(None))
+    else:
+        yield from of_expression(node)
+
+
+class Replacement(ast.NodeTransformer):
+    """Puts another node in the place of one."""
+
+    def __init__(self, node: ast.AST, other: ast.AST) -> None:
+        self.node = node
+        self.other = other
+
+    def visit(self, node: ast.AST) -> Any:
+        return self.other if node is self.node else self.generic_visit(node)
+
+
+def places(node: ast.AST) -> Iterator[ast.AST]:
+    """The nodes of a tree, but for annotations: these are for whoever reads."""
+    for name, value in ast.iter_fields(node):
+        for child in value if isinstance(value, list) else [value]:
+            if isinstance(child, ast.AST) and name not in ("annotation", "returns"):
+                yield child
+                yield from places(child)
+
+
+def drawn(text: str, count: int, numbers: random.Random) -> Iterator[Mutant]:
+    """Some mutants of a text."""
+    nodes = enumerate(places(ast.parse(text)))
+    every = [(at, which) for at, node in nodes for which in range(len([*alternatives(node)]))]
+    for at, which in numbers.sample(every, min(count, len(every))):
+        tree = ast.parse(text)
+        node = list(places(tree))[at]
+        kind, other = list(alternatives(node))[which]
+        changed_tree = ast.fix_missing_locations(Replacement(node, other).visit(tree))
+        yield Mutant(getattr(node, "lineno", 0), kind, ast.unparse(changed_tree))
 
 
 def end_of(test: str, directory: str, args: argparse.Namespace) -> str:
@@ -63,13 +168,6 @@ def first_end(text: str, args: argparse.Namespace) -> str:
         return next((f"{test} {end}" for test, end in zip(args.tests, ends) if end), "")
 
 
-def drawn(text: str, count: int, numbers: random.Random) -> Iterator[Mutant]:
-    """Some mutants of a text: line, kind and text."""
-    every = list(mutants(text))
-    for line, kind, mutant in numbers.sample(every, min(count, len(every))):
-        yield line, kind, mutant()
-
-
 def change_in(text: str, mutant: str) -> str:
     """The lines that a mutant has not from the text, and those that it has in their place."""
     lines = difflib.ndiff(ast.unparse(ast.parse(text)).splitlines(), mutant.splitlines())
@@ -88,32 +186,30 @@ def main() -> int:
         nargs="+",
         help="tests of it, as unittest names them: tests.commands.test_mail",
     )
-    parser.add_argument("--count", type=int, default=10, help="how many mistakes (10)")
-    parser.add_argument(
-        "--seed", type=int, default=random.SystemRandom().randrange(10**9), help="which ones"
-    )
-    parser.add_argument("--jobs", type=int, default=2, help="how many at a time (2)")
-    parser.add_argument(
-        "--seconds", type=int, default=600, help="a test that takes longer hangs (600)"
-    )
+    for name, usual, text in (
+        ("--count", 10, "how many mistakes"),
+        ("--seed", random.SystemRandom().randrange(10**9), "which ones"),
+        ("--jobs", 2, "how many at a time"),
+        ("--seconds", 600, "a test that takes longer hangs"),
+    ):
+        parser.add_argument(name, type=int, default=usual, help=f"{text} (%(default)s)")
     args = parser.parse_args()
     tally = Tally()
     signals.heed()
     print(f"seed {args.seed}", flush=True)
     with open(os.path.join(TOP, args.file), encoding="utf-8") as source:
-        text = source.read()
-    end = first_end(text, args)
+        whole = source.read()
+    end = first_end(whole, args)
     if end:
         sys.exit(f"without a mistake: {end}")
-    chosen = list(drawn(text, args.count, random.Random(args.seed)))
-    ends = side_by_side(args.jobs, lambda one: first_end(one[2], args), chosen)
-    for (line, kind, mutant), end in zip(chosen, ends):
+    chosen = list(drawn(whole, args.count, random.Random(args.seed)))
+    ends = side_by_side(args.jobs, lambda one: first_end(one.text, args), chosen)
+    for mutant, end in zip(chosen, ends):
+        faults = [] if end else [f"not seen{change_in(whole, mutant.text)}"]
         if end.endswith("hangs"):
-            print(f"{args.file}:{line}: {kind}: {end}", flush=True)
-        faults = [] if end else [f"not seen{change_in(text, mutant)}"]
-        tally.add(f"{args.file}:{line}: {kind}", faults)
-    status: int = tally.status()
-    return status
+            print(f"{args.file}:{mutant.line}: {mutant.kind}: {end}", flush=True)
+        tally.add(f"{args.file}:{mutant.line}: {mutant.kind}", faults)
+    return int(tally.status())
 
 
 if __name__ == "__main__":

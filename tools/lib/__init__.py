@@ -1,1 +1,1 @@
-"""What tools share: their arguments, and small mistakes in a text."""
+"""What tools share: their arguments."""
