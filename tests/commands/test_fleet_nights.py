@@ -9,8 +9,6 @@ import shutil
 import time
 from typing import Any, Dict, Optional
 
-from tests.lib.program_test import thorough
-
 from tests.commands.made_up import Night, base64_of, time_of
 from tests.commands.sandbox import CommandTest
 from tests.commands.test_hosts_report import Hosts
@@ -44,14 +42,13 @@ def database(number: int, is_upgraded: bool, more: Optional[Files] = None) -> by
 class Fleet(Hosts):
     """Hosts that are compared beside a canary, and what is listed and accepted then."""
 
-    def __init__(self, sandbox: CommandTest, names: tuple[str, ...] = NAMES) -> None:
+    def __init__(self, sandbox: CommandTest) -> None:
         super().__init__(sandbox)
         sandbox.write("etc/without", "/var/log/**\n")
         self.number = 0
-        self.names = names
-        for host in names:
+        for host in NAMES:
             self.put(host, b"", database(self.next_number(), False))
-        self.list_hosts(*names)
+        self.list_hosts(*NAMES)
 
     def next_number(self) -> int:
         self.number += 1
@@ -59,7 +56,7 @@ class Fleet(Hosts):
 
     def send(self, upgraded: tuple[str, ...], marks: Optional[Dict[str, Files]] = None) -> None:
         """What all hosts send the next night."""
-        for host in self.names:
+        for host in NAMES:
             more = (marks or {}).get(host)
             self.put(host, database(self.next_number(), host in upgraded, more), None)
 
@@ -91,14 +88,14 @@ class Fleet(Hosts):
         said = self.call(ACCEPT, "--trusted-only", *words, self.sandbox.path("hosts"))
         self.sandbox.assertEqual((said.status, said.errors), (0, ""), said)
         lines = dict(line.split(" ", 1) for line in said.output.splitlines())
-        self.sandbox.assertEqual(set(lines), {*self.names, str(len(self.names))}, said)
+        self.sandbox.assertEqual(set(lines), {*NAMES, str(len(NAMES))}, said)
         return lines
 
 
 class FleetNightsTest(CommandTest):
-    def nights(self, silent_first: bool, names: tuple[str, ...] = NAMES) -> None:
-        fleet = Fleet(self, names)
-        in_time = tuple(host for host in names if host not in LATE)
+    def nights(self, silent_first: bool) -> None:
+        fleet = Fleet(self)
+        in_time = tuple(host for host in NAMES if host not in LATE)
         mark = {EVIL: {MARK: b"x"}}
         fleet.send(in_time, mark)
         self.assertEqual(fleet.night(), {CANARY: 4, EVIL: 1}, "the night of the upgrade")
@@ -111,14 +108,14 @@ class FleetNightsTest(CommandTest):
         self.assertEqual(lines["www4"], "0 6 silent changes accepted", "times")
         if silent_first:
             fleet.accept_canary()
-        fleet.send(names, mark)
+        fleet.send(NAMES, mark)
         self.assertEqual(fleet.night(), {EVIL: 1}, "those that lag are quiet")
         first = fleet.report().output.split("\n")[0]
         self.assertIn("and was accepted, is silent", first)
         lines = fleet.accept_silent()
         self.assertEqual(lines["www4"], "0 7 silent changes accepted")
         fleet.accept(EVIL)
-        fleet.send(names, mark)
+        fleet.send(NAMES, mark)
         self.assertEqual(fleet.night(), {}, "an idle night")
         hosts = self.path("hosts")
         said = fleet.compare("-q", "--canary", CANARY, "--no-fetch", hosts)
@@ -130,11 +127,6 @@ class FleetNightsTest(CommandTest):
         """Night 1: the canary is named, and who has a mark. The canary is accepted. Night 2: hosts
         that are upgraded then are quiet. Night 3: nobody is named."""
         self.nights(silent_first=True)
-
-    @thorough
-    def test_thousand(self) -> None:
-        """The same with a thousand hosts."""
-        self.nights(True, tuple(f"www{number}" for number in range(1, 1001)))
 
     def test_canary_first(self) -> None:
         """The same if the canary is accepted before the others."""

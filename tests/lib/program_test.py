@@ -14,10 +14,6 @@ QUICK = "AIDE_QUICK"
 slow = unittest.skipIf(bool(os.environ.get(QUICK)), "it takes long")
 # How many random sessions each test of them tries.
 SESSIONS = int(os.environ.get("AIDE_SESSIONS") or (150 if os.environ.get(QUICK) else 500))
-# For tests that take many minutes, which nobody runs but by hand.
-thorough = unittest.skipUnless(
-    os.environ.get("AIDE_THOROUGH"), "only with AIDE_THOROUGH=1: it takes many minutes"
-)
 
 
 def new_seed() -> int:

@@ -8,6 +8,7 @@ from __future__ import annotations
 import os
 import random
 import subprocess
+import threading
 import time
 
 from tests.lib.program_test import new_seed, slow
@@ -15,7 +16,6 @@ from tests.lib.tally import difference, run, side_by_side, wanted_lines
 from tests.oracle.session import Answer
 from tests.program.real_files.folder import EMPTY, NEW, OLD, SKIPPING, Folder, names
 from tests.program.real_files.test_fifos import fed
-from tests.program.real_files.test_replaced import ENTRIES, Turning, replace, resize
 from tests.program.test_failed_calls import FILES
 from tests.program.test_lines import LinesProgramTest, faults_of_lines
 
@@ -26,6 +26,7 @@ COUNT = 120
 REPEATED = 4  # So often two ways to break a pair are tried.
 FOURS = 80
 RUNS = 60
+ENTRIES = 3000
 # So many bytes are in a pipe that nobody reads.
 PIPE = 1 << 16
 
@@ -116,6 +117,43 @@ def read_slowly(program, words, at_first):
     process.stdout.close()
     process.stderr.close()
     return Answer(output, errors, process.wait())
+
+
+class Turning:
+    """Something that is done again and again beside the runs."""
+
+    def __init__(self, steps):
+        self.steps, self.is_over = steps, threading.Event()
+        self.thread = threading.Thread(target=self.turn, daemon=True)
+
+    def turn(self):
+        while not self.is_over.is_set():
+            for step in self.steps:
+                step()
+                time.sleep(0.004)
+
+    def __enter__(self):
+        self.thread.start()
+
+    def __exit__(self, *_):
+        self.is_over.set()
+        self.thread.join()
+
+
+def replace(folder, name, text):
+    folder.write("next", text)
+    os.replace(folder.at("next"), folder.at(name))
+
+
+def resize(folder, name, text):
+    """Makes a file that holds the front of a text, or more than it, hold just this text, in one
+    step."""
+    size = os.path.getsize(folder.at(name))
+    with open(folder.at(name), "ab", buffering=0) as file:
+        if size > len(text):
+            file.truncate(len(text))
+        else:
+            file.write(text[size:])
 
 
 class OneReadingTest(LinesProgramTest):

@@ -17,9 +17,9 @@ from tests.lib.tally import difference, run, shown, side_by_side, wanted_lines
 from tests.oracle.database import LINE_LIMIT
 from tests.oracle.session import USAGE_LINE, Answer
 from tests.program import cases, line_rows
+from tests.program.damages import WAYS
 from tests.program.test_failed_calls import FILES, NAMES
 from tests.program.random_sessions import make_session_beside, try_sessions
-from tests.program.real_files.test_damage import WAYS
 from tests.program.real_files.test_devices import check_outputs
 from tests.program.real_files.folder import EMPTY, Folder, database
 from tests.program.test_lines import LinesProgramTest, faults_of_lines

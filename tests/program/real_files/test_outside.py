@@ -1,14 +1,13 @@
 """Limits from outside: memory, descriptors, sizes of files, pipes, devices, files of 2 GB."""
 import os
 import resource
-import subprocess
 
-from tests.lib.program_test import ProgramTest, slow, thorough
+from tests.lib.program_test import ProgramTest, slow
 from tests.oracle.session import Answer
 from tests.lib.tally import difference, run, side_by_side
 
 from .test_fifos import Feeder
-from .folder import NEW, OLD, Folder, names
+from .folder import NEW, OLD, Folder
 from .watch import Watch
 
 MEGABYTE, GIGABYTE = 2**20, 2**30
@@ -101,18 +100,11 @@ def sparse(folder, name, front, size):
 
 @slow
 class OutsideTest(ProgramTest):
-    def sizes(self, step):
+    def test_file_sizes(self) -> None:
         with Folder() as folder:
             folder.pair()
             want = folder.wanted()
-            check_file_sizes(self, "a report", self.program, folder.words(), want, step)
-
-    def test_file_sizes(self) -> None:
-        self.sizes(31)
-
-    @thorough
-    def test_all_file_sizes(self) -> None:
-        self.sizes(1)
+            check_file_sizes(self, "a report", self.program, folder.words(), want, 31)
 
     def test_memory(self) -> None:
         """Less and less memory, a page at a time between no start and the right answer: nothing
@@ -136,29 +128,6 @@ class OutsideTest(ProgramTest):
                 want = few if most == 4 else folder.wanted()
                 answer = folder.run(self.program, preexec_fn=limited(resource.RLIMIT_NOFILE, most))
                 self.check("few descriptors", answer, want)
-
-    @thorough
-    def test_pipes(self) -> None:
-        """A reader that goes away after some bytes of a long report."""
-        with Folder() as folder:
-            folder.pair(OLD, names(30000))
-            want = folder.wanted()
-            for most in (1, 100, 4096, 65536, 100000):
-                process = subprocess.Popen(
-                    [self.program] + folder.words(),
-                    stdin=subprocess.DEVNULL,
-                    stdout=subprocess.PIPE,
-                    stderr=subprocess.PIPE,
-                )
-                assert process.stdout and process.stderr
-                front = process.stdout.read(most)
-                process.stdout.close()
-                errors = process.stderr.read()
-                process.stderr.close()
-                given = Answer(front, errors, process.wait())
-                self.check(
-                    "a pipe whose reader goes", given, Answer(want.output[:most], NOT_WRITTEN, 18)
-                )
 
     def test_devices(self) -> None:
         """Devices as files: the null device is empty, the others never end a line or give
@@ -204,21 +173,19 @@ class OutsideTest(ProgramTest):
                 folder.pair(long, old, b"report_level=database_attributes\n")
                 self.check("an old database of 20 MB", folder.run(self.program), folder.wanted())
 
-    @thorough
     def test_large_files(self) -> None:
-        """Sparse files of 2 GB, which are read whole or as far as a configuration may reach."""
+        """Sparse files that are larger than the memory, which are read whole or as far as a
+        configuration may reach."""
+        same = b"AIDE found NO differences between the two databases.\n"
         with Folder() as folder:
             folder.pair(NEW, NEW, MINIMAL)
-            sparse(folder, "old", NEW, 2 * GIGABYTE)
-            answer = folder.run(self.program, preexec_fn=limited(resource.RLIMIT_AS, 64 * MEGABYTE))
-            self.check(
-                "2 GB behind the end",
-                answer,
-                (b"AIDE found NO differences between the two databases.\n", b"", 0),
-            )
-            sparse(folder, "conf", b"", 2 * GIGABYTE)
-            answer = folder.run(self.program, preexec_fn=limited(resource.RLIMIT_AS, 64 * MEGABYTE))
-            self.check("a configuration of 2 GB", answer, (b"", TOO_LARGE, 17))
+            for name, front, want in (
+                ("old", NEW, (same, b"", 0)),
+                ("conf", b"", (b"", TOO_LARGE, 17)),
+            ):
+                sparse(folder, name, front, 128 * MEGABYTE)
+                few = limited(resource.RLIMIT_AS, 64 * MEGABYTE)
+                self.check(name, folder.run(self.program, preexec_fn=few), want)
 
     def test_surroundings(self) -> None:
         """No environment, no standard input, a working folder that is gone."""
