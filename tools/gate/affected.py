@@ -9,6 +9,7 @@ import glob
 import os
 import re
 from collections.abc import Iterator
+from importlib.util import resolve_name
 
 from tests.lib.scratch import TOP
 
@@ -16,9 +17,9 @@ LIBRARY = "commands/lib/"
 SUBCOMMANDS = "aide_compare.commands."
 # The modules that every command loads: they name each command and each option, and start none.
 FRONT = {"aide_compare.commands.front", "tests.commands.sandbox"}
-CHECK = "check_aide_compare"
-# A command as a test names it.
+# What a text starts: a command as a test names it, and a module with `after_import`.
 NAMED = re.compile("aide-compare ((?:hosts )?[a-z]+)")
+STARTED = {"check_aide_compare": "status", "aide-compare": "compare"}
 
 
 def module_name(path: str) -> str:
@@ -31,36 +32,27 @@ class Module:
     """What a module imports, and the texts in it."""
 
     def __init__(self, path: str) -> None:
-        self.path = path
         with open(os.path.join(TOP, path), encoding="utf-8") as file:
-            tree = ast.parse(file.read())
-        package = module_name(path) if path.endswith("/__init__.py") else ""
-        self.package = package or module_name(path).rpartition(".")[0]
-        self.imported = set(self._imported(tree))
-        self.texts = {
-            node.value
-            for node in ast.walk(tree)
-            if isinstance(node, ast.Constant) and isinstance(node.value, str)
-        }
+            nodes = list(ast.walk(ast.parse(file.read())))
+        name = module_name(path)
+        self.package = name if path.endswith("/__init__.py") else name.rpartition(".")[0]
+        self.imported = {each for node in nodes for each in self._imported(node)}
+        values = [node.value for node in nodes if isinstance(node, ast.Constant)]
+        self.texts = {value for value in values if isinstance(value, str)}
 
-    def _imported(self, tree: ast.AST) -> Iterator[str]:
-        for node in ast.walk(tree):
-            if isinstance(node, ast.Import):
-                yield from (alias.name for alias in node.names)
-            elif isinstance(node, ast.ImportFrom):
-                inner = [node.module] if node.module else []
-                outer = self.package.split(".")[: -node.level + 1 or None] if node.level else []
-                name = ".".join([*outer, *inner])
-                yield name
-                yield from (f"{name}.{alias.name}" for alias in node.names)
+    def _imported(self, node: ast.AST) -> Iterator[str]:
+        if isinstance(node, ast.Import):
+            yield from (alias.name for alias in node.names)
+        elif isinstance(node, ast.ImportFrom):
+            name = resolve_name("." * node.level + (node.module or ""), self.package)
+            yield name
+            yield from (f"{name}.{alias.name}" for alias in node.names)
 
     def names(self, path: str) -> bool:
         """Whether a text of the module names a file, or the directory that it is in."""
-        base = os.path.basename(path)
-        directory = os.path.basename(os.path.dirname(path))
-        return any(
-            text.endswith(base) or text.strip("/").endswith(directory) for text in self.texts
-        )
+        directory, base = os.path.split(path)
+        ends = (base, os.path.basename(directory))
+        return any(text.strip("/").endswith(ends) for text in self.texts)
 
 
 class Tests:
@@ -72,55 +64,35 @@ class Tests:
             for path in sorted(glob.glob(os.path.join(TOP, pattern), recursive=True)):
                 name = os.path.relpath(path, TOP)
                 self.modules[module_name(name)] = Module(name)
-        self.commands = {
-            name[len(SUBCOMMANDS) :].replace("_", " "): name
-            for name in self.modules
-            if name.startswith(SUBCOMMANDS)
-        }
-
-    def used_by(self, name: str) -> set[str]:
-        """The modules that a module imports, and the commands that a test starts."""
-        module = self.modules[name]
-        used = module.imported & self.modules.keys()
-        if name.startswith("tests.") and name not in FRONT:
-            used |= set(self._started(module.texts))
-        return used - FRONT
+        self.users: dict[str, set[str]] = {name: set() for name in self.modules}
+        for name, module in self.modules.items():
+            used = module.imported & self.modules.keys()
+            if name.startswith("tests.") and name not in FRONT:
+                used |= set(self._started(module.texts))
+            for other in used - FRONT:
+                self.users[other].add(name)
 
     def _started(self, texts: set[str]) -> Iterator[str]:
-        for text in texts:
-            named = NAMED.match(text)
-            if named and named[1] in self.commands:
-                yield self.commands[named[1]]
-            elif text == "aide-compare":
-                yield self.commands["compare"]
-                yield from (self.commands[word] for word in texts & self.commands.keys())
-            elif text == CHECK:
-                yield self.commands["status"]
-            elif "." in text and f"aide_compare.{text}" in self.modules:
-                yield f"aide_compare.{text}"
-
-    def reaching(self, start: set[str]) -> set[str]:
-        """The modules that use some of these, directly or through others."""
-        users: dict[str, set[str]] = {name: set() for name in self.modules}
-        for name in self.modules:
-            for used in self.used_by(name):
-                users[used].add(name)
-        found = set(start)
-        waiting = list(start)
-        while waiting:
-            fresh = users[waiting.pop()] - found
-            found |= fresh
-            waiting += fresh
-        return found
+        """The modules of the commands that these texts of a test start."""
+        words = {STARTED[text] for text in texts & STARTED.keys()}
+        if "aide-compare" in texts:
+            words |= texts
+        words.update(found[1] for found in map(NAMED.match, texts) if found)
+        names = {SUBCOMMANDS + word.replace(" ", "_") for word in words}
+        names |= {f"aide_compare.{text}" for text in texts if "." in text}
+        return iter(names & self.modules.keys())
 
     def of(self, path: str) -> list[str]:
-        """The modules of tests that try a file."""
+        """The modules of tests that try a file: those that use it, directly or through others."""
         name = module_name(path)
-        start = {name} & self.modules.keys()
-        if not start:
-            start = {other for other, module in self.modules.items() if module.names(path)}
+        found = {name} & self.modules.keys()
+        if not found:
+            found = {other for other, module in self.modules.items() if module.names(path)}
         if name in FRONT or path.startswith("commands/bin/"):
-            start = {other for other in self.modules if other.startswith("tests.commands.")}
-        return sorted(
-            found for found in self.reaching(start) if found.rpartition(".")[2].startswith("test_")
-        )
+            found = {other for other in self.modules if other.startswith("tests.commands.")}
+        waiting = list(found)
+        while waiting:
+            fresh = self.users[waiting.pop()] - found
+            found |= fresh
+            waiting += fresh
+        return sorted(each for each in found if each.rpartition(".")[2].startswith("test_"))
