@@ -150,7 +150,7 @@ class CanaryTest(CommandTest):
         """Whatever floods the canary, each of its changes is listed, or it is not used."""
         for name, limit, is_used in (("MAX_KEPT", 600, True), ("MAX_JUDGED", 1400, False)):
             hosts = self.fleet("www1", "www2")
-            hosts.set_limit("host_comparison", name, limit)
+            self.set_names("hosts.host_comparison", **{name: limit})
             lines = self.compared(hosts, "--canary", "www1")
             note = "canary www1 was not used, so the others were compared without it: only 2 of"
             self.assertEqual(lines[1].startswith(note), not is_used, (name, lines))

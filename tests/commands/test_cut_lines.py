@@ -17,7 +17,7 @@ class CutLinesTest(CommandTest):
     def test_severe(self) -> None:
         """A flood before it in the order of paths hides no severe change of the same host."""
         hosts = Hosts(self)
-        hosts.set_limit("host_comparison", "MAX_KEPT", 20 << 10)
+        self.set_names("hosts.host_comparison", MAX_KEPT=20 << 10)
         flood = (line(b"/a%04d" % number, b"%d" % number) for number in range(FLOOD))
         old = database(line(b"/a"))
         long = database(line(b"/a"), *flood, SHADOW)
@@ -45,7 +45,7 @@ class CutLinesTest(CommandTest):
         """A user who floods with changes of the same severity hides none of root's, and root's come
         first."""
         hosts = Hosts(self)
-        hosts.set_limit("host_comparison", "MAX_KEPT", 20 << 10)
+        self.set_names("hosts.host_comparison", MAX_KEPT=20 << 10)
         texts = [line(b"/a%04d" % number, b"", 1, b"100666") for number in range(FLOOD)]
         flood = (text.replace(b"100666 0 0 ", b"100666 1000 1000 ") for text in texts)
         root = line(b"/root/.bashrc"), line(b"/root/x")

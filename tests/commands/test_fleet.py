@@ -89,13 +89,6 @@ class Fleet:
         )
         return found
 
-    def set_limit(self, module: str, name: str, value: int) -> None:
-        """A limit of a module of the sandbox gets another value."""
-        path = "lib/aide_compare/hosts/%s.py" % module
-        text = self.sandbox.read(path).decode()
-        self.sandbox.assertRegex(text, r"(?m)^[A-Z_, ]*\b%s\b.* = " % name)
-        self.sandbox.write(path, "%s%s = %d\n" % (text, name, value))
-
     def start(self, words: Sequence[str], **more: Any) -> subprocess.Popen[bytes]:
         places = (self.sandbox.path("stubs"), self.sandbox.path("bin"), os.environ["PATH"])
         return subprocess.Popen(
@@ -150,7 +143,7 @@ class FleetTest(CommandTest):
         fleet = self.fleet
         fleet.put("evil", hostile(), links(b"x"))
         hosts = fleet.list_hosts("evil", *PAIR)
-        fleet.set_limit("host_comparison", "MAX_KEPT", 2 << 20)
+        self.set_names("hosts.host_comparison", MAX_KEPT=2 << 20)
         said = fleet.compare("--max-size", "200M", "--jobs", "3", hosts)
         self.assertEqual(said.status, 7, said)
         self.check_pair(said)
@@ -177,7 +170,7 @@ class FleetTest(CommandTest):
         with self.mounted("store", "-t", "tmpfs", "-o", "size=40m,mode=755", "none") as is_small:
             fleet = Fleet(self)
             fleet.put("endless", OLD)
-            fleet.set_limit("fetching", "MAX_SENT", 1 << 30 if is_small else 3 << 20)
+            self.set_names("hosts.fetching", MAX_SENT=1 << 30 if is_small else 3 << 20)
             said = fleet.compare("--time", "60s", fleet.list_hosts("endless", *PAIR))
             self.check_pair(said)
             fleet.not_compared("sent more than", said, "endless")
@@ -185,7 +178,7 @@ class FleetTest(CommandTest):
     def test_endless(self) -> None:
         """A host that sends without end: nothing is left of it."""
         self.fleet.put("endless", OLD)
-        self.fleet.set_limit("fetching", "MAX_SENT", 3 << 20)
+        self.set_names("hosts.fetching", MAX_SENT=3 << 20)
         # No file can get more than 4 MB here: that it is said is not enough, it has to be kept.
         limited = ["sh", "-c", 'ulimit -f 8192; exec "$@"', "sh"]
         said = self.fleet.compare_one("endless", before=limited)

@@ -256,7 +256,7 @@ class HostsAddTest(CommandTest):
         sshds.running["db1"].wait()
         output = self.compared(18, f"www {DIFFERS}")
         self.assertRegex(output, "(?m)^db1 18 ssh: .*Connection refused")
-        self.fleet.set_limit("fetching", "MAX_SENT", 1 << 20)
+        self.set_names("hosts.fetching", MAX_SENT=1 << 20)
         self.write("store/hosts/evil/aide.db", OLD, 0o600)
         sshds.start("evil", "cat /dev/zero")
         self.write("known_hosts", known_hosts(self, sshds, "www", "db1", "evil"))

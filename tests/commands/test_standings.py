@@ -204,23 +204,22 @@ class StandingsTest(mail.MailTest):
         standings, and every change is an alarm."""
         host = silent()
         host.write(self)
-        name = "lib/aide_compare/changes/weighing.py"
-        text = self.read(name)
-        line = b"        self.severity = Severity()\n"
+        before = dict(self.replaced)
         for fault, said in (
-            (b"raise KeyError('x')", b"a fault of this command: KeyError"),
-            (b"raise MemoryError", b"out of memory"),
-            (b"raise OSError(28, 'no room')", b"no room"),
+            ("KeyError('x')", b"a fault of this command: KeyError"),
+            ("MemoryError", b"out of memory"),
+            ("OSError(28, 'no room')", b"no room"),
         ):
-            self.write(name, text.replace(line, line + b"        " + fault + b"\n"))
+            failing = f"def Severity():\n    raise {fault}\n"
+            self.after_import("changes.weighing", "Severity\n" + failing)
             answer = self.call(TOOL, "--state", "state", "host-old.db", "host-new.db")
             want = [b"the changes are not judged: ", said]
-            self.expect(f"no judgement by {fault!r}", answer, 4, b"Changed entries:", want)
+            self.expect(f"no judgement by {fault}", answer, 4, b"Changed entries:", want)
             self.assertFalse(COUNTS.keys() & self.state().keys(), ("the state then", self.state()))
             answer = self.call(NAGIOS, "--state", "state")
             self.expect("the check then", answer, 2, b"AIDE CRITICAL", b"")
             self.assertTrue(is_mailed(self, host), "a mail then")
-        self.write(name, text)
+        self.replaced = before
         self.after_import("lines.change", "Counts.fits\nCounts.fits = lambda *_: False\n")
         said = b"the counts of the standings are not those of the changes"
         self.answered(4, None, said, TOOL, "host-old.db", "host-new.db")
