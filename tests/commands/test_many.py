@@ -82,11 +82,11 @@ class ManyTest(CommandTest):
         fails += "    if len(calls) > 4:\n        raise OSError(5, 'no more')\n"
         fails += "    return known(*words)\nDpkg.members = members\n"
         self.after_import("changes.packages", "Dpkg\n" + fails)
-        host.write(self)
-        answer = self.call("aide-compare", "host-old.db", "host-new.db")
+        answer, objects = host.ask(self)
         self.assertIn(b"no package groups the changes", answer.errors)
-        self.assertNotIn(b"recorded", answer.output)
-        self.assertNotIn(b"by path", answer.output)
+        found = standings_of(objects, ("standing",))
+        self.assertEqual(set(found.values()), {"open"}, found)
+        self.assertEqual(objects[-1]["standings"]["open"], len(found))
 
     @slow
     def test_memory(self) -> None:
