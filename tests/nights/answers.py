@@ -7,12 +7,15 @@ import mailbox
 import re
 from typing import Callable, Dict, Iterable, List, NamedTuple
 
+from tests.commands.viewers.pages import data_in
 from tests.nights.machine import Machine
 
 CHECK = "/usr/lib/nagios/plugins/check_aide_compare"
 # Where the mail systems put the mails of root, whose name in /etc/aliases is anna.
 MAILBOXES = ("var/mail/anna", "var/mail/root", "var/mail/mail", "var/log/smtp-sink")
 ALARM = "aide on "
+# The path of which `show` prints the change, if there is one; the counts are those of all paths.
+SHOWN = "/etc/passwd"
 # What was typed before the question was there does not count.
 NO_TO_ACCEPT = "while sleep 1; do echo no; done | script -qec 'aide-compare accept' /dev/null"
 
@@ -71,8 +74,7 @@ def counts_of_lines(text: str) -> Counts:
 
 def counts_of_page(text: str) -> Counts:
     """The page counts what is high among the open and the recorded ones together."""
-    pairs = re.findall(r"<dt>(\w+)</dt><dd>([\d,]+)</dd>", text)
-    numbers = {name: int(number.replace(",", "")) for name, number in pairs}
+    numbers = dict(data_in(text)["heading"]["counts"])
     changes = sum(numbers.get(kind, 0) for kind in ("added", "removed", "changed"))
     return Counts(numbers.get("open", 0), None, numbers.get("recorded", 0), changes)
 
@@ -106,6 +108,7 @@ COMMANDS: Dict[str, Callable[[Machine], Counts | None]] = {
     "hand": lambda machine: counts_in_words(said(machine, "aide-compare")),
     "json": lambda machine: counts_of_lines(machine.shell("aide-compare json").stdout.decode()),
     "page": lambda machine: counts_of_page(said(machine, "aide-compare", "page")),
+    "show": lambda machine: counts_in_words(said(machine, "aide-compare", "show", SHOWN)),
     "accept": lambda machine: counts_in_words(said(machine, "sh", "-c", NO_TO_ACCEPT)),
 }
 QUICK = ("status", "check", "hand")
