@@ -80,7 +80,10 @@ pub(crate) fn job_of(rt: &HostRuntime, words: &Words) -> Result<(), Memory> {
 fn print_beside_job(rt: &HostRuntime, job: &BesideJob) {
     let (config, before, after) = (job.config.as_str(), job.before.as_str(), job.after.as_str());
     let (old, new) = (job.trusted_old.as_str(), job.trusted_new.as_str());
-    let _ = println!(rt; "job: compare {config} [{before}] [{after}] beside {old} {new}");
+    let list = job.without.as_str();
+    let _ = println!(rt;
+        "job: compare {config} [{before}] [{after}] beside {old} {new} without [{list}]"
+    );
 }
 
 /// Reads a command line that may name a trusted pair, and prints the answer.

@@ -150,11 +150,27 @@ pub(crate) struct LinesRow {
     pub(crate) trusted_new: &'static [u8],
 }
 
-pub(crate) const LINES_ROWS: [LinesRow; 5] = [
+// A trusted pair that stood still.
+const STILL_PAIR: &str =
+    "aide_lines -E -c /conf --trusted-old /trusted_new --trusted-new /trusted_new --without";
+
+pub(crate) const LINES_ROWS: [LinesRow; 7] = [
     LinesRow {
         name: "lines beside a trusted pair",
         words: "aide_lines -E -c /conf --trusted-old /trusted_old --trusted-new",
         last: "/trusted_new",
+        trusted_new: TRUSTED_NEW,
+    },
+    LinesRow {
+        name: "a list beside a trusted pair",
+        words: STILL_PAIR,
+        last: "/?",
+        trusted_new: TRUSTED_NEW,
+    },
+    LinesRow {
+        name: "a list with a fault",
+        words: STILL_PAIR,
+        last: "a",
         trusted_new: TRUSTED_NEW,
     },
     LinesRow {

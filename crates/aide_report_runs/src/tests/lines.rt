@@ -1,7 +1,8 @@
-//! Runs that write lines of JSON, of two databases and of two beside a trusted pair. Each database is opened once. The
-//! lines are those of the plain program in `tests/oracle`.
+//! Runs that write lines of JSON, of two databases and of two beside a trusted pair and a list. Each database is opened
+//! once. The lines are those of the plain program in `tests/oracle`.
 mod faults;
 mod given;
+mod listed;
 mod memory;
 mod runs;
 mod sinks;
@@ -39,7 +40,7 @@ fn assert_written<A: Allocator + Copy>(
 ) {
     let mut sources = Plans::plain(*given).sources(pace);
     let mut out = WriteSink::new(CountingWriter::new(alloc, pace));
-    let answer = run_over(given, desks, &mut sources, &mut out);
+    let answer = run_over(alloc, given, desks, &mut sources, &mut out);
     assert!(rt; out.into_inner().is_done_with(given.lines), "{pace:?}");
     assert_well(rt, answer);
     assert!(rt; openings_of(&sources) == given.openings(4));

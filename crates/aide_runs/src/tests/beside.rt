@@ -40,7 +40,39 @@ const LINES: &[u8] = b"{\"format\":4,\"old\":\"/old\",\"new\":\"/new\",\
 \"trusted_new\":{\"sha256\":\"75bca656b3d8d9689f1b11eedd04448c4abed4d6136623722bc8e9f42e4dd5a4\",\
 \"skipped\":[]},\
 \"total\":2,\"added\":0,\"removed\":0,\"changed\":2,\
-\"same_as_old\":0,\"same_as_trusted\":1,\"others\":1,\"status\":4}\n";
+\"same_as_old\":0,\"same_as_trusted\":1,\"left_out\":0,\"others\":1,\
+\"list\":{\"sha256\":\"e3b0c44298fc1c149afbf4c8996fb92427ae41e4649b934ca495991b7852b855\"},\
+\"status\":4}\n";
+
+/// The words with a list that names both directories.
+const LISTED_LINE: &str =
+    "aide -E -c /conf --trusted-old /trusted_old --trusted-new /trusted_new --without /other\n/*";
+
+/// The lines beside it, and beside a trusted machine that stood still.
+const LISTED_LINES: &[u8] =
+    b"{\"format\":4,\"old\":\"/old\",\"new\":\"/new\",\"trusted_old\":\"/trusted_old\",\
+\"trusted_new\":\"/trusted_new\"}\n\
+{\"kind\":\"changed\",\"path\":\"/kept\",\"summary\":\"d   p             \",\"left_out\":2,\
+\"type\":\"Directory\",\"old\":{\"Perm\":\"0755\"},\"new\":{\"Perm\":\"0700\"}}\n\
+{\"kind\":\"changed\",\"path\":\"/opened\",\"summary\":\"d   p             \",\
+\"type\":\"Directory\",\"old\":{\"Perm\":\"0700\"},\"new\":{\"Perm\":\"0777\"}}\n\
+{\"end\":true,\
+\"old\":{\"sha256\":\"ae2e6e05d98a36a54ebb46f1fdc5d2a1dd520a09d86a99651c89c801424dac9d\",\
+\"skipped\":[]},\
+\"new\":{\"sha256\":\"b207871e45b1a9ad648bf184c9a72efeef391d08c36515cca0161e0cbd753faf\",\
+\"skipped\":[]},\
+\"trusted_old\":{\"sha256\":\"75bca656b3d8d9689f1b11eedd04448c4abed4d6136623722bc8e9f42e4dd5a4\",\
+\"skipped\":[]},\
+\"trusted_new\":{\"sha256\":\"75bca656b3d8d9689f1b11eedd04448c4abed4d6136623722bc8e9f42e4dd5a4\",\
+\"skipped\":[]},\"total\":2,\"added\":0,\"removed\":0,\"changed\":2,\
+\"same_as_old\":0,\"same_as_trusted\":0,\"left_out\":1,\"others\":1,\
+\"list\":{\"sha256\":\"29f6dba29f6a9d2533b8493b7a32c7be8f7b2f40256b1cc21c24b4dc4b440472\"},\
+\"status\":4}\n";
+
+const BAD_LIST_LINE: &str =
+    "aide_lines -E -c /none --trusted-old /none --trusted-new /none --without /a\nb";
+
+const BAD_LIST: &[u8] = b"aide: list:2: a path begins with /\n";
 
 /// A site with a trusted pair.
 fn trusted_site<'a>(alloc: Global, old: &'a [u8], new: &'a [u8]) -> Result<MemorySite<'a>, Memory> {
@@ -94,5 +126,29 @@ fn names_the_fault_of_a_trusted_database(rt: HostRuntime) -> Result<(), Fail> {
     assert!(rt; ended.status == 24, "status {}", ended.status);
     assert!(rt; are_cut(ended.output.bytes()), "output");
     assert!(rt; ended.errors.bytes() == CUT_LINE, "error lines");
+    Ok(())
+}
+
+#[test]
+fn leaves_out_what_a_list_names(rt: HostRuntime) -> Result<(), Fail> {
+    let mut site = site_of(rt.alloc(), CONF, OLD, NEW)?;
+    let mut trusted = trusted_site(rt.alloc(), TRUSTED_NEW, TRUSTED_NEW)?;
+    let words = words_of(rt.alloc(), LISTED_LINE)?;
+    let ended = program_ended(rt.alloc(), &words, &mut site, &mut trusted);
+    assert!(rt; ended.status == 4, "status {}", ended.status);
+    assert!(rt; ended.output.bytes() == LISTED_LINES, "output");
+    assert!(rt; ended.errors.bytes().is_empty(), "error lines");
+    Ok(())
+}
+
+#[test]
+fn names_the_fault_of_a_list_before_all_others(rt: HostRuntime) -> Result<(), Fail> {
+    let mut site = MemorySite::new(rt.alloc());
+    let mut trusted = MemorySite::new(rt.alloc());
+    let words = words_of(rt.alloc(), BAD_LIST_LINE)?;
+    let ended = program_ended(rt.alloc(), &words, &mut site, &mut trusted);
+    assert!(rt; ended.status == 17, "status {}", ended.status);
+    assert!(rt; ended.output.bytes().is_empty(), "output");
+    assert!(rt; ended.errors.bytes() == BAD_LIST, "error lines");
     Ok(())
 }

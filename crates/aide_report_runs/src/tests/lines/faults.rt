@@ -53,7 +53,7 @@ fn assert_stops(
 ) {
     let mut sources = plans.sources(Pace::new(4096));
     let mut out = MemorySink::new(alloc);
-    let answer = run_over(given, &mut desks(alloc), &mut sources, &mut out);
+    let answer = run_over(alloc, given, &mut desks(alloc), &mut sources, &mut out);
     assert!(rt; answer == Err(fault), "{answer:?}, not {fault:?}");
     let openings = openings_of(&sources);
     assert!(rt;

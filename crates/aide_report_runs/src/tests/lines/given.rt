@@ -50,8 +50,8 @@ pub(super) fn once(has_happened: bool) -> u64 {
     if has_happened { 1 } else { 0 }
 }
 
-/// Two databases, a trusted pair if it is among the places, the most bytes that a desk may hold of the two, which is
-/// three lines as long as their longest one, and what is written of their changes.
+/// Two databases, a trusted pair and a list beside it if it is among the places, the most bytes that a desk may hold of
+/// the two, which is three lines as long as their longest one, and what is written of their changes.
 #[derive(Clone, Copy)]
 pub(super) struct Given<'a> {
     pub(super) places: &'a [Place],
@@ -59,11 +59,26 @@ pub(super) struct Given<'a> {
     new: &'a [u8],
     trusted_old: &'a [u8],
     trusted_new: &'a [u8],
+    pub(super) list: &'a [u8],
     pub(super) most_held: u64,
     pub(super) lines: &'a [u8],
 }
 
 impl<'a> Given<'a> {
+    /// Two databases beside a trusted pair without entries, and a list.
+    pub(super) fn listed(old: &'a [u8], new: &'a [u8], list: &'a [u8]) -> Given<'a> {
+        Given {
+            places: FOUR,
+            old,
+            new,
+            trusted_old: EMPTY,
+            trusted_new: EMPTY,
+            list,
+            most_held: 0,
+            lines: b"",
+        }
+    }
+
     /// The database at a place.
     pub(super) fn text(self, place: Place) -> &'a [u8] {
         match place {
@@ -103,14 +118,16 @@ const TWO: &[Place] = &[Place::Old, Place::New];
 const FOUR: &[Place] = &[Place::Old, Place::New, Place::TrustedOld, Place::TrustedNew];
 
 /// Two databases that differ, one of them with a column that is skipped; the same database twice; and two beside a
-/// trusted pair, of which the same changes are known but one.
-pub(super) const GIVEN: [Given<'static>; 3] = [
+/// trusted pair, of which the same changes are known but one. Then two beside a trusted pair and a list: each rule leaves
+/// one change out, the trusted pair accounts for another that a rule names, and a program with a set-ID bit stays.
+pub(super) const GIVEN: [Given<'static>; 4] = [
     Given {
         places: TWO,
         old: OLD,
         new: SKIPPING,
         trusted_old: b"",
         trusted_new: b"",
+        list: b"",
         most_held: 3 * 36,
         lines: DIFFERENT,
     },
@@ -120,6 +137,7 @@ pub(super) const GIVEN: [Given<'static>; 3] = [
         new: SKIPPING,
         trusted_old: b"",
         trusted_new: b"",
+        list: b"",
         most_held: 3 * 36,
         lines: SAME,
     },
@@ -129,10 +147,23 @@ pub(super) const GIVEN: [Given<'static>; 3] = [
         new: AFTER,
         trusted_old: TRUSTED_BEFORE,
         trusted_new: TRUSTED_AFTER,
+        list: b"",
         most_held: 3 * 69,
         lines: BESIDE,
     },
+    Given {
+        places: FOUR,
+        old: LISTED_BEFORE,
+        new: LISTED_AFTER,
+        trusted_old: b"@@begin_db\n@@db_spec name perm\n/b 40700\n/z 40700\n@@end_db\n",
+        trusted_new: b"@@begin_db\n@@db_spec name perm\n/b 40755\n/z 40755\n@@end_db\n",
+        list: b"/other\n/?\nprograms(made anew) /p\n",
+        most_held: 3 * 32,
+        lines: LISTED,
+    },
 ];
+
+const EMPTY: &[u8] = b"@@begin_db\n@@db_spec name\n@@end_db\n";
 
 const SKIPPING: &[u8] = b"@@begin_db\n@@db_spec name attr colour perm size\n/a 36 7 100644 5\n\
 /c 36 8 100600 7\n@@end_db\n";
@@ -199,4 +230,38 @@ const BESIDE: &[u8] = b"{\"format\":4,\"old\":\"/old\",\"new\":\"/new\",\
 \"trusted_new\":{\"sha256\":\"61aad8136ce217a3f8272b4403367cac8b8ddae2c9d1b1d83c6470f03c106629\",\
 \"skipped\":[]},\
 \"total\":2,\"added\":1,\"removed\":1,\"changed\":1,\"same_as_old\":0,\
-\"same_as_trusted\":2,\"others\":1,\"status\":7}\n";
+\"same_as_trusted\":2,\"left_out\":0,\"others\":1,\
+\"list\":{\"sha256\":\"e3b0c44298fc1c149afbf4c8996fb92427ae41e4649b934ca495991b7852b855\"},\
+\"status\":7}\n";
+
+const LISTED_BEFORE: &[u8] = b"@@begin_db\n@@db_spec name perm capabilities\n\
+/a 100644 0\n/b 40700 0\n/p 100755 0\n/s 104755 0\n@@end_db\n";
+
+const LISTED_AFTER: &[u8] = b"@@begin_db\n@@db_spec name perm capabilities\n\
+/a 100600 0\n/b 40755 0\n/p 100700 0\n/s 104711 0\n@@end_db\n";
+
+const LISTED: &[u8] =
+    b"{\"format\":4,\"old\":\"/old\",\"new\":\"/new\",\"trusted_old\":\"/trusted_old\",\
+\"trusted_new\":\"/trusted_new\"}\n\
+{\"kind\":\"changed\",\"path\":\"/a\",\"summary\":\"f   p             \",\"left_out\":2,\
+\"type\":\"File\",\"old\":{\"Perm\":\"0644\"},\"new\":{\"Perm\":\"0600\"}}\n\
+{\"kind\":\"changed\",\"path\":\"/b\",\"summary\":\"d   p             \",\
+\"same_as\":\"trusted\",\"type\":\"Directory\",\"old\":{\"Perm\":\"0700\"},\
+\"new\":{\"Perm\":\"0755\"}}\n\
+{\"kind\":\"changed\",\"path\":\"/p\",\"summary\":\"f   p             \",\"left_out\":3,\
+\"type\":\"File\",\"old\":{\"Perm\":\"0755\"},\"new\":{\"Perm\":\"0700\"}}\n\
+{\"kind\":\"changed\",\"path\":\"/s\",\"summary\":\"f   p             \",\"type\":\"File\",\
+\"old\":{\"Perm\":\"4755\"},\"new\":{\"Perm\":\"4711\"}}\n\
+{\"end\":true,\
+\"old\":{\"sha256\":\"d191d6f5e26fb4e6b6886d8a53570b1198a8e4a961c59eddf261fc3f2cd37e85\",\
+\"skipped\":[]},\
+\"new\":{\"sha256\":\"840214cb4a5b64c88f4a4b384d012ff5090eb438204a892d05cb5cde2c7a604f\",\
+\"skipped\":[]},\
+\"trusted_old\":{\"sha256\":\"d75b4ca0c739e2c607522544e788118974cfdd148f9918634a087c771bcafac0\",\
+\"skipped\":[]},\
+\"trusted_new\":{\"sha256\":\"a6592c3fcce711ef860671001af30a3ddc14d4d87125db280b22bee40a7a701f\",\
+\"skipped\":[]},\
+\"total\":4,\"added\":0,\"removed\":0,\"changed\":4,\"same_as_old\":0,\"same_as_trusted\":1,\
+\"left_out\":2,\"others\":1,\
+\"list\":{\"sha256\":\"44deb14ba09162a57609cb5805163059460cd59cd41af307f797b2d0165e60b2\"},\
+\"status\":4}\n";

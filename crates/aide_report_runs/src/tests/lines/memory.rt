@@ -31,6 +31,7 @@ fn starved(given: &Given<'_>, journals: &Both<Journal>) -> Option<PairFault> {
 
 /// Runs over sources that give a byte at a time.
 fn run_slowly<A: Allocator + Copy>(
+    alloc: Global,
     given: &Given<'_>,
     desks: &mut Both<Desk<A>>,
     journals: &Both<Journal>,
@@ -41,7 +42,7 @@ fn run_slowly<A: Allocator + Copy>(
         compared: NotedSources::new(compared, &journals.compared),
         trusted: NotedSources::new(trusted, &journals.trusted),
     };
-    let answer = run_over(given, desks, &mut sources, out);
+    let answer = run_over(alloc, given, desks, &mut sources, out);
     let Both { compared, trusted } = sources;
     let _ = compared.into_inner();
     let _ = trusted.into_inner();
@@ -58,7 +59,7 @@ fn refuses_growth(rt: &impl Abort, alloc: Global, given: &Given<'_>, growth: u64
         trusted: Journal::new(),
     };
     let mut out = MemorySink::new(alloc);
-    let answer = run_slowly(given, &mut desks, &journals, &mut out);
+    let answer = run_slowly(alloc, given, &mut desks, &journals, &mut out);
     if !refusing.has_refused() {
         assert!(rt; answer.is_ok() && out.bytes() == given.lines, "{answer:?}");
         return false;
@@ -75,7 +76,7 @@ fn refuses_sink(rt: &impl Abort, alloc: Global, given: &Given<'_>, growth: u64) 
     let refusing = Refusing::new(alloc, growth);
     let mut out = MemorySink::new(&refusing);
     let mut sources = Plans::plain(*given).sources(Pace::new(4096));
-    let answer = run_over(given, &mut desks(alloc), &mut sources, &mut out);
+    let answer = run_over(alloc, given, &mut desks(alloc), &mut sources, &mut out);
     let sent = out.bytes();
     assert!(rt; given.lines.starts_with(sent));
     if !refusing.has_refused() {
@@ -112,15 +113,16 @@ fn lines_without_memory(rt: HostRuntime) {
     }
 }
 
-/// Runs on these desks and into an array. Nothing else takes memory.
+/// Runs on these desks and into an array. Nothing but the list takes other memory.
 fn assert_roomy<A: Allocator + Copy>(
     rt: &impl Abort,
+    alloc: Global,
     given: &Given<'_>,
     desks: &mut Both<Desk<A>>,
 ) {
     let mut sources = Plans::plain(*given).sources(Pace::new(7));
     let mut out = WriteSink::new(ArrayVec::<u8, 4096>::new());
-    let answer = run_over(given, desks, &mut sources, &mut out);
+    let answer = run_over(alloc, given, desks, &mut sources, &mut out);
     assert_well(rt, answer);
     assert!(rt; out.into_inner().as_slice() == given.lines);
 }
@@ -147,7 +149,7 @@ fn lines_on_desks_with_room(rt: HostRuntime) {
             return;
         };
         let mut desks = Both { compared, trusted };
-        assert_roomy(&rt, given, &mut desks);
+        assert_roomy(&rt, rt.alloc(), given, &mut desks);
         assert_held(&rt, given, &desks.compared);
         assert!(rt; !given.has_trusted() || desks.trusted.peak() > 0);
     }

@@ -3,9 +3,11 @@ use super::given::{Given, Place};
 use aide_conf::{Options, Task};
 use aide_db::{Desk, Limits, Side, Sources};
 use aide_faults::{Pace, PlannedSources, SidePlan};
-use aide_report::{Outcome, Sink, run_lines};
-use aide_trusted::{PairFault, TrustedPair, run_lines_beside};
-use std::alloc::Allocator;
+use aide_patterns::Exclusions;
+use aide_report::{Outcome, RunFault, Sink, run_lines};
+use aide_trusted::{LeftOutList, PairFault, Tasks, TrustedPair, run_lines_beside};
+use sha2::{Digest, Sha256};
+use std::alloc::{Allocator, Global};
 
 /// How each database is given.
 #[derive(Clone, Copy)]
@@ -94,37 +96,81 @@ fn task_of<'a>(old_path: &'a str, new_path: &'a str) -> Task<'a> {
 
 /// A trusted pair of these.
 fn pair_of<'a, S: Sources, A: Allocator + Copy>(
-    task: &'a Task<'a>,
     desk: &'a mut Desk<A>,
     sources: &'a mut S,
 ) -> TrustedPair<'a, S, A> {
-    TrustedPair {
-        task,
-        desk,
-        sources,
-    }
+    TrustedPair { desk, sources }
 }
+
+/// The run of these tasks.
+fn run_tasks<S: Sources, W: Sink, A: Allocator + Copy>(
+    tasks: &Tasks<'_>,
+    desks: &mut Both<Desk<A>>,
+    sources: &mut Both<S>,
+    out: &mut W,
+) -> Result<Outcome, PairFault> {
+    let mut pair = pair_of(&mut desks.trusted, &mut sources.trusted);
+    run_lines_beside(
+        tasks,
+        LIMITS,
+        &mut desks.compared,
+        &mut sources.compared,
+        &mut pair,
+        out,
+    )
+}
+
+/// The run beside a trusted pair and a list.
+fn run_listed<S: Sources, W: Sink, A: Allocator + Copy>(
+    list: LeftOutList<'_>,
+    desks: &mut Both<Desk<A>>,
+    sources: &mut Both<S>,
+    out: &mut W,
+) -> Result<Outcome, PairFault> {
+    let compared = task_of("/old", "/new");
+    let trusted = task_of("/trusted_old", "/trusted_new");
+    let tasks = Tasks {
+        compared: &compared,
+        trusted: &trusted,
+        list,
+    };
+    run_tasks(&tasks, desks, sources, out)
+}
+
+/// The run beside a trusted pair and the list that has this text and these rules.
+fn run_ruled<S: Sources, W: Sink, A: Allocator + Copy>(
+    text: &[u8],
+    rules: &Exclusions<'_>,
+    desks: &mut Both<Desk<A>>,
+    sources: &mut Both<S>,
+    out: &mut W,
+) -> Result<Outcome, PairFault> {
+    let digest = Sha256::digest(text);
+    let list = LeftOutList {
+        rules,
+        digest: &digest,
+    };
+    run_listed(list, desks, sources, out)
+}
+
+/// What is answered if the list cannot be read. No run answers so.
+const NO_RUN: PairFault = PairFault::Compared(RunFault::Write { written: u64::MAX });
 
 /// The run over these sources.
 pub(super) fn run_over<S: Sources, W: Sink, A: Allocator + Copy>(
+    alloc: Global,
     given: &Given<'_>,
     desks: &mut Both<Desk<A>>,
     sources: &mut Both<S>,
     out: &mut W,
 ) -> Result<Outcome, PairFault> {
-    let task = task_of("/old", "/new");
     if given.has_trusted() {
-        let trusted_task = task_of("/trusted_old", "/trusted_new");
-        let mut pair = pair_of(&trusted_task, &mut desks.trusted, &mut sources.trusted);
-        return run_lines_beside(
-            &task,
-            LIMITS,
-            &mut desks.compared,
-            &mut sources.compared,
-            &mut pair,
-            out,
-        );
+        return match Exclusions::read(alloc, given.list) {
+            Ok(rules) => run_ruled(given.list, &rules, desks, sources, out),
+            Err(_) => Err(NO_RUN),
+        };
     }
+    let task = task_of("/old", "/new");
     let answer = run_lines(
         &task,
         LIMITS,

@@ -18,7 +18,7 @@ fn assert_unwritten<W: Sink>(
     out: &mut W,
 ) {
     let mut sources = Plans::plain(*given).sources(Pace::new(4096));
-    let answer = run_over(given, &mut desks(alloc), &mut sources, out);
+    let answer = run_over(alloc, given, &mut desks(alloc), &mut sources, out);
     let wanted = PairFault::Compared(RunFault::Write { written });
     assert!(rt; answer == Err(wanted), "{answer:?}");
     assert!(rt; openings_of(&sources) == given.openings(4));
