@@ -19,7 +19,12 @@ from tests.oracle import configuration
 from tests.oracle.attributes import ATTRIBUTES, EMPTY_NAMES, GROUPS
 from tests.oracle.configuration import LEVELS, OLDER_OPTIONS, WITHOUT_EFFECT
 from tests.oracle.database import BYTE_LIMIT, COLUMN_LIMIT, LINE_LIMIT
-from tests.oracle.session import CONFIGURATION_LIMIT, CONFIGURATION_WORDS, DATABASE_WORDS
+from tests.oracle.session import (
+    CONFIGURATION_LIMIT,
+    CONFIGURATION_WORDS,
+    DATABASE_WORDS,
+    LIST_WORDS,
+)
 from tests.pages.blocks import MANUALS
 
 PAGE, CONF_PAGE = read("man/aide-compare-program.8"), read("man/aide-compare.conf.5")
@@ -193,6 +198,8 @@ class NamesTest(unittest.TestCase):
         """Each fault of DIAGNOSTICS is one that the program names, and each of those is there."""
         named = [words for words, _ in listed("Faults of the configuration")]
         self.assertEqual(sorted(named), sorted(CONFIGURATION_WORDS.values()))
+        named = [words for words, _ in listed("Faults of a list")]
+        self.assertEqual(named, list(LIST_WORDS.values()))
         named = [words for words, _ in listed("Faults of a database")]
         wanted = [words + " N" * words.endswith("column") for words in DATABASE_WORDS.values()]
         self.assertEqual(sorted(named), sorted([*wanted, "read failed"]))
