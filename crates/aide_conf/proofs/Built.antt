@@ -1,5 +1,5 @@
 -- What is kept after one more place.
-use Rattle.std.proofs.Common.{ℕ, ◌≡◌, ◌<◌, ◌≤◌, ◌+◌, Bool, true, false, List, [], ◌∷◌, ◌++◌, length, refl, sym, ap}
+use Rattle.std.proofs.Common.{rules, ℕ, ◌≡◌, ◌<◌, ◌+◌, Bool, true, false, List, [], ◌∷◌, ◌++◌, length, refl, sym, ap}
 use Rattle.std.proofs.Common.{subst, ◌∙◌, arith, Option, Some, None, cond, Result, inl, inr, ◌⊎◌}
 use Rattle.std.specs.Prelude.{if◌then◌else◌, is_some, IsSome, Vec, ◌||◌, ◌&&◌, not, nat_le, option_map}
 use Rattle.std.specs.List.{list_any}
@@ -69,13 +69,7 @@ names-more xs x = ap (names_given group_name_of) (reverse-append xs (x ∷ []))
 
 groups_same : (xs : List Marked) (x : Marked) (table : Sets) → HasGroups xs table → group_name_of (says x) ≡ None
     → HasGroups (xs ++ x ∷ []) table
-groups_same xs x table h e =
-    let same_names : group_names (xs ++ x ∷ []) ≡ group_names xs = names-more xs x ∙ ap (λ z. add_name z (group_names xs)) e in
-    record {
-      sets = λ n. h.sets n ∙ sym (last_given-same (group_in n) xs x (ap (λ z. if is_name n z then set_meant x.verdict else None) e));
-      known = λ n. ap (list_any (same n)) same_names ∙ h.known n;
-      size = h.size ∙ ap length (sym same_names);
-    }
+groups_same xs x table h e = search (rules, names-more, last_given-same)
 
 get-more : (table : Sets) (n : List ℕ) (set : AttrSet) (m : List ℕ)
     → get (insert table n set) m ≡ cond (same m n) (Some set) (get table m)
@@ -132,11 +126,7 @@ few xs table h n (inr k) =
 pub many : (xs : List Marked) (table : Sets) → HasGroups xs table → (n : List ℕ) → IsFull table n
     → is_too_many xs n ≡ true
 unfolding is_too_many
-many xs table h n k =
-    let l : 1024 ≤ length (group_names xs) = omega (arith, h.size, k.1) in
-    let e : nat_le 1024 (length (group_names xs)) ≡ true = grind (arith, nat_tests) in
-    let f : list_any (same n) (group_names xs) ≡ false = h.known n ∙ ap is_some k.0 in
-    rw (e, f) refl
+many xs table h n k = search (rules, nat_tests)
 
 pub looks : (xs : List Marked) (table : Sets) → HasGroups xs table → meaning_of table ≡ meaning_after xs
 unfolding meaning_of

@@ -1,9 +1,9 @@
 -- How many lines enclose a line.
-use Rattle.std.proofs.Common.{ℕ, ◌≡◌, ◌<◌, suc, zero, true, false, List, [], ◌∷◌, ◌++◌, length, refl, sym, ap, subst}
-use Rattle.std.proofs.Common.{◌∙◌, arith, inl, inr, ◌⊎◌, append_assoc}
+use Rattle.std.proofs.Common.{rules, ℕ, ◌≡◌, ◌<◌, suc, zero, true, false, List, [], ◌∷◌, ◌++◌, length, refl, sym, ap}
+use Rattle.std.proofs.Common.{subst, ◌∙◌, arith, inl, inr, ◌⊎◌, append_assoc}
 use Rattle.std.proofs.lemmas.List.{length-append, append-nil}
-use Rattle.aide_conf.specs.Blocks.{Seen, opens, closes, Inside, IsClosed, IsInnermost, IsOutside, Encloses}
-use Rattle.aide_conf.specs.Blocks.{AreEnclosing, AreFalling, IsOneOf}
+use Rattle.aide_conf.specs.Blocks.{Seen, opens, Inside, IsClosed, IsInnermost, IsOutside, Encloses, AreEnclosing}
+use Rattle.aide_conf.specs.Blocks.{AreFalling, IsOneOf}
 use Rattle.aide_conf.proofs.BlockLemmas.{cut_at, opening, IsClosed-more, Settled, Settled-body}
 
 Settled-inside : (w : List Seen) → Inside w → Settled w
@@ -19,11 +19,7 @@ still_open o rest between t no_rest no_between h = elim (cut_at rest (o ∷ betw
 ]
   where
     within : (more : List Seen) → h.0 ≡ rest ++ more → o ∷ between ≡ more ++ h.1 ∷ h.2 → ⊥
-    within [] e q =
-        let same : o ≡ h.1 = cc in
-        let f : closes o.role ≡ false = (opening o.role t).1 in
-        let g : closes o.role ≡ true = rw same h.4 in
-        cc
+    within [] e q = search (rules, opening)
     within (x ∷ more) e q =
         let same : x ≡ o = cc in
         let tail : between ≡ more ++ h.1 ∷ h.2 = cc in
@@ -99,13 +95,7 @@ at_most : (i j : ℕ) (js : List ℕ) → AreFalling j js → IsOneOf i (j ∷ j
 at_most i j js f h = elim h [ inl e ↦ omega (arith, e) | inr k ↦ omega (arith, below_first j i js f k) ]
 
 rest_same : (i : ℕ) (is js : List ℕ) → AreFalling i is → HaveSame (i ∷ is) (i ∷ js) → HaveSame is js
-rest_same i is js f same k h = elim (same k (inr h)) [
-  | inl e ↦ absurd (irreflexive i (subst (λ x. x < i) e (below_first i k is f h)))
-  | inr l ↦ l
-]
-  where
-    irreflexive : (x : ℕ) → x < x → ⊥
-    irreflexive x l = omega (arith, l)
+rest_same i is js f same k h = search (rules, below_first)
 
 same_length : (is js : List ℕ) (m n : ℕ) → AreFalling m is → AreFalling n js → HaveSame is js → HaveSame js is
     → length is ≡ length js

@@ -1,6 +1,6 @@
 -- Every configuration has an answer.
-use Rattle.std.proofs.Common.{ℕ, ◌≡◌, Bool, true, false, List, [], ◌∷◌, ◌++◌, refl, sym, ap, subst, ◌∙◌, Option, Some}
-use Rattle.std.proofs.Common.{None, Result, Ok, Err, inl, inr, ◌⊎◌, append_assoc}
+use Rattle.std.proofs.Common.{rules, ℕ, ◌≡◌, Bool, true, false, List, [], ◌∷◌, ◌++◌, refl, sym, ap, subst, ◌∙◌, Option}
+use Rattle.std.proofs.Common.{Some, None, Result, Ok, Err, inl, inr, ◌⊎◌, append_assoc}
 use Rattle.std.specs.Prelude.{map, unwrap_or, if◌then◌else◌}
 use Rattle.aide_attr.specs.declared.attr.Attr.{Attr}
 use Rattle.aide_attr.specs.declared.set.AttrSet.{AttrSet}
@@ -140,16 +140,7 @@ walked need earlier (p ∷ ps) all = by (λ xs o. walked need xs ps o) (fault_at
 
     more : fault_at need earlier m.mark ≡ None → Walked need (earlier ++ m.mark ∷ []) ps → Walked need earlier (p ∷ ps)
     more e (inl h) = inl (m.mark ∷ h.0, ap (λ z. z ∷ map (λ (x : Marked). x.place) h.0) m.place ∙ ap (λ z. p ∷ z) h.1, (m.well, e, h.2))
-    more e (inr h) = inr (record {
-      lines = m.mark ∷ h.lines;
-      at = h.at;
-      rest = h.rest;
-      cut = ap (λ z. p ∷ z) h.cut ∙ ap (λ z. z ∷ (map (λ (x : Marked). x.place) h.lines ++ h.at.place ∷ h.rest)) (sym m.place);
-      sound = (m.well, e, h.sound);
-      well = subst (λ z. IsMarkedWell z h.at) (append_assoc earlier (m.mark ∷ []) h.lines) h.well;
-      kind = h.kind;
-      fault = subst (λ z. fault_at need z h.at ≡ Some h.kind) (append_assoc earlier (m.mark ∷ []) h.lines) h.fault;
-    })
+    more e (inr h) = search (rules, append_assoc)
 
     by : ((xs : List Marked) → AllOpen xs → Walked need xs ps) → (o : Option ConfFaultKind)
         → fault_at need earlier m.mark ≡ o → Walked need earlier (p ∷ ps)
@@ -186,12 +177,7 @@ options_at xs = options_of (unwrap_or (last_given level_in xs) ChangedAttributes
 
 are_options : (xs : List Marked) → AreOptions xs (options_at xs)
 unfolding options_at switch_at
-are_options xs = record {
-  level = refl;
-  switches = λ s. made_switch (unwrap_or (last_given level_in xs) ChangedAttributes) (switch_at xs) (λ l. list_of l xs) s;
-  attrs = λ l a. ap (λ z. has z a) (made_attrs (unwrap_or (last_given level_in xs) ChangedAttributes) (switch_at xs) (λ m. list_of m xs) l)
-      ∙ has_list_of l xs a;
-}
+are_options xs = search (rules, made_switch, list_of, made_attrs, has_list_of)
 
 settings_at : List Marked → Configured
 settings_at xs = record { options = options_at (counted xs); old_path = path_set Old xs; new_path = path_set New xs }

@@ -1,6 +1,6 @@
 -- The first fault in the order that a place has is the fault of the place.
-use Rattle.std.proofs.Common.{ℕ, ◌≡◌, Bool, true, false, cond, not, ◌&&◌, ◌||◌, List, [], length, refl, sym, ap, ◌∙◌, subst}
-use Rattle.std.proofs.Common.{Option, Some, None, Result, Ok, Err, nat_lt}
+use Rattle.std.proofs.Common.{rules, ℕ, ◌≡◌, Bool, true, false, cond, not, ◌&&◌, ◌||◌, List, [], length, refl, sym, ap}
+use Rattle.std.proofs.Common.{◌∙◌, subst, Option, Some, None, Result, Ok, Err, nat_lt}
 use Rattle.std.specs.Prelude.{◌==◌, nat_le, find, is_none, unwrap_or, codes}
 use Rattle.std.specs.Option.{option_or}
 use Rattle.aide_attr.specs.declared.attr.Attr.{Attr}
@@ -23,10 +23,10 @@ use Rattle.aide_conf.specs.declared.option_kind.OptionKind.{OptionKind}
 use Rattle.aide_conf.specs.declared.option_kind.OptionKind.TheVariants as kinds
 use Rattle.aide_conf.specs.Cutting.{strip, bytes_before, bytes_after}
 use Rattle.aide_conf.specs.Limits.{longest_line, longest_value, deepest}
-use Rattle.aide_conf.specs.Effect.{Effect, Nothing, Faulty, DefinesVariable, DropsVariable, DefinesGroup, NamesDatabase, EndsOptions}
-use Rattle.aide_conf.specs.Effect.{same, is_skipped, is_selection, is_equals, option_named, bool_named, is_left_out, path_of}
-use Rattle.aide_conf.specs.Effect.{assigned, cut_effect, kept_effect, expanded_effect, value_effect, path_effect}
-use Rattle.aide_conf.specs.Effect.{level_effect, switch_effect}
+use Rattle.aide_conf.specs.Effect.{Effect, Nothing, Faulty, DefinesVariable, DropsVariable, DefinesGroup, EndsOptions}
+use Rattle.aide_conf.specs.Effect.{same, is_skipped, is_selection, is_equals, option_named, bool_named, is_left_out}
+use Rattle.aide_conf.specs.Effect.{path_of, assigned, cut_effect, kept_effect, expanded_effect, value_effect}
+use Rattle.aide_conf.specs.Effect.{path_effect, level_effect, switch_effect}
 use Rattle.aide_conf.specs.declared.directive.Directive.{Directive}
 use Rattle.aide_conf.specs.declared.directive.Directive.TheVariants.{Define, Undef, IfDef, IfNotDef}
 use Rattle.aide_conf.specs.declared.directive.Directive.TheVariants.{IfOther, Else, EndIf, Omitted}
@@ -111,14 +111,7 @@ path_told : (look : Look) (earlier : List Marked) (depth : ℕ) (divided : Bool)
     ≡ cond (is_none o) (Some faults.BadUrl) (cond (nat_lt longest_value (length (unwrap_or o []))) (Some faults.ValueTooLong)
     (last v false))
 path_told look earlier depth divided v d None j = refl
-path_told look earlier depth divided v d (Some p) j =
-    elim (nat_lt longest_value (length p)) as
-    (λ b. Judged look (cond b (Faulty faults.ValueTooLong) (NamesDatabase d p)) v
-    → line_fault earlier depth divided (cond b (Faulty faults.ValueTooLong) (NamesDatabase d p)) v
-    ≡ cond b (Some faults.ValueTooLong) (last v false)) [
-      | true ↦ λ h. refl
-      | false ↦ λ h. let none : v ≡ None = h in rw none refl
-    ] j
+path_told look earlier depth divided v d (Some p) j = search rules
 
 url_told : (look : Look) (earlier : List Marked) (depth : ℕ) (divided : Bool) (v : Verdict) (d : Side) (o : Option (List ℕ)) (left : Bool)
     → Judged look (cond left (Faulty faults.LeftOut) (path_effect d o)) v
@@ -235,10 +228,7 @@ set_told : (look : Look) (earlier : List Marked) (depth : ℕ) (divided : Bool) 
     (cond (long || false) (Some faults.ValueTooLong) (last v (is_one_variable_more earlier n || false)))
 set_told look earlier depth divided v n e false long j = refl
 set_told look earlier depth divided v n e true true j = refl
-set_told look earlier depth divided v n e true false j =
-    let none : v ≡ None = j in
-    rw none (elim (is_one_variable_more earlier n) as
-    (λ b. cond b (Some faults.TooMany) None ≡ cond (b || false) (Some faults.TooMany) None) [ true ↦ refl | false ↦ refl ])
+set_told look earlier depth divided v n e true false j = search rules
 
 unset_told : (look : Look) (earlier : List Marked) (depth : ℕ) (divided : Bool) (v : Verdict) (n : List ℕ) (word : Bool)
     → Judged look (cond word (DropsVariable n) (Faulty faults.BadName)) v

@@ -1,5 +1,5 @@
 -- The first fault of a configuration is the first in the order that its place has.
-use Rattle.std.proofs.Common.{◌≡◌, List, sym, ap, ◌∙◌, Some, None}
+use Rattle.std.proofs.Common.{rules, ◌≡◌, List, sym, ap, ◌∙◌, Some, None}
 use Rattle.std.specs.Prelude.{find, ◌↔◌}
 use Rattle.aide_conf.specs.declared.fault.ConfFault.{ConfFault}
 use Rattle.aide_conf.specs.declared.fault.ConfFaultKind.{ConfFaultKind}
@@ -26,10 +26,7 @@ fault_is_first need before x kind marked = (
 
 pub no_fault_holds : (need : Need) (before : List Marked) (x : Marked) → IsMarkedWell before x
     → (fault_at need before x ≡ None) ↔ HasNoneOf need before x fault_order
-no_fault_holds need before x marked = (
-  λ e. none_passes (has_fault need before x) fault_order (sym (first_of_place need before x marked) ∙ e),
-  λ none. first_of_place need before x marked ∙ passes_none (has_fault need before x) fault_order none,
-)
+no_fault_holds need before x marked = search (rules, none_passes, first_of_place, passes_none)
 
 pub faulty_places : (need : Need) (ps : List Place) (e : ConfFault) → IsRefused need ps e ↔ HasFaultyPlace need ps e
 faulty_places need ps e = (

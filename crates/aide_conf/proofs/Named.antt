@@ -1,18 +1,17 @@
 -- What is read to be compared names both databases.
-use Rattle.std.proofs.Common.{ℕ, ◌≡◌, ◌+◌, Bool, true, false, List, [], ◌∷◌, ◌++◌, Option, Some, None, Ok, refl, sym}
-use Rattle.std.proofs.Common.{ap, subst, append_assoc}
+use Rattle.std.proofs.Common.{rules, ℕ, ◌≡◌, ◌+◌, Bool, true, false, List, [], ◌∷◌, ◌++◌, Option, Some, None, Ok, refl}
+use Rattle.std.proofs.Common.{sym, ap, subst, append_assoc}
 use Rattle.std.specs.Prelude.{map, is_none, IsSome}
 use Rattle.std.specs.Option.{option_or}
 use Rattle.aide_conf.specs.declared.fault.ConfFaultKind.{ConfFaultKind}
 use Rattle.aide_conf.specs.declared.fault.ConfText.TheVariants.{Before, File, After}
-use Rattle.aide_conf.specs.declared.option_kind.Side.{Side}
 use Rattle.aide_conf.specs.declared.option_kind.Side.TheVariants.{Old, New}
 use Rattle.aide_conf.specs.declared.task.Need.TheVariants.{Compare}
 use Rattle.aide_conf.specs.ReadResult.{ReadsAs}
 use Rattle.aide_conf.specs.Cutting.{Place, places_from, places_of, lines_of}
-use Rattle.aide_conf.specs.Marks.{Marked, line_says, says}
-use Rattle.aide_conf.specs.MarkedPaths.{path_by, path_in, path_set}
-use Rattle.aide_conf.specs.PlaceFault.{end_fault, fault_at, missing, place_fault}
+use Rattle.aide_conf.specs.Marks.{Marked, says}
+use Rattle.aide_conf.specs.MarkedPaths.{path_set}
+use Rattle.aide_conf.specs.PlaceFault.{fault_at, missing}
 use Rattle.aide_conf.specs.RightMarks.{AreSound}
 use Rattle.aide_conf.specs.Settings.{Configured}
 use Rattle.aide_conf.proofs.Steps.{last_given-same}
@@ -41,15 +40,7 @@ no_later (Some kind) later e = cc
 at_end : (earlier : List Marked) (x : Marked) → x.place.line ≡ None → x.place.text ≡ After
     → fault_at Compare earlier x ≡ None → AreNamed (earlier ++ x ∷ [])
 unfolding fault_at says
-at_end earlier x no_line text sound =
-    let here : place_fault Compare earlier x None ≡ None = subst (λ (l : Option (List ℕ)). place_fault Compare earlier x l ≡ None) no_line
-    sound in
-    let both = none_missing _ _ (subst (λ t. end_fault Compare t earlier ≡ None) text (no_later _ _ here)) in
-    let unnamed : (d : Side) → path_in d x ≡ None =
-    λ d. ap (λ (l : Option (List ℕ)). path_by d (line_says l x.used x.expanded)) no_line in (
-      subst IsSome (sym (last_given-same (path_in Old) earlier x (unnamed Old))) (some_path (path_set Old earlier) both.0),
-      subst IsSome (sym (last_given-same (path_in New) earlier x (unnamed New))) (some_path (path_set New earlier) both.1),
-    )
+at_end earlier x no_line text sound = search (rules, none_missing, no_later, last_given-same, some_path)
 
 -- behind the last text
 behind_last : (ls : List (List ℕ)) (n : ℕ) (earlier lines : List Marked) → places_in lines ≡ places_from After n ls

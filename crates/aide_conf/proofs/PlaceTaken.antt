@@ -1,7 +1,7 @@
 -- What is taken at one place, by what its line says and by the blocks that are open before it.
-use Rattle.std.proofs.Common.{ℕ, suc, ◌≡◌, ◌<◌, Bool, true, false, List, [], ◌∷◌, ◌++◌, length, refl, sym, ap, subst}
-use Rattle.std.proofs.Common.{◌∙◌, arith, Option, Some, None, Result, Ok, Err, inl, inr}
-use Rattle.std.specs.Prelude.{if◌then◌else◌, OnOk, ◌||◌, ◌&&◌, not, nat_lt, ◌==◌, nat_eq, is_none, String, drop}
+use Rattle.std.proofs.Common.{rules, ℕ, suc, ◌≡◌, ◌<◌, Bool, true, false, List, [], ◌∷◌, ◌++◌, length, refl, sym, ap}
+use Rattle.std.proofs.Common.{subst, ◌∙◌, arith, Option, Some, None, Result, Ok, Err, inl, inr}
+use Rattle.std.specs.Prelude.{if◌then◌else◌, OnOk, ◌||◌, ◌&&◌, not, nat_lt, ◌==◌, is_none, String, drop}
 use Rattle.std.specs.Option.{option_or}
 use Rattle.std.proofs.lemmas.Bool.Decides.{nat_tests}
 use Rattle.std.proofs.lemmas.Bool.{eqb-true}
@@ -112,10 +112,7 @@ module _ (here : List Seen) (fs : List Frame) (o : IsOpen here fs) (earlier : Li
 not_directive : (bytes : List ℕ) → is_skipped bytes ≡ true → is_directive bytes ≡ false
 unfolding is_directive
 not_directive [] h = refl
-not_directive (b ∷ bs) h =
-    let hash : b ≡ 35 = eqb-true b 35 h in
-    let no_at : nat_eq 64 b ≡ false = ap (nat_eq 64) hash in
-    rw no_at refl
+not_directive (b ∷ bs) h = search (rules, eqb-true)
 
 module _ (need : Need) (earlier : List Marked) (text : ConfText) (n : ℕ) (line : List ℕ) (fs : List Frame)
     (o : IsOpen (seen_in text earlier) fs) where
@@ -295,10 +292,7 @@ module _ (need : Need) (earlier : List Marked) (text : ConfText) (n : ℕ) (line
     where
       by_length : is_skipped line ≡ false → (b : Bool) → (top_used fs && nat_lt 65536 (length line)) ≡ b
           → (gs : List Frame) × IsOpen (seen_in text earlier ++ seen (marked v) ∷ []) gs
-      by_length h true l =
-          let bad : Some LineTooLong ≡ None = sym (ap (λ r. line_fault earlier (length fs) (top_divided fs) r v) (long_says h l))
-          ∙ sym (fault-marked v) ∙ f in
-          absurd (let no : ⊥ = cc in no)
+      by_length h true l = search (rules, long_says, fault-marked)
       by_length h false l = (
         frames_after (role_of (directive_of line)) (top_used fs) (directive_chooses (is_defined earlier) (directive_of line)) fs,
         directive_after h l _ refl v (sym (fault-marked v) ∙ f),
@@ -313,12 +307,7 @@ module _ (need : Need) (earlier : List Marked) (text : ConfText) (n : ℕ) (line
   pub goes_on : ((v : Option (Result AttrSet ExprFault)) × IsJudgedWell (meaning_after earlier) (expression_in effect_here) v)
       → (x : Marked) × (x.place ≡ place_at text n (Some line)) × IsMarkedWell earlier x
       × (fault_at need earlier x ≡ None → (gs : List Frame) × IsOpen (seen_in text (earlier ++ x ∷ [])) gs)
-  goes_on j = (
-    marked j.0,
-    refl,
-    well j.0 j.1,
-    λ f. let b = blocks_behind j.0 f in (b.0, subst (λ z. IsOpen z b.0) (sym (seen_in-more text earlier (marked j.0) refl)) b.1),
-  )
+  goes_on j = search (rules, well, blocks_behind, seen_in-more)
 
 -- a directive is what follows its `@@`
 pub directive_is : (line : List ℕ) (i : Option (Directive (List ℕ))) → is_directive line ≡ true → i ≡ Some (read_directive (drop 2 line))
@@ -396,15 +385,7 @@ module _ (need : Need) (earlier : List Marked) (text : ConfText) (n : ℕ) (fs :
 
   pub block_open : {A : Type 0} (p : SettingsBuilder A) → 0 < length fs
       → TakesOne {E = Unit {0}} need earlier (place_at text n None) p fs (Err MissingEndif)
-  block_open p h =
-      let e : (length fs == 0) ≡ false = grind (arith, nat_tests) in
-      inl (
-        end_marked,
-        refl,
-        well_end,
-        fault-end ∙ ap
-            (λ z. option_or (if z then None else Some MissingEndif) (end_fault need text earlier)) e,
-      )
+  block_open p h = search (rules, nat_tests, well_end, fault-end)
 
   no_block : length fs ≡ 0
       → option_or (end_block_fault (length fs)) (end_fault need text earlier) ≡ end_fault need text earlier
@@ -414,17 +395,7 @@ module _ (need : Need) (earlier : List Marked) (text : ConfText) (n : ℕ) (fs :
 
   pub ended : {A : Type 0} (p : SettingsBuilder A) → IsBuiltFrom earlier p → (u : Unit {0}) → length fs ≡ 0 → end_fault need text earlier
       ≡ None → TakesOne {E = Unit {0}} need earlier (place_at text n None) p fs (Ok u)
-  ended p s u h e = (
-    end_marked,
-    refl,
-    well_end,
-    fault-end ∙ no_block h ∙ e,
-    built_same earlier end_marked p s Nothing says-end
-        (record { group = refl; fixing = refl; level = refl; switch = λ t. refl; attrs = λ l v. refl; path = λ d. refl })
-        (record { value = λ m. refl; name = refl }),
-    subst (λ z. IsOpen z fs) (sym (seen_in-more text earlier end_marked refl))
-        (single_next (seen_in text earlier) fs (seen end_marked) o refl),
-  )
+  ended p s u h e = search (rules, well_end, fault-end, no_block, built_same, says-end, seen_in-more, single_next)
 
   pub end_refused : {A : Type 0} (p : SettingsBuilder A) (kind : ConfFaultKind) → length fs ≡ 0 → end_fault need text earlier ≡ Some kind
       → TakesOne {E = Unit {0}} need earlier (place_at text n None) p fs (Err kind)

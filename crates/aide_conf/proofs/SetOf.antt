@@ -1,6 +1,6 @@
 -- Each test of attributes is that of a set.
-use Rattle.std.proofs.Common.{ℕ, ◌≡◌, ◌<◌, ◌^◌, suc, zero, Bool, true, false, refl, sym, ap, ◌∙◌, arith, inl, inr, ◌⊎◌}
-use Rattle.std.proofs.Common.{get_or}
+use Rattle.std.proofs.Common.{rules, ℕ, ◌≡◌, ◌<◌, ◌^◌, suc, zero, Bool, true, false, refl, ap, ◌∙◌, arith, inl, inr}
+use Rattle.std.proofs.Common.{◌⊎◌, get_or}
 use Rattle.std.specs.Prelude.{◌==◌, ◌||◌}
 use Rattle.std.specs.Int.{bit_at}
 use Rattle.std.specs.Int.RustNames.{bit_or}
@@ -70,11 +70,7 @@ bits_are f (suc n) i h =
         → ((bit_at (bits f n) i == 1) || (bit_at (bit_if (f (attr_of n)) n) i == 1)) ≡ f (attr_of i)
     by_place below (inl l) = ap (λ z. z || (bit_at (bit_if (f (attr_of n)) n) i == 1)) (below l)
         ∙ ap (λ z. f (attr_of i) || z) (other_bit (f (attr_of n)) n i l) ∙ or_false (f (attr_of i))
-    by_place below (inr e) =
-        let none : (bit_at (bits f n) i == 1) ≡ false = ap (λ z. z == 1)
-        (bit_at_above (bits f n) n i (bits_small f n) (omega (arith, e))) in
-        ap (λ z. z || (bit_at (bit_if (f (attr_of n)) n) i == 1)) none ∙ ap (λ z. bit_at (bit_if (f (attr_of n)) n) z == 1) e
-        ∙ own_bit (f (attr_of n)) n ∙ ap (λ z. f (attr_of z)) (sym e)
+    by_place below (inr e) = search (rules, bit_at_above, bits_small, attr_of, own_bit)
 
 -- the set of the attributes that pass a test
 pub set_of : (Attr → Bool) → AttrSet

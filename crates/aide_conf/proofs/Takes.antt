@@ -1,6 +1,6 @@
 -- What is taken where a line says something.
-use Rattle.std.proofs.Common.{ℕ, ◌≡◌, ◌≤◌, ◌<◌, Bool, true, false, List, [], length, refl, sym, ap, subst, ◌∙◌, arith}
-use Rattle.std.proofs.Common.{Option, Some, None, Result, Ok, Err, inl, inr}
+use Rattle.std.proofs.Common.{rules, ℕ, ◌≡◌, ◌≤◌, ◌<◌, Bool, true, false, List, [], length, refl, sym, ap, subst, ◌∙◌}
+use Rattle.std.proofs.Common.{arith, Option, Some, None, Result, Ok, Err, inl, inr}
 use Rattle.std.specs.Prelude.{if◌then◌else◌, nat_lt, OnOk, IfErr}
 use Rattle.std.specs.Option.{option_or}
 use Rattle.std.specs.FinMap.{insert, remove}
@@ -280,7 +280,4 @@ pub by_directive : {A : Type 0} (earlier : List Marked) (fs : List Frame) (d e :
     → TakesEffect {E = Unit {0}} earlier (length fs) (top_divided fs) r q result
     → TakesEffect {E = Unit {0}} earlier (length fs) (top_divided fs)
     (directive_effect (top_used fs) (as_lists d) (expansion_after (value earlier) 0 (directive_text [] (as_lists d)))) q result
-by_directive earlier fs d e r q result h k t =
-    subst (λ z. TakesEffect {E = Unit {0}} earlier (length fs) (top_divided fs) z q result)
-    (k ∙ ap (λ z. directive_effect (top_used fs) (as_lists z) (expansion_after (value earlier) 0 (directive_text [] (as_lists z))))
-    (sym h)) t
+by_directive earlier fs d e r q result h k t = search rules

@@ -1,6 +1,6 @@
 -- The lines of a text, taken one after another.
-use Rattle.std.proofs.Common.{ℕ, ◌≡◌, ◌<◌, ◌+◌, Bool, true, false, List, [], ◌∷◌, ◌++◌, length, refl, sym, ap, subst}
-use Rattle.std.proofs.Common.{◌∙◌, arith, Option, Some, None, Result, Ok, Err, append_assoc}
+use Rattle.std.proofs.Common.{rules, ℕ, ◌≡◌, ◌<◌, ◌+◌, Bool, true, false, List, [], ◌∷◌, ◌++◌, length, refl, sym, ap}
+use Rattle.std.proofs.Common.{subst, ◌∙◌, arith, Option, Some, None, Result, Ok, Err, append_assoc}
 use Rattle.std.specs.Prelude.{map, unwrap_or, if◌then◌else◌, ◌==◌}
 use Rattle.aide_conf.specs.declared.task.Need.{Need}
 use Rattle.aide_conf.specs.declared.fault.ConfText.{ConfText}
@@ -77,13 +77,7 @@ sound_more : (need : Need) (earlier xs : List Marked) (x : Marked) → AreSound 
     → IsMarkedWell (earlier ++ xs) x → fault_at need (earlier ++ xs) x ≡ None → AreSound need earlier (xs ++ x ∷ [])
 sound_more need earlier [] x h m f =
     (subst (λ z. IsMarkedWell z x) (append_nothing earlier) m, subst (λ z. fault_at need z x ≡ None) (append_nothing earlier) f, tt)
-sound_more need earlier (y ∷ ys) x h m f = (
-  h.0,
-  h.1,
-  sound_more need (earlier ++ y ∷ []) ys x h.2
-      (subst (λ z. IsMarkedWell z x) (sym (append_assoc earlier (y ∷ []) ys)) m)
-      (subst (λ z. fault_at need z x ≡ None) (sym (append_assoc earlier (y ∷ []) ys)) f),
-)
+sound_more need earlier (y ∷ ys) x h m f = search (rules, append_assoc, sound_more need (earlier ++ y ∷ []) ys x h.2)
 
 map_more : (xs : List Marked) (x : Marked) (left : List Place)
     → map (λ (y : Marked). y.place) (xs ++ x ∷ []) ++ left ≡ map (λ (y : Marked). y.place) xs ++ x.place ∷ left
@@ -99,31 +93,12 @@ module _ {A : Type 0} (need : Need) (text : ConfText) (start p q : SettingsBuild
 
   -- it is taken
   takes : (u : Unit {0}) → One (Ok u) → Going need text start q gs all left
-  takes u one earlier none s =
-      let r = g earlier none s in
-      let o = one (earlier ++ r.0) r.3 r.4 in (
-        r.0 ++ o.0 ∷ [],
-        map_more r.0 o.0 left ∙ ap (λ z. map (λ (y : Marked). y.place) r.0 ++ z ∷ left) o.1 ∙ r.1,
-        sound_more need earlier r.0 o.0 r.2 o.2 o.3,
-        subst (λ z. IsBuiltFrom z q) (append_assoc earlier r.0 (o.0 ∷ [])) o.4,
-        subst (λ z. IsOpen (seen_in text z) gs) (append_assoc earlier r.0 (o.0 ∷ [])) o.5,
-      )
+  takes u one earlier none s = search (rules, map_more, sound_more, append_assoc)
 
   -- it has a fault
   stops : (kind : ConfFaultKind) → One (Err kind) → (earlier : List Marked) → seen_in text earlier ≡ [] → IsBuiltFrom earlier start
       → Stops need earlier all (record { text = text; line = n; kind = kind })
-  stops kind one earlier none s =
-      let r = g earlier none s in
-      record {
-        lines = r.0;
-        at = place_at text n line;
-        rest = left;
-        cut = sym r.1;
-        sound = r.2;
-        text = refl;
-        line = refl;
-        kind = one (earlier ++ r.0) r.3 r.4;
-      }
+  stops kind one earlier none s = search rules
 
 -- all are taken
 ends : {A : Type 0} (need : Need) (text : ConfText) (start q : SettingsBuilder A) (fs : List Frame) (all : List Place)

@@ -1,6 +1,6 @@
 -- The three texts, one after another.
-use Rattle.std.proofs.Common.{ℕ, ◌≡◌, ◌+◌, false, List, [], ◌∷◌, ◌++◌, refl, sym, ap, subst, ◌∙◌, append_assoc, inl}
-use Rattle.std.proofs.Common.{inr, ◌⊎◌}
+use Rattle.std.proofs.Common.{rules, ℕ, ◌≡◌, ◌+◌, false, List, [], ◌∷◌, ◌++◌, refl, sym, ap, subst, ◌∙◌, append_assoc}
+use Rattle.std.proofs.Common.{◌⊎◌}
 use Rattle.std.specs.Prelude.{map, if◌then◌else◌, Result, Ok, Err}
 use Rattle.aide_conf.specs.declared.task.Need.{Need}
 use Rattle.aide_conf.specs.declared.fault.ConfFault.{ConfFault}
@@ -56,13 +56,7 @@ unseen_at text ps xs e h = unseen text xs (subst (Elsewhere text) (sym e) h)
 pub then_more : {A : Type 0} (need : Need) (ps qs : List Place) (p q : SettingsBuilder A) → Takes need [] ps p
     → ((earlier : List Marked) → map (λ (x : Marked). x.place) earlier ≡ ps → IsBuiltFrom earlier p → Takes need earlier qs q)
     → Takes need [] (ps ++ qs) q
-then_more need ps qs p q t u =
-    let v = u t.0 t.1 t.3 in (
-      t.0 ++ v.0,
-      places_append t.0 v.0 ∙ ap (λ z. z ++ map (λ (x : Marked). x.place) v.0) t.1 ∙ ap (λ z. ps ++ z) v.1,
-      sound_append need [] t.0 v.0 t.2 v.2,
-      v.3,
-    )
+then_more need ps qs p q t u = search (rules, places_append, sound_append)
 
 pub then_stop : {A : Type 0} (need : Need) (ps qs : List Place) (p : SettingsBuilder A) (e : ConfFault) → Takes need [] ps p
     → ((earlier : List Marked) → map (λ (x : Marked). x.place) earlier ≡ ps → IsBuiltFrom earlier p → Stops need earlier qs e)
@@ -91,51 +85,12 @@ then_all need ps qs p q (Ok u) t taken = then_more need ps qs p q t taken
 then_all need ps qs p q (Err e) t taken = then_stop need ps qs p e t taken
 
 pub more_behind : (need : Need) (ps qs : List Place) (e : ConfFault) → Stops need [] ps e → Stops need [] (ps ++ qs) e
-more_behind need ps qs e v = record {
-  lines = v.lines;
-  at = v.at;
-  rest = v.rest ++ qs;
-  cut = ap (λ z. z ++ qs) v.cut ∙ append_assoc (map (λ (x : Marked). x.place) v.lines) (v.at ∷ v.rest) qs;
-  sound = v.sound;
-  text = v.text;
-  line = v.line;
-  kind = v.kind;
-}
+more_behind need ps qs e v = search (rules, append_assoc)
 
 pub refused : (need : Need) (ps : List Place) (e : ConfFault) → Stops need [] ps e
     → IsRefused need ps e ⊎ IsStarved need ps e
-refused need ps e v = elim v.kind [
-  | inl k ↦ inl (record {
-    lines = v.lines;
-    at = k.0;
-    rest = v.rest;
-    cut = v.cut ∙ ap (λ z. map (λ (x : Marked). x.place) v.lines ++ z ∷ v.rest) (sym k.1);
-    sound = v.sound;
-    marked = k.2;
-    fault = k.3;
-    text = v.text ∙ ap (λ (z : Place). z.text) (sym k.1);
-    line = v.line ∙ ap (λ (z : Place). z.number) (sym k.1);
-  })
-  | inr k ↦ inr (record {
-    lines = v.lines;
-    at = v.at;
-    rest = v.rest;
-    cut = v.cut;
-    sound = v.sound;
-    grows = k.1;
-    kind = k.0;
-    text = v.text;
-    line = v.line;
-  })
-]
+refused need ps e v = search rules
 
 pub taken : {A : Type 0} (need : Need) (ps : List Place) (p : SettingsBuilder A) → Takes need [] ps p
     → IsRead need ps (settings_of p)
-taken need ps p t =
-    record {
-      lines = t.0;
-      all = t.1;
-      sound = t.2;
-      settings = record
-          { options = t.3.options; old_path = t.3.old_path; new_path = t.3.new_path };
-    }
+taken need ps p t = search rules

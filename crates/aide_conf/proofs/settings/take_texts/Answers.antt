@@ -1,4 +1,4 @@
-use Rattle.std.proofs.Common.{ℕ, List, [], ◌≡◌, ◌++◌, refl}
+use Rattle.std.proofs.Common.{rules, ℕ, List, [], ◌≡◌, ◌++◌, refl}
 use Rattle.std.specs.Prelude.{map}
 use Rattle.aide_conf.specs.declared.fault.ConfText.TheVariants.{Before, File, After}
 use Rattle.aide_conf.specs.Cutting.{places_of, lines_of}
@@ -19,11 +19,7 @@ before_after before file xs e = unseen_at After (places_of Before before ++ plac
     (elsewhere After File 1 (lines_of file) refl))
 
 pub returns-in-Err-clause-taken : goal.returns-in-Err-clause-taken
-returns-in-Err-clause-taken g c = λ s.
-    let ps = places_of Before c.args.before.now in
-    let qs = places_of File c.args.file.now in
-    let rs = places_of After c.args.after.now in
-    more_behind _ (ps ++ qs) rs _ (more_behind _ ps qs _ (c.in-Err.ensures.taken [] refl s))
+returns-in-Err-clause-taken g c = search (rules, more_behind)
 
 pub returns-in-Err-take_text-clause-taken : goal.returns-in-Err-take_text-clause-taken
 returns-in-Err-take_text-clause-taken g c = λ s.

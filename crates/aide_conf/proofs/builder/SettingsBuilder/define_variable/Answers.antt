@@ -12,13 +12,7 @@ use Rattle.aide_conf.proofs.Takes.{set_too_long, sets, no_space_to_set}
 use Rattle.aide_conf.proofs.builder.SettingsBuilder.define_variable.Goals as goal
 
 pub returns-in-Ok-None-clause-taken : goal.returns-in-Ok-None-clause-taken
-returns-in-Ok-None-clause-taken g c =
-    let w : is_word c.args.name.now ≡ true = search rules in
-    λ earlier depth divided s.
-    let h = subst (λ f. IsExpandedValue (expansion_after f 0 c.args.text.now) c.in-Ok-None.field-0)
-    (values_are earlier _ s.variables) c.in-Ok-None.ensures in
-    set_too_long (Unit {0}) earlier depth divided _ s c.args.name.now (expansion_after (value earlier) 0 c.args.text.now) c.args.self.now w
-    (subst (IsExpandedValue (expansion_after (value earlier) 0 c.args.text.now)) c.in-Ok-None.field-0-is h)
+returns-in-Ok-None-clause-taken g c = search (rules, values_are, set_too_long)
 
 pub returns-in-Ok-clause-taken : goal.returns-in-Ok-clause-taken
 returns-in-Ok-clause-taken g c =

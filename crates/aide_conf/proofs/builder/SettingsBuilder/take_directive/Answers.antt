@@ -1,12 +1,10 @@
-use Rattle.std.proofs.Common.{sym, ap, refl, ◌≡◌, length, rules, true, false, Ok}
-use Rattle.std.specs.Prelude.{if◌then◌else◌, not, ◌||◌}
-use Rattle.aide_attr.specs.Name.{is_word}
+use Rattle.std.proofs.Common.{sym, ap, ◌≡◌, length, rules, true, false, Ok}
+use Rattle.std.specs.Prelude.{if◌then◌else◌}
 use Rattle.aide_conf.specs.declared.directive.Directive.TheVariants as code
-use Rattle.aide_conf.specs.declared.fault.ConfFaultKind.TheVariants.{LeftOut, BadDirective}
 use Rattle.aide_conf.specs.Directive.{set_effect, unset_effect}
 use Rattle.aide_conf.specs.code.Replacing.{expansion_after}
 use Rattle.aide_conf.specs.MarkedVariables.{value}
-use Rattle.aide_conf.specs.Effect.{Faulty, Nothing, OpensBlock, DividesBlock, ClosesBlock}
+use Rattle.aide_conf.specs.Effect.{Nothing}
 use Rattle.aide_conf.specs.code.Stack.{frames_of, top_used, top_divided}
 use Rattle.aide_conf.proofs.Takes.{by_directive, nothing, answered_open, answered_other, answered_divide, answered_close}
 use Rattle.aide_conf.proofs.Takes.{refused_if}
@@ -50,56 +48,22 @@ returns-else-used-2-clause-taken g c =
     (sym (ap (λ z. if z then r else Nothing) u)) (nothing (Unit {0}) earlier (length fs) (top_divided fs) _ s tt)
 
 pub returns-in-IfDef-clause-taken : goal.returns-in-IfDef-clause-taken
-returns-in-IfDef-clause-taken g c =
-    let fs = frames_of c.args.blocks.now in
-    let good = not (top_used fs) || is_word c.in-IfDef.name.now in
-    λ earlier s. by_directive earlier fs c.args.directive (code.IfDef c.in-IfDef.name)
-    (OpensBlock good) c.args.self.now c.open_block.result c.in-IfDef.is refl
-    (answered_open (Unit {0}) earlier (length fs) (top_divided fs) _ s good c.open_block.result c.open_block.ensures.answered)
+returns-in-IfDef-clause-taken g c = search (rules, by_directive, answered_open)
 
 pub returns-in-IfNotDef-clause-taken : goal.returns-in-IfNotDef-clause-taken
-returns-in-IfNotDef-clause-taken g c =
-    let fs = frames_of c.args.blocks.now in
-    let good = not (top_used fs) || is_word c.in-IfNotDef.name.now in
-    λ earlier s. by_directive earlier fs c.args.directive (code.IfNotDef c.in-IfNotDef.name)
-    (OpensBlock good) c.args.self.now c.open_block-in-IfNotDef.result c.in-IfNotDef.is refl
-    (answered_open (Unit {0}) earlier (length fs) (top_divided fs) _ s good c.open_block-in-IfNotDef.result
-    c.open_block-in-IfNotDef.ensures.answered)
+returns-in-IfNotDef-clause-taken g c = search (rules, by_directive, answered_open)
 
 pub returns-in-IfOther-clause-taken : goal.returns-in-IfOther-clause-taken
-returns-in-IfOther-clause-taken g c =
-    let fs = frames_of c.args.blocks.now in
-    λ earlier s. by_directive earlier fs c.args.directive code.IfOther
-    (if top_used fs then Faulty BadDirective else OpensBlock true) c.args.self.now c.open_other.result c.in-IfOther.is refl
-    (answered_other (Unit {0}) earlier (length fs) (top_divided fs) _ s (top_used fs) c.open_other.result c.open_other.ensures.answered)
+returns-in-IfOther-clause-taken g c = search (rules, by_directive, answered_other)
 
 pub returns-in-Else-clause-taken : goal.returns-in-Else-clause-taken
-returns-in-Else-clause-taken g c =
-    let fs = frames_of c.args.blocks.now in
-    λ earlier s. by_directive earlier fs c.args.directive code.Else DividesBlock c.args.self.now c.divide_block.result c.in-Else.is refl
-    (answered_divide (Unit {0}) earlier (length fs) (top_divided fs) _ s c.divide_block.result c.divide_block.ensures.answered)
+returns-in-Else-clause-taken g c = search (rules, by_directive, answered_divide)
 
 pub returns-in-EndIf-clause-taken : goal.returns-in-EndIf-clause-taken
-returns-in-EndIf-clause-taken g c =
-    let fs = frames_of c.args.blocks.now in
-    λ earlier s. by_directive earlier fs c.args.directive code.EndIf ClosesBlock c.args.self.now c.close_block.result c.in-EndIf.is refl
-    (answered_close (Unit {0}) earlier (length fs) (top_divided fs) _ s c.close_block.result c.close_block.ensures.answered)
+returns-in-EndIf-clause-taken g c = search (rules, by_directive, answered_close)
 
 pub returns-in-Omitted-clause-taken : goal.returns-in-Omitted-clause-taken
-returns-in-Omitted-clause-taken g c =
-    let fs = frames_of c.args.blocks.now in
-    let b = c.is_used-used.result || c.in-Omitted.begins_with_if in
-    λ earlier s. by_directive earlier fs c.args.directive (code.Omitted c.in-Omitted.begins_with_if)
-    (if b then Faulty LeftOut else Nothing) c.args.self.now c.refuse.result c.in-Omitted.is
-    (ap (λ z. if z || c.in-Omitted.begins_with_if then Faulty LeftOut else Nothing) c.is_used-used.ensures)
-    (refused_if (Unit {0}) earlier (length fs) (top_divided fs) _ s b LeftOut c.refuse.result c.refuse.ensures.answered)
+returns-in-Omitted-clause-taken g c = search (rules, by_directive, refused_if)
 
 pub returns-in-Unknown-clause-taken : goal.returns-in-Unknown-clause-taken
-returns-in-Unknown-clause-taken g c =
-    let fs = frames_of c.args.blocks.now in
-    let b = c.is_used-used.result || c.in-Unknown.begins_with_if in
-    λ earlier s. by_directive earlier fs c.args.directive (code.Unknown c.in-Unknown.begins_with_if)
-    (if b then Faulty BadDirective else Nothing) c.args.self.now c.refuse-in-Unknown.result c.in-Unknown.is
-    (ap (λ z. if z || c.in-Unknown.begins_with_if then Faulty BadDirective else Nothing) c.is_used-used.ensures)
-    (refused_if (Unit {0}) earlier (length fs) (top_divided fs) _ s b BadDirective c.refuse-in-Unknown.result
-    c.refuse-in-Unknown.ensures.answered)
+returns-in-Unknown-clause-taken g c = search (rules, by_directive, refused_if)

@@ -1,4 +1,4 @@
-use Rattle.std.proofs.Common.{sym, ap, subst, Ok, Err, true}
+use Rattle.std.proofs.Common.{rules, sym, ap, subst, Ok, Err, true}
 use Rattle.aide_conf.specs.code.Returned.{effect_of}
 use Rattle.aide_conf.specs.code.Builder.{TakesEffect}
 use Rattle.aide_conf.specs.Effect.{SetsLevel, SetsSwitch, SetsAttributes}
@@ -12,11 +12,7 @@ returns-in-Nothing g c = λ earlier depth divided s. subst (λ r. TakesEffect {E
     (nothing (Unit {0}) earlier depth divided _ s tt)
 
 pub returns-in-NamesDatabase : goal.returns-in-NamesDatabase
-returns-in-NamesDatabase g c = λ earlier depth divided s. subst
-    (λ r. TakesEffect {E = Unit {0}} earlier depth divided r c.name_database.new.self c.name_database.result)
-    (sym (ap effect_of c.in-NamesDatabase.is))
-    (path_taken (Unit {0}) earlier depth divided _ s c.in-NamesDatabase.side c.in-NamesDatabase.path.now c.name_database.new.self
-    c.name_database.result c.name_database.ensures.ok c.name_database.ensures.err)
+returns-in-NamesDatabase g c = search (rules, path_taken)
 
 pub returns-in-SetsLevel : goal.returns-in-SetsLevel
 returns-in-SetsLevel g c = λ earlier depth divided s. subst

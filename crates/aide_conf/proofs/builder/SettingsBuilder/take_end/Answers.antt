@@ -29,8 +29,4 @@ returns-in-File-clause-taken g c =
     (ap (λ z. end_fault z c.args.text earlier) c.in-Compare.is ∙ ap (λ z. end_fault Compare z earlier) c.in-File.is)
 
 pub returns-in-After-clause-taken : goal.returns-in-After-clause-taken
-returns-in-After-clause-taken g c =
-    let k : length (frames_of c.args.blocks.now) ≡ 0 = search rules in
-    λ earlier n s o. lacking c.args.need earlier c.args.text n (frames_of c.args.blocks.now) o c.args.self.now s k
-    (ap (λ z. end_fault z c.args.text earlier) c.in-Compare.is ∙ ap (λ z. end_fault Compare z earlier) c.in-After.is)
-    c.need_databases.result c.need_databases.ensures.lacks
+returns-in-After-clause-taken g c = search (rules, lacking)

@@ -1,15 +1,11 @@
 use Rattle.std.proofs.Common.{arith, ◌≡◌, ◌<◌, length, rules, ap, ◌∙◌}
-use Rattle.aide_conf.specs.Cutting.{strip, places_of}
+use Rattle.aide_conf.specs.Cutting.{strip}
 use Rattle.aide_conf.specs.code.Stack.{frames_of}
 use Rattle.aide_conf.proofs.TextTaken.{starts, stop_line, take_line, stop_end, take_end, shorter}
 use Rattle.aide_conf.proofs.builder.SettingsBuilder.take_text.Goals as goal
 
 pub lines-init : goal.lines-init
-lines-init g c = (
-  omega arith,
-  starts c.args.need c.args.text c.args.self.now (frames_of c.new-blocks.result)
-      (places_of c.args.text c.args.bytes.now) c.new-blocks.ensures,
-)
+lines-init g c = search (rules, starts)
 
 pub returns-in-Err-clause-taken : goal.returns-in-Err-clause-taken
 returns-in-Err-clause-taken g c =
