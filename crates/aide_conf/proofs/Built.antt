@@ -31,10 +31,10 @@ use Rattle.aide_conf.specs.MarkedVariables.{variable_by, variable_name_of}
 use Rattle.aide_conf.specs.Settings.{AreOptions, counted, fixes, fixes_by, level_by, switch_by, attrs_by}
 use Rattle.aide_conf.specs.code.Variables.{values_of}
 use Rattle.aide_conf.specs.code.Builder.{IsBuiltFrom, HasGroups, HasVariables, text_at, unless_fixed, NamesPath, HasNewGroup}
-use Rattle.aide_conf.proofs.Names.{exact}
+use Rattle.aide_conf.proofs.Names.{exact, or_true}
 use Rattle.aide_conf.proofs.VariableSteps.{variables_same, variables_set, variables_unset}
 use Rattle.aide_conf.proofs.Steps.{last_given-more, last_given-same, last_given-given, options_same, list_any-more}
-use Rattle.aide_conf.proofs.Steps.{counted-fixed, counted-open, counted-more, counted-fixes}
+use Rattle.aide_conf.proofs.Steps.{counted-fixed, counted-open, counted-more, counted-fixes, or_false}
 
 -- ---- effects that leave something as it was
 
@@ -133,14 +133,6 @@ unfolding meaning_of
 looks xs table h = fun_ext (λ n. ap (λ z. option_or (option_map has z) (predefined n)) (h.sets n))
 
 -- ---- the state after one more place
-
-or_false : (b : Bool) → (b || false) ≡ b
-or_false true = refl
-or_false false = refl
-
-or_true : (b : Bool) → (b || true) ≡ true
-or_true true = refl
-or_true false = refl
 
 module _ {A : Type 0} (xs : List Marked) (x : Marked) (p : SettingsBuilder A) (s : IsBuiltFrom xs p) where
   fixed_kept : fixes x ≡ false → p.fixed ≡ list_any fixes (xs ++ x ∷ [])

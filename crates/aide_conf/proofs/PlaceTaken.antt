@@ -1,6 +1,6 @@
 -- What is taken at one place, by what its line says and by the blocks that are open before it.
-use Rattle.std.proofs.Common.{rules, ℕ, suc, ◌≡◌, ◌<◌, Bool, true, false, List, [], ◌∷◌, ◌++◌, length, refl, sym, ap}
-use Rattle.std.proofs.Common.{subst, ◌∙◌, arith, Option, Some, None, Result, Ok, Err, inl, inr}
+use Rattle.std.proofs.Common.{rules, ℕ, ◌≡◌, ◌<◌, Bool, true, false, List, [], ◌∷◌, ◌++◌, length, refl, sym, ap, subst}
+use Rattle.std.proofs.Common.{◌∙◌, arith, Option, Some, None, Result, Ok, Err, inl, inr}
 use Rattle.std.specs.Prelude.{if◌then◌else◌, OnOk, ◌||◌, ◌&&◌, not, nat_lt, ◌==◌, is_none, String, drop}
 use Rattle.std.specs.Option.{option_or}
 use Rattle.std.proofs.lemmas.Bool.Decides.{nat_tests}
@@ -41,6 +41,7 @@ use Rattle.aide_conf.proofs.StackLemmas.{used_right, depth_right, divided_right,
 use Rattle.aide_conf.proofs.StackLemmas.{closes_next}
 use Rattle.aide_conf.proofs.ExpansionLemmas.{is_expansion}
 use Rattle.aide_conf.proofs.Built.{built_same}
+use Rattle.aide_conf.proofs.BoundedLemmas.{not_zero}
 
 -- ---- lines of one text
 
@@ -61,9 +62,6 @@ seen_in-more text (y ∷ ys) x e = by (is_text text y.place.text) (seen_in-more 
     by false h = h
 
 -- ---- the blocks after one more line
-
-not_zero : (n : ℕ) → (suc n == 0) ≡ false
-not_zero n = grind (arith, nat_tests)
 
 abbrev else_fault : Bool → Option ConfFaultKind
 else_fault b = if b then Some StrayElse else None

@@ -15,6 +15,7 @@ use Rattle.aide_attr.specs.Attr.{index, all_attrs, count}
 use Rattle.aide_attr.specs.Set.{has}
 use Rattle.aide_attr.proofs.AttrLemmas.{at_index, index_small}
 use Rattle.aide_attr.proofs.SetLemmas.{bit_or_test}
+use Rattle.aide_conf.proofs.Steps.{or_false}
 
 attr_of : ℕ → Attr
 attr_of i = get_or all_attrs i attr.Ftype
@@ -49,10 +50,6 @@ other_bit : (b : Bool) (n i : ℕ) → i < n → (bit_at (bit_if b n) i == 1) �
 unfolding bit_if
 other_bit true n i h = ap (λ z. z == 1) (bit_at-pow_other n i (λ e. omega (arith, e, h)))
 other_bit false n i h = ap (λ z. z == 1) (bit_at-zero i)
-
-or_false : (b : Bool) → (b || false) ≡ b
-or_false true = refl
-or_false false = refl
 
 bits_are : (f : Attr → Bool) (n i : ℕ) → i < n → (bit_at (bits f n) i == 1) ≡ f (attr_of i)
 unfolding bits
