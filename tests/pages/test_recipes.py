@@ -95,7 +95,7 @@ class HandsTest(RecipesTest):
         self.assertIn("appears twice: /a\n", done[2])
 
     def test_mail(self) -> None:
-        self.put_databases(OLD, NEW)
+        self.put_pair(OLD, NEW)
         self.assertEqual(self.recipe("mail"), (7, "", ""))
         mail = self.taken("mailed") or ""
         for text in ("To: root\n", " open", "multipart", "text/html"):

@@ -24,7 +24,7 @@ def fleet_of(*hosts: list[Fields]) -> Fleet:
 
 
 def shown_by(fleet: Fleet, max_names: int = 9) -> list[Fields]:
-    return [shared.fields for shared in fleet.changes(max_names, order="place")]
+    return [fleet.shared(row, max_names).fields for row in fleet.table.rows(order="place")]
 
 
 def changed(path: str, old: Any = None, new: Any = None, **more: Any) -> Fields:
@@ -126,7 +126,6 @@ class FleetTest(ModuleTest):
         great = fields_of("/srv/z", new={"Perm": "04755"})
         common = fields_of("/srv/a")
         fleet = fleet_of([common, great], [common, fields_of("/srv/b")])
-        paths = [shared.fields["path"] for shared in fleet.changes(9)]
-        self.assertEqual(paths, ["/srv/z", "/srv/b", "/srv/a"])
-        severities = [shared.fields["severity"] for shared in fleet.changes(9)]
-        self.assertEqual(severities[0], "high")
+        shown = [fleet.shared(row, 9).fields for row in fleet.table.rows()]
+        self.assertEqual([fields["path"] for fields in shown], ["/srv/z", "/srv/b", "/srv/a"])
+        self.assertEqual(shown[0]["severity"], "high")

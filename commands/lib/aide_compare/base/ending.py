@@ -52,6 +52,7 @@ class Done(Exception):
 
 
 MAX_EMPTY_WRITES = 3
+MAX_WAITING = 1 << 18
 
 _name = "aide-compare"
 
@@ -76,13 +77,13 @@ def write_all(descriptor: int, data: bytes | bytearray | memoryview) -> None:
             raise OSError(errno.EIO, "the device takes no bytes")
 
 
-def write_blocks(descriptor: int, parts: Iterable[bytes], block: int = 1 << 18) -> None:
+def write_blocks(descriptor: int, parts: Iterable[bytes]) -> None:
     """Writes many parts, some at a time, past Python's own buffers."""
     waiting = bytearray()
     with failing("cannot write"):
         for part in parts:
             waiting += part
-            if len(waiting) >= block:
+            if len(waiting) >= MAX_WAITING:
                 write_all(descriptor, waiting)
                 waiting = bytearray()
         write_all(descriptor, waiting)

@@ -16,7 +16,7 @@ import re
 from collections.abc import Callable, Iterable, Iterator
 from functools import cached_property, lru_cache
 from itertools import takewhile
-from operator import itemgetter, methodcaller
+from operator import itemgetter
 from typing import Generic, Protocol, TypeVar
 
 from aide_compare.base.ending import Fault, Status
@@ -85,17 +85,9 @@ def _as_fnmatch(piece: bytes) -> bytes:
 
 def _test(piece: bytes) -> Callable[[bytes], object]:
     """A test of one piece of a path. What fnmatch makes of it looks for each text between stars
-    once, from left to right; most pieces have a star at the ends only, and need no expression."""
+    once, from left to right."""
     if _is_fixed(piece):
         return piece.__eq__
-    before, _, after = piece.partition(b"*")
-    if not after and _is_fixed(before):
-        return methodcaller("startswith", before)
-    if not before and _is_fixed(after):
-        return methodcaller("endswith", after)
-    middle = after.removesuffix(b"*")
-    if not before and _is_fixed(middle):
-        return methodcaller("__contains__", middle)
     text = _as_fnmatch(piece)
     return re.compile(fnmatch.translate(text.decode("latin-1")).encode("latin-1")).match
 

@@ -209,21 +209,6 @@ def state_bytes(comparison: Comparison, _judged: Optional[Judged]) -> Sequence[b
     return [comparison.state().text()]
 
 
-class Ended:
-    """How a comparison has ended."""
-
-    def __init__(self, comparison: Comparison) -> None:
-        self.comparison = comparison
-
-    @property
-    def status(self) -> int:
-        return self.comparison.status
-
-    def state(self) -> State:
-        """What its state file has, or would have."""
-        return self.comparison.state()
-
-
 class Task:
     """A comparison that is carried out, and its outputs. `judges`: one of these needs its changes
     with their standings; otherwise the report alone is wanted."""
@@ -243,7 +228,7 @@ class Task:
         self.rows: Sequence[Row] = ()
         self.state_file: Optional[FileOutput] = None
 
-    def carry_out(self) -> Ended:
+    def carry_out(self) -> Comparison:
         """Compares, judges, and writes what is wanted. Root opens the databases, and then becomes
         for good the user in whose directories the baseline and the outputs are."""
         work = Work(self.request)
@@ -319,7 +304,7 @@ class Task:
                 row.write(comparison, judged)
         return comparison
 
-    def _end(self, comparison: Comparison) -> Ended:
+    def _end(self, comparison: Comparison) -> Comparison:
         """Hands the outputs to their places, in their order. If that is not possible, nothing was
         compared."""
         try:
@@ -330,4 +315,4 @@ class Task:
             if comparison.has_failed:
                 raise
             return self._end(self._made(comparison.failed(error)))
-        return Ended(comparison)
+        return comparison

@@ -7,10 +7,10 @@ from __future__ import annotations
 
 import hashlib
 import json
-from collections.abc import Iterable, Iterator, Sequence
+from collections.abc import Iterable, Sequence
 
 from aide_compare.base.words import SIDES
-from aide_compare.changes.table import ORDER, Row, Table
+from aide_compare.changes.table import Row, Table
 from aide_compare.changes.weighing import Scales
 from aide_compare.hosts.reported import SharedChange
 from aide_compare.lines.attributes import FORMS
@@ -104,12 +104,8 @@ class Fleet:
         self.table.do(GATHER)
         self.table.count_rows()
 
-    def changes(self, max_names: int, order: str = ORDER) -> Iterator[SharedChange]:
-        """Yields all changes in an order, each with at most so many of the names of its hosts."""
-        return (self.shared(row, max_names) for row in self.table.rows(order=order))
-
     def shared(self, row: Row, max_names: int) -> SharedChange:
-        """A change on some hosts. Values that are of one host are shown if there is only one; of
+        """A change on some hosts, of which at most so many are named. Values that are of one host are shown if there is only one; of
         old values that are not the same, only the names of their attributes."""
         hosts: list[int] = []
         olds: set[bytes] = set()

@@ -20,10 +20,10 @@ class Reviewed:
         self.judged = judged
 
 
-def judge(comparison: Comparison, is_of_host: bool = True) -> Reviewed:
+def judge(comparison: Comparison) -> Reviewed:
     """Judges the changes of a comparison. If they cannot be judged, a doubt says why: the
-    comparison stands as it is, and without standings every change is an alarm. `is_of_host`:
-    packages' records of this machine group its changes."""
+    comparison stands as it is, and without standings every change is an alarm. Packages' records of
+    this machine group its changes."""
     try:
         judged = _judged(comparison)
     except Refused as refused:
@@ -31,7 +31,7 @@ def judge(comparison: Comparison, is_of_host: bool = True) -> Reviewed:
     except Exception as error:  # A fault here must not cost the alarm.
         why = why_of(error)
     else:
-        if is_of_host and len(judged.table):
+        if len(judged.table):
             comparison = _grouped(judged, comparison)
         progress.note_step("the changes are judged")
         return Reviewed(comparison._replace(standings=judged.counts), judged)
