@@ -35,7 +35,7 @@ class AcceptWorkTest(ModuleTest):
         ):
             ended = SimpleNamespace(status=24, fault=fault)
             with mock.patch.object(accept_work, "compare", return_value=ended) as compare:
-                self.fails(status, why, accept_work._write_open_keys, request, copies, 1)
+                self.fails(status, why, accept_work._open_keys, request, copies)
             compare.assert_called_once_with(
                 Request(old="old.db", new="new.db", copies=copies, max_report=9)
             )

@@ -13,7 +13,7 @@ from aide_compare.base.escapes import shown
 from aide_compare.base.files import BLOCK, nameless, reopened
 from aide_compare.base.directories import closed_after
 from aide_compare.base.options import MAX_REPORT_BYTES
-from aide_compare.base.paths import Pattern, key_of_path
+from aide_compare.base.paths import Pattern
 from aide_compare.base.words import TRUSTED_SIDES, counted
 from aide_compare.compare.baseline import Baseline, Owners, owners
 from aide_compare.compare.comparison import NO_COPIES, Request
@@ -114,9 +114,9 @@ def former_of(baseline: Baseline, max_size: int) -> Former | None:
     return Former("", owner)
 
 
-def _write_open_keys(request: AcceptRequest, copies: Copies, target: int) -> bytes:
-    """Writes the keys of the changes that are not silent, and returns the lines that say what was
-    found."""
+def _open_keys(request: AcceptRequest, copies: Copies) -> Iterator[bytes]:
+    """Compares, and says what was found. The keys, in path order, of the changes that are not
+    silent."""
     comparison = compare(
         Request(
             old=request.baseline,
@@ -133,24 +133,12 @@ def _write_open_keys(request: AcceptRequest, copies: Copies, target: int) -> byt
     if lines.is_cut:
         limit = comparison.request.max_report
         raise Fault(Status.DEVICE, f"refused: the changes have more than {limit} bytes")
-    for _, change in reader_over(lines.fd):
-        if not change.standing.is_silent:
-            write_all(target, key_of_path(change.path) + b"\n")
-    if request.is_quiet:
-        return b""
-    end = lines.end
-    silent = f"{end.changes - end.others} of {counted(end.changes, 'change')} silent"
-    return f"{told_of(comparison)}aide-compare: {silent}\n".encode("utf-8", "replace")
-
-
-def _open_keys(request: AcceptRequest, copies: Copies) -> Iterator[bytes]:
-    """The keys, in path order, of the changes that are not silent."""
-    target = nameless()
-    write_all(2, _write_open_keys(request, copies, target))
-    with open(target, "rb") as file:
-        file.seek(0)
-        for line in file:
-            yield line[:-1]
+    if not request.is_quiet:
+        silent = f"{lines.end.changes - lines.end.others} of {counted(lines.end.changes, 'change')}"
+        text = f"{told_of(comparison)}aide-compare: {silent} silent\n"
+        write_all(2, text.encode("utf-8", "replace"))
+    outlines = reader_over(lines.fd).outlines()
+    return (outline.key for outline in outlines if outline.silent is None)
 
 
 def merge(request: AcceptRequest, offer: Offer, baseline: Baseline) -> Merged:
