@@ -23,7 +23,7 @@ NOTE = "canary www1: what changed there in the same way is silent on the other h
 USED = f"C{NOTE[1:]}\n"
 NAMES = ("www1", "www2", "www3", "www4")
 MARK = b"/usr/bin/mark"
-SAME = "4 added 0, removed 0, changed 5: "
+FIVE = "added 0, removed 0, changed 5: "
 # A state of another database than the one that is there.
 OTHER = """
 read = read_state
@@ -66,10 +66,10 @@ class CanaryTest(CommandTest):
         """Only hosts with a mark are named, and the canary, which is told whole."""
         hosts = self.fleet("www3")
         lines = self.compared(hosts, "--canary", "www1")
-        self.assertEqual(lines[0], f"www1 {SAME}2 open (2 high) of 5 changes", "it comes first")
-        marked = "www3 5 added 1, removed 0, changed 5: 1 open (1 high) of 6 changes"
+        self.assertEqual(lines[0], f"www1 4 {FIVE}2 open (2 high) of 5 changes", "it comes first")
+        marked = "www3 1 added 1, removed 0, changed 5: 1 open (1 high) of 6 changes"
         self.assertIn(marked, lines)
-        self.assertIn(f"www2 {SAME}5 changes, all silent", lines)
+        self.assertIn(f"www2 0 {FIVE}5 changes, all silent", lines)
         self.assertEqual(
             lines[-1],
             "4 hosts: 2 differ, 0 not compared, 0 without differences, 2 with silent ones",
@@ -144,7 +144,7 @@ class CanaryTest(CommandTest):
         lines = self.compared(hosts, "--canary", "www1")
         cause = "aide.db.new is not the database that was compared"
         self.assertTrue(lines[1].endswith(cause), lines)
-        self.assertIn(f"www2 {SAME}2 open (2 high) of 5 changes", lines, "nothing is silent then")
+        self.assertIn(f"www2 4 {FIVE}2 open (2 high) of 5 changes", lines, "nothing is silent then")
 
     def test_whole(self) -> None:
         """Whatever floods the canary, each of its changes is listed, or it is not used."""
@@ -175,7 +175,7 @@ class CanaryTest(CommandTest):
         lines = self.compared(hosts, "--canary", "www1")
         self.assertTrue(lines[0].startswith("www1 0 "), lines)
         self.assertFalse([line for line in lines if "was not used" in line])
-        self.assertIn(f"www2 {SAME}2 open (2 high) of 5 changes", lines)
+        self.assertIn(f"www2 4 {FIVE}2 open (2 high) of 5 changes", lines)
 
     def test_always_there(self) -> None:
         """What the canary always had accounts for nothing on a host that gets it."""
@@ -183,7 +183,7 @@ class CanaryTest(CommandTest):
         hosts.put("www1", database(True, 51, EVIL), database(True, 1, EVIL))
         hosts.put("www2", database(True, 52, EVIL), database(False, 2))
         lines = self.compared(hosts, "--canary", "www1")
-        self.assertEqual(lines[0], f"www1 {SAME}5 changes, all silent")
+        self.assertEqual(lines[0], f"www1 0 {FIVE}5 changes, all silent")
         got = "www2 5 added 1, removed 0, changed 5: 3 open (3 high) of 6 changes"
         self.assertIn(got, lines)
 

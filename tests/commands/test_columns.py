@@ -116,7 +116,7 @@ class ColumnsTest(CommandTest):
         os.remove(self.path("state"))
         self.write("odd.db", OLD.replace(b"fstype", b"\xc3\xa9:x").replace(b"4096", b"9"))
         silent = "1 change, all silent; the columns fstype, ??x are not compared"
-        self.mails("odd.db", silent, 4)
+        self.mails("odd.db", silent)
 
     def test_lost(self) -> None:
         """A mail that was lost has told nothing: the next one tells the column."""

@@ -253,7 +253,8 @@ class RunTest(CommandTest):
         minimal = [*state, "-A", "report_level=minimal", *pair]
         for words, runs in (
             (["--report", *pair], ["aide-E"]),
-            (["-q", *pair], ["aide-E"]),
+            (["-q", *pair], ["aide_lines-E"]),
+            (["--report", "-q", *pair], ["aide-E"]),
             (["--report", *state, *pair], ["aide_lines-E", "aide-E"]),
             ([*state, *pair], ["aide_lines-E"]),
             (pair, ["aide_lines-E"]),

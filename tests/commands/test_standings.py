@@ -54,6 +54,7 @@ COUNTS = {
     "recorded_high": "0",
     "recorded_medium": "1",
     "recorded_low": "0",
+    "told_status": "7",
 }
 
 
@@ -131,6 +132,21 @@ class StandingsTest(mail.MailTest):
         self.assertEqual(self.state().get("open"), "0", ("its state", self.state()))
         want = "1 change, all silent\n\nSilent: 1 same\n\n"
         self.assertEqual(silent().brief(self), want, "all is silent")
+
+    def test_status(self) -> None:
+        """The status of each command is that of what is not silent; that of a report is AIDE's."""
+        databases = ("host-old.db", "host-new.db")
+        for host, status in ((silent(), 0), (recorded(), 4)):
+            host.write(self)
+            for tool in (TOOL, f"{TOOL} -q", f"{TOOL} json", f"{TOOL} page", mail.TOOL):
+                self.assertEqual(self.call(tool, *databases).status, status, tool)
+            self.assertEqual(mail.sent(self) is not None, bool(status))
+            for tool in (f"{TOOL} --report", f"{TOOL} --report -q"):
+                self.assertEqual(self.call(tool, "--state", "state", *databases).status, 4, tool)
+            found = self.state()
+            self.assertEqual((found["status"], found["told_status"]), ("4", str(status)))
+            metrics = self.call(f"{TOOL} status --format prometheus --state state").output
+            self.assertIn(b"\naide_compare_status %d\n" % status, metrics)
 
     def test_unexplained(self) -> None:
         """A directory with one link more, and devices that were made again, are not the same."""

@@ -160,7 +160,7 @@ class BlocksTest(PagesTest):
         name = "/var/lib/prometheus/node-exporter/aide.prom"
         self.shell("aide-compare --state state")
         self.shell(f"aide-compare status --state state --format prometheus {name}")
-        self.assertGreater(len(blocks), 1)
+        self.assertGreater(len(blocks), 0)
         for metric in set(re.findall(r"\baide_compare_\w+", "".join(b.text for b in blocks))):
             self.assertIn(f"\n{metric} ", self.read(name))
 

@@ -30,7 +30,7 @@ CHANGE = Change(
     package="p 1",
 )
 LEAST = Change(b"/a", "added", "Entry", "", {}, {}, Standing.OPEN, "", "")
-COUNTS = Counts(100, 20, 3, 6, 1, 2, 3, 0, 1, 2)
+COUNTS = Counts(100, 20, 3, 6, 1, 2, 3, 0, 1, 2, told_status=5)
 
 
 class ChangesTest(ModuleTest):
@@ -87,5 +87,8 @@ class ChangesTest(ModuleTest):
             (COUNTS._replace(open=7), 130, False),
             (COUNTS._replace(recorded=2), 128, False),
             (COUNTS._replace(same=-1), 28, False),
+            (COUNTS._replace(told_status=0), 129, False),
+            (COUNTS._replace(told_status=8), 129, False),
+            (Counts(same=1, told_status=1), 1, False),
         ):
             self.gives(fits, counts.fits, changes)

@@ -72,7 +72,7 @@ class TableTest(ModuleTest):
         table = table_of(change(b"/a"), change(b"/b", "low"), change(b"/c", "low"))
         table.note(1, Standing.RECORDED, "tool 1")
         table.note(2, Standing.OPEN, "tool 1")
-        wanted = Counts(recorded=1, recorded_high=1, open=2, open_low=2)
+        wanted = Counts(recorded=1, recorded_high=1, open=2, open_low=2, told_status=4)
         self.expect("the counts", table.counts(), wanted)
         room = ONE_EACH._replace(shares=((9, 9, 9),) * 3)
         self.expect("not listed", listed(table, room), [("low", [b"/c"], [])])

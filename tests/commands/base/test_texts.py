@@ -153,7 +153,7 @@ class TextsTest(ModuleTest):
         self.assertEqual(VERSION, read("VERSION").strip())
 
     def test_state(self) -> None:
-        counts = Counts(open=6, open_low=6)
+        counts = Counts(open=6, open_low=6, told_status=7)
         digests = ("a" * 64, "b" * 64)
         good = state.State(7, 1795602777, 1, 2, 3, *digests, "o\\012", "n", 5, standings=counts)
         good = good._replace(skipped_old=["x"], trusted_old="t")

@@ -59,7 +59,7 @@ def stand(fields: Fields, standing: str, severity: str = "medium", package: str 
 
 def with_counts(objects: list[Fields]) -> list[Fields]:
     """The objects with an end that has the counts of the standings."""
-    counts = dict.fromkeys([*STANDINGS, *SEVERE], 0)
+    counts = dict.fromkeys([*STANDINGS, *SEVERE, "told_status"], 0)
     for fields in changes_of(objects):
         counts[fields["standing"]] += 1
         if fields["standing"] not in PROOFS:

@@ -10,7 +10,7 @@ from typing import NamedTuple
 from aide_compare.base.ending import Fault, Status
 from aide_compare.base.paths import key_of_path, path_of
 from aide_compare.base.rows import Rows
-from aide_compare.base.words import SEVERITIES
+from aide_compare.base.words import SEVERITIES, status_of_counts
 from aide_compare.changes.importance import Importance
 from aide_compare.changes.weighing import Weighed
 from aide_compare.lines.change import Counts, Standing
@@ -125,4 +125,6 @@ class Table(Rows):
         for standing, level, size in self.ask(question):
             numbers[standing] += size
             numbers[f"{standing}_{SEVERITIES[level]}"] = size
-        return Counts(**numbers)
+        kinds = Counter(kind for (kind,) in self.ask("select distinct kind from changes"))
+        status = status_of_counts((kinds["added"], kinds["removed"], kinds["changed"]))
+        return Counts(**numbers, told_status=status)

@@ -33,8 +33,8 @@ BASE16 = "report_base16=yes"
 # What a terminal has beside what people read first: two lines for the databases, notes, and the
 # command for the report.
 LINES_BESIDE = 6
-# What standard output gets: what people read first, the changes of some paths, the report of AIDE,
-# or nothing.
+# What standard output gets, unless -q says otherwise: what people read first, the changes of some
+# paths, the report of AIDE, or nothing.
 BRIEF = "brief"
 ONLY = "only"
 REPORT = "report"
@@ -42,11 +42,11 @@ NOTHING = ""
 
 
 def form_of(request: CompareRequest) -> str:
-    """What standard output gets: nothing with -q, or if it is the place of an output."""
+    """What standard output gets: nothing if it is the place of an output."""
     others = [descriptor_of(path) for path in request.outputs.values()].count(STDOUT)
     if others > 1 or (others and (request.wants_report or request.only)):
         raise Fault(Status.USAGE, "only one output can be standard output")
-    if others or request.is_quiet:
+    if others:
         return NOTHING
     if request.only:
         return ONLY
@@ -72,6 +72,7 @@ class Printer:
     def __init__(self, request: CompareRequest, arguments: Sequence[str]) -> None:
         self.request = request
         self.form = form_of(request)
+        self.is_printed = self.form != NOTHING and not request.is_quiet
         self.arguments = arguments
 
     @property
@@ -84,11 +85,17 @@ class Printer:
     def task(self) -> Task:
         """The comparison that prints so."""
         before = [Row(Notes(), self._notes)]
-        if self.form != NOTHING:
+        if self.is_printed:
             before.append(Row(StreamOutput(STDOUT, "cannot write the report"), self._printed))
         after = [Row(Notes(), self._failure, of_failure=True)]
-        judges = self.form in (BRIEF, ONLY) or self.request.outputs or self.request.state
+        judges = self.form != REPORT or self.request.outputs or self.request.state
         return Task(self.task_request, before, after, bool(judges))
+
+    def status_of(self, comparison: Comparison) -> int:
+        """The status of the command. A report has AIDE's."""
+        if self.form == REPORT:
+            return comparison.status
+        return comparison.told_status
 
     def _printed(self, comparison: Comparison, judged: Optional[Judged]) -> Iterable[bytes]:
         """What was asked for. If the changes are not known, that is the report."""
@@ -107,7 +114,7 @@ class Printer:
     def _notes(self, comparison: Comparison, judged: Optional[Judged]) -> Iterable[bytes]:
         """What is not in a report: it names only the descriptors of the databases."""
         text = told_of(comparison, self.request.is_quiet, self.request.is_verbose)
-        if self.form != NOTHING and comparison.differs:
+        if self.is_printed and comparison.differs:
             for side, copy in comparison.copies.items():
                 line = f"{words_of_side(side)} database: {shown(copy.name)}, "
                 if copy.written is not None:
@@ -150,8 +157,9 @@ def main(arguments: Sequence[str]) -> int:
     if own_request.user:
         give_up(own_request.user)
     try:
-        task = Printer(with_defaults(given, arguments), arguments).task()
+        printer = Printer(with_defaults(given, arguments), arguments)
+        task = printer.task()
     except Fault as fault:
         keep_failure(own_request.state, fault)
         raise
-    return task.carry_out().status
+    return printer.status_of(task.carry_out())

@@ -55,8 +55,8 @@ Times are as in 90s, 15m, 26h or 3d; a plain number is seconds. Sizes are in byt
 500k, 20M or 1G. Root becomes the user in whose directories the baseline and the outputs are, unless
 --user names another one.
 
-Status: that of aide-compare-program(8). 0 no difference, 1 to 7 differences, above 7 no
-comparison."""
+Status: 0 nothing to read; 1 added, 2 removed, 4 changed, and sums of these, by the changes that are
+not silent; above 7 no comparison. With --report that of aide-compare-program(8), by all changes."""
 
 
 class CompareRequest(Asked):

@@ -159,7 +159,7 @@ class Silent(NamedTuple):
 def accept_silent(request: HostAcceptRequest, silent: Silent, host: str) -> HostResult:
     """Accepts what was silent in the last comparison of a host, and nothing else."""
     if host == silent.canary:
-        return HostResult(host, 0, False, f"{NOTHING}the canary is accepted by its digest")
+        return HostResult(host, 0, f"{NOTHING}the canary is accepted by its digest")
     directory = HostDirectory(request.store, host, request.seconds)
     if not os.path.lexists(directory.state_path):
         raise directory.fault("was never compared")
@@ -170,7 +170,7 @@ def accept_silent(request: HostAcceptRequest, silent: Silent, host: str) -> Host
     if counts is None and state.status:
         raise directory.fault("nobody has judged its changes")
     if counts is None or not counts.silent:
-        return HostResult(host, 0, False, f"{NOTHING}no change is silent")
+        return HostResult(host, 0, f"{NOTHING}no change is silent")
     accept_database(
         AcceptRequest(
             new=directory.file(NEW),
@@ -187,7 +187,7 @@ def accept_silent(request: HostAcceptRequest, silent: Silent, host: str) -> Host
     text = f"{counted(counts.silent, 'silent change')} accepted"
     if counts.told:
         text += f", {counts.told} stay open"
-    return HostResult(host, 0, False, text)
+    return HostResult(host, 0, text)
 
 
 def silent_in(request: HostAcceptRequest) -> Silent:

@@ -27,7 +27,7 @@ from aide_compare.base.options import (
 )
 from aide_compare.base.parser import defaults_for, read
 from aide_compare.commands.defaults import exclusions_of
-from aide_compare.compare.state import State, is_alarm
+from aide_compare.compare.state import State
 from aide_compare.hosts.canary import Run, failed_note, keep_run, trusted_pair, used_note
 from aide_compare.hosts.fetching import fetch
 from aide_compare.hosts.fleet import Fleet
@@ -46,9 +46,9 @@ SAME_FOR = 50 * 3600
 DESCRIPTION = """\
 Fetches and compares the databases of the hosts of HOSTS-FILE, one name a line. Prints a line for
 each host as it ends: its name, its status and the counts. Then a summary."""
-EPILOG = """Exit status, the highest of all hosts: 0 no difference, 1 to 7 differences, above 7
-some host was not compared. 15 if arguments or a host's name are wrong; 18 if the command itself
-fails."""
+EPILOG = """Exit status, the highest of all hosts: 0 nothing to read, 1 to 7 changes that are not
+silent, above 7 some host was not compared. 15 if arguments or a host's name are wrong; 18 if the
+command itself fails."""
 
 
 class HostsCompareRequest(Asked):
@@ -121,10 +121,10 @@ def compare_host(settings: Settings, host: str) -> HostResult:
         fetch(directory, settings.jobs)
     state = compare(directory, settings)
     if state.status == 0:
-        return HostResult(host, 0, False, "no differences")
+        return HostResult(host, 0, "no differences")
     if state.status > 7:
-        return HostResult(host, state.status, True, without_name(host, state.error))
-    return HostResult(host, state.status, is_alarm(state), counts_text(state))
+        return HostResult(host, state.status, without_name(host, state.error))
+    return HostResult(host, state.told_status, counts_text(state), has_changes=True)
 
 
 def note_death(store: str, host: str, text: str) -> None:
@@ -166,10 +166,10 @@ def results_beside(canary: str, hosts: Sequence[str], settings: Settings) -> Ite
 
 def counts_of(found: Sequence[HostResult]) -> HostCounts:
     """How many hosts there are of each kind."""
-    unchanged = sum(result.status == 0 for result in found)
     not_compared = sum(result.status > 7 for result in found)
     differ = sum(result.is_alarm for result in found) - not_compared
-    silent = len(found) - unchanged - not_compared - differ
+    silent = sum(result.has_changes and not result.is_alarm for result in found)
+    unchanged = len(found) - not_compared - differ - silent
     return HostCounts(len(found), unchanged, differ, silent, not_compared)
 
 

@@ -29,7 +29,7 @@ class ListRequest(Asked):
 def line_of(host: Host) -> str:
     if host.status > 7:
         text = host.error
-    elif not host.status:
+    elif not any(host.counts or ()):
         text = "no differences"
     else:
         opened = "?" if host.open is None else str(host.open)

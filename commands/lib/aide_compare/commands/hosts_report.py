@@ -51,8 +51,8 @@ COLUMNS = 78
 DESCRIPTION = """\
 Reports what differs on the hosts of HOSTS-FILE, as aide-compare hosts compare found it:
 which hosts were not compared, and each change once with the hosts that have it."""
-EPILOG = """Exit status, the highest of all hosts: 0 no difference, 1 to 7 differences, above 7
-some host was not compared. 15, 18 or 22 if the command itself fails."""
+EPILOG = """Exit status, the highest of all hosts: 0 nothing to read, 1 to 7 changes that are not
+silent, above 7 some host was not compared. 15, 18 or 22 if the command itself fails."""
 
 
 class ReportRequest(Asked):
@@ -130,7 +130,7 @@ class HostsReport:
         self.is_alarm = has_alarm or notes.are_alarms
         counts = HostCounts(
             hosts=len(names),
-            unchanged=sum(host.status == 0 for host in self.hosts),
+            unchanged=sum(host.status == 0 and not host.is_silent for host in self.hosts),
             differ=sum(host.differs for host in self.hosts),
             silent=sum(host.is_silent for host in self.hosts),
             not_compared=sum(host.status > 7 for host in self.hosts),

@@ -173,7 +173,7 @@ def compare_and_mail(request: MailRequest) -> int:
         outcome.keep(state._replace(told_columns=names))
     if request.sent_is_success:
         return Status.OK
-    return state.status
+    return state.told_status
 
 
 class FailedUnit(NamedTuple):

@@ -12,7 +12,7 @@ from aide_compare.changes.judged import Judged
 from aide_compare.commands.mail_request import NAME, MailRequest
 from aide_compare.compare.comparison import Comparison
 from aide_compare.compare.hints import hint_for_owner
-from aide_compare.compare.state import State, is_alarm
+from aide_compare.compare.state import State
 from aide_compare.lines.change import Change
 from aide_compare.lines.reader import Reader, Refused, reader_over
 from aide_compare.mail.message import build, clean, subject_of
@@ -40,7 +40,7 @@ def message_of(
     if comparison.status == Status.USAGE:  # Who has typed it sees it at once.
         write_all(2, told_of(comparison).encode("utf-8", "backslashreplace"))
     columns = unknown_columns(told, state)
-    if not (is_alarm(state) or columns or comparison.warnings):
+    if not (state.told_status or columns or comparison.warnings):
         return
     notes = notes_of(request, comparison)
     page = None

@@ -53,7 +53,8 @@ FORMATS = ("text", "json", "prometheus", "nagios")
 PREFIX = "aide_compare_"
 # What Prometheus is told of each standing and of the entries.
 ENTRIES = {
-    "status": "Sum of 1 added, 2 removed and 4 changed; above 7 nothing was compared.",
+    "status": "Sum of 1 added, 2 removed and 4 changed, of what is not silent; above 7 nothing was"
+    " compared.",
     "added_entries": "Entries that are only in the new database.",
     "removed_entries": "Entries that are only in the old database.",
     "changed_entries": "Entries that both databases have and that differ.",
@@ -186,7 +187,7 @@ def metric_lines(name: str, help: str, value: int | None) -> str:
 
 def metrics_of(state: State) -> str:
     """The text that the node exporter reads."""
-    values = (state.status, state.added, state.removed, state.changed, state.time)
+    values = (state.told_status, state.added, state.removed, state.changed, state.time)
     counts = known_counts(state.standings)
     rows = [(name, text, value) for (name, text), value in zip(ENTRIES.items(), values)]
     rows += [(f"{word}_changes", text, counts.get(word)) for word, text in CHANGES.items()]

@@ -58,6 +58,14 @@ class State(NamedTuple):
         return self.added, self.removed, self.changed
 
     @property
+    def told_status(self) -> int:
+        """The status of what is not silent, which raises an alarm. Without standings, which nobody
+        could find out, each change does."""
+        if self.status > 7 or self.standings is None:
+            return self.status
+        return self.standings.told_status
+
+    @property
     def age(self) -> int | None:
         """How many seconds ago the run ended; None if it ended after now, so that one of the clocks
         is wrong."""
@@ -92,15 +100,6 @@ class State(NamedTuple):
         if self.standings and not self.standings.fits(sum(self.counts)):
             return "counts of standings that are not those of the changes"
         return ""
-
-
-def is_alarm(state: State) -> bool:
-    """Whether a run raises an alarm. Without standings, which nobody could find out, each change
-    does."""
-    standings = state.standings
-    if state.status > 7 or standings is None:
-        return state.status != 0
-    return standings.told > 0
 
 
 def not_compared(names: list[str]) -> str:

@@ -74,7 +74,7 @@ def rules_of(exclusions: Optional[Exclusions], configuration: Optional[str]) -> 
 def refuse_cut(directory: HostDirectory, state: State) -> bool:
     """A Fault if not all changes of the canary are kept: what is missing there would be told
     nowhere. Returns whether there are any."""
-    host = host_of(directory.host, state.status, state.error, state)
+    host = host_of(directory.host, state.told_status, state.error, state)
     if not host.differs:
         return False
     kept = KeptChanges(directory, host)

@@ -66,7 +66,7 @@ def host_in(directory: HostDirectory, max_age: int) -> Host:
     if max_age and state.age > max_age:
         text = f"was compared {age_in_words(state.age)} ago and not since"
         return host_of(directory.host, Status.DEVICE, text, state)
-    return host_of(directory.host, state.status, state.error, state)
+    return host_of(directory.host, state.told_status, state.error, state)
 
 
 class KeptChanges:

@@ -63,7 +63,7 @@ class Host(NamedTuple):
     """What the store knows of a host."""
 
     name: str  # As it may be shown.
-    status: int
+    status: int  # That of what is not silent.
     date: str = ""  # When it was compared; "" if it never was.
     error: str = ""  # Why it was not compared; "" if it was.
     counts: tuple[int, int, int] | None = None  # By KINDS; None if they are not known.
@@ -76,12 +76,12 @@ class Host(NamedTuple):
     @property
     def is_silent(self) -> bool:
         """Whether it differs, but only by changes that nobody has to read."""
-        return 1 <= self.status <= 7 and self.open == 0
+        return self.status == 0 and any(self.counts or ())
 
     @property
     def differs(self) -> bool:
         """Whether it has changes that somebody has to read."""
-        return 1 <= self.status <= 7 and self.open != 0
+        return 1 <= self.status <= 7
 
     def fields(self) -> Fields:
         """Its object."""

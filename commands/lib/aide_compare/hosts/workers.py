@@ -27,9 +27,14 @@ class HostResult(NamedTuple):
     """How the work on a host ended, and what its line says."""
 
     host: str
-    status: int
-    is_alarm: bool  # Somebody has to read the line.
+    status: int  # Of a comparison that of what is not silent.
     text: str
+    has_changes: bool = False  # Silent ones too.
+
+    @property
+    def is_alarm(self) -> bool:
+        """Whether somebody has to read the line."""
+        return self.status != 0
 
     def line(self, color: str) -> str:
         name = shown(self.host, 200).replace(" ", "\\040")
@@ -75,9 +80,9 @@ class Worker:
         except (Fault, OSError, MemoryError) as error:
             fault = fault_of(error)
             text = without_name(self.host, fault.text)
-            result = HostResult(self.host, int(fault.status), True, text)
+            result = HostResult(self.host, int(fault.status), text)
         text = guarded(result.text)[:MAX_TEXT]
-        answer = json.dumps([result.status, result.is_alarm, text])
+        answer = json.dumps([result.status, text, result.has_changes])
         write_all(descriptor, answer.encode())
         return 0
 
@@ -90,7 +95,7 @@ class Worker:
             return HostResult(self.host, *json.loads(answer))
         text = f"ended without an answer ({ended})"
         self.work.note_death(self.host, text)
-        return HostResult(self.host, int(Status.DEVICE), True, text)
+        return HostResult(self.host, int(Status.DEVICE), text)
 
 
 def results(hosts: Sequence[str], work: Work) -> Iterator[HostResult]:

@@ -160,6 +160,7 @@ class Counts(NamedTuple):
     recorded_high: int = 0
     recorded_medium: int = 0
     recorded_low: int = 0
+    told_status: int = 0  # The sum of 1 added, 2 removed and 4 changed, of those that are told.
 
     @property
     def silent(self) -> int:
@@ -191,7 +192,8 @@ class Counts(NamedTuple):
             by_severity = sum(self.of(standing, severity) for severity in SEVERITIES)
             if by_severity != self.of(standing):
                 return False
-        return min(self) >= 0 and self.total == changes
+        has_status = bool(self.told_status) == bool(self.told) and self.told_status <= 7
+        return has_status and min(self) >= 0 and self.total == changes
 
     def words(self) -> str:
         """As in "3 open (1 high), 41 recorded of 512 changes"."""
