@@ -2,7 +2,6 @@
 canary. If it fails, the others are compared all the same."""
 from __future__ import annotations
 
-import contextlib
 import os
 import stat
 import time
@@ -10,13 +9,11 @@ from typing import Any, Dict, List
 
 from tests.commands.base.calls import ModuleTest
 from tests.commands.made_up import Night, time_of
-from tests.commands.sandbox import CommandTest, sha256
+from tests.commands.sandbox import CommandTest
 from tests.commands.test_hosts_report import Hosts
 from tests.commands.viewers.pages import data_in
 
-from aide_compare.compare import exclusions
 from aide_compare.hosts import canary
-from aide_compare.hosts.store import HostDirectory
 
 ONE, TWO, EVIL = b"one", b"two, of the upgraded package", b"EVIL"
 NOTE = "canary www1: what changed there in the same way is silent on the other hosts"
@@ -187,6 +184,24 @@ class CanaryTest(CommandTest):
         got = "www2 5 added 1, removed 0, changed 5: 3 open (3 high) of 6 changes"
         self.assertIn(got, lines)
 
+    def test_left_out_there(self) -> None:
+        """What the list leaves out on the canary is told of a host on which it gives a right."""
+        self.write("etc/without", "/var/**\n")
+        hosts = self.fleet()
+        for number, (host, mode) in enumerate((("www1", 0o100644), ("www2", 0o104644)), 1):
+            texts = []
+            for is_new in (True, False):
+                night = Night()
+                content = TWO if is_new else ONE
+                night.file(b"/var/x", content, mode if is_new else 0o100644, inode=number)
+                texts.append(night.database())
+            hosts.put(host, *texts)
+        lines = self.compared(hosts, "--canary", "www1")
+        silent = "1 change, all silent; left out: 1 of 1 change"
+        self.assertEqual(lines[0], f"www1 0 added 0, removed 0, changed 1: {silent}")
+        told = "www2 4 added 0, removed 0, changed 1: 1 open (1 high) of 1 change"
+        self.assertIn(told, lines)
+
     def test_jobs(self) -> None:
         """Jobs of any number give the same."""
         found = []
@@ -218,24 +233,3 @@ class NotesTest(ModuleTest):
         for _ in range(2):
             canary.keep_run(store, None)
         self.assertEqual(os.listdir(store), [])
-
-    def test_left_out(self) -> None:
-        """The trusted pair is what the canary was compared by: what was left out of it, nobody has
-        read. Its digests are those of the whole databases."""
-        texts = {name: database(name == "aide.db.new", 1) for name in ("aide.db", "aide.db.new")}
-        for name, text in texts.items():
-            self.write(f"store/hosts/www/{name}", text, 0o600)
-        line = exclusions.exclusion(b"/usr", "a list")
-        directory = HostDirectory(self.path("store"), "www", 9)
-        old, new = map(sha256, texts.values())
-        pair = canary.Pair(old, new, "")
-        with contextlib.closing(directory):
-            copies = canary.copies_of(
-                directory, canary.COMPARED, pair, exclusions.Exclusions([line], {})
-            )
-        for copy, text in zip(copies.values(), texts.values()):
-            self.assertEqual(copy.sha256, sha256(text))
-            kept = os.pread(copy.fd, copy.size, 0)
-            self.assertIn(b"\n/usr/bin 0 ", kept)
-            self.assertNotIn(b"\n/usr 0 ", kept)
-            os.close(copy.fd)

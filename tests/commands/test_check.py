@@ -10,7 +10,7 @@ from .states import NOTHING, StateTest
 
 CHECK = "check_aide_compare"
 WORDS = ("OK", "WARNING", "CRITICAL", "UNKNOWN")
-NUMBERS = re.compile(r"([a-z]+=(\d+|U) )*(age=\d+s)?")
+NUMBERS = re.compile(r"([a-z_]+=(\d+|U) )*(age=\d+s)?")
 
 
 class CheckTest(StateTest):

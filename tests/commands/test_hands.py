@@ -14,7 +14,7 @@ from .sandbox import CommandTest, NOBODY, Texts
 
 TOOL, NAGIOS = "aide-compare", "check_aide_compare"
 LONG_HEAD = b"@@begin_db\n@@db_spec name attr perm uid gid size\n"
-COUNTED = ("added", "removed", "changed", "left_out_old", "left_out_new", *standings.COUNTS)
+COUNTED = ("added", "removed", "changed", "left_out", *standings.COUNTS)
 NIGHT = ("o.db", "n.db")
 # A program in place of the proved one, which notes whose rights it has.
 NOTES = 'case $1 in -E) echo "$(id -u) $$" >> %s;; esac\n%s\nexec %s "$@"'
@@ -83,22 +83,22 @@ class HandsTest(CommandTest):
         the same lines."""
         lines = "  --mail-time=9s \n--to a@b.example\n--weekly Mon\n--warning 99\n--max-age 5d\n"
         self.prepare(lines)
-        told: list[bytes] = [b"1 open (1 high), 1 recorded of 2 changes", b"by /srv/* ("]
+        told: list[bytes] = [b"1 open (1 high), 1 recorded of 6 changes", b"by /srv/* ("]
         self.answered(5, None, told, TOOL, "-v", "--state", "hand.state", *NIGHT)
         want = self.counts_in("hand.state")
-        self.assertEqual((want["open"], want["left_out_old"]), ("1", "4"))
+        self.assertEqual((want["open"], want["left_out"]), ("1", "3"))
         self.assertEqual(self.mails(5, "--state", "of.state", *NIGHT)["To"], "a@b.example")
         self.assertEqual(self.counts_in("of.state"), want)
         message = self.mails(5, *NIGHT)
         self.assertEqual(message["To"], "a@b.example", "a mail by hand needs no state")
         check = (NAGIOS, "--state", "hand.state")
-        told_by_check = b"AIDE CRITICAL: 1 open (1 high), 1 recorded of 2 changes"
+        told_by_check = b"AIDE CRITICAL: 1 open (1 high), 1 recorded of 6 changes"
         self.answered(2, told_by_check, b"", *check)
         self.write("etc/defaults", "--critical 99\n--warning 98\n")
         self.answered(0, b"AIDE OK: ", b"", *check)
         self.answered(2, None, b"", *check, "--no-defaults")
         answer = self.call(TOOL, "--no-defaults", *NIGHT)
-        self.assertNotIn(b"left out", answer.errors)
+        self.assertNotIn(b"left out", answer.output)
         self.write("own", "/usr/lib/*\n")
         answer = self.call(TOOL, "-v", "--exclude-from", "own", *NIGHT)
         self.assertIn(b"by /usr/lib/* (own, line 1)", answer.errors)

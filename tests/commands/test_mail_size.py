@@ -157,8 +157,8 @@ class SizesTest(MailTest):
         return done.returncode, 1 + counts.count("process"), counts.count("file")
 
     def test_weight(self) -> None:
-        """An alarm takes three processes and seven files without a name at the most, of any number
-        of changes, also as the unit of systemd asks for it."""
+        """An alarm takes two processes and five files without a name at the most, of any number of
+        changes, also as the unit of systemd asks for it."""
         for name, more in (("o.db", 0), ("n.db", 1)):
             lines = [b"/x/%05d 36 100644 %d\n" % (at, at + more) for at in range(6000)]
             self.write(name, HEAD + b"".join(lines) + END)
@@ -173,6 +173,6 @@ class SizesTest(MailTest):
             ("of a short report", short, (7, 2, 4)),
             ("by sendmail", ["old.db", "new.db"], (7, 3, 3)),
             ("a large one", [*unit, "o.db", "n.db"], (4, 2, 5)),
-            ("without some paths", [*unit, "o.db", "n.db", "--exclude", "/y"], (4, 2, 7)),
+            ("without some paths", [*unit, "o.db", "n.db", "--exclude", "/y"], (4, 2, 5)),
         ):
             self.assertEqual(self.weight_of(*words), wanted, "processes and files: " + label)

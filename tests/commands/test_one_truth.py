@@ -82,7 +82,7 @@ class OneTruthTest(CommandTest):
         """The counts of the state that the last command has written, which is taken away."""
         state = self.state("base/state")
         os.remove(self.path("base/state"))
-        return " ".join(state[name] for name in ("open", "recorded", "trusted", "same"))
+        return " ".join(state[name] for name in ("open", "recorded", "left_out", "trusted", "same"))
 
     def by_timer(self) -> None:
         words = [self.below(word) for word in started("systemd/aide-compare.service", "ExecStart")]
@@ -105,7 +105,7 @@ class OneTruthTest(CommandTest):
         self.make_pair()
         self.by_timer()
         counts = self.counts()
-        self.assertRegex(counts, r"\A4 0 11 0\Z", "what is not signed")
+        self.assertRegex(counts, r"\A4 0 1 11 0\Z", "what is not signed")
         for ask in (
             self.by_cron,
             lambda: self.call("aide-compare"),
@@ -117,13 +117,15 @@ class OneTruthTest(CommandTest):
             ask()
             self.assertEqual(self.counts(), counts)
         words = self.call("aide-compare").output.split(b"\n")[0]
-        self.assertRegex(words, rb"\A4 open of 15 changes\Z")
+        self.assertRegex(words, rb"\A4 open of 16 changes\Z")
         self.answered(0, words, b"", "aide-compare status")
         self.answered(1, b"AIDE WARNING: " + words, b"", "check_aide_compare")
         for pair in ((), PAIR):
             lines = self.call("aide-compare json", *pair).output.splitlines()
             end = json.loads(lines[-1])["standings"]
-            found = " ".join(str(end[name]) for name in ("open", "recorded", "trusted", "same"))
+            found = " ".join(
+                str(end[name]) for name in ("open", "recorded", "left_out", "trusted", "same")
+            )
             self.assertEqual(found, counts)
             page = data_in(self.call("aide-compare page", *pair).output)
             self.assertLessEqual(
@@ -133,7 +135,7 @@ class OneTruthTest(CommandTest):
         self.assertIn(b"trusted changed ", shown.output)
         new = sha256(self.place.new.database())
         done = self.call("aide-compare accept", "--sha256", new, "--trusted-only")
-        self.assertIn(b"11 of 15 changes silent", done.errors)
+        self.assertIn(b"12 of 16 changes silent", done.errors)
 
     def test_without_archive(self) -> None:
         """If nothing can be made of the archive, all is told. The job of cron has the same words."""
@@ -148,7 +150,7 @@ class OneTruthTest(CommandTest):
         shutil.rmtree(self.path("lists"))
         self.refused(18, None, "aide-compare", *map(self.below, ("archive", *words)))
         self.by_timer()
-        self.assertEqual(self.counts(), "15 0 0 0")
+        self.assertEqual(self.counts(), "15 0 1 0 0")
 
     def test_command_of_mail(self) -> None:
         """The commands that the mail names show the same."""

@@ -126,7 +126,7 @@ class PersistenceTest(mail.MailTest):
             for path, severity, form in marked:
                 with self.subTest(path=path, form=form):
                     if severity == LEFT:
-                        self.assertNotIn(path, found)
+                        self.assertEqual(found[path], "left out")
                     else:
                         self.assertEqual(found.get(path), f"open {severity}")
 

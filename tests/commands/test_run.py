@@ -13,7 +13,7 @@ from .sandbox import COUNTS, DIFFER, END, HEAD, NEW, OLD, UMASK, Answer, Command
 
 KINDS = ["added", "removed", "changed"]
 NAMES = "old_sha256 new_sha256 old new old_written new_written error".split()
-MORE = "left_out_old left_out_new trusted_old trusted_old_sha256 trusted_new trusted_new_sha256"
+MORE = "trusted_old trusted_old_sha256 trusted_new trusted_new_sha256"
 COLUMNS = ["skipped_old", "skipped_new", "told_columns"]
 KEYS = ["format", "date", "status", "time", *KINDS, *NAMES, *MORE.split(), *COLUMNS]
 ALL_KEYS = KEYS + list(standings.COUNTS)  # With the counts of the standings.

@@ -28,7 +28,7 @@ class ShowTest(CommandTest):
                 self.assertTrue(answer.output.decode().startswith(lines), answer)
         self.answered(0, b"no differences", None, TOOL, "/d", "new.db", "new.db.gz")
         self.write("etc/without", "/d\n")
-        self.answered(7, b"no change at these paths", None, TOOL, "/d", "old.db", "new.db")
+        self.answered(7, b"left out changed File: /d", None, TOOL, "/d", "old.db", "new.db")
 
     def test_only(self) -> None:
         """All changes of a pattern, by the option of a comparison."""

@@ -54,6 +54,7 @@ COUNTS = {
     "recorded_high": "0",
     "recorded_medium": "1",
     "recorded_low": "0",
+    "left_out": "0",
     "told_status": "7",
 }
 

@@ -38,13 +38,10 @@ class TerminalTest(CommandTest):
         self.assertIn(more, text, "how to get the whole")
         self.assertNotIn(b"Added entries:", text)
         same = ("o.db", self.write("same.db", self.read("o.db")))
-        for words, line in (
-            (same, b"no differences in 7 entries\n"),
-            (("--exclude=/srv/*", *same), b"no differences in 3 entries (4 left out)\n"),
-        ):
-            told = b"aide-compare: both databases are equal, byte for byte"
-            status, text = self.on_terminal("--color", "never", *words)
-            self.assertEqual((status, text.startswith(told), text.endswith(line)), (0, True, True))
+        line = b"no differences in 7 entries\n"
+        told = b"aide-compare: both databases are equal, byte for byte"
+        status, text = self.on_terminal("--color", "never", *same)
+        self.assertEqual((status, text.startswith(told), text.endswith(line)), (0, True, True))
         self.assertEqual(self.on_terminal("-q", *PAIR), (7, b""))
         self.assertEqual(self.on_terminal("--color", "always", *PAIR, output=False)[0], 7)
         self.assertIn(b"Open:", self.read("out"), "a file gets the same")

@@ -163,12 +163,13 @@ class OccasionTest(CommandTest):
         self.assertEqual((entry["path"], modes), ("/a", ["-rw-r--r--", "drwxrwxrwt"]))
 
     def test_left_out(self) -> None:
-        """Entries that are left out are counted in the first line only."""
-        objects = objects_of(self.call("aide-compare json", "--exclude", "/**", OLD, NEW))
-        counts = objects[0]["left_out"]
-        self.assertEqual(set(counts), {"old", "new"})
-        self.assertGreater(min(counts.values()), 0)
-        self.assertFalse([fields for fields in objects[1:] if "left_out" in fields])
+        """What is left out says by which line of the list, and is counted in the last line."""
+        words = ["--exclude", "/nothing", "--exclude", "/**"]
+        _, *changes, end = objects_of(self.call("aide-compare json", *words, OLD, NEW))
+        left_out = [fields for fields in changes if fields["standing"] == "left out"]
+        self.assertGreater(len(left_out), 0)
+        self.assertEqual({fields["left_out"] for fields in left_out}, {2})
+        self.assertEqual((end["left_out"], end["standings"]["left_out"]), (len(left_out),) * 2)
 
     def test_schema(self) -> None:
         """Good lines fit the schema, and lines with one fault each do not."""
@@ -177,10 +178,11 @@ class OccasionTest(CommandTest):
         summary, end = objects[0], objects[-1]
         entry = next(each for each in objects if each.get("kind") == "changed")
         recorded = changed(entry, standing="recorded", severity="high", package="openssl 3.0.15")
-        for fields in [*objects, recorded, changed(summary, left_out={"old": 1})]:
+        for fields in [*objects, recorded]:
             self.assertEqual(validator.faults(fields), [])
         read: Fields = {"sha256": "00" * 32, "skipped": []}
-        pair: Fields = {"trusted_old": read, "trusted_new": read, "same_as_trusted": 0}
+        listed: Fields = {"left_out": 0, "list": {"sha256": "00" * 32}}
+        pair: Fields = {"trusted_old": read, "trusted_new": read, "same_as_trusted": 0, **listed}
         sides = {kind: {side: entry[side]} for kind, side in (("removed", "old"), ("added", "new"))}
         lone = changed(entry, old=..., new=..., old_text=..., new_text=...)
         good: list[object] = [
@@ -192,8 +194,10 @@ class OccasionTest(CommandTest):
             changed(entry, same_as="old", standing="same", severity=...),
             changed(entry, same_as="trusted", standing="trusted", severity=...),
             changed(entry, same_as="trusted", standing="open"),
+            changed(entry, left_out=7, standing="left out", severity=...),
             changed(entry, standing=..., severity=...),
             changed(end, **pair),
+            changed(end, **listed),
             changed(end, new={**read, "skipped": [1, 64]}),
             changed(end, skipped={"new": ["fstype"]}),
         ]
@@ -214,7 +218,7 @@ class OccasionTest(CommandTest):
             changed(summary, trusted_old="/a", trusted_new="/b", trusted_new_hex="2f"),
             changed(summary, trusted_old="/a", trusted_old_hex="2f", trusted_new="/b"),
             changed(summary, skipped={"old": ["fstype"]}),
-            changed(summary, left_out={"old": -1}),
+            changed(summary, left_out={"old": 1}),
             changed(entry, **summary),
             changed(entry, **end),
             changed(entry, old=..., old_text=...),
@@ -233,7 +237,12 @@ class OccasionTest(CommandTest):
             changed(entry, same_as="old", standing="trusted", severity=...),
             changed(entry, standing="recorded"),
             changed(entry, package="openssl 3.0.15"),
-            changed(entry, left_out={"old": 1}),
+            changed(entry, left_out={"old": 1}, standing="left out", severity=...),
+            changed(entry, left_out=0, standing="left out", severity=...),
+            changed(entry, left_out=1),
+            changed(entry, left_out=1, standing="left out"),
+            changed(entry, left_out=1, same_as="old", standing="same", severity=...),
+            changed(entry, standing="left out", severity=...),
             changed(end, old=...),
             changed(end, new=...),
             changed(end, old="/a"),
@@ -248,6 +257,9 @@ class OccasionTest(CommandTest):
             changed(end, **{**pair, "trusted_new": ...}),
             changed(end, **{**pair, "same_as_trusted": ...}),
             changed(end, same_as_trusted=0),
+            changed(end, left_out=0),
+            changed(end, list={"sha256": "00" * 32}),
+            changed(end, left_out=0, list={"sha256": "00"}),
             changed(end, skipped=["fstype"]),
             changed(entry, kind="other"),
             changed(entry, path="a"),

@@ -1,17 +1,19 @@
-"""Entries that are left out by --exclude-from: which of them stay, what is said, and who may write
-the file."""
+"""What --exclude-from and --exclude leave out: what is told all the same, what is said, the status,
+and who may write the file."""
 from __future__ import annotations
 
 import base64
 import hashlib
+import json
 import os
-import re
 
 from tests.lib.scratch import read
 
+from . import mail
+from . import test_standings as standings
 from .sandbox import Answer, CommandTest, END, HEAD, NOBODY, sha256
 
-TOOL = "aide-compare compare --report -v"
+JSON = "aide-compare json"
 LOGS = b"# Logs\n\n  /var/log/**  \n/etc/*.bak\n"
 
 
@@ -24,8 +26,8 @@ LOG, SPACE, GONE = b"/var/log", b"/var/log/x%20y", b"/var/log/z"
 OLD = files({b"/etc/a": 1, LOG: 1, SPACE: 1, GONE: 1})
 NEW = files({b"/etc/a": 2, b"/etc/a.bak": 1, LOG: 1, SPACE: 2})
 
-# What an entry gives: its mode, owner and capabilities, and whether it stays under a line, and under
-# one that means programs too.
+# What an entry gives: its mode, owner and capabilities, and whether it is told under a line, and
+# under one that means programs too.
 RIGHTS = [
     ("a file", b"100644", 0, b"0", False, False),
     ("a file that all can write", b"100666", 0, b"0", False, False),
@@ -64,6 +66,8 @@ RIGHTS = [
     ("no mode", b"0", 0, b"0", True, True),
     ("a mode without a type", b"644", 0, b"0", True, True),
 ]
+
+MEASURED = b"@@begin_db\n@@db_spec name attr perm uid size capabilities\n"
 
 # What the shipped list leaves out: logs, locks of Postfix, and what programs note below /run.
 HIDDEN = """
@@ -121,63 +125,115 @@ class WithoutTest(CommandTest):
         for name, text in (("o.db", OLD), ("n.db", NEW), ("empty.db", HEAD + END)):
             self.write(name, text)
 
-    def compare(self, *words: str) -> Answer:
-        """What is said of the two databases."""
-        return self.call(TOOL, *words, "o.db", "n.db")
+    def standings(self, answer: Answer) -> dict[bytes, str]:
+        """The standing of each change in lines of JSON."""
+        found = {}
+        for line in answer.output.splitlines()[1:-1]:
+            fields = json.loads(line)
+            found[fields["path"].encode()] = fields["standing"]
+        return found
+
+    def open_in(self, answer: Answer) -> list[bytes]:
+        """The paths of the changes that are open. All others are left out."""
+        standings = self.standings(answer)
+        self.assertLessEqual(set(standings.values()), {"open", "left out"}, answer)
+        return [path for path, standing in standings.items() if standing == "open"]
 
     def seen(self, text: bytes, *words: str) -> list[bytes]:
-        """The paths of a database that are added although these words leave out some."""
+        """The paths of a database that are told as added although these words leave out some."""
         self.write("full.db", text)
-        output = self.call(TOOL, *words, "empty.db", "full.db").output
-        return re.findall(rb"(?m)^\S.{17}: (/.*)$", output)
+        return self.open_in(self.call(JSON, *words, "empty.db", "full.db"))
+
+    def seen_between(self, old: bytes, new: bytes, *words: str) -> list[bytes]:
+        """The changes between two entries that are told."""
+        for name, entry in (("from.db", old), ("to.db", new)):
+            self.write(name, MEASURED + entry + END)
+        return self.open_in(self.call(JSON, *words, "from.db", "to.db"))
 
     def test_left_out(self) -> None:
         self.write("logs", LOGS)
-        answer = self.compare("--state", "state", "--exclude-from", "logs")
-        wanted = [
-            b"left out of the old database: 2 entries",
-            b"2 by /var/log/** (logs, line 3)",
-            b"left out of the new database: 2 entries",
-            b"1 by /etc/*.bak (logs, line 4)",
+        words = ["--exclude-from", "logs", "o.db", "n.db"]
+        answer = self.call("aide-compare", "-v", "--state", "state", *words)
+        said = [
+            b"left out by /var/log/** (logs, line 3): 2 changes\n",
+            b"left out by /etc/*.bak (logs, line 4): 1 change\n",
         ]
-        counts = [b"Added entries:           0", b"Changed entries:         1"]
-        self.expect("logs are left out", answer, 4, counts, wanted)
+        output = [b"1 open of 4 changes\n", b"\nSilent: left out: 3 of 4 changes\n"]
+        self.expect("logs are left out", answer, 4, output, said)
         state = self.state()
-        want = {"left_out_old": "2", "left_out_new": "2", "changed": "1"}
+        want = {"left_out": "3", "open": "1", "status": "7", "told_status": "4"}
+        want.update(added="1", removed="1", changed="2")
         want.update(old_sha256=sha256(OLD), new_sha256=sha256(NEW))
-        self.assertEqual({**state, **want}, state, "the digests are of the whole databases")
+        self.assertEqual({**state, **want}, state, "the counts are those of all changes")
+        answer = self.call("aide-compare", *words)
+        self.assertNotIn(b"left out", answer.errors, "without -v")
 
-    def test_single_lines(self) -> None:
-        for words, status, said in (
-            (["/var/log/x y", "/etc/**"], 2, b"1 by /var/log/x y (--exclude)"),
-            (["/etc/a"], 7, b"left out of the old database: 1 entry\n"),
-            (["/nothing"], 7, b"left out of the new database: 0 entries"),
-        ):
-            answer = self.compare(*("--exclude=" + word for word in words))
-            self.expect("without %s" % words, answer, status, None, said)
-        self.assertNotIn(b"left out", self.compare().errors, "without the option")
-
-    def test_notes(self) -> None:
-        """How many entries were left out is one line, before what was found; and after the cause, if
-        nothing was compared, it is not there at all."""
-        words = ["--exclude", "/var/log/**", "--exclude", "/srv/*"]
-        answer = self.call("aide-compare", *words, "o.db", "n.db")
-        notes = [line for line in answer.errors.split(b"\n") if b"left out" in line]
-        self.assertEqual(len(notes), 1, answer)
-        self.assertIn(b"left out; -v lists them", notes[0])
+    def test_said_once(self) -> None:
+        """Each output says once how many changes are left out."""
+        words = ["--exclude", "/var/log/**", "o.db", "n.db"]
+        said = b"left out: 2 of 4 changes"
+        self.assertEqual(self.call("aide-compare", *words).output.count(said), 1)
+        answer = self.call(JSON, "--state", "state", *words)
+        self.assertEqual(json.loads(answer.output.splitlines()[-1])["left_out"], 2)
+        answer = self.call("aide-compare", "--only", "/etc/a", *words)
+        self.assertEqual(answer.errors.count(said), 1, answer)
+        self.assertEqual(self.call("aide-compare status", "--state", "state").output.count(said), 1)
+        self.assertIn(said, self.call("check_aide_compare", "--state", "state").output)
+        mail.prepare(self)
+        mail.call(self, *words)
+        self.assertEqual(mail.body(mail.sent(self)).lower().count(said), 1)
+        page = self.call("aide-compare page", *words).output
+        self.assertIn(b"Left out: 2 of 4 changes.", page)
         self.write("same.db", self.read("o.db"))
-        answer = self.call("aide-compare", *words, "o.db", "same.db")
-        form = rb"\Ano differences in [0-9]+ entr(y|ies) \([0-9]+ left out\)\n\Z"
-        self.assertRegex(answer.output, form)
+        answer = self.call("aide-compare", "--exclude", "/var/log/**", "o.db", "same.db")
+        self.expect("nothing differs", answer, 0, b"no differences in 4 entries\n")
         self.assertNotIn(b"left out", answer.errors)
-        self.write("damaged.db", NEW.replace(b"@@end_db", b""))
-        errors = self.call("aide-compare", *words, "o.db", "damaged.db").errors
-        self.assertTrue(errors.startswith(b"aide: new database:"), errors)
-        self.assertNotIn(b"left out", errors)
+
+    def test_status(self) -> None:
+        """The status is that of what is not silent; a report has AIDE's, and says that it knows no
+        list."""
+        some = ["--exclude", "/var/log/**", "o.db", "n.db"]
+        added = ["--exclude", "/var/log/**", "--exclude", "/etc/a", "o.db", "n.db"]
+        every = ["--exclude", "/**", "o.db", "n.db"]
+        mail.prepare(self)
+        for tool in ("aide-compare", "aide-compare -q", JSON, "aide-compare page", mail.TOOL):
+            for words, status in ((some, 5), (added, 1), (every, 0)):
+                answer = self.call(tool, *words)
+                self.assertEqual(answer.status, status, (tool, words, answer))
+                if tool == mail.TOOL:
+                    self.assertEqual(mail.sent(self) is not None, bool(status), words)
+        answer = self.call("aide-compare", *every)
+        self.assertTrue(answer.output.startswith(b"4 changes, all silent\n"), answer)
+        for tool in ("aide-compare --report", "aide-compare --report --state state"):
+            answer = self.call(tool, *every)
+            counts = [b"Added entries:           1", b"Changed entries:         2"]
+            self.expect(tool, answer, 7, counts, b"the report knows no list")
+        gauges = [b"\naide_compare_status 0\n", b"\naide_compare_left_out_changes 4\n"]
+        metrics = "aide-compare status --format prometheus --state state"
+        self.expect("metrics", self.call(metrics), 0, gauges, b"")
+        self.assertEqual(self.call("aide-compare --report -q", *every).status, 7)
+        answer = self.call("aide-compare --report", "o.db", "n.db")
+        self.assertNotIn(b"knows no list", answer.errors)
+
+    def test_trusted_first(self) -> None:
+        """A line of the list is asked only of what no trusted pair accounts for."""
+        standings.prepare(self)
+        for name in ("o.db", "n.db"):
+            self.write("trusted-" + name, self.read(name))
+        trusted = ["--trusted", "trusted-o.db", "trusted-n.db"]
+        words = ["--exclude", "/**", *trusted, "o.db", "n.db"]
+        answer = self.call(JSON, *words)
+        self.assertEqual(set(self.standings(answer).values()), {"same", "trusted"}, answer)
+        self.assertEqual(answer.status, 0)
+
+    def test_no_pair(self) -> None:
+        """The empty pair beside which a list is asked is named nowhere."""
+        answer = self.call(JSON, "--exclude", "/nothing", "o.db", "n.db")
+        first, *_, last = answer.output.splitlines()
+        self.assertNotIn(b"trusted_", first + last)
 
     def test_damage(self) -> None:
-        """Damage in lines that would be left out is found all the same, and lines keep their
-        numbers."""
+        """Damage in lines that would be left out is found all the same."""
         short = NEW.replace(b"/var/log/x%20y 36 100644 2", b"/var/log/x%20y 36 100644")
         for text, said in (
             (short, b"new database:6: wrong number of fields"),
@@ -185,22 +241,8 @@ class WithoutTest(CommandTest):
             (NEW.replace(END, b""), b": no @@end_db"),
         ):
             self.write("damaged.db", text)
-            answer = self.call(TOOL, "--exclude", "/var/log/**", "o.db", "damaged.db")
+            answer = self.call(JSON, "--exclude", "/var/log/**", "o.db", "damaged.db")
             self.expect("%r" % said, answer, 24, b"", said)
-
-    def test_no_entries(self) -> None:
-        """Lines that are no entries: none is left out, and none stops the comparison."""
-        for line in (b"", b"   ", b"# no entry"):
-            self.write("n.db", NEW.replace(END, line + b"\n" + END))
-            want, answer = self.compare(), self.compare("--exclude", "/nowhere/**")
-            self.assertEqual((answer.output, answer.status), (want.output, want.status), line)
-            self.assertLess(want.status, 8, want)
-        late = HEAD + b"/a 36 100644 1\n" + END + b"/var/log/late 36 100644 1\n"
-        for name in ("late.db", "later.db"):
-            self.write(name, late)
-        answer = self.call(TOOL, "--exclude", "/var/log/**", "late.db", "later.db")
-        said = b"left out of the old database: 0 entries"
-        self.expect("after the end nothing is an entry", answer, 0, None, said)
 
     def test_names(self) -> None:
         """The column `name` is found wherever it is, names are decoded, and hostile patterns are
@@ -208,15 +250,14 @@ class WithoutTest(CommandTest):
         for name, size in (("o.db", 1), ("n.db", 2)):
             lines = b"36 /a%%2Fb %d 100644\n36 /c%%ZZ %d 100644\n" % (size, size)
             self.write(name, b"@@begin_db\n@@db_spec attr name size perm\n" + lines + END)
-        answer = self.compare("--exclude", "/a/*", "--exclude", "/c%ZZ\x1b")
-        said = b"1 by /a/* (--exclude)"
-        self.expect("decoded names", answer, 4, b"Changed entries:         1", said)
-        answer = self.compare("--exclude", "/[c]%ZZ", "--exclude", "x\x1b[0m")
-        self.expect("an escape is not obeyed", answer, 15, b"", b"x\\033[0m")
+        answer = self.call(JSON, "--exclude", "/a/*", "o.db", "n.db")
+        self.assertEqual(self.open_in(answer), [b"/c%ZZ"], "decoded names")
+        answer = self.call(JSON, "--exclude", "/[c]%ZZ", "--exclude", "x\x1b[0m", "o.db", "n.db")
+        self.expect("an escape is not obeyed", answer, 17, b"", b"x\\033[0m")
 
     def test_rights(self) -> None:
-        """What gives rights is never left out, and neither is what has no mode or comes from a
-        database without modes."""
+        """What gives rights is always told, and so is what has no mode or comes from a database
+        without modes."""
         head = b"@@begin_db\n@@db_spec name attr perm uid size capabilities\n"
         lines = [
             b"/a/%02d 44 %s %d 1 %s\n" % (number, *row[1:4]) for number, row in enumerate(RIGHTS)
@@ -224,17 +265,58 @@ class WithoutTest(CommandTest):
         text = head + b"".join(lines) + END
         self.write("marked", b"programs( a reason ) /a/**\n")
         for column, words in ((4, ["--exclude", "/a/**"]), (5, ["--exclude-from", "marked"])):
-            seen = self.seen(text, *words)
-            for number, row in enumerate(RIGHTS):
-                self.assertEqual(b"/a/%02d" % number in seen, row[column], (row[0], words))
-            answer = self.call(TOOL, *words, "empty.db", "full.db")
-            said = (
-                b"  %d more that lines name stay, each for one of these: a program, a set-ID bit, "
-            )
-            self.assertIn(said % sum(bool(row[column]) for row in RIGHTS), answer.errors)
-        self.assertIn(b"by /a/** (marked, line 1; programs too: a reason)", answer.errors)
+            self.write("full.db", text)
+            self.write("none.db", head + END)
+            for databases in (["none.db", "full.db"], ["full.db", "none.db"]):
+                seen = self.open_in(self.call(JSON, *words, *databases))
+                for number, row in enumerate(RIGHTS):
+                    is_told = bool(row[column])
+                    if databases[0] == "full.db" and row[0].startswith("a directory that"):
+                        is_told = False  # Nobody can write it any more.
+                    self.assertEqual(b"/a/%02d" % number in seen, is_told, (row[0], words))
         text = b"@@begin_db\n@@db_spec name size\n/a/x 1\n" + END
         self.assertEqual(self.seen(text, "--exclude", "/a/**"), [b"/a/x"], "no modes")
+
+    def test_attack(self) -> None:
+        """Each of these is told as open, whatever a line of the list says, with the severity that it
+        has."""
+        path = b"/srv/x"
+        plain = b" 44 100644 0 1 0\n"
+        self.write("list", b"/srv/**\n/srv/.x\n/etc/**\nprograms(why) /srv/ok\n")
+        rows = [
+            ("a set-ID file", path + plain, path + b" 44 104644 0 1 0\n"),
+            ("a set-group-ID file", path + plain, path + b" 44 102644 0 1 0\n"),
+            ("a new program", b"", path + b" 44 100755 0 1 0\n"),
+            ("a file that became a program", path + plain, path + b" 44 100755 0 1 0\n"),
+            ("what was a program", path + b" 44 100755 0 1 0\n", path + plain),
+            (
+                "a directory that was opened to others",
+                path + b" 44 40755 0 1 0\n",
+                path + b" 44 40777 0 1 0\n",
+            ),
+            (
+                "a directory of another owner",
+                path + b" 44 40755 0 1 0\n",
+                path + b" 44 40755 1000 1 0\n",
+            ),
+            ("a device", b"", path + b" 44 60600 0 1 0\n"),
+            ("a dotfile", b"", b"/srv/.profile" + plain),
+            ("a setting", b"", b"/etc/aide-compare/without" + plain),
+            ("a file with capabilities", path + plain, path + b" 44 100644 0 1 AAA=\n"),
+            ("what had a set-ID bit", path + b" 44 104644 0 1 0\n", path + plain),
+        ]
+        for what, old, new in rows:
+            with self.subTest(what):
+                changed = (new or old).split(b" ")[0]
+                seen = self.seen_between(old, new, "--exclude-from", "list")
+                self.assertEqual(seen, [changed])
+        for what, old, new in (
+            ("a file that changed", path + plain, path + b" 44 100644 0 2 0\n"),
+            ("a dotfile that a line spells", b"", b"/srv/.x" + plain),
+            ("a program that a line marks", b"", b"/srv/ok 44 100755 0 1 0\n"),
+        ):
+            with self.subTest(what):
+                self.assertEqual(self.seen_between(old, new, "--exclude-from", "list"), [])
 
     def test_capabilities(self) -> None:
         """AIDE takes the bit of capabilities out of the entry of each file that has none. So a line
@@ -282,26 +364,44 @@ class WithoutTest(CommandTest):
             (b"/a/*\nprograms(why) /a/x", 0),
             (b"programs(why)  /a/x\n/a/*", 0),
             (b"programs(why) /b\n/a/*", 1),
-            (b"programs() /a/x", 15),
-            (b"programs( ) /a/x", 15),
-            (b"programs /a/x", 15),
-            (b"programs(why)/a/x", 15),
-            (b"devices(why) /a/x", 15),
+            (b"programs() /a/x", 17),
+            (b"programs( ) /a/x", 17),
+            (b"programs /a/x", 17),
+            (b"programs(why)/a/x", 17),
+            (b"devices(why) /a/x", 17),
         ):
             self.write("marks", text)
-            answer = self.call(TOOL, "--exclude-from", "marks", "empty.db", "program.db")
+            answer = self.call(JSON, "--exclude-from", "marks", "empty.db", "program.db")
             self.expect("the lines %r" % text, answer, status)
 
     def test_refused(self) -> None:
+        """A fault names the file and the line, or the option."""
+        self.write("good", b"# a comment\n/a\n")
         self.write("bad", b"/a\n/b**\n")
+        self.write("latin", b"/a\n/\xe4\n")
+        self.write("nul", b"/a\n/b\0c\n")
+        self.write("large", b"# comment\n" * 13200)
+        self.write("many", b"/a\n" * 501)
+        double = b": ** is a component of its own: /b**\n"
         for words, status, said in (
             (["--exclude-from", "none"], 18, b"none"),
             (["--exclude-from", "bin"], 18, b"bin"),
             (["--exclude-from", ""], 15, b""),
-            (["--exclude", "var"], 15, b"var"),
-            (["--exclude-from", "bad"], 15, b"bad, line 2: "),
+            (["--exclude", "var"], 17, b"--exclude: a path begins with /: var"),
+            (["--exclude", "/a\n/**"], 15, b"--exclude has more than one line: /a\\012/**"),
+            (["--exclude-from", "bad"], 17, b"bad, line 2" + double),
+            (["--exclude-from", "good", "--exclude-from", "bad"], 17, b"bad, line 2" + double),
+            (["--exclude-from", "good", "--exclude", "/b**"], 17, b"--exclude" + double),
+            (["--exclude-from", "latin"], 17, b"latin, line 2: it is not in UTF-8"),
+            (["--exclude-from", "nul"], 17, b"nul, line 2: "),
+            (["--exclude-from", "large"], 17, b"have more than 131061 bytes"),
+            (["--exclude-from", "many"], 17, b"many, line 501: too many rules"),
         ):
-            self.expect("%s" % words, self.compare(*words), status, b"", [said])
+            answer = self.call(JSON, *words, "o.db", "n.db")
+            self.expect("%s" % words, answer, status, b"", [said])
+        self.write("almost", b"# comment\n" * 13100)
+        answer = self.call(JSON, "--exclude-from", "almost", "o.db", "n.db")
+        self.expect("a large list", answer, 7)
 
     def test_writable(self) -> None:
         """A list that other users can write is refused."""
@@ -318,11 +418,11 @@ class WithoutTest(CommandTest):
                 os.chown(path, owner, owner)
             elif owner or directory_mode == 0o777:
                 continue
-            answer = self.compare("--exclude-from", f"{name}/logs")
+            answer = self.call(JSON, "--exclude-from", f"{name}/logs", "o.db", "n.db")
             self.expect("a list " + name, answer, 18, b"", said)
             link = self.path(f"link to a list {name}")
             os.symlink(path, link)
-            answer = self.compare("--exclude-from", link)
+            answer = self.call(JSON, "--exclude-from", link, "o.db", "n.db")
             self.expect(f"a link to a list {name}", answer, 18, b"", said)
 
     def test_shipped(self) -> None:
@@ -364,5 +464,5 @@ class WithoutTest(CommandTest):
                 ["--exclude-from", "link"],
                 ["--exclude-from", os.fsdecode(path), "--exclude", "/etc/**"],
             ):
-                answer = self.call(TOOL, *words, "list.db", "list-new.db")
+                answer = self.call("aide-compare", *words, "list.db", "list-new.db")
                 self.assertEqual((answer.status, said in answer.errors), (0, is_said), answer)

@@ -30,7 +30,7 @@ CHANGE = Change(
     package="p 1",
 )
 LEAST = Change(b"/a", "added", "Entry", "", {}, {}, Standing.OPEN, "", "")
-COUNTS = Counts(100, 20, 3, 6, 1, 2, 3, 0, 1, 2, told_status=5)
+COUNTS = Counts(100, 20, 3, 6, 1, 2, 3, 0, 1, 2, 7, 5)
 
 
 class ChangesTest(ModuleTest):
@@ -62,6 +62,11 @@ class ChangesTest(ModuleTest):
             {"package": ["p"]},
             {"summary": 3},
             {"standing": "same"},
+            {"standing": "left out"},
+            {"left_out": 0},
+            {"left_out": True},
+            {"left_out": "1"},
+            {"left_out": 1, "same_as": "old", "standing": "same"},
             {"same_as": "old"},
             {"same_as": "new"},
             {"old": {"Size": [1]}},
@@ -74,21 +79,23 @@ class ChangesTest(ModuleTest):
 
     def test_counts(self) -> None:
         self.expect("no change", set(Counts()), {0})
-        self.expect("the sums", (COUNTS.silent, COUNTS.told, COUNTS.total), (120, 9, 129))
+        self.expect("the sums", (COUNTS.silent, COUNTS.told, COUNTS.total), (127, 9, 136))
         self.expect("the high ones", COUNTS.of_severity("high"), 1)
         self.expect("the low ones", COUNTS.of_severity("low"), 5)
-        self.expect("the words", COUNTS.words(), "6 open (1 high), 3 recorded of 129 changes")
+        self.expect("the words", COUNTS.words(), "6 open (1 high), 3 recorded of 136 changes")
+        self.expect("left out", COUNTS.left_out_words(), "left out: 7 of 136 changes")
+        self.expect("none is left out", Counts(same=1).left_out_words(), "")
         self.expect("silent ones", Counts(same=1).words(), "1 change, all silent")
-        line = "open=6 recorded=3 trusted=20 same=100 high=1 medium=3 low=5"
+        line = "open=6 recorded=3 left_out=7 trusted=20 same=100 high=1 medium=3 low=5"
         self.expect("the line", COUNTS.line(), line)
         for counts, changes, fits in (
-            (COUNTS, 129, True),
-            (COUNTS, 128, False),
-            (COUNTS._replace(open=7), 130, False),
-            (COUNTS._replace(recorded=2), 128, False),
-            (COUNTS._replace(same=-1), 28, False),
-            (COUNTS._replace(told_status=0), 129, False),
-            (COUNTS._replace(told_status=8), 129, False),
+            (COUNTS, 136, True),
+            (COUNTS, 135, False),
+            (COUNTS._replace(open=7), 137, False),
+            (COUNTS._replace(recorded=2), 135, False),
+            (COUNTS._replace(same=-1), 35, False),
+            (COUNTS._replace(told_status=0), 136, False),
+            (COUNTS._replace(told_status=8), 136, False),
             (Counts(same=1, told_status=1), 1, False),
         ):
             self.gives(fits, counts.fits, changes)

@@ -22,7 +22,8 @@ SOUND = [fields_of("/srv/a"), fields_of("/srv/b", "removed")]
 END: Fields = {
     **{"end": True, "listed": 2, "same": 3, "trusted": 0, "recorded": 0, "open": 4},
     **{"open_high": 1, "open_medium": 0, "open_low": 3},
-    **{"recorded_high": 0, "recorded_medium": 0, "recorded_low": 0, "told_status": 3},
+    **{"recorded_high": 0, "recorded_medium": 0, "recorded_low": 0},
+    **{"left_out": 2, "told_status": 3},
 }
 
 

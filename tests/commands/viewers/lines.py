@@ -22,7 +22,7 @@ Fields = dict[str, Any]
 NAMELESS = failed_comparison(Fault(Status.DEVICE, "no databases"))
 # What proves a standing that is silent, and all names of counts.
 PROOFS = {"same": "old", "trusted": "trusted"}
-STANDINGS = ("same", "trusted", "recorded", "open")
+STANDINGS = ("same", "trusted", "left_out", "recorded", "open")
 SEVERE = [f"{name}_{each}" for name in ("open", "recorded") for each in ("high", "medium", "low")]
 
 

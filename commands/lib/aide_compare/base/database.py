@@ -1,7 +1,7 @@
 """The lines of a database: which are entries, and in which field each column is.
 
-Only what copies a database reads that form beside the proved program: what is left out, sorted,
-kept open or expected. The program alone says whether a database is sound, and what a change is.
+Only what copies a database reads that form beside the proved program: sorted, kept open or
+expected. The program alone says whether a database is sound, and what a change is.
 """
 from __future__ import annotations
 

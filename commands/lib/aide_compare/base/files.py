@@ -125,23 +125,18 @@ def trusted_text(path: str, what: str) -> bytes:
         return read_whole(descriptor, MAX_BYTES, f"{what} {shown(path)}")
 
 
-def lines_in(text: bytes, path: str, what: str) -> list[tuple[bytes, str]]:
+def lines_of(path: str, what: str) -> list[tuple[bytes, str]]:
     """The lines of such a file that say something, each with the place where it stands. Blanks at
     the ends do not count."""
     name = shown(path, 200)
     lines = []
-    for number, raw in enumerate(text.split(b"\n"), 1):
+    for number, raw in enumerate(trusted_text(path, what).split(b"\n"), 1):
         line = raw.strip(b" \t\r")
         if line and not line.startswith(b"#"):
             lines.append((line, f"{name}, line {number}"))
     if len(lines) > MAX_LINES:
         raise Fault(Status.USAGE, f"{what} {shown(path)} has more than {MAX_LINES} lines")
     return lines
-
-
-def lines_of(path: str, what: str) -> list[tuple[bytes, str]]:
-    """The lines of a file of the administrator, read at once."""
-    return lines_in(trusted_text(path, what), path, what)
 
 
 def blocks_of(source: int) -> Iterator[bytes]:

@@ -164,13 +164,13 @@ RESULT_AGE = Option(
 )
 EXCLUDE_FROM = Option(
     "--exclude-from",
-    "leave out the entries whose paths FILE names, as the example debian.without",
+    "leave out the changes at the paths that FILE names, as the example debian.without",
     metavar="FILE",
     is_repeated=True,
 )
 EXCLUDE = Option(
     "--exclude",
-    "leave out the entries of this path or pattern",
+    "leave out the changes at this path or pattern",
     metavar="PATTERN",
     is_repeated=True,
 )

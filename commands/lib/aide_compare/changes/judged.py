@@ -10,7 +10,6 @@ from collections import Counter
 from typing import Iterator, NamedTuple, Optional, Set
 
 from aide_compare.base.ending import Fault, Status
-from aide_compare.base.words import TRUSTED_SIDES
 from aide_compare.changes.importance import Importance
 from aide_compare.changes.packages import INFO_DIRECTORY, Dpkg, Named
 from aide_compare.changes.recorded import Matcher
@@ -45,7 +44,8 @@ class Judged:
         self.named = Named()
         self.by = ""
         self.silent: Counter[str] = Counter()
-        self.has_pair = TRUSTED_SIDES[1] in reader.summary
+        # How many changes the lines of the list leave out, by their numbers.
+        self.left_out: Counter[int] = Counter()
         # Of dpkg's records: what is as in the trusted pair.
         self.trusted: Set[bytes] = set()
         self.sources: Set[bytes] = set()  # Of compiled files, as they are there.
@@ -63,7 +63,9 @@ class Judged:
             if outline.silent is None:
                 yield scales.weighed(outline, line_at)
             else:
-                self.silent[outline.silent.value] += 1
+                self.silent[outline.silent.key] += 1
+                if outline.left_out:
+                    self.left_out[outline.left_out] += 1
                 if outline.silent is Standing.TRUSTED:
                     self._note_trusted(outline.path)
             line_at += len(outline.line)
@@ -77,12 +79,13 @@ class Judged:
         elif path.endswith(b".py") and len(self.sources) < MAX_SOURCES:
             self.sources.add(path)
 
-    def group_by(self, records: Dpkg | Rpm) -> None:
-        """Finds out which changes are as the packages' records of this machine have them."""
+    def group_by(self, records: Dpkg | Rpm, has_pair: bool) -> None:
+        """Finds out which changes are as the packages' records of this machine have them.
+        `has_pair`: a trusted pair says which of the records are signed."""
         matcher = Matcher(records, usr_of(link_here), self.read, self.sources)
         try:
             matcher.match(self.table)
-            trusted = self.trusted if self.has_pair else None
+            trusted = self.trusted if has_pair else None
             self.named = records.named(self.table, matcher.kinds, trusted)
         except BaseException:
             self.table.forget_records()

@@ -28,6 +28,7 @@ if TYPE_CHECKING:
     from aide_compare.changes.judged import Judged
 
 NAME_LINES = (b"Old database: ", b"New database: ")
+NO_LIST = "the report knows no list: it has what is left out elsewhere, and AIDE's status"
 # People compare digests in base 16.
 BASE16 = "report_base16=yes"
 # What a terminal has beside what people read first: two lines for the databases, notes, and the
@@ -115,6 +116,8 @@ class Printer:
         """What is not in a report: it names only the descriptors of the databases."""
         text = told_of(comparison, self.request.is_quiet, self.request.is_verbose)
         if self.is_printed and comparison.differs:
+            if self.form == REPORT and comparison.request.exclusions:
+                text += f"aide-compare: {NO_LIST}\n"
             for side, copy in comparison.copies.items():
                 line = f"{words_of_side(side)} database: {shown(copy.name)}, "
                 if copy.written is not None:
@@ -123,6 +126,8 @@ class Printer:
             is_brief = self.form == BRIEF and judged is not None
             if comparison.standings and not (is_brief and os.isatty(1)):
                 text += f"aide-compare: {comparison.standings.words()}\n"
+            if comparison.standings and comparison.standings.left_out and not is_brief:
+                text += f"aide-compare: {comparison.standings.left_out_words()}\n"
         yield text.encode("utf-8", "backslashreplace")
 
     def _failure(self, comparison: Comparison, _judged: Optional[Judged]) -> Iterable[bytes]:

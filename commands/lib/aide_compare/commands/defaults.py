@@ -63,7 +63,7 @@ def comparison_defaults(
 def exclusions_of(
     paths: Sequence[str], patterns: Sequence[str], reads_defaults: bool = True
 ) -> Optional[Exclusions]:
-    """The lines that leave entries out: those of the options, or those of the administrator."""
+    """The list of what is left out: that of the options, or that of the administrator."""
     if not paths and reads_defaults:
         usual = administrators_file("without")
         if usual:

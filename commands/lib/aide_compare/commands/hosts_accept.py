@@ -33,6 +33,8 @@ from aide_compare.commands import accept
 from aide_compare.commands.accept_work import AcceptRequest
 from aide_compare.commands.accept_work import accept as accept_database
 from aide_compare.commands.defaults import exclusions_of
+from aide_compare.compare.comparison import NO_COPIES
+from aide_compare.compare.exclusions import Exclusions
 from aide_compare.compare.soundness import refuse_unsound
 from aide_compare.compare.state import State, read_state
 from aide_compare.compare.unpack import Copy, copy_database
@@ -141,8 +143,9 @@ def accept_next(directory: HostDirectory, request: HostAcceptRequest, digest: st
 class Silent(NamedTuple):
     """What makes a change of a host silent."""
 
-    canary: str  # Its name; "" without one.
-    copies: Mapping[str, Copy]  # The trusted pair.
+    exclusions: Optional[Exclusions]
+    canary: str = ""  # Its name; "" without one.
+    copies: Mapping[str, Copy] = NO_COPIES  # The trusted pair.
 
     def trusted_by(self, directory: HostDirectory, state: State) -> Mapping[str, Copy]:
         """The pair that a host was compared beside, which has to be this one."""
@@ -171,7 +174,7 @@ def accept_silent(request: HostAcceptRequest, silent: Silent, host: str) -> Host
         raise directory.fault("nobody has judged its changes")
     if counts is None or not counts.silent:
         return HostResult(host, 0, f"{NOTHING}no change is silent")
-    accept_database(
+    done = accept_database(
         AcceptRequest(
             new=directory.file(NEW),
             baseline=directory.file(BASELINE),
@@ -182,11 +185,13 @@ def accept_silent(request: HostAcceptRequest, silent: Silent, host: str) -> Host
             trusted_copies=silent.trusted_by(directory, state),
             max_report=min(MAX_JUDGED, directory.room(request.jobs)),
             is_quiet=True,
+            exclusions=silent.exclusions,
         )
     )
-    text = f"{counted(counts.silent, 'silent change')} accepted"
-    if counts.told:
-        text += f", {counts.told} stay open"
+    remaining = sum(done.merged.counts.values()) if done.merged else 0
+    text = f"{counted(counts.total - remaining, 'silent change')} accepted"
+    if remaining:
+        text += f", {remaining} stay open"
     return HostResult(host, 0, text)
 
 
@@ -195,11 +200,12 @@ def silent_in(request: HostAcceptRequest) -> Silent:
     exclusions = exclusions_of(request.exclude_from, request.exclude, not request.no_defaults)
     run = run_in(request.store)
     if run is None or run.pair is None:
-        return Silent("", {})
+        return Silent(exclusions)
     if run.pair.rules != rules_of(exclusions, None):
         text = "what is left out has changed since the hosts were compared; compare them again"
         raise Fault(Status.DATABASE, text)
-    return Silent(run.host, copies_of_run(request.store, run, request.seconds, exclusions))
+    copies = copies_of_run(request.store, run, request.seconds)
+    return Silent(exclusions, run.host, copies)
 
 
 def accept_all(request: HostAcceptRequest) -> int:

@@ -111,6 +111,8 @@ def counts_text(state: State) -> str:
     text = f"added {added}, removed {removed}, changed {changed}"
     if state.standings:
         text += f": {state.standings.words()}"
+    if state.standings and state.standings.left_out:
+        text += f"; {state.standings.left_out_words()}"
     return text
 
 

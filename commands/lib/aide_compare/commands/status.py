@@ -63,6 +63,7 @@ ENTRIES = {
 CHANGES = {
     "same": "Changes of times, inode and digests that one side lacks, which are silent.",
     "trusted": "Changes as between the trusted databases, which are silent.",
+    "left_out": "Changes that a line of the list leaves out, which are silent.",
     "recorded": "Changes as a package's records on the host have them.",
     "open": "All other changes.",
     **{word: f"Changes of {word} severity that are open or recorded." for word in SEVERITIES},

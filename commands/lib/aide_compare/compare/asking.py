@@ -24,6 +24,8 @@ MAX_SETTINGS = 1 << 16
 FORMAT = 3  # Of the line that says what a configuration means.
 FORCE_NAME = b"report_force_attrs"
 FORCE = FORCE_NAME + b"="
+# As a trusted pair it accounts for nothing. A list needs a pair beside which it is asked.
+EMPTY = b"@@begin_db\n@@db_spec name attr\n@@end_db\n"
 
 
 def odd_answer(program: str, answer: Answer) -> Fault:
@@ -76,9 +78,11 @@ def ask_for_changes(
     databases: Mapping[str, int],
     take: Taker,
     forced: Collection[str] = (),
+    without: bytes = b"",
 ) -> Answer:
     """Compares databases, by their descriptors for each side: what the program writes goes to
-    `take`, with the `forced` attributes of each changed entry."""
+    `take`, with the `forced` attributes of each changed entry. `without`: the list of what is left
+    out."""
     places = {DESCRIPTORS[side]: descriptor for side, descriptor in databases.items()}
     first = b""
     last = DATABASES.encode()
@@ -92,16 +96,37 @@ def ask_for_changes(
         if side in databases:
             option = "--" + side.replace("_", "-")
             words.append(f"{option}=/proc/self/fd/{DESCRIPTORS[side]}".encode())
+    if without:
+        words.append(b"--without=" + without)
     return _ask(program, words, texts, places, take, first)
 
 
-def ask_for_lines(texts: Texts, databases: Mapping[str, int], take: Taker) -> Answer:
+@contextmanager
+def _beside_pair(databases: Mapping[str, int]) -> Iterator[Mapping[str, int]]:
+    """The databases, with an empty trusted pair if they have none."""
+    if TRUSTED_SIDES[0] in databases:
+        yield databases
+        return
+    descriptor = in_memory(EMPTY)
+    try:
+        yield {**databases, **dict.fromkeys(TRUSTED_SIDES, descriptor)}
+    finally:
+        os.close(descriptor)
+
+
+def ask_for_lines(
+    texts: Texts, databases: Mapping[str, int], without: bytes, take: Taker
+) -> Answer:
     """Asks for the lines of the changes. Each has the rights of both sides, and the attributes that
-    the texts force themselves."""
+    the texts force themselves. `without`: the list of what is left out."""
+    program = find_installed(LINES)
     forced = set(RIGHTS)
     if any(FORCE_NAME in text for text in texts):
         forced.update((settings_of(texts) or {}).get(FORCE_NAME.decode(), ()))
-    return ask_for_changes(find_installed(LINES), texts, databases, take, sorted(forced))
+    if not without:
+        return ask_for_changes(program, texts, databases, take, sorted(forced))
+    with _beside_pair(databases) as pair:
+        return ask_for_changes(program, texts, pair, take, sorted(forced), without)
 
 
 def settings_of(texts: Texts) -> Settings | None:

@@ -17,7 +17,7 @@ from aide_compare.lines.change import Counts
 from aide_compare.lines.reader import EndCounts
 
 if TYPE_CHECKING:
-    from aide_compare.compare.exclusions import Exclusions, LeftOut
+    from aide_compare.compare.exclusions import Exclusions
 
 MAX_ERROR = 5000
 MAX_NAME = 4000
@@ -80,11 +80,12 @@ class Comparison(NamedTuple):
     # By side, as far as it is known:
     copies: Mapping[str, Copy]
     compared: Mapping[str, int]  # The descriptors of what the program has read.
-    left_out: Mapping[str, LeftOut]
     skipped: Mapping[str, Sequence[str]]  # Columns.
     lines: Lines | None  # None if nothing was compared, or the report alone is wanted.
     report: int | None  # The descriptor of the report, if that alone is wanted.
     standings: Counts | None = None  # None if nobody has judged the changes.
+    # How many changes the lines of the list leave out, by their numbers.
+    left_out: Mapping[int, int] = MappingProxyType({})
 
     @property
     def told_status(self) -> int:
@@ -158,9 +159,7 @@ class Comparison(NamedTuple):
         return ""
 
     def _further_values(self) -> dict[str, Any]:
-        values: dict[str, Any] = {
-            f"left_out_{side}": of.total for side, of in self.left_out.items()
-        }
+        values: dict[str, Any] = {}
         for side, names in self.skipped.items():
             values[f"skipped_{side}"] = list(names)
         for side in TRUSTED_SIDES:

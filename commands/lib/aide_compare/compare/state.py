@@ -39,8 +39,6 @@ class State(NamedTuple):
     old_written: int | None = None  # None if it is unknown.
     new_written: int | None = None
     error: str = ""  # The first error line.
-    left_out_old: int | None = None  # None if nothing was to be left out.
-    left_out_new: int | None = None
     trusted_old: str = ""
     trusted_old_sha256: str = ""
     trusted_new: str = ""

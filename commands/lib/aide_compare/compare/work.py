@@ -6,7 +6,6 @@ import json
 import os
 import time
 from collections.abc import Iterator, Mapping, Sequence
-from typing import TYPE_CHECKING
 
 from aide_compare.base.ending import Fault, Status, write_all
 from aide_compare.base.escapes import shown
@@ -20,9 +19,6 @@ from aide_compare.compare.hints import column_notes, equal_notes, hints_of, orde
 from aide_compare.compare.report import write_report
 from aide_compare.compare.unpack import Copy, Opened, copy_opened, open_database
 from aide_compare.lines.reader import ODD, end_of
-
-if TYPE_CHECKING:
-    from aide_compare.compare.exclusions import Exclusions, LeftOut
 
 MAX_CLOCKS_DIFFER = 600
 MIN_LINES = 1 << 12
@@ -48,7 +44,6 @@ class Work:
         self.warnings: list[str] = []
         self.copies: dict[str, Copy] = {}
         self.compared: dict[str, int] = {}
-        self.left_out: dict[str, LeftOut] = {}
 
     def open_databases(self) -> Sequence[Opened]:
         """Both databases, opened, unless there are copies already; a Refusal or a Fault if they
@@ -84,8 +79,12 @@ class Work:
         """The comparison, which an exception has ended."""
         return self._comparison(None, None).failed(error)
 
-    def _refusal(self) -> Refusal:
-        """The program has refused the texts or the databases."""
+    def _refusal(self) -> Fault:
+        """The program has refused the texts, the list or the databases."""
+        exclusions = self.request.exclusions
+        fault = exclusions.fault_in(self.answer.errors) if exclusions else None
+        if fault is not None:
+            return fault
         path = self.request.configuration
         hints = hints_of(self.answer.errors, self.texts, path, self.copies)
         return Refusal(self.answer, hints)
@@ -116,33 +115,18 @@ class Work:
             warnings=self.warnings,
             copies=self.copies,
             compared=self.compared,
-            left_out=self.left_out,
             skipped={},
             lines=lines,
             report=report,
         )
 
     def _copy(self, opened: Sequence[Opened]) -> None:
-        """Makes private copies, without the entries that are left out."""
+        """Makes private copies."""
         for database in opened:
             self.copies[database.side] = copy_opened(database, self.request.max_size)
         self.copies.update(self.request.copies)
         for side, copy in self.copies.items():
             self.compared[side] = copy.fd
-            # What is left out is no change, whatever the trusted pair has.
-            if self.request.exclusions and side in SIDES:
-                self._leave_out(side, self.request.exclusions)
-
-    def _leave_out(self, side: str, exclusions: Exclusions) -> None:
-        """What is compared is a copy without some entries. Digests are of the whole database, so
-        that it can be accepted."""
-        from aide_compare.compare.exclusions import cut_copy
-
-        cut = cut_copy(self.compared[side], exclusions)
-        self.compared[side] = cut.fd
-        self.left_out[side] = cut.left_out
-        if side == "old":
-            self.warnings += cut.left_out.warnings()
 
     def _lines(self) -> Lines:
         """The lines of aide_lines, of which those beyond a limit are only counted."""
@@ -156,7 +140,9 @@ class Work:
             drain.take(block)
             tail.take(block)
 
-        answer = ask_for_lines(self.texts, self.compared, take)
+        exclusions = self.request.exclusions
+        without = exclusions.text if exclusions else b""
+        answer = ask_for_lines(self.texts, self.compared, without, take)
         self.answer = answer
         if answer.status > 7:
             raise self._refusal()
@@ -169,13 +155,14 @@ class Work:
         if end.status != answer.status:
             raise odd_answer(program, answer)
         self._keep_digests(digests)
+        if exclusions:
+            self.warnings += exclusions.warnings(self.copies["old"])
         return Lines(target, drain.size, drain.is_cut, end, digests)
 
     def _keep_digests(self, digests: Digests) -> None:
         """The program has read what it has compared, so it knows the digests of whole databases."""
         for side, copy in self.copies.items():
-            if side not in self.left_out:
-                self.copies[side] = copy.with_digest(digests[side])
+            self.copies[side] = copy.with_digest(digests[side])
 
     def _report(self) -> int:
         report = write_report(self.texts, _pair(self.compared), self.request.max_report)

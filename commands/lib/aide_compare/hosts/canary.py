@@ -20,7 +20,7 @@ from aide_compare.base.escapes import guarded, shown
 from aide_compare.base.files import read_file
 from aide_compare.base.replacement import replace
 from aide_compare.base.words import TRUSTED_SIDES
-from aide_compare.compare.exclusions import Exclusions, cut_copy
+from aide_compare.compare.exclusions import Exclusions
 from aide_compare.compare.state import State, read_state
 from aide_compare.compare.unpack import Copy, copy_database
 from aide_compare.hosts.host_comparison import MAX_BASELINE, Settings
@@ -64,11 +64,9 @@ class Run(NamedTuple):
 
 def rules_of(exclusions: Optional[Exclusions], configuration: Optional[str]) -> str:
     """The SHA-256 of what decides which changes a comparison lists."""
-    texts = []
-    if exclusions:
-        texts = [(line.pattern.text, line.reason) for line in exclusions.lines]
+    text = exclusions.text if exclusions else b""
     options = read_file(configuration, 4 << 20, "the configuration ") if configuration else b""
-    return sha256(repr([VERSION, texts, options]).encode()).hexdigest()
+    return sha256(repr([VERSION, text, options]).encode()).hexdigest()
 
 
 def refuse_cut(directory: HostDirectory, state: State) -> bool:
@@ -88,19 +86,13 @@ def copies_of(
     directory: HostDirectory,
     names: Sequence[str],
     pair: Pair,
-    exclusions: Optional[Exclusions],
 ) -> dict[str, Copy]:
-    """Private copies of the databases of a pair, without the entries that its comparison left out:
-    what it did not look at, nobody has read."""
+    """Private copies of the databases of a pair."""
     copies = {}
     for side, name, digest in zip(TRUSTED_SIDES, names, pair):
         copy = copy_database(side, directory.file(name), MAX_BASELINE)
         if copy.sha256 != digest:
             raise directory.fault(f"{name} is not the database that was compared")
-        if exclusions:
-            cut = cut_copy(copy.fd, exclusions).fd
-            os.close(copy.fd)
-            copy = Copy(cut, copy.name, copy.written, digest)
         copies[side] = copy
     return copies
 
@@ -136,22 +128,20 @@ def trusted_pair(host: str, settings: Settings) -> Trusted:
             earlier = listed_pair(directory, rules)
             with suppress(Fault):
                 if earlier:
-                    copies = copies_of(directory, ACCEPTED, earlier, settings.exclusions)
+                    copies = copies_of(directory, ACCEPTED, earlier)
                     return Trusted(earlier, copies, True)
-        return Trusted(pair, copies_of(directory, COMPARED, pair, settings.exclusions), False)
+        return Trusted(pair, copies_of(directory, COMPARED, pair), False)
 
 
-def copies_of_run(
-    store: str, run: Run, seconds: float, exclusions: Optional[Exclusions]
-) -> Mapping[str, Copy]:
+def copies_of_run(store: str, run: Run, seconds: float) -> Mapping[str, Copy]:
     """The databases of a run that were trusted; the canary may have been accepted since then."""
     if run.pair is None:
         return {}
     with closing(HostDirectory(store, run.host, seconds)) as directory:
         if not run.was_accepted:
             with suppress(Fault):
-                return copies_of(directory, COMPARED, run.pair, exclusions)
-        return copies_of(directory, ACCEPTED, run.pair, exclusions)
+                return copies_of(directory, COMPARED, run.pair)
+        return copies_of(directory, ACCEPTED, run.pair)
 
 
 def used_note(host: str, was_accepted: bool) -> str:

@@ -53,7 +53,8 @@ def host_of(name: str, status: int, error: str, state: State | None = None) -> H
     counts = state.standings
     if counts is None:
         return host
-    return host._replace(open=counts.told, high=counts.of_severity(SEVERITIES[0]))
+    high = counts.of_severity(SEVERITIES[0])
+    return host._replace(open=counts.told, high=high, left_out=counts.left_out)
 
 
 def host_in(directory: HostDirectory, max_age: int) -> Host:

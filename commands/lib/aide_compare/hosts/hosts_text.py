@@ -80,6 +80,9 @@ def host_lists(hosts: Iterable[Host]) -> dict[str, list[str]]:
             counts = "no counts are known"
             if host.counts is not None:
                 counts = ", ".join(f"{kind} {count}" for kind, count in zip(KINDS, host.counts))
+            if host.left_out:
+                changes = counted(sum(host.counts or ()), "change")
+                counts += f"; left out: {host.left_out} of {changes}"
             differ.append(f"{host.name}: {counts}")
             if host.report in WHY:
                 cut.append(not_listed(host))

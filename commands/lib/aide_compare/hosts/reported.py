@@ -70,6 +70,7 @@ class Host(NamedTuple):
     new_sha256: str = ""
     open: int | None = None  # How many changes are not silent; None if nobody has judged.
     high: int | None = None  # How many of them have the severity high.
+    left_out: int | None = None  # How many changes the list leaves out.
     report: str = ""  # What its lines are: one of the words above; "" if they were not read.
     listed: int = 0  # How many changes these have.
 
@@ -93,6 +94,7 @@ class Host(NamedTuple):
             return fields
         fields.update(zip(KINDS, self.counts or (None, None, None)))
         fields.update(new_sha256=self.new_sha256, open=self.open, high=self.high)
+        fields["left_out"] = self.left_out
         if self.report:
             fields.update(report=self.report, listed=self.listed)
         return fields

@@ -1,7 +1,7 @@
 """A change that a line says, as a value, with its standing, and the counts of all standings.
 
-Only a proved line makes a change silent, by its member `same_as`. What a package's records on the
-host say makes it `recorded`, which shortens what people read and silences nothing.
+Only a proved line makes a change silent, by its member `same_as` or `left_out`. What a package's
+records on the host say makes it `recorded`, which shortens what people read and silences nothing.
 """
 from __future__ import annotations
 
@@ -28,16 +28,23 @@ class Standing(Enum):
 
     SAME = "same"  # The entry is as it was, but for times, inode and digests that one side lacks.
     TRUSTED = "trusted"  # A machine, or a signed archive, that is trusted changed in the same way.
+    LEFT_OUT = "left out"  # A line of the administrator's list names it, and it gives no right.
     RECORDED = "recorded"  # A package's records on the host have this content, unsigned.
     OPEN = "open"  # All else.
 
     @property
     def is_silent(self) -> bool:
-        return self in (Standing.SAME, Standing.TRUSTED)
+        return self not in (Standing.RECORDED, Standing.OPEN)
+
+    @property
+    def key(self) -> str:
+        """Its name among counts."""
+        return self.value.replace(" ", "_")
 
 
 # What the member `same_as` of a proved line means.
 BY_PROOF = {"old": Standing.SAME, "trusted": Standing.TRUSTED}
+LEFT_OUT = "left_out"  # The member of a proved line with the number of the list's line.
 # What decides on what is reported: settings, AIDE's configuration, the units and the cron job of
 # the comparison. No trusted pair accounts for a change there, whatever happened on its machine.
 WATCHERS = re.compile(
@@ -91,19 +98,35 @@ class Change(NamedTuple):
         return self.old, self.new
 
 
-def silent_by(proof: Optional[str], path: bytes) -> Optional[Standing]:
-    """The standing of a change that a proof accounts for; None if it is not silent."""
-    if proof is None:
+def left_out_by(fields: Fields) -> int:
+    """The number of the list's line that leaves a change out, 0 if none does; a ValueError for what
+    is no number, or beside another account."""
+    line = fields.get(LEFT_OUT, 0)
+    is_number = type(line) is int and line > 0
+    if LEFT_OUT in fields and ("same_as" in fields or not is_number):
+        raise ValueError("another number of a line")
+    return int(line)
+
+
+def account_of(fields: Fields) -> Optional[Standing]:
+    """What accounts for the change of a proved line; None if nothing does."""
+    if left_out_by(fields):
+        return Standing.LEFT_OUT
+    if "same_as" in fields:
+        return BY_PROOF[fields["same_as"]]
+    return None
+
+
+def silent_by(account: Optional[Standing], path: bytes) -> Optional[Standing]:
+    """The standing of a change with this account; None if it is not silent."""
+    if account is Standing.TRUSTED and WATCHERS.fullmatch(path):
         return None
-    standing = BY_PROOF[proof]
-    if standing is Standing.TRUSTED and WATCHERS.fullmatch(path):
-        return None
-    return standing
+    return account
 
 
 def standing_of(fields: Fields, path: bytes) -> Standing:
     """The standing that a line says; a ValueError if it says one that no proof has given."""
-    silent = silent_by(fields.get("same_as"), path)
+    silent = silent_by(account_of(fields), path)
     if silent is not None:
         standing = silent
     elif fields.get("standing") == Standing.RECORDED.value:
@@ -160,11 +183,12 @@ class Counts(NamedTuple):
     recorded_high: int = 0
     recorded_medium: int = 0
     recorded_low: int = 0
+    left_out: int = 0
     told_status: int = 0  # The sum of 1 added, 2 removed and 4 changed, of those that are told.
 
     @property
     def silent(self) -> int:
-        return self.same + self.trusted
+        return self.same + self.trusted + self.left_out
 
     @property
     def told(self) -> int:
@@ -181,7 +205,7 @@ class Counts(NamedTuple):
 
     def of(self, standing: Standing, severity: str = "") -> int:
         """How many changes have this standing, and this severity if one is given."""
-        name = standing.value
+        name = standing.key
         if severity:
             name += f"_{severity}"
         return int(getattr(self, name))
@@ -214,8 +238,14 @@ class Counts(NamedTuple):
             return f"{count} {standing.value} ({high} high)"
         return f"{count} {standing.value}"
 
+    def left_out_words(self) -> str:
+        """As in "left out: 3 of 22 changes"; "" without any."""
+        if not self.left_out:
+            return ""
+        return f"left out: {self.left_out} of {counted(self.total, 'change')}"
+
     def line(self) -> str:
-        """As in "open=3 recorded=41 trusted=0 same=468 high=1 medium=40 low=3"."""
-        standings = [f"{each.value}={self.of(each)}" for each in reversed(Standing)]
+        """As in "open=3 recorded=41 left_out=3 trusted=0 same=468 high=1 medium=40 low=3"."""
+        standings = [f"{each.key}={self.of(each)}" for each in reversed(Standing)]
         severities = [f"{each}={self.of_severity(each)}" for each in SEVERITIES]
         return " ".join(standings + severities)

@@ -12,8 +12,8 @@ from typing import Any, BinaryIO, Dict, Iterator, NamedTuple, Optional, Tuple
 from aide_compare.base.files import BLOCK
 from aide_compare.base.paths import key_of_path
 from aide_compare.base.words import KINDS, SIDES, TRUSTED_SIDES, status_of_counts
-from aide_compare.lines.change import BY_PROOF, Change, Fields, Standing, bytes_of, change_of
-from aide_compare.lines.change import silent_by
+from aide_compare.lines.change import BY_PROOF, LEFT_OUT, Change, Fields, Standing, account_of
+from aide_compare.lines.change import bytes_of, change_of, left_out_by, silent_by
 
 FORMAT = 4
 # An entry has at most the bytes of two lines of databases, and six times as many in JSON, some of
@@ -29,11 +29,16 @@ ENCODE = json.JSONEncoder(separators=(",", ":")).encode
 # The beginning of a line of aide_lines whose path is written as it is.
 OUTLINE = re.compile(
     rb'\{"kind":"(added|removed|changed)","path":"(/[^"\\\x00-\x1f]*)","summary":"[^"\\]*"'
-    rb'(?:,"same_as":"(old|trusted)")?[,}]'
+    rb'(?:,"same_as":"(old|trusted)"|,"left_out":([1-9][0-9]{0,9}))?[,}]'
 )
-WORDS: Dict[object, str] = {word.encode(): word for word in (*KINDS, *BY_PROOF)}
-# The counts of the end that are those of the lines.
-COUNTED = {**{kind: kind for kind in KINDS}, "old": "same_as_old", "trusted": "same_as_trusted"}
+KINDS_BY_BYTES = {kind.encode(): kind for kind in KINDS}
+PROOFS = {proof.encode(): standing for proof, standing in BY_PROOF.items()}
+# The counts of the end by the accounts of lines.
+COUNTED = {
+    Standing.SAME: "same_as_old",
+    Standing.TRUSTED: "same_as_trusted",
+    Standing.LEFT_OUT: LEFT_OUT,
+}
 
 
 class Refused(Exception):
@@ -54,11 +59,12 @@ class Outline(NamedTuple):
     silent: Optional[Standing]  # None if it is not silent.
     key: bytes  # Of the path.
     line: bytes
+    left_out: int = 0  # The number of the list's line that leaves it out; 0 if none does.
 
 
 class EndCounts(NamedTuple):
     """What the last line says: how many entries the new database has, how many changes of each kind
-    there are, and how many the proof accounts for."""
+    there are, and how many have which account."""
 
     total: int
     added: int
@@ -66,6 +72,7 @@ class EndCounts(NamedTuple):
     changed: int
     same_as_old: int
     same_as_trusted: int
+    left_out: int
     others: int
 
     @property
@@ -82,7 +89,9 @@ class EndCounts(NamedTuple):
 
 
 # What a stream says whose last line was not read yet: fewer changes than it has.
-NOTHING_COUNTED = EndCounts(0, 0, 0, 0, 0, 0, 0)
+NOTHING_COUNTED = EndCounts(0, 0, 0, 0, 0, 0, 0, 0)
+# The counts that a last line has only beside a trusted pair.
+BESIDE_PAIR = ("same_as_trusted", LEFT_OUT)
 
 
 def end_of(fields: Fields) -> EndCounts:
@@ -90,12 +99,12 @@ def end_of(fields: Fields) -> EndCounts:
     for side in sides_of(fields):
         if not _is_read(fields[side]):
             raise ValueError("a database that was not read")
-    numbers = {name: fields[name] for name in EndCounts._fields if name != "same_as_trusted"}
-    numbers["same_as_trusted"] = fields.get("same_as_trusted", 0)
+    numbers = {name: fields[name] for name in EndCounts._fields if name not in BESIDE_PAIR}
+    numbers.update((name, fields.get(name, 0)) for name in BESIDE_PAIR)
     if not all(type(number) is int and number >= 0 for number in numbers.values()):
         raise ValueError("a count that is no number")
     end = EndCounts(**numbers)
-    accounted = end.same_as_old + end.same_as_trusted + end.others
+    accounted = end.same_as_old + end.same_as_trusted + end.left_out + end.others
     if fields["end"] is not True or fields["status"] != end.status or accounted != end.changes:
         raise ValueError("counts that do not fit one another")
     return end
@@ -135,8 +144,7 @@ class Reader:
         self.number = 0
         self.end: Fields = {}
         self.counts = NOTHING_COUNTED
-        # By the kind, and by what a proof accounts for the change with.
-        self._counts: Dict[Tuple[str, Optional[str]], int] = {}
+        self._counts: Dict[Tuple[str, Optional[Standing]], int] = {}  # By kind and by account.
         self.summary = self._object_of(self._line("nothing was given: was nothing compared?"))
         if self.summary.get("format") != FORMAT:
             raise Refused(self.number, f"the first line is the summary, of format {FORMAT}")
@@ -155,9 +163,12 @@ class Reader:
             line = self._line()
             match = OUTLINE.match(line)
             if match is not None and line.endswith(b"}\n"):
-                kind = WORDS[match.group(1)]
+                kind = KINDS_BY_BYTES[match.group(1)]
                 path = match.group(2)
-                proof = WORDS.get(match.group(3))
+                account = PROOFS.get(match.group(3))
+                left_out = int(match.group(4) or 0)
+                if left_out:
+                    account = Standing.LEFT_OUT
             else:
                 fields = self._object_of(line)
                 if "end" in fields:
@@ -166,13 +177,11 @@ class Reader:
                 change = self._change_of(fields)
                 kind = change.kind
                 path = change.path
-                proof = fields.get("same_as")
+                account = account_of(fields)
+                left_out = left_out_by(fields)
             last = self._key_after(last, path)
-            self._count(kind, proof)
-            yield Outline(kind, path, silent_by(proof, path), last, line)
-
-    def _count(self, kind: str, proof: Optional[str]) -> None:
-        self._counts[kind, proof] = self._counts.get((kind, proof), 0) + 1
+            self._counts[kind, account] = self._counts.get((kind, account), 0) + 1
+            yield Outline(kind, path, silent_by(account, path), last, line, left_out)
 
     def _read_end(self, fields: Fields) -> None:
         """Takes the last line, of which all counts are those of the lines before it."""
@@ -180,17 +189,22 @@ class Reader:
             self.counts = end_of(fields)
             if sides_of(fields) != sides_of(self.summary):
                 raise ValueError
-            for names, place in ((KINDS, 0), (BY_PROOF, 1)):
-                for name in names:
-                    count = sum(n for key, n in self._counts.items() if key[place] == name)
-                    if count != getattr(self.counts, COUNTED[name]):
-                        raise ValueError
+            for kind in KINDS:
+                if self._counted(0, kind) != getattr(self.counts, kind):
+                    raise ValueError
+            for account, name in COUNTED.items():
+                if self._counted(1, account) != getattr(self.counts, name):
+                    raise ValueError
         except ODD:
             text = "the end does not fit the lines before it"
             raise Refused(self.number, text) from None
         if self.file.read(1):
             raise Refused(self.number + 1, "this is after the end")
         self.end = fields
+
+    def _counted(self, place: int, wanted: object) -> int:
+        """How many changes have this kind, or this account."""
+        return sum(count for key, count in self._counts.items() if key[place] == wanted)
 
     def _line(self, missing: str = NO_END) -> bytes:
         line = self.file.readline(LINE_LIMIT)

@@ -65,6 +65,8 @@ def sentence(counts: Counts) -> list[str]:
         silent.append(f"{counts.trusted:,} as in the trusted pair")
     if silent:
         text += f" Silent: {'; '.join(silent)}."
+    if counts.left_out:
+        text += f" {counts.left_out_words().capitalize()}."
     return wrap(text, WIDTH)
 
 

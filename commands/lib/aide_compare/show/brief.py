@@ -25,9 +25,11 @@ def open_lines(judged: Judged) -> Iterator[str]:
 
 
 def silent_words(counts: Counts) -> str:
-    """As in "Silent: 460 same, 8 trusted"; "" if no change is."""
+    """As in "Silent: 460 same, 8 trusted, left out: 3 of 512 changes"; "" if no change is."""
     silent = (Standing.SAME, Standing.TRUSTED)
     parts = [f"{counts.of(each)} {each.value}" for each in silent if counts.of(each)]
+    if counts.left_out:
+        parts.append(counts.left_out_words())
     if not parts:
         return ""
     return f"Silent: {', '.join(parts)}"

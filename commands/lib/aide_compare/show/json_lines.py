@@ -6,7 +6,7 @@ import json
 import os
 from typing import TYPE_CHECKING, Iterator, Optional, Tuple
 
-from aide_compare.base.words import SIDES
+from aide_compare.base.words import SIDES, TRUSTED_SIDES
 from aide_compare.lines.change import Fields, change_of
 from aide_compare.lines.decoded import NOTED_BESIDE_TIMES, texts_of
 from aide_compare.lines.reader import ENCODE, HEX, Reader
@@ -26,23 +26,25 @@ def name_member(side: str, path: bytes) -> Fields:
 
 
 def summary_of(summary: Fields, comparison: Comparison) -> Fields:
-    """The first line, with the names of the databases and with what was left out before they were
-    compared."""
+    """The first line, with the names of the databases."""
     members: Fields = {"format": summary["format"]}
     for side, copy in comparison.copies.items():
         members.update(name_member(side, os.fsencode(copy.name)))
-    left_out = {side: comparison.left_out[side].total for side in comparison.left_out}
-    if left_out:
-        members["left_out"] = left_out
     return members
 
 
-def end_members(comparison: Comparison) -> Fields:
-    """What the last line gets: the names of the columns that were not compared, if there are
-    any."""
-    if not comparison.skipped:
-        return {}
-    return {"skipped": comparison.skipped}
+def end_of(reader: Reader, comparison: Comparison, judged: Optional[Judged]) -> Fields:
+    """The last line, without the pair beside which a list is asked if there is no other, and with
+    the names of the columns that were not compared, if there are any."""
+    end = dict(reader.end)
+    if TRUSTED_SIDES[0] not in comparison.copies:
+        for name in (*TRUSTED_SIDES, "same_as_trusted"):
+            end.pop(name, None)
+    if comparison.skipped:
+        end["skipped"] = comparison.skipped
+    if judged is not None:
+        end["standings"] = judged.counts._asdict()
+    return end
 
 
 def marked_lines(
@@ -79,7 +81,4 @@ def added_lines(
     for line, marks, _ in marked_lines(reader, judged):
         fields = json.loads(line)
         yield line_of({**fields, **text_members(fields), **marks})
-    end = {**reader.end, **end_members(comparison)}
-    if judged is not None:
-        end["standings"] = judged.counts._asdict()
-    yield line_of(end)
+    yield line_of(end_of(reader, comparison, judged))

@@ -5,6 +5,7 @@ from typing import Optional
 
 from aide_compare.base import progress
 from aide_compare.base.ending import why_of
+from aide_compare.base.words import TRUSTED_SIDES
 from aide_compare.changes.judged import Judged
 from aide_compare.changes.rpm import records_of_host
 from aide_compare.compare.comparison import Comparison
@@ -34,7 +35,8 @@ def judge(comparison: Comparison) -> Reviewed:
         if len(judged.table):
             comparison = _grouped(judged, comparison)
         progress.note_step("the changes are judged")
-        return Reviewed(comparison._replace(standings=judged.counts), judged)
+        known = comparison._replace(standings=judged.counts, left_out=judged.left_out)
+        return Reviewed(known, judged)
     return Reviewed(comparison.doubtful(f"the changes are not judged: {why}"), None)
 
 
@@ -52,7 +54,7 @@ def _grouped(judged: Judged, comparison: Comparison) -> Comparison:
     try:
         records = records_of_host()
         if records:
-            judged.group_by(records)
+            judged.group_by(records, TRUSTED_SIDES[1] in comparison.copies)
     except Exception as error:
         return comparison.doubtful(f"no package groups the changes: {why_of(error)}")
     return comparison

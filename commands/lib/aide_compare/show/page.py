@@ -206,9 +206,8 @@ def heading_of(comparison: Comparison, rows: Rows, title: str, end: Fields) -> F
         name = shown(copy.name, MAX_NAME)
         databases.append({"side": side, "name": name, "time": time, "sha256": copy.sha256})
     remarks = rows.remarks()
-    for side, left_out in comparison.left_out.items():
-        if left_out.total:
-            remarks.insert(0, f"{left_out.total:,} entries of the {side} database are left out.")
+    if counts.left_out:
+        remarks.insert(0, f"{counts.left_out_words().capitalize()}.")
     names = dict.fromkeys(name for side in comparison.skipped.values() for name in side)
     for name in list(names)[:MAX_COLUMNS]:
         remarks.append(f"The column {guarded(name)} is not compared: the program does not know it.")

@@ -33,6 +33,8 @@ def result_text(state: State) -> str:
         text = f"{counts.added} added, {counts.removed} removed, {counts.changed} changed"
         if state.standings:
             text = f"{state.standings.words()}: {text}"
+        if state.standings and state.standings.left_out:
+            text += f"; {state.standings.left_out_words()}"
     if state.skipped:
         text += f"; {not_compared(state.skipped)}"
     return text
@@ -67,7 +69,7 @@ def known_counts(counts: Counts | None) -> dict[str, int]:
     changes."""
     if counts is None:
         return {}
-    numbers = {standing.value: counts.of(standing) for standing in Standing}
+    numbers = {standing.key: counts.of(standing) for standing in Standing}
     for severity in SEVERITIES:
         numbers[severity] = counts.of_severity(severity)
     return numbers

@@ -5,7 +5,7 @@ from __future__ import annotations
 
 import os
 import re
-from collections.abc import Iterable
+from collections.abc import Iterable, Iterator
 from typing import TYPE_CHECKING
 
 from aide_compare.base.ending import ReaderGone
@@ -65,25 +65,20 @@ def coloured(text: bytes) -> bytes:
     return f"{BOLD}{first}{PLAIN}\n{rest}".encode("utf-8", "surrogateescape")
 
 
-def left_out_numbers(comparison: Comparison) -> str:
-    """How many entries were left out, as in "187"; both numbers if they differ, and "" without
-    any."""
-    totals = list(dict.fromkeys(each.total for each in comparison.left_out.values()))
-    if not any(totals):
-        return ""
-    return " and ".join(f"{total:,}" for total in totals)
+def _left_out(comparison: Comparison) -> Iterator[str]:
+    """How many changes each line of the list leaves out."""
+    exclusions = comparison.request.exclusions
+    for number, count in sorted(comparison.left_out.items()):
+        if exclusions:
+            words = exclusions.lines[number - 1].words()
+            yield f"left out by {words}: {counted(count, 'change')}"
 
 
 def _notes_of(comparison: Comparison, verbose: bool) -> list[str]:
-    """What was not compared: with `verbose` how many entries each line of a list has left out."""
+    """What was not compared: with `verbose` how many changes each line of a list has left out."""
     notes = list(comparison.notes)
-    numbers = left_out_numbers(comparison)
     if verbose:
-        for side, left_out in comparison.left_out.items():
-            notes += left_out.words(side)
-    elif numbers and comparison.status:
-        entries = "entry" if numbers == "1" else "entries"
-        notes.append(f"{numbers} {entries} left out; -v lists them")
+        notes.extend(_left_out(comparison))
     return notes
 
 
@@ -117,9 +112,6 @@ def with_names(text: bytes, comparison: Comparison, before: bytes) -> bytes:
 def no_difference(comparison: Comparison) -> bytes:
     """The one line of a comparison that has found none."""
     entries = counted(comparison.known_lines().end.total, "entry", ",")
-    numbers = left_out_numbers(comparison)
-    if numbers:
-        entries += f" ({numbers} left out)"
     return f"no differences in {entries}\n".encode()
 
 
