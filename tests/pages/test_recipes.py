@@ -61,7 +61,7 @@ class HandsTest(RecipesTest):
         )
         self.assertEqual(self.recipe("pair")[0], 5)
         done = self.recipe("without")
-        self.assertEqual((done[0], done[2]), (0, ""))
+        self.assertEqual(done[0], 0)
         self.prints("without", done[1])
 
     def test_page(self) -> None:
@@ -73,7 +73,7 @@ class HandsTest(RecipesTest):
     def test_lines(self) -> None:
         self.put_files(of_sizes(BEFORE), of_sizes(INTRUDER))
         self.assertEqual(self.recipe("lines")[0], 0)
-        self.assertIn('"left_out":{"old":3,"new":4}', self.read("/tmp/lines"))
+        self.assertIn('"standing":"left out"', self.read("/tmp/lines"))
         if not shutil.which("jq"):
             self.skipTest("not installed: jq")
         self.assertEqual(self.recipe("one object"), (0, "", ""))

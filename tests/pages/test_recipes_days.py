@@ -130,18 +130,18 @@ class QuietTest(RecipesTest):
                 self.put_night(NIGHT)
                 self.assertIsNone(self.mail_of(commands))
                 state = self.state()
-                self.assertEqual((state["left_out_old"], state["left_out_new"]), ("6", "5"))
+                self.assertEqual(state["left_out"], "7")
                 self.put_night(INTRUDER)
                 mail = self.mail_of(commands) or ""
                 self.assertRegex(mail, r"(?m)^Subject: .*: 2 open \(")
                 self.assertIn("/etc/ld.so.preload", mail)
-                self.assertIn("6 and 5 entries left out", mail)
+                self.assertRegex(mail, r"Left out: 7 of\s+9 changes\.")
 
     def test_command(self) -> None:
         self.put_night(NIGHT)
         self.assertEqual(self.recipe("compare")[0], 7)
         done = self.recipe("quiet")
-        self.assertEqual((done[0], done[2]), (0, ""))
+        self.assertEqual(done[0], 0)
         self.prints("quiet", done[1])
         self.put_night(INTRUDER)
         done = self.recipe("quiet")
