@@ -11,7 +11,7 @@ from tests.pages.machine import BASELINE, HEAD, HOSTS, NEWEST, NOBODY, STATE, Ma
 # What is added, removed and changed between the databases of examples/small_tree.
 STORED = (3, 4, 15)
 # What the units need, and the part of Debian's /etc/aide/aide.conf that matters here.
-DEFAULTS = f"--max-age 50h\n--state {STATE}\n"
+DEFAULTS = f"--databases {BASELINE} {NEWEST}\n--max-age 50h\n--state {STATE}\n"
 CONFIGURATION = f"""\
 @@x_include_setenv UPAC_settingsd /etc/aide/aide.settings.d
 @@x_include_setenv PATH /bin:/usr/bin

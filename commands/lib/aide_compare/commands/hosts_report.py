@@ -3,7 +3,6 @@ page or as a mail."""
 from __future__ import annotations
 
 import os
-import shlex
 from functools import partial
 from typing import Iterable, Iterator, Optional, Sequence
 
@@ -45,8 +44,6 @@ NAME = "aide-compare hosts report"
 MAX_NAMES = 20  # Of the hosts of a change, for people.
 # The page that a mail may have. It leaves out what has no room, and says how much.
 MAX_MAILED_PAGE = 500000
-COLUMNS = 78
-
 
 DESCRIPTION = """\
 Reports what differs on the hosts of HOSTS-FILE, as aide-compare hosts compare found it:
@@ -98,19 +95,6 @@ def command_words(request: ReportRequest) -> list[str]:
     return words
 
 
-def command_text(words: Iterable[str]) -> str:
-    """A command for a shell, in lines that fit a mail."""
-    first, *others = map(shlex.quote, words)
-    lines = [first]
-    for word in others:
-        if len(lines[-1]) + len(word) + 3 > COLUMNS:
-            lines[-1] += " \\"
-            lines.append(f"    {word}")
-        else:
-            lines[-1] += f" {word}"
-    return "\n  ".join(lines)
-
-
 class HostsReport:
     """The report: the summary, the hosts, and their changes in one table."""
 
@@ -122,7 +106,7 @@ class HostsReport:
             host = read_host(name, request.store, request.seconds, request.max_age, take)
             self.hosts.append(host)
         self.fleet.gather()
-        self.command = command_text(command_words(request))
+        self.command = command_words(request)
         self.worst = max(host.status for host in self.hosts)
         notes = notes_of(request.store, self.hosts)
         # Silent differences are no reason for a mail.

@@ -2,6 +2,7 @@
 have it."""
 from __future__ import annotations
 
+import shlex
 from typing import Iterator, NamedTuple, Sequence
 
 from aide_compare.base.files import private_file
@@ -41,7 +42,7 @@ def heading_of(report: Report, left_out: int, high: int) -> Fields:
     summary = report.summary
     remarks = [line for line in canary_lines(summary) if line]
     if left_out:
-        command = report.command.replace(" \\\n     ", "")
+        command = shlex.join(report.command)
         what = f"{left_out:,} more changes, {high:,} of them high"
         remarks.append(f"This page has no room for {what}. This command prints all: {command}")
     outcome = "No changes are listed"

@@ -11,8 +11,9 @@ from aide_compare.base.escapes import guarded, shown
 from aide_compare.base.words import KINDS, SEVERITIES, counted
 from aide_compare.changes.table import Row, Table
 from aide_compare.hosts.reported import CUT, UNREADABLE, Host, SharedChange, Summary
-from aide_compare.lines.change import Change
 from aide_compare.lines.attributes import word_of
+from aide_compare.lines.change import Change
+from aide_compare.mail.columns import command_lines
 from aide_compare.show.changes import values_in
 from aide_compare.show.digest import MAIL, Room, digest, entry_line
 
@@ -40,7 +41,7 @@ class Report(NamedTuple):
     hosts: list[Host]
     table: Table  # The changes.
     shared: Callable[[Row], SharedChange]
-    command: str  # The command that prints the whole text.
+    command: Sequence[str]  # The words of the command that prints the whole text.
 
 
 def headline(summary: Summary) -> str:
@@ -253,4 +254,4 @@ def short_lines(report: Report) -> Iterator[str]:
     if summary.changes:
         yield ""
         yield "All changes with their values:"
-        yield "  " + report.command
+        yield from command_lines(report.command)
