@@ -155,7 +155,7 @@ class AcceptPartlyTest(AcceptingTest):
         self.refuses(24, told, sha256(NEW), "--trusted-only", "--trusted", "bad.db", "old.db")
         self.set_names("compare.work", MIN_LINES=1)
         self.after_import("commands.accept_work", SHORT)
-        told = b"refused: the changes have more than 600 bytes"
+        told = b"the changes have more than 600 bytes"
         self.refuses(18, told, sha256(NEW), "--trusted-only")
         self.assertEqual(contents(self)[:2], (OLD, OLDER), "the baseline stays")
 

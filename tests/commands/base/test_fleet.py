@@ -68,6 +68,10 @@ class FleetTest(ModuleTest):
         rows = {
             "another path": (base, changed("/srv/b")),
             "another kind": (fields_of("/srv/a"), fields_of("/srv/a", "removed")),
+            "the same value, which came": (
+                {**base, "kind": "added", "old": {}, "new": {"SHA256": "bb"}},
+                {**base, "old": SHA, "new": {"SHA256": "bb"}},
+            ),
             "another type": (fields_of("/srv/a"), fields_of("/srv/a", type="Link")),
             "another value": (base, changed("/srv/a", new={"SHA256": "cc"})),
             "another size": big,

@@ -41,6 +41,17 @@ class OverTime(Fault):
         super().__init__(Status.DEVICE, f"{shown(program)} took too long, and was killed")
 
 
+def bounded(text: bytearray, limit: int, what: str) -> Taker:
+    """Takes what a program prints, which may be endless. `what` has so many bytes at most."""
+
+    def take(block: bytes) -> None:
+        text.extend(block)
+        if len(text) > limit:
+            raise Fault(Status.DEVICE, f"{what} more than {limit} bytes")
+
+    return take
+
+
 def end_with(parent: int) -> bool:
     """The kernel ends this process when its parent ends. False if that has ended already."""
     ctypes.CDLL(None).prctl(PR_SET_PDEATHSIG, signal.SIGKILL)

@@ -20,7 +20,7 @@ from aide_compare.base.directories import closed_after
 from aide_compare.base.ending import Fault, Status, failing, say, write_all
 from aide_compare.base.escapes import shown
 from aide_compare.base.files import BLOCK, in_memory, nameless, open_regular, read_file
-from aide_compare.base.processes import Taker, run
+from aide_compare.base.processes import Taker, bounded, run
 from aide_compare.base.program import Drain
 from aide_compare.changes.packages import is_less
 
@@ -61,17 +61,6 @@ def run_tool(words: Sequence[str], takers: Mapping[int, Taker], files: Sequence[
     return run(words, takers, dict(enumerate(files, 4)), ENVIRONMENT)
 
 
-def taker_of(text: bytearray) -> Taker:
-    """Takes what gpgv prints, which may be endless."""
-
-    def take(block: bytes) -> None:
-        text.extend(block)
-        if len(text) > MAX_RELEASE:
-            raise Fault(Status.DEVICE, f"gpgv prints more than {MAX_RELEASE} bytes")
-
-    return take
-
-
 def signed_text(release: Release, keys: int) -> str:
     """The text of an InRelease file that one of the keys has signed for its suite."""
     name = shown(release.path)
@@ -79,7 +68,11 @@ def signed_text(release: Release, keys: int) -> str:
     lines = bytearray()
     with closed_after(in_memory(read_file(release.path, MAX_RELEASE, "the signed file "))) as file:
         # Its status says nothing: it also fails if one key of many is missing.
-        run_tool(GPGV, {1: taker_of(text), 3: taker_of(lines)}, [file, keys])
+        takers = {
+            1: bounded(text, MAX_RELEASE, "gpgv prints"),
+            3: bounded(lines, MAX_RELEASE, "gpgv prints"),
+        }
+        run_tool(GPGV, takers, [file, keys])
     if not GOOD.search(lines) or BAD.search(lines):
         raise Fault(Status.DEVICE, f"gpgv finds no key of the keyrings that signed {name}")
     signed = text.decode("utf-8", "surrogateescape")

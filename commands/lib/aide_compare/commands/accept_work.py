@@ -30,7 +30,7 @@ from aide_compare.compare.unpack import (
     open_database,
 )
 from aide_compare.compare.work import compare
-from aide_compare.lines.reader import reader_over
+from aide_compare.show.outputs import all_lines
 from aide_compare.show.told import told_of
 
 if TYPE_CHECKING:
@@ -129,16 +129,13 @@ def _open_keys(request: AcceptRequest, copies: Copies) -> Iterator[bytes]:
     if comparison.status > 7:
         text = "refused: nothing was compared, so nothing is silent"
         raise comparison.fault or Fault(Status(comparison.status), text)
-    lines = comparison.known_lines()
-    if lines.is_cut:
-        limit = comparison.request.max_report
-        raise Fault(Status.DEVICE, f"refused: the changes have more than {limit} bytes")
+    reader = all_lines(comparison)
     if not request.is_quiet:
-        silent = f"{lines.end.changes - lines.end.others} of {counted(lines.end.changes, 'change')}"
+        end = comparison.known_lines().end
+        silent = f"{end.changes - end.others} of {counted(end.changes, 'change')}"
         text = f"{told_of(comparison)}aide-compare: {silent} silent\n"
         write_all(2, text.encode("utf-8", "replace"))
-    outlines = reader_over(lines.fd).outlines()
-    return (outline.key for outline in outlines if outline.silent is None)
+    return (outline.key for outline in reader.outlines() if outline.silent is None)
 
 
 def merge(request: AcceptRequest, offer: Offer, baseline: Baseline) -> Merged:

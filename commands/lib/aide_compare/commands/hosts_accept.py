@@ -36,12 +36,12 @@ from aide_compare.commands.defaults import exclusions_of
 from aide_compare.compare.comparison import NO_COPIES
 from aide_compare.compare.exclusions import Exclusions
 from aide_compare.compare.soundness import refuse_unsound
-from aide_compare.compare.state import State, read_state
+from aide_compare.compare.state import State
 from aide_compare.compare.unpack import Copy, copy_database
 from aide_compare.hosts.adding import keep_first
 from aide_compare.hosts.canary import copies_of_run, rules_of, run_in
 from aide_compare.hosts.host_comparison import MAX_BASELINE, MAX_JUDGED, MISSING
-from aide_compare.hosts.hosts_read import hosts_of
+from aide_compare.hosts.hosts_read import hosts_of, state_in
 from aide_compare.hosts.store import (
     BASELINE,
     MAX_MEMORY,
@@ -164,9 +164,7 @@ def accept_silent(request: HostAcceptRequest, silent: Silent, host: str) -> Host
     if host == silent.canary:
         return HostResult(host, 0, f"{NOTHING}the canary is accepted by its digest")
     directory = HostDirectory(request.store, host, request.seconds)
-    if not os.path.lexists(directory.state_path):
-        raise directory.fault("was never compared")
-    state = read_state(directory.state_path)
+    state = state_in(directory)
     if state.status > 7:
         raise Fault(Status(state.status), state.error)
     counts = state.standings

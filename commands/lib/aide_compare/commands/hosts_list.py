@@ -7,7 +7,7 @@ from aide_compare.base.ending import Status, tell
 from aide_compare.base.escapes import guarded
 from aide_compare.base.options import HOST_STORE, HOST_TIME, HOSTS_OPERAND, RESULT_AGE, Asked, field
 from aide_compare.base.parser import read
-from aide_compare.hosts.hosts_read import hosts_of, known_host
+from aide_compare.hosts.hosts_read import hosts_of, read_host
 from aide_compare.hosts.reported import Host
 
 NAME = "aide-compare hosts list"
@@ -43,5 +43,5 @@ def main(arguments: Sequence[str]) -> int:
     usage = f"{NAME} [OPTIONS] [HOSTS-FILE]"
     request = read(ListRequest, arguments, NAME, DESCRIPTION, EPILOG, usage)
     for name in hosts_of(request.hosts_file):
-        tell(line_of(known_host(name, request.store, request.seconds, request.max_age)))
+        tell(line_of(read_host(name, request.store, request.seconds, request.max_age)))
     return Status.OK

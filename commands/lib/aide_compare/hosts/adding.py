@@ -12,7 +12,7 @@ from aide_compare.base.ending import Fault, Status
 from aide_compare.base.escapes import shown
 from aide_compare.base.files import read_file, reopened
 from aide_compare.base.replacement import NewFile, replace
-from aide_compare.base.processes import run
+from aide_compare.base.processes import bounded, run
 from aide_compare.compare.soundness import refuse_unsound
 from aide_compare.compare.unpack import Opened, copy_opened
 from aide_compare.hosts.fetching import COMMAND, DATABASE, MAX_SENT, transfer
@@ -48,12 +48,7 @@ class Offer(NamedTuple):
 def ssh_settings(host: str) -> SshSettings:
     """Asks ssh which files it takes for a host."""
     answer = bytearray()
-
-    def take(block: bytes) -> None:
-        answer.extend(block)
-        if len(answer) > MAX_ANSWER:
-            raise Fault(Status.DEVICE, f"the settings of ssh have more than {MAX_ANSWER} bytes")
-
+    take = bounded(answer, MAX_ANSWER, "the settings of ssh have")
     if run(["ssh", "-G", host], {1: take}) != 0:
         raise Fault(
             Status.DEVICE, f"ssh -G {host} has failed; is ssh there, and its configuration?"

@@ -57,11 +57,16 @@ def host_of(name: str, status: int, error: str, state: State | None = None) -> H
     return host._replace(open=counts.told, high=high, left_out=counts.left_out)
 
 
-def host_in(directory: HostDirectory, max_age: int) -> Host:
-    """The host by its state. One that is too old says nothing of today."""
+def state_in(directory: HostDirectory) -> State:
+    """The state of a host."""
     if not os.path.lexists(directory.state_path):
         raise directory.fault("was never compared")
-    state = read_state(directory.state_path)
+    return read_state(directory.state_path)
+
+
+def host_in(directory: HostDirectory, max_age: int) -> Host:
+    """The host by its state. One that is too old says nothing of today."""
+    state = state_in(directory)
     if state.age is None:
         raise directory.fault("was compared in the future; is the clock of this host right?")
     if max_age and state.age > max_age:
@@ -99,41 +104,37 @@ class KeptChanges:
                 raise
 
 
+def unread_host(name: str, error: Fault | OSError) -> Host:
+    """A host of which nothing can be read."""
+    if isinstance(error, Fault):
+        return host_of(name, error.status, error.text)
+    return host_of(name, Status.DEVICE, f"cannot be read: {reason(error)}")
+
+
 def read_host(
-    name: str, store: str, seconds: int, max_age: int, take: Callable[[Outline, Fields], None]
+    name: str,
+    store: str,
+    seconds: int,
+    max_age: int,
+    take: Callable[[Outline, Fields], None] | None = None,
 ) -> Host:
-    """Reads what a store keeps of a host, and gives each change to `take`. No run is at work on the
-    host then."""
-    directory = None
+    """Reads what a store keeps of a host, and gives each change to `take`, if there is one. No run
+    is at work on the host then."""
     try:
         directory = directory_of(name, store, seconds)
-        host = host_in(directory, max_age)
-    except Fault as fault:
-        host = host_of(name, fault.status, fault.text)
-    except OSError as error:
-        host = host_of(name, Status.DEVICE, f"cannot be read: {reason(error)}")
-    if directory is None:
-        return host
-    try:
-        if not host.differs:
+    except (Fault, OSError) as error:
+        return unread_host(name, error)
+    with closing(directory):
+        try:
+            host = host_in(directory, max_age)
+        except (Fault, OSError) as error:
+            return unread_host(name, error)
+        if take is None or not host.differs:
             return host
         kept = KeptChanges(directory, host)
         for outline, fields in kept:
             take(outline, fields)
         return host._replace(report=kept.report, listed=kept.listed)
-    finally:
-        directory.close()
-
-
-def known_host(name: str, store: str, seconds: int, max_age: int) -> Host:
-    """What the state of a host says."""
-    try:
-        with closing(directory_of(name, store, seconds)) as directory:
-            return host_in(directory, max_age)
-    except Fault as fault:
-        return host_of(name, fault.status, fault.text)
-    except OSError as error:
-        return host_of(name, Status.DEVICE, f"cannot be read: {reason(error)}")
 
 
 def directory_of(name: str, store: str, seconds: int, is_alone: bool = False) -> HostDirectory:
