@@ -4,16 +4,27 @@ import shutil
 import socket
 import subprocess
 import threading
+from collections.abc import Callable
 
-from tests.lib.program_test import ProgramTest, slow
+from tests.lib.program_test import slow
 from tests.lib.tally import run
-from tests.oracle.session import Answer
 
-from .folder import NEW, OLD, SKIPPING, Folder, names
+from .folder import NEW, OLD, SKIPPING, FolderTest, names
 
 NOT_WRITTEN = b"aide: cannot write the report\n"
 NOBODY = 65534
 LEAST_PAGE = 1000
+# Pairs of which something is said on standard error.
+FAULTS = [("a fault", OLD[:40], NEW), ("skipped columns", SKIPPING, SKIPPING)]
+
+Step = Callable[[bytes], None]
+# What may be where a file is named, and how it is made and taken away.
+IN_PLACE_OF_A_FILE: tuple[tuple[str, Step, Step], ...] = (
+    ("no", lambda path: None, lambda path: None),
+    ("a folder as", os.mkdir, os.rmdir),
+    ("a link to nowhere as", lambda path: os.symlink("nowhere", path), os.unlink),
+    ("the null device as", lambda path: os.symlink("/dev/null", path), os.unlink),
+)
 
 
 def closed_pipe():
@@ -60,110 +71,85 @@ def become_nobody():
 
 
 @slow
-class DevicesTest(ProgramTest):
+class DevicesTest(FolderTest):
+    def answered(self, label, want, *more, **streams):
+        """The program answers so over the files of the folder."""
+        self.check(label, self.folder.run(self.program, *more, **streams), want)
+
     def test_standard_output(self) -> None:
         """A report that is not written; a quiet run without differences writes nothing."""
-        with Folder() as folder:
-            folder.pair(SKIPPING, SKIPPING)
-            check_outputs(self, "a report", self.program, folder.words())
-            quiet = folder.run(self.program, b"-B", b"report_quiet=yes", stdout=subprocess.DEVNULL)
-            self.check("quiet", quiet, (None, folder.wanted().errors, 0))
-            with open("/dev/full", "wb") as full:
-                quiet = folder.run(self.program, b"-B", b"report_quiet=yes", stdout=full)
-            self.check("quiet over a full device", quiet, (None, folder.wanted().errors, 0))
-            long = folder.at("long")
-            folder.pair(OLD, names(20000))
-            with open(long, "wb") as file:
-                answer = folder.run(self.program, stdout=file)
-            with open(long, "rb") as file:
-                self.check(
-                    "a long report",
-                    Answer(file.read(), answer.errors, answer.status),
-                    folder.wanted(),
-                )
+        self.folder.pair(SKIPPING, SKIPPING)
+        check_outputs(self, "a report", self.program, self.folder.words())
+        quiet = (None, self.folder.wanted().errors, 0)
+        with open("/dev/full", "wb") as full:
+            for stream in (subprocess.DEVNULL, full):
+                self.answered("quiet", quiet, b"-B", b"report_quiet=yes", stdout=stream)
+        self.folder.pair(OLD, names(20000))
+        with open(self.folder.at("long"), "w+b") as file:
+            answer = self.folder.run(self.program, stdout=file)
+            file.seek(0)
+            self.check("a long report", answer._replace(output=file.read()), self.folder.wanted())
 
     def test_standard_error(self) -> None:
         """What becomes of standard error changes neither the output nor the status."""
-        cases = [("a fault", OLD[:40], NEW), ("skipped columns", SKIPPING, SKIPPING)]
-        for label, old, new in cases:
-            with Folder() as folder:
-                folder.pair(old, new)
-                want = Answer(folder.wanted().output, None, folder.wanted().status)
-                with open("/dev/full", "wb") as full:
-                    self.check(
-                        "a full standard error, " + label,
-                        folder.run(self.program, stderr=full),
-                        want,
-                    )
-                writing = closed_pipe()
-                self.check(
-                    "a closed standard error, " + label,
-                    folder.run(self.program, stderr=writing),
-                    want,
-                )
-                os.close(writing)
-                answer = folder.run(self.program, preexec_fn=lambda: os.close(2))
-                self.check("no standard error, " + label, answer, (want.output, b"", want.status))
+        for label, old, new in FAULTS:
+            self.folder.pair(old, new)
+            want = self.folder.wanted()._replace(errors=None)
+            with open("/dev/full", "wb") as full:
+                self.answered("a full standard error, " + label, want, stderr=full)
+            writing = closed_pipe()
+            self.answered("a closed standard error, " + label, want, stderr=writing)
+            os.close(writing)
+            gone = {"preexec_fn": lambda: os.close(2)}
+            self.answered("no standard error, " + label, want._replace(errors=b""), **gone)
 
     def test_writes(self) -> None:
         """A line on standard error is never cut between two writes, and a long report goes out in
         pages."""
-        with Folder() as folder:
-            for label, old, new in (
-                ("skipped columns", SKIPPING, SKIPPING),
-                ("a fault", OLD[:40], NEW),
-            ):
-                folder.pair(old, new)
-                parts = written(folder, self.program, "stderr")
-                is_whole = b"".join(parts) == folder.wanted().errors and all(
-                    part.endswith(b"\n") for part in parts
-                )
-                self.holds("writes of whole lines, " + label, is_whole, parts)
-            folder.pair(OLD, names(20000))
-            parts, want = written(folder, self.program, "stdout"), folder.wanted().output
-            is_good = b"".join(parts) == want and len(parts) < len(want) / LEAST_PAGE
-            self.holds("writes of pages", is_good, (len(parts), len(want)))
+        for label, old, new in FAULTS:
+            self.folder.pair(old, new)
+            parts = written(self.folder, self.program, "stderr")
+            is_whole = all(part.endswith(b"\n") for part in parts)
+            is_right = is_whole and b"".join(parts) == self.folder.wanted().errors
+            self.holds("writes of whole lines, " + label, is_right, parts)
+        self.folder.pair(OLD, names(20000))
+        parts, want = written(self.folder, self.program, "stdout"), self.folder.wanted().output
+        is_good = b"".join(parts) == want and len(parts) < len(want) / LEAST_PAGE
+        self.holds("writes of pages", is_good, (len(parts), len(want)))
 
     def test_files(self) -> None:
         """Databases exchanged, missing, a folder, a device, the same file twice."""
-        with Folder() as folder:
-            folder.pair()
-            self.check("a pair", folder.run(self.program), folder.wanted())
-            self.add("its status", [] if folder.run(self.program).status == 7 else ["is not 7"])
-            folder.pair(NEW, OLD)
-            self.check("exchanged", folder.run(self.program), folder.wanted())
-            folder.pair(OLD, OLD)
-            self.check("the same twice", folder.run(self.program), folder.wanted())
-            for name in ("old", "new", "conf"):
-                folder.pair()
-                os.unlink(folder.at(name))
-                self.check("no " + name, folder.run(self.program), folder.wanted())
-                os.mkdir(folder.at(name))
-                self.check("a folder as " + name, folder.run(self.program), folder.wanted())
-                os.rmdir(folder.at(name))
-                os.symlink("nowhere", folder.at(name))
-                self.check(
-                    "a link to nowhere as " + name, folder.run(self.program), folder.wanted()
-                )
-                os.unlink(folder.at(name))
-                os.symlink("/dev/null", folder.at(name))
-                self.check("the null device as " + name, folder.run(self.program), folder.wanted())
-                os.unlink(folder.at(name))
+        for label, old, new, status in (
+            ("a pair", OLD, NEW, 7),
+            ("exchanged", NEW, OLD, 7),
+            ("the same twice", OLD, OLD, 0),
+        ):
+            self.folder.pair(old, new)
+            self.check_status(label, self.folder.words(), status)
+        for name in ("old", "new", "conf"):
+            path = self.folder.at(name)
+            for label, make, take_away in IN_PLACE_OF_A_FILE:
+                self.folder.pair()
+                os.unlink(path)
+                make(path)
+                self.answered(f"{label} {name}", self.folder.wanted())
+                take_away(path)
 
     def test_unreadable(self) -> None:
-        """Files that may not be read; the self.program is run by a user who is not root."""
-        with Folder() as folder:
-            folder.pair()
-            shutil.copy(self.program, folder.at("self.program"))
-            for name in ("", "old", "new", "conf", "self.program"):
-                os.chmod(folder.at(name), 0o755)
-            lines = {
-                "old": b"cannot open the old database " + folder.at("old"),
-                "new": b"cannot open the new database " + folder.at("new"),
-                "conf": b"cannot read the configuration " + folder.at("conf"),
-            }
-            for name, line in lines.items():
-                os.chmod(folder.at(name), 0)
-                answer = folder.run(folder.at("self.program"), preexec_fn=become_nobody)
-                self.check("an unreadable " + name, answer, (b"", b"aide: " + line + b"\n", 18))
-                os.chmod(folder.at(name), 0o644)
+        """Files that may not be read; the program is run by a user who is not root."""
+        self.folder.pair()
+        program = self.folder.at("program")
+        shutil.copy(self.program, program)
+        for name in ("", "old", "new", "conf", "program"):
+            os.chmod(self.folder.at(name), 0o755)
+        for name, words in (
+            ("old", b"open the old database"),
+            ("new", b"open the new database"),
+            ("conf", b"read the configuration"),
+        ):
+            path = self.folder.at(name)
+            os.chmod(path, 0)
+            answer = self.folder.run(program, preexec_fn=become_nobody)
+            line = b"aide: cannot %s %s\n" % (words, path)
+            self.check("an unreadable " + name, answer, (b"", line, 18))
+            os.chmod(path, 0o644)
