@@ -44,7 +44,8 @@ const document = {
     return known.get(id);
   },
   addEventListener: (event, act) => { handlers[event] = act; },
-  querySelector: (selector) => root.querySelector(selector) || new Element('div'),
+  querySelector: (selector) => root.querySelector(selector),
+  querySelectorAll: (selector) => root.querySelectorAll(selector),
   activeElement: null,
 };
 const window = { addEventListener: (event, act) => { handlers[event] = act; } };

@@ -241,7 +241,7 @@ function listen() {
     if (text !== 'content' && text !== written) showView(text);
   });
   on(window, 'beforeprint', () => {
-    document.querySelector('.about').open = true;
+    for (const about of document.querySelectorAll('.about')) about.open = true;
     showItems(0, matching.length);
   });
   on(window, 'afterprint', showList);
