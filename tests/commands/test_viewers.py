@@ -23,10 +23,9 @@ from tests.oracle.lines import lines_of as lines_of_databases
 from tests.program.random_texts.databases import random_pair
 from tests.commands.viewers import deep, hostile, texts
 from tests.commands.viewers.expected import faults_of, without_same_rights
-from tests.commands.viewers.in_browser import CASES, VIEWED, script_entry
 from tests.commands.viewers.lines import Fields, changes_of, lines_of, objects_of
 from tests.commands.viewers.lines import page_over, proved_lines, stand
-from tests.commands.viewers.pages import HAS_NODE, bytes_shown, contrast_faults, seen
+from tests.commands.viewers.pages import CASES, HAS_NODE, bytes_shown, contrast_faults, seen
 from tests.commands.viewers.refused import LINE_EDITS, rich_lines
 from tests.commands.viewers.schema import Validator, schema_of_lines
 
@@ -42,9 +41,32 @@ BLANKS_THAT_ARE_LETTERS = "\u115f\u1160\u2800\u3164\uffa0"
 LABELS = {word_of(label): label for label in FORMS}
 PAIRS = 20 if os.environ.get(QUICK) else 40
 
-
+# What a view finds and how it is written, by the functions of the page's script.
+VIEWED = """(() => {
+  const choices = %s;
+  %s
+  const entries = %s, view = viewOf(%s);
+  const fitting = entries.filter((entry) => fits(view, view.path.toLowerCase(), entry));
+  return [ordered(fitting, view.order || 'path').map((entry) => entry.path), textOf(view)];
+})()"""
 # The elements that the script makes of what it shows.
 TAGS = set("h1 h2 p dl dt dd div code b i span small details summary table tr th td li ul".split())
+
+
+def script_entry(one: Fields) -> Fields:
+    """An entry of the table of views, as the script keeps it."""
+    growth = one.get("growth", 0)
+    return {
+        "path": one["path"],
+        "folded": one["path"].lower(),
+        "kind": one["kind"],
+        "severity": one.get("severity", ""),
+        "place": one["place"],
+        "standing": one.get("standing", "open"),
+        "package": one.get("package", ""),
+        "attribute": " ".join(one["attributes"]),
+        "size": growth,
+    }
 
 
 def bytes_in(fields: Fields, key: str) -> bytes:

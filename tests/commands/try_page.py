@@ -1,10 +1,9 @@
 """Tries the page of aide-compare page in a real browser, a headless Chromium. Run it by hand: the
 gate has no browser.
 
-It tries the table of views (viewers/views.json), filters, orders, folders, the address, the
-keyboard, printing, pages without scripts, hostile names, and the time that a large page takes. It
-prints which browser it used. With --pictures it leaves pictures to look at. The last line is 'N
-passed, M failed'.
+It tries filters, orders, folders, the address, the keyboard, printing, pages without scripts,
+hostile names, and the time that a large page takes. It prints which browser it used. With
+--pictures it leaves pictures to look at. The last line is 'N passed, M failed'.
 """
 from __future__ import annotations
 
@@ -42,7 +41,6 @@ def write_pages(folder: str) -> dict[str, str]:
 
 
 def try_pages(trial: Trial, pages: dict[str, str]) -> None:
-    trial.views()
     for name in ("demo", "simple"):
         trial.filters(pages[name])
     for name in ("demo", "simple", "hostile"):

@@ -7,14 +7,9 @@ import re
 import time
 
 from tests.commands.viewers.browser import Browser
-from tests.commands.viewers.lines import Fields
 from tests.commands.viewers.pages import KINDS, wanted_folders
 from tests.commands.viewers.samples import DEMO
 from tests.lib.tally import Tally
-
-from aide_compare.show.page import CHOICES, part_of
-
-CASES = os.path.join(os.path.dirname(os.path.abspath(__file__)), "views.json")
 
 READY = "document.getElementById('view') !== null && !document.getElementById('view').hidden"
 ENTRY = "#list > li:not(.section)"
@@ -23,14 +18,6 @@ PATHS = "[...document.querySelectorAll('#list code')].map((one) => one.textConte
 HASH = "location.hash"
 FOCUS = "document.activeElement"
 OPENED = "#list details[open] > table"
-# What a view finds and how it is written, by the functions of the page's script.
-VIEWED = """(() => {
-  const choices = %s;
-  %s
-  const entries = %s, view = viewOf(%s);
-  const fitting = entries.filter((entry) => fits(view, view.path.toLowerCase(), entry));
-  return [ordered(fitting, view.order || 'path').map((entry) => entry.path), textOf(view)];
-})()"""
 # The facts beside the added program, and the least width of a folder's name.
 FACTS = """[...document.querySelectorAll('#list li')].find((one) => one.textContent.includes('sbin/.x')).querySelector(
   'i').textContent.trim()"""
@@ -109,20 +96,6 @@ class Trial:
     def no_fault(self, label: str) -> None:
         self.tally.add(f"no fault of {label}", self.browser.faults)
 
-    def views(self) -> None:
-        """The table of views, by the functions of the page's script."""
-        with open(CASES, encoding="utf-8") as file:
-            table = json.load(file)
-        self.browser.open("/proc/version")
-        entries = json.dumps([script_entry(one) for one in table["entries"]])
-        choices = json.dumps({**CHOICES, "attribute": table["attributes"]})
-        logic = part_of("page_logic.js")
-        for case in table["cases"]:
-            view = case["view"]
-            found, text = self.browser.value(VIEWED % (choices, logic, entries, json.dumps(view)))
-            self.tally.holds(f"view {view}", found == case["found"], f"it finds {found}")
-            self.tally.holds(f"text of {view}", text == case.get("text", view), f"it is {text}")
-
     def folders(self, path: str) -> None:
         """The tree has all directories of the entries, each with its counts."""
         self.open(path, "#order=path")
@@ -181,7 +154,7 @@ class Trial:
         self.click(f"{OPENED} + details > summary")
         self.shows("the other digests", number_of(f"{OPENED} + details[open] th[scope=row]"), 4)
         exact = "document.querySelector('#list td details').textContent"
-        self.shows("an exact value", exact, "2026-01-01 00:00:00 +00001767225600")
+        self.shows("an exact value", exact, "2026-01-01 00:00:00 UTC1767225600")
         self.picture("light")
         self.picture("dark", dark=True)
         self.picture("narrow", 320, 2400)
@@ -309,19 +282,3 @@ class Trial:
         self.picture("no_scripts")
         self.browser.ask("Emulation.setScriptExecutionDisabled", value=False)
         self.no_fault("pages without scripts")
-
-
-def script_entry(one: Fields) -> Fields:
-    """An entry of the table of views, as the script keeps it."""
-    growth = one.get("growth", 0)
-    return {
-        "path": one["path"],
-        "folded": one["path"].lower(),
-        "kind": one["kind"],
-        "severity": one.get("severity", ""),
-        "place": one["place"],
-        "standing": one.get("standing", "open"),
-        "package": one.get("package", ""),
-        "attribute": ", ".join(one["attributes"]),
-        "size": growth,
-    }

@@ -80,6 +80,7 @@ def page_over(objects: list[Fields], limit: int = MAX_PAGE) -> bytes:
         level = SEVERITIES.index(fields.get("severity", "high"))
         importance = Importance(level, 0, 0, False)
         rows.add(class_of(fields["standing"], importance), {**fields, "order": 0})
-    heading: Fields = {"title": "File changes", "outcome": "", "remarks": []}
-    heading.update((name, []) for name in ("facts", "databases", "counts", "lists"))
+    database = {"side": "Old database", "name": "/a", "time": "", "sha256": "00"}
+    heading: Fields = {"title": "File changes", "outcome": "", "databases": [database]}
+    heading.update(counts=[["open", 1]], remarks=[], facts=[], lists=[])
     return b"".join(page("File changes", "digest", rows.chosen(limit), lambda: heading))

@@ -11,6 +11,7 @@ from typing import Any
 
 KINDS = ["added", "removed", "changed"]
 HERE = os.path.dirname(os.path.abspath(__file__))
+CASES = os.path.join(HERE, "views.json")
 ESCAPE = re.compile(r"\\([0-7]{3})")
 HAS_NODE = shutil.which("node") is not None
 
