@@ -278,10 +278,6 @@ class CommandTest(ScratchTest):
             self.assertIn(kept["error"].encode(), answer.errors, (tool, words))
         return answer
 
-    def needs_root(self) -> None:
-        if os.getuid() != 0:
-            self.skipTest("it needs root")
-
     def state(self, name="state"):
         """A state file as a map of texts, those of lists with blanks; nothing where there is
         none."""

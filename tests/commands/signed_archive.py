@@ -262,9 +262,7 @@ class ArchiveCase(CommandTest):
 
     def setUp(self) -> None:
         super().setUp()
-        missing = [name for name in PROGRAMS if shutil.which(name) is None]
-        if missing:
-            self.skipTest("not installed: " + " ".join(missing))
+        self.needs(*PROGRAMS)
         make_keys(self)
         self.addCleanup(stop_agents, self)
         self.place = upgraded(self)

@@ -14,6 +14,7 @@ from tests.commands.sandbox import CommandTest, sha256
 from tests.commands.signed_archive import (
     CONFIGURATION,
     HOME,
+    PROGRAMS,
     TOOL,
     Place,
     keep_as_apt,
@@ -23,7 +24,6 @@ from tests.commands.signed_archive import (
 )
 from tests.commands.viewers.pages import data_in
 
-PROGRAMS = ("gpg", "gpgv", "dpkg-deb")
 PAIR = ("base/aide.db", "base/aide.db.new")
 # What setup writes, and what an administrator may have beside it.
 DEFAULTS = """\
@@ -46,9 +46,7 @@ def started(path: str, name: str) -> list[str]:
 class OneTruthTest(CommandTest):
     def setUp(self) -> None:
         super().setUp()
-        missing = [name for name in PROGRAMS if shutil.which(name) is None]
-        if missing:
-            self.skipTest("not installed: " + " ".join(missing))
+        self.needs(*PROGRAMS)
         mail.prepare(self)
         make_keys(self)
         self.addCleanup(stop_agents, self)

@@ -3,6 +3,7 @@ from __future__ import annotations
 
 import os
 import random
+import shutil
 import unittest
 
 from tests.lib.programs import find_program, lines_program_of
@@ -23,7 +24,16 @@ def new_seed() -> int:
 
 
 class StatedTest(unittest.TestCase):
-    """A test of statements, each with a label."""
+    """A test of statements, each with a label, which may need what a machine can lack."""
+
+    def needs(self, *programs: str) -> None:
+        missing = [name for name in programs if shutil.which(name) is None]
+        if missing:
+            self.skipTest("not installed: " + " ".join(missing))
+
+    def needs_root(self) -> None:
+        if os.getuid() != 0:
+            self.skipTest("it needs root")
 
     def holds(self, label, good, got=""):
         """Something is so; `got` is shown if it is not."""

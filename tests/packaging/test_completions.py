@@ -2,7 +2,6 @@
 shells read them."""
 import os
 import re
-import shutil
 
 from tests.lib.program_test import slow
 from tests.lib.scratch import read
@@ -117,8 +116,7 @@ class CompletionsTest(InstallTest):
                 )
 
     def test_bash(self):
-        if not shutil.which("bash"):
-            self.skipTest("not installed: bash")
+        self.needs("bash")
         for words in SUBCOMMANDS + HOSTS:
             wanted, given = options(self, words), ask_bash(
                 self, "aide-compare", *words.split(), "-"
@@ -163,8 +161,7 @@ class CompletionsTest(InstallTest):
             )
 
     def test_zsh(self):
-        if not shutil.which("zsh"):
-            self.skipTest("not installed: zsh")
+        self.needs("zsh")
         folder = self.first(os.path.dirname(ZSH))
         with open(self.first(ZSH)) as file:
             named = set(re.findall(r"\breport_\w+", file.read()))
@@ -189,8 +186,7 @@ class CompletionsTest(InstallTest):
             )
 
     def test_fish(self):
-        if not shutil.which("fish"):
-            self.skipTest("not installed: fish")
+        self.needs("fish")
         home = self.path("home")
         os.makedirs(home)
         surroundings = dict(

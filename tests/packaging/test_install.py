@@ -128,8 +128,7 @@ class InstallingTest(InstallTest):
         first = tree(self.path("first"))
         for words in (["dash"], ["bash"], ["busybox", "sh"]):
             with self.subTest(words[0]):
-                if not shutil.which(words[0]):
-                    self.skipTest("not installed: " + words[0])
+                self.needs(words[0])
                 folder = self.path(words[0])
                 narrow = ["sh", "-c", 'umask 077; exec "$@"', "sh", *words]
                 done = self.run_install(folder, shell=narrow)

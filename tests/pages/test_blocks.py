@@ -99,8 +99,8 @@ class PagesTest(MachineTest):
 
     def run_block(self, block: Block) -> None:
         status = block.values("run")[0]
-        if "jq" in block.text and shutil.which("jq") is None:
-            self.skipTest("not installed: jq")
+        if "jq" in block.text:
+            self.needs("jq")
         self.fill()
         lines = [*block.values("before"), block.text]
         begin = f"EXAMPLES='{TOP}/examples'\nset -u\n"

@@ -116,8 +116,7 @@ def fault_of(line: str) -> str | None:
 
 class PagesTest(ScratchTest):
     def test_man(self) -> None:
-        if not shutil.which("man"):
-            self.skipTest("not installed: man")
+        self.needs("man")
         for page in MANUALS:
             words = ["man", "--warnings", "-E", "UTF-8", "-l", "-Tutf8", "-Z", page]
             done = subprocess.run(words, capture_output=True, cwd=TOP, text=True, check=False)
@@ -125,8 +124,7 @@ class PagesTest(ScratchTest):
 
     def test_mandoc(self) -> None:
         """No style is doubtful. The pages of other programs that ours name are there."""
-        if not shutil.which("mandoc"):
-            self.skipTest("not installed: mandoc")
+        self.needs("mandoc")
         text = "".join(map(read, MANUALS))
         for name, section_ in set(re.findall(r"\bXr (\S+) (\d)", text)):
             self.write(f"man/man{section_}/{name}.{section_}", "")

@@ -6,7 +6,6 @@ import glob
 import json
 import os
 import re
-import shutil
 import unittest
 
 from tests.lib.scratch import read
@@ -74,8 +73,7 @@ class HandsTest(RecipesTest):
         self.put_files(of_sizes(BEFORE), of_sizes(INTRUDER))
         self.assertEqual(self.recipe("lines")[0], 0)
         self.assertIn('"standing":"left out"', self.read("/tmp/lines"))
-        if not shutil.which("jq"):
-            self.skipTest("not installed: jq")
+        self.needs("jq")
         self.assertEqual(self.recipe("one object"), (0, "", ""))
         one, kinds = json.loads(self.read("/tmp/object.json")), ("added", "removed", "changed")
         counts = {kind: one["number_of_entries"][kind] for kind in kinds}

@@ -188,8 +188,7 @@ class QuietTest(RecipesTest):
     def test_owner(self) -> None:
         """The first comparison was root's, and the databases belong to another user: the job of
         cron can still write."""
-        if os.geteuid() != 0:
-            self.skipTest("it needs root")
+        self.needs_root()
         self.put_night(INTRUDER)
         self.assertEqual(self.run_words(["aide-compare", "--state", self.path(STATE)])[0], 7)
         for owner in (NOBODY, 0):

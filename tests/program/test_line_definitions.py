@@ -11,7 +11,6 @@ import itertools
 import json
 import random
 import re
-import shutil
 import subprocess
 import unicodedata
 
@@ -319,10 +318,8 @@ class LineDefinitionsTest(AnswerTest):
                 faults_beside(answer.output, wanted, before, after),
             )
             outputs.append(answer.output)
-        program, output = shutil.which("jq"), b"".join(outputs)
-        if program is None:
-            self.skipTest("not installed: jq")
-        done = subprocess.run(
-            [program, "-c", "."], input=output, stdout=subprocess.PIPE, check=False
-        ).stdout
+        self.needs("jq")
+        output = b"".join(outputs)
+        words = ["jq", "-c", "."]
+        done = subprocess.run(words, input=output, stdout=subprocess.PIPE, check=False).stdout
         self.holds("jq reads what Python reads", output and read(done) == read(output))
