@@ -89,6 +89,20 @@ class MailRequestTest(ModuleTest):
                 self.assertEqual(isinstance(request.comparison, Fault), line == "--odd", line)
             self.assertIn("--not-known", request_of(["--not-known"]).comparison.text)  # type: ignore
 
+    def test_machine(self) -> None:
+        """The databases and the state of this machine are those of the defaults, and a list has
+        what both say."""
+        lines = b"--databases o  n\n--state s\n--weekly Tue\n--exclude /a\n"
+        self.write("defaults", lines)
+        comparison = self.asks("--exclude /b", state="s", weekly="Tue")
+        got = (comparison.databases, comparison.state, comparison.exclude)
+        self.assertEqual(got, (["o", "n"], "s", ["/a", "/b"]))
+        comparison = self.asks("--state t x y", state="t", weekly="Tue")
+        self.assertEqual((comparison.databases, comparison.state), (["x", "y"], "t"))
+        self.assertIsNone(self.asks("x y").state, "the state of this machine is not of others")
+        comparison = self.asks("--no-defaults")
+        self.assertEqual((comparison.databases, comparison.exclude), ((), []))
+
     def test_bad_lines(self) -> None:
         """Only options that are the same for all may be among the defaults."""
         for line in (
