@@ -7,7 +7,7 @@ import stat
 import time
 from typing import Any, Dict, List
 
-from tests.commands.base.calls import ModuleTest
+from tests.commands.units.calls import ModuleTest
 from tests.commands.made_up import Night, time_of
 from tests.commands.sandbox import CommandTest
 from tests.commands.test_hosts_report import Hosts

@@ -10,7 +10,7 @@ import subprocess
 import sys
 from typing import Any
 
-from tests.commands.base import TOP
+from tests.commands.units import TOP
 from tests.commands.sandbox import Answer, CommandTest
 from tests.lib.program_test import slow
 from tests.lib.waiting import until

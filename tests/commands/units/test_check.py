@@ -5,7 +5,7 @@ from __future__ import annotations
 from typing import Any, Optional
 from unittest import mock
 
-from tests.commands.base.calls import ModuleTest
+from tests.commands.units.calls import ModuleTest
 
 from aide_compare.base import parser
 from aide_compare.base.kinds import alarm_limit

@@ -6,7 +6,7 @@ import sqlite3
 from typing import Any
 from unittest import mock
 
-from tests.commands.base.calls import ModuleTest
+from tests.commands.units.calls import ModuleTest
 
 from aide_compare.base import rows
 from aide_compare.base.paths import key_of_path

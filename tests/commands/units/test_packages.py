@@ -6,7 +6,7 @@ from types import SimpleNamespace
 from typing import Any
 from unittest import mock
 
-from tests.commands.base.calls import ModuleTest
+from tests.commands.units.calls import ModuleTest
 from tests.commands.made_up import Package
 
 from aide_compare.base.ending import Fault

@@ -4,7 +4,7 @@ from __future__ import annotations
 
 from unittest import mock
 
-from tests.commands.base.calls import ModuleTest
+from tests.commands.units.calls import ModuleTest
 from tests.lib.programs import find_program, lines_program_of
 
 from aide_compare.base.ending import Fault

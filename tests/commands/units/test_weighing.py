@@ -4,7 +4,7 @@ from __future__ import annotations
 import json
 from typing import Any, Dict
 
-from tests.commands.base.calls import ModuleTest
+from tests.commands.units.calls import ModuleTest
 
 from aide_compare.base.paths import key_of_path
 from aide_compare.changes.weighing import MAX_LINE, Scales, Weighed, is_content

@@ -8,8 +8,8 @@ import subprocess
 import sys
 from typing import Any
 
-from tests.commands.base import TOP
-from tests.commands.base.calls import ModuleTest
+from tests.commands.units import TOP
+from tests.commands.units.calls import ModuleTest
 from tests.lib.scratch import read
 
 from aide_compare import VERSION

@@ -12,7 +12,7 @@ from collections.abc import Callable, Iterator
 from typing import Any
 from unittest import mock
 
-from tests.commands.base.calls import OTHER, ModuleTest, in_child
+from tests.commands.units.calls import OTHER, ModuleTest, in_child
 
 from aide_compare.base.files import in_memory
 from aide_compare.compare import baseline

@@ -7,7 +7,7 @@ from collections.abc import Iterator
 from typing import Any
 from unittest import mock
 
-from tests.commands.base.calls import ModuleTest
+from tests.commands.units.calls import ModuleTest
 
 from aide_compare.base.words import SEVERITIES
 from aide_compare.changes import severity

@@ -6,7 +6,7 @@ import subprocess
 import sys
 import unittest
 
-from tests.commands.base import TOP
+from tests.commands.units import TOP
 
 from aide_compare.base.paths import Pattern
 

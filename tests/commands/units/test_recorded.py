@@ -5,7 +5,7 @@ from __future__ import annotations
 import hashlib
 from unittest import mock
 
-from tests.commands.base.calls import ModuleTest
+from tests.commands.units.calls import ModuleTest
 
 from aide_compare.changes import recorded
 from aide_compare.base.paths import key_of_path

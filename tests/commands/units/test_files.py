@@ -8,7 +8,7 @@ import zlib
 from typing import Any, Union
 from unittest import mock
 
-from tests.commands.base.calls import OTHER, PlacesTest, outcome
+from tests.commands.units.calls import OTHER, PlacesTest, outcome
 
 from aide_compare.base import files, program
 from aide_compare.base.directories import ANYBODY, open_directory

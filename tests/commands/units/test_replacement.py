@@ -10,7 +10,7 @@ from collections.abc import Callable
 from typing import Any, List, Tuple
 from unittest import mock
 
-from tests.commands.base.calls import OTHER, PlacesTest, in_child
+from tests.commands.units.calls import OTHER, PlacesTest, in_child
 
 from aide_compare.base import files, replacement
 from aide_compare.base.directories import closed_after, open_directory

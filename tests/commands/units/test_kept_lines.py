@@ -6,8 +6,8 @@ import json
 from typing import Any
 from unittest import mock
 
-from tests.commands.base.calls import ModuleTest
-from tests.commands.base.streams import fields_of, line_of, objects_in, stream_of
+from tests.commands.units.calls import ModuleTest
+from tests.commands.units.streams import fields_of, line_of, objects_in, stream_of
 
 from aide_compare.base.files import in_memory
 from aide_compare.changes.judged import Judged

@@ -4,7 +4,7 @@ from __future__ import annotations
 import io
 import tarfile
 
-from tests.commands.base.calls import ModuleTest
+from tests.commands.units.calls import ModuleTest
 
 from aide_compare.changes.applied import members_of
 

@@ -5,7 +5,7 @@ import os
 import socket
 from unittest import mock
 
-from tests.commands.base.calls import OTHER, ModuleTest
+from tests.commands.units.calls import OTHER, ModuleTest
 
 from aide_compare.base.directories import open_directory
 from aide_compare.mail import sending

@@ -3,8 +3,8 @@ from __future__ import annotations
 
 from typing import Any
 
-from tests.commands.base.calls import ModuleTest
-from tests.commands.base.streams import fields_of, outline_of
+from tests.commands.units.calls import ModuleTest
+from tests.commands.units.streams import fields_of, outline_of
 
 from aide_compare.hosts.fleet import Fleet
 from aide_compare.lines.change import Fields

@@ -3,7 +3,7 @@ from __future__ import annotations
 
 from typing import Any
 
-from tests.commands.base.calls import ModuleTest
+from tests.commands.units.calls import ModuleTest
 
 from aide_compare.lines.change import Change, Counts, Standing, change_of
 

@@ -4,7 +4,7 @@ from __future__ import annotations
 import fcntl
 import os
 
-from tests.commands.base.calls import PlacesTest
+from tests.commands.units.calls import PlacesTest
 
 from aide_compare.base.files import in_memory
 from aide_compare.compare import outputs

@@ -8,7 +8,7 @@ from collections.abc import Callable
 from typing import Any
 from unittest import mock
 
-from tests.commands.base.calls import OTHER, ModuleTest, PlacesTest, in_child
+from tests.commands.units.calls import OTHER, ModuleTest, PlacesTest, in_child
 
 from aide_compare.base import files, rights
 
