@@ -11,11 +11,12 @@ from .sandbox import CommandTest
 class AnswersTest(CommandTest):
     def test_counts(self) -> None:
         """Each answer has the counts of the state, in the form that the command prints."""
-        pair = ["old.db", "new.db"]
+        pair = ["--exclude", "/a", "old.db", "new.db"]
         self.call("aide-compare", "--state", "state", *pair)
         state = json.loads(self.read("state"))
         wanted = answers.counts_of_state({name: str(value) for name, value in state.items()})
-        self.assertEqual((wanted.open, wanted.changes), (4, 4))
+        numbers = (wanted.open, wanted.changes, wanted.left_out, wanted.status)
+        self.assertEqual(numbers, (3, 4, 1, 6))
 
         def said(*words: str) -> str:
             answer = self.call("aide-compare", *words)
@@ -32,3 +33,4 @@ class AnswersTest(CommandTest):
             with self.subTest(name):
                 assert counts is not None
                 self.assertTrue(counts.agrees(wanted), (counts, wanted))
+                self.assertFalse(counts._replace(status=0).agrees(wanted))

@@ -21,12 +21,15 @@ NO_TO_ACCEPT = "while sleep 1; do echo no; done | script -qec 'aide-compare acce
 
 
 class Counts(NamedTuple):
-    """The numbers that every command prints. None: it does not print this one."""
+    """The numbers that every command prints, and the exit status of those that compare. None: it
+    does not say this one."""
 
     open: int | None = 0
     high: int | None = 0
     recorded: int | None = 0
     changes: int | None = 0
+    left_out: int | None = 0
+    status: int | None = None
 
     def agrees(self, other: Counts) -> bool:
         pairs = zip(self, other)
@@ -38,9 +41,11 @@ def counts_in_words(text: str) -> Counts | None:
     text = text.partition("|")[0]
     if re.search("(?i)no difference", text):
         return Counts()
+    leaving = re.search(r"left out: (\d+) of", text)
+    left_out = int(leaving[1]) if leaving else 0
     silent = re.search(r"(\d+) changes?, all silent", text)
     if silent:
-        return Counts(changes=int(silent[1]))
+        return Counts(changes=int(silent[1]), left_out=left_out)
     changes = re.search(r"(?:of (\d+)|: (\d+)) changes?", text)
     found = re.search(r"(\d+) open(?: \((\d+) high\))?", text)
     recorded = re.search(r"(\d+) recorded", text)
@@ -51,6 +56,7 @@ def counts_in_words(text: str) -> Counts | None:
         int(found[2] or 0) if found else 0,
         int(recorded[1]) if recorded else 0,
         int(changes[1] or changes[2]) if changes else None,
+        left_out,
     )
 
 
@@ -60,7 +66,8 @@ def counts_of_state(state: Dict[str, str]) -> Counts:
 
     kinds = ("added", "removed", "changed")
     changes = sum(map(number, kinds))
-    return Counts(number("open"), number("open_high"), number("recorded"), changes)
+    found = Counts(number("open"), number("open_high"), number("recorded"), changes)
+    return found._replace(left_out=number("left_out"), status=number("told_status"))
 
 
 def counts_of_lines(text: str) -> Counts:
@@ -69,14 +76,16 @@ def counts_of_lines(text: str) -> Counts:
     if not changes:
         return Counts()
     standings = last["standings"]
-    return Counts(standings["open"], standings["open_high"], standings["recorded"], changes)
+    found = Counts(standings["open"], standings["open_high"], standings["recorded"], changes)
+    return found._replace(left_out=standings["left_out"])
 
 
 def counts_of_page(text: str) -> Counts:
     """The page counts what is high among the open and the recorded ones together."""
     numbers = dict(data_in(text)["heading"]["counts"])
     changes = sum(numbers.get(kind, 0) for kind in ("added", "removed", "changed"))
-    return Counts(numbers.get("open", 0), None, numbers.get("recorded", 0), changes)
+    found = Counts(numbers.get("open", 0), None, numbers.get("recorded", 0), changes)
+    return found._replace(left_out=numbers.get("left out", 0))
 
 
 def texts_of_mail(machine: Machine) -> List[str]:
@@ -101,14 +110,21 @@ def said(machine: Machine, *words: str) -> str:
     return (done.stdout + done.stderr).decode()
 
 
+def compared(machine: Machine, read: Callable[[str], Counts | None], script: str) -> Counts | None:
+    """What a command that compares says, and its exit status."""
+    done = machine.shell(script)
+    counts = read((done.stdout + done.stderr).decode())
+    return counts._replace(status=done.returncode) if counts else None
+
+
 # What each command says by hand, after the timer has written its state.
 COMMANDS: Dict[str, Callable[[Machine], Counts | None]] = {
     "status": lambda machine: counts_in_words(said(machine, "aide-compare", "status")),
     "check": lambda machine: counts_in_words(said(machine, CHECK)),
-    "hand": lambda machine: counts_in_words(said(machine, "aide-compare")),
-    "json": lambda machine: counts_of_lines(machine.shell("aide-compare json").stdout.decode()),
-    "page": lambda machine: counts_of_page(said(machine, "aide-compare", "page")),
-    "show": lambda machine: counts_in_words(said(machine, "aide-compare", "show", SHOWN)),
+    "hand": lambda machine: compared(machine, counts_in_words, "aide-compare"),
+    "json": lambda machine: compared(machine, counts_of_lines, "aide-compare json 2> /dev/null"),
+    "page": lambda machine: compared(machine, counts_of_page, "aide-compare page"),
+    "show": lambda machine: compared(machine, counts_in_words, f"aide-compare show {SHOWN}"),
     "accept": lambda machine: counts_in_words(said(machine, "sh", "-c", NO_TO_ACCEPT)),
 }
 QUICK = ("status", "check", "hand")

@@ -29,7 +29,9 @@ ROOT_IS_ANNA = "root: anna"
 PROGRAM = "/var/cache/example/program"
 PROGRAMS = f"programs(made anew each night, for a trial) {PROGRAM}"
 STOCK = "s/^Checksums = H$/Checksums = sha256/"
-COUNTS = ("added", "removed", "changed", "same", "trusted", "recorded", "open", "open_high")
+COUNTS = (
+    "added removed changed same trusted left_out recorded open open_high status told_status".split()
+)
 LOG_IN = (
     "ssh -q -i /root/.ssh/id_ed25519 -o StrictHostKeyChecking=no -o UserKnownHostsFile=/dev/null"
 )
