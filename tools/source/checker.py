@@ -38,8 +38,25 @@ def library_of(crate: str) -> str:
     return os.path.join(TOP, "crates", crate, "out", "rlib")
 
 
+def changed(crate: str) -> float:
+    """When a source of a crate was last written."""
+    folders = os.walk(os.path.join(TOP, "crates", crate))
+    files = [os.path.join(at, name) for at, _, names in folders for name in names]
+    sources = [path for path in files if path.endswith((".rt", ".antt"))]
+    return max((os.stat(path).st_mtime for path in sources), default=0)
+
+
+def is_stale(crate: str, uses: dict[str, list[str]]) -> bool:
+    """Whether the library of a crate is not built, or is older than a source that it stands on."""
+    try:
+        built = os.stat(os.path.join(library_of(crate), f"{crate}.rlib")).st_mtime
+    except OSError:
+        return True
+    return any(changed(name) > built for name in [*below(crate, uses), crate])
+
+
 def unproved(program: str) -> int:
-    """How many crates are proved when a program is built: itself, and those below it that are not
-    built yet."""
-    names = below(program, libraries())
-    return 1 + sum(not os.path.isdir(library_of(name)) for name in names)
+    """How many crates are proved when a program is built: itself, and those below it that are
+    stale."""
+    uses = libraries()
+    return 1 + sum(is_stale(name, uses) for name in below(program, uses))
