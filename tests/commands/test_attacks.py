@@ -130,7 +130,7 @@ class AttacksTest(CommandTest):
         for name in ("fifo", "/dev/zero", "/dev/tty", "/dev/null"):
             self.refused(18, b"not a regular file", TOOL, name, "new.db", limit=60)
             self.refused(18, b"not a regular file", TOOL, "old.db", name, limit=60)
-        self.refused(18, b"it is a FIFO", TOOL, "-c", "fifo")
+        self.refused(18, b"it is a FIFO", TOOL, "-c", "fifo", "old.db", "new.db")
         self.refused(18, b"cannot open the old", TOOL, "/dev/fd/4", "new.db")
         for name in ("/dev/stdin", "/dev/fd/0", "/proc/self/fd/0"):
             self.compared(name, "new.db", text=gzip.compress(OLD))

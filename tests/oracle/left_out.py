@@ -95,7 +95,7 @@ def line_of(rules: list[patterns.Rule], change: Change) -> int:
 
 def measures_of(text: bytes) -> bool:
     """Whether a database has the column of capabilities."""
-    return b"capabilities" in parts_of(lines_of(text)).spec[0][1]
+    return any(b"capabilities" in columns for _, columns in parts_of(lines_of(text)).spec)
 
 
 def lines_of_texts(text: bytes, old: bytes, new: bytes) -> dict[bytes, int]:
