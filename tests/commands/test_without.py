@@ -399,6 +399,7 @@ class WithoutTest(CommandTest):
         ):
             answer = self.call(JSON, *words, "o.db", "n.db")
             self.expect("%s" % words, answer, status, b"", [said])
+            self.assertNotIn(b"aide: list:", answer.errors, "the line of the program")
         self.write("almost", b"# comment\n" * 13100)
         answer = self.call(JSON, "--exclude-from", "almost", "o.db", "n.db")
         self.expect("a large list", answer, 7)

@@ -84,6 +84,7 @@ class Work:
         exclusions = self.request.exclusions
         fault = exclusions.fault_in(self.answer.errors) if exclusions else None
         if fault is not None:
+            self.answer = Answer(fault.status, b"")  # The fault says it, with the file.
             return fault
         path = self.request.configuration
         hints = hints_of(self.answer.errors, self.texts, path, self.copies)
