@@ -104,7 +104,7 @@ class ShowTest(CommandTest):
         """Characters that nobody sees: people get none of them, and JSON has them by their
         numbers."""
         escaped = "\u0085\u061c\u200e\u200f\u2028\u202e\u2066\u2069"
-        plain = "\u200b\ufeff\U000e0001\U000e0041\U000e007f"
+        plain = "\u034f\u200b\u3164\ufe0f\ufeff\U000e0001\U000e0041\U000e0200"
         name = b"".join(b"%%%02x" % byte for byte in (escaped + plain).encode())
         self.write("unseen.db", HEAD + b"/" + name + b" 36 100644 1\n" + END)
         self.write("none.db", HEAD + END)

@@ -35,9 +35,9 @@ from aide_compare.lines.attributes import FORMS, word_of
 from aide_compare.lines.reader import Reader, Refused
 from aide_compare.show.page import CHOICES, part_of, script_of
 
-# Letters by their class, and yet nothing is seen of them: the Hangul fillers and the empty Braille
-# pattern.
-BLANKS_THAT_ARE_LETTERS = "\u115f\u1160\u2800\u3164\uffa0"
+# Printable by their class, and yet nothing is seen of them: the Hangul fillers, the empty Braille
+# pattern and a variation selector.
+BLANKS_THAT_ARE_LETTERS = "\u115f\u1160\u2800\u3164\ufe0f\uffa0"
 LABELS = {word_of(label): label for label in FORMS}
 PAIRS = 20 if os.environ.get(QUICK) else 40
 

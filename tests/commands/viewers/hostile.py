@@ -26,6 +26,7 @@ NAMES = [
     b"\xe2\x80\xa8",
     b"\xef\xbb\xbf",
     b"\xe3\x85\xa4",
+    b"\xef\xb8\x8f",
     b"\xd7\x90",
     b"<script>alert(1)</script>",
     b"</script>",

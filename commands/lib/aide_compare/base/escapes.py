@@ -4,24 +4,25 @@ does the same.
 
 Escaped, as a backslash and three octal digits for each byte, as paths are in reports: control bytes
 and the backslash, bytes that are no UTF-8, and what a terminal or a reader obeys in place of
-showing it: the controls U+0080 to U+009F, the separators of lines and paragraphs, and all format
-controls, such as those that turn the direction of text.
+showing it: the controls U+0080 to U+009F, the separators of lines and paragraphs, all format
+controls, such as those that turn the direction of text, and what nobody sees.
 """
 from __future__ import annotations
 
 import re
 from functools import lru_cache
 
-# The characters of the category Cf (Unicode 15), with the two separators of the categories Zl and
-# Zp.
-_FORMAT_CONTROLS = (
-    "AD 600-605 61C 6DD 70F 890-891 8E2 180E 200B-200F 2028-202E 2060-206F FEFF FFF0-FFFB "
-    "110BD 110CD 13430-1343F 1BCA0-1BCA3 1D173-1D17A E0000-E007F"
+# Control bytes, bytes that are no UTF-8 (U+DC80 to U+DCFF), the characters of the category Cf and of
+# Default_Ignorable_Code_Point (Unicode 15), the separators of the categories Zl and Zp, and the
+# blank pattern of Braille.
+_UNSEEN = (
+    "\0-\x1f\x7f-\x9f\xad\u034f\u0600-\u0605\u061c\u06dd\u070f\u0890-\u0891\u08e2\u115f-\u1160"
+    "\u17b4-\u17b5\u180b-\u180f\u200b-\u200f\u2028-\u202e\u2060-\u206f\u2800\u3164\udc80-\udcff"
+    "\ufe00-\ufe0f\ufeff\uffa0\ufff0-\ufffb\U000110bd\U000110cd\U00013430-\U0001343f"
+    "\U0001bca0-\U0001bca3\U0001d173-\U0001d17a\U000e0000-\U000e0fff"
 )
 # Printable ASCII without the backslash, and without blanks at its ends.
 PLAIN = re.compile(r"[!-\[\]-~](?:[ -\[\]-~]*[!-\[\]-~])?")
-# Letters by their class, and yet blank.
-BLANK_LETTERS = "\u115f\u1160\u2800\u3164\uffa0"
 
 
 # Each byte as a backslash and three octal digits.
@@ -33,23 +34,13 @@ def _escaped(data: bytes) -> str:
 
 
 @lru_cache(maxsize=None)
-def _table() -> dict[int, str]:
-    """What stands in place of each character that is escaped. Bytes that are no UTF-8 are U+DC80 to
-    U+DCFF."""
-    table = {code: _escaped(bytes([code])) for code in list(range(32)) + [92, 127]}
-    for byte in range(128, 256):
-        table[0xDC00 + byte] = _escaped(bytes([byte]))
-    for span in ("80-9F " + _FORMAT_CONTROLS).split():
-        first, _, last = span.partition("-")
-        for code in range(int(first, 16), int(last or first, 16) + 1):
-            table[code] = _escaped(chr(code).encode())
-    return table
+def _pattern(kept: str) -> re.Pattern[str]:
+    """A character that is escaped, but for some."""
+    return re.compile(rf"[\\{_UNSEEN}]" + (f"(?<![{re.escape(kept)}])" if kept else ""))
 
 
-@lru_cache(maxsize=None)
-def _table_but(kept: str) -> dict[int, str]:
-    """The same but for some characters."""
-    return {code: text for code, text in _table().items() if chr(code) not in kept}
+def _with_escapes(text: str, kept: str = "") -> str:
+    return _pattern(kept).sub(lambda match: _escaped(_bytes_of(match.group())), text)
 
 
 def _is_plain(text: str) -> bool:
@@ -79,7 +70,7 @@ def shown(text: str | bytes, limit: int = 5000) -> str:
     letters = _bytes_of(text[: 4 * limit + 4]).decode("utf-8", "surrogateescape")
     line = letters[:limit]
     if "\\" in line or not _is_plain(line):
-        line = line.translate(_table())
+        line = _with_escapes(line)
     if len(letters) > limit:
         line += "..."
     return line
@@ -95,26 +86,22 @@ def guarded(text: str) -> str:
     backslash."""
     if _is_plain(text):
         return text
-    return _bytes_of(text).decode("utf-8", "surrogateescape").translate(_table_but("\\"))
+    return _with_escapes(_bytes_of(text).decode("utf-8", "surrogateescape"), "\\")
 
 
 def shown_lines(data: str | bytes | bytearray) -> str:
     """Whole lines: newlines and tabs stay, and backslashes, since the reports and error lines have
     escapes of their own."""
-    return _bytes_of(data).decode("utf-8", "surrogateescape").translate(_table_but("\\\t\n"))
-
-
-def _is_visible(letter: str) -> bool:
-    return letter.isprintable() and letter not in BLANK_LETTERS
+    return _with_escapes(_bytes_of(data).decode("utf-8", "surrogateescape"), "\\\t\n")
 
 
 def _seen(text: str) -> str:
-    """A text in which every character is seen."""
-    if text.isprintable() and not any(letter in text for letter in BLANK_LETTERS):
+    """A text in which every character is seen, also where Python's Unicode is older."""
+    if text.isprintable():
         return text
     letters = []
     for letter in text:
-        letters.append(letter if _is_visible(letter) else _escaped(_bytes_of(letter)))
+        letters.append(letter if letter.isprintable() else _escaped(_bytes_of(letter)))
     return "".join(letters)
 
 

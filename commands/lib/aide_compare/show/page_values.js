@@ -3,7 +3,7 @@
 const UTF8 = new TextEncoder(), TIMES = ['Atime', 'Mtime', 'Ctime'], SIDES = ['old', 'new'], VARIOUS = 'various',
   RIGHTS = ['Perm', 'UID', 'GID'];
 // Letters that nobody sees, that are blank, or that turn the direction of text; and the backslash, with which such bytes are shown.
-const UNSEEN = /[\p{C}\p{Z}\u115f\u1160\u2800\u3164\uffa0]/u, ESCAPED = /[\\\p{C}\p{Z}\u115f\u1160\u2800\u3164\uffa0]/gu;
+const UNSEEN = /[\p{C}\p{Z}\p{DI}\u2800]/u, ESCAPED = /[\\\p{C}\p{Z}\p{DI}\u2800]/gu;
 const octal = (byte) => '\\' + byte.toString(8).padStart(3, '0');
 const octalOf = (letter) => [...UTF8.encode(letter)].map(octal).join('');
 const bytesOf = (hex) => hex.match(/../g).map((pair) => parseInt(pair, 16));
