@@ -65,6 +65,10 @@ class HostsQuietTest(CommandTest):
         self.assertEqual(fleet.compare(self.hosts).status, 0, "what was left out is accepted")
         said = fleet.compare("--exclude-from", "none", self.hosts)
         self.assertEqual((said.status, said.output), (18, ""), "a missing file of paths")
+        self.write("faulty", "/a\nb\n")
+        said = fleet.compare("--exclude-from", self.path("faulty"), self.hosts)
+        self.assertEqual((said.status, said.output), (17, ""), "a faulty list is refused once")
+        self.assertTrue(said.errors.endswith("faulty, line 2: a path begins with /: b\n"), said)
 
     def test_usual_list(self) -> None:
         """The administrator's list and the lines of the defaults leave entries out on hosts too; a

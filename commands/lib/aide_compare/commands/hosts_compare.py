@@ -27,6 +27,7 @@ from aide_compare.base.options import (
 )
 from aide_compare.base.parser import defaults_for, read
 from aide_compare.commands.defaults import exclusions_of
+from aide_compare.compare.asking import errors_of_list
 from aide_compare.compare.state import State
 from aide_compare.hosts.canary import Run, failed_note, keep_run, trusted_pair, used_note
 from aide_compare.hosts.fetching import fetch
@@ -91,12 +92,16 @@ class HostsCompareRequest(Asked):
     hosts_file: str = field(HOSTS_OPERAND)  # Or the name of the one host.
 
     def settings(self) -> Settings:
+        exclusions = exclusions_of(self.exclude_from, self.exclude, not self.no_defaults)
+        fault = exclusions.fault_in(errors_of_list(exclusions.text)) if exclusions else None
+        if fault:
+            raise fault  # Once, and not for each host.
         return Settings(
             store=self.store,
             seconds=self.seconds,
             jobs=self.jobs,
             configuration=self.configuration,
-            exclusions=exclusions_of(self.exclude_from, self.exclude, not self.no_defaults),
+            exclusions=exclusions,
             max_size=self.max_size,
             same_for=self.same_for,
             fetches=not self.no_fetch,

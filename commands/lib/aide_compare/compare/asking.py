@@ -13,7 +13,7 @@ from aide_compare.base.files import in_memory
 from aide_compare.base.processes import Taker
 from aide_compare.base.program import CONFIGURATION, DATABASES, DESCRIPTORS, LINES, Answer, Drain
 from aide_compare.base.program import find_installed, run_program
-from aide_compare.base.words import TRUSTED_SIDES
+from aide_compare.base.words import SIDES, TRUSTED_SIDES
 from aide_compare.compare.configuration import NONE, Texts
 from aide_compare.lines.rights import RIGHTS
 
@@ -127,6 +127,18 @@ def ask_for_lines(
         return ask_for_changes(program, texts, databases, take, sorted(forced))
     with _beside_pair(databases) as pair:
         return ask_for_changes(program, texts, pair, take, sorted(forced), without)
+
+
+def errors_of_list(text: bytes) -> bytes:
+    """What the program says of a list over empty databases: nothing if the list has no fault."""
+    descriptor = in_memory(EMPTY)
+    sides = dict.fromkeys((*SIDES, *TRUSTED_SIDES), descriptor)
+    take = Drain(0, bytearray().extend).take
+    program, texts = find_installed(LINES), Texts(b"", b"")
+    try:
+        return ask_for_changes(program, texts, sides, take, without=text).errors
+    finally:
+        os.close(descriptor)
 
 
 def settings_of(texts: Texts) -> Settings | None:
