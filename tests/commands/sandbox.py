@@ -12,6 +12,7 @@ import shutil
 import subprocess
 import sys
 import tempfile
+from collections.abc import Iterator
 from typing import Any, Optional, Union
 
 from tests.lib.apart import has_own_mounts
@@ -69,14 +70,14 @@ exec(compile(text_of("/front"), __file__, "exec"))
 """
 
 
-def as_user(number):
+def as_user(number: int) -> str:
     return "os.setgroups([]); os.setgid(%d); os.setuid(%d)" % (number, number)
 
 
 AS_NOBODY = as_user(NOBODY)
 
 
-def after(before, command):
+def after(before: str | None, command: list[str]) -> list[str]:
     """A command that does something else before it starts. (`preexec_fn` is not safe in a process
     with threads.)"""
     return [sys.executable, "-c", BECOME % before] + command if before else command
@@ -94,11 +95,11 @@ COUNTS = {"added": "1", "removed": "1", "changed": "2"}
 Texts = Optional[Union[bytes, "list[bytes]"]]
 
 
-def sha256(text):
+def sha256(text: bytes) -> str:
     return hashlib.sha256(text).hexdigest()
 
 
-def texts_of_state(text):
+def texts_of_state(text: str | bytes) -> dict[str, str]:
     """The values of a state file as texts, an empty one if it is not known."""
     try:
         fields = json.loads(text)
@@ -112,10 +113,10 @@ def texts_of_state(text):
 class Answer:
     """What a tool answered: two texts and a status."""
 
-    def __init__(self, output, errors, status):
+    def __init__(self, output: bytes, errors: bytes, status: int) -> None:
         self.output, self.errors, self.status = output, errors, status
 
-    def __repr__(self):
+    def __repr__(self) -> str:
         return "status %d, output %.400r, errors %.600r" % (self.status, self.output, self.errors)
 
 
@@ -153,7 +154,7 @@ class CommandTest(ScratchTest):
         os.rename(self.path("bin/aide-compare"), self.path("front"))
         self.write("bin/aide-compare", FRONT, 0o755)
         os.symlink("aide-compare", self.path("bin/check_aide_compare"))
-        self.replaced: dict[str, object] = {}
+        self.replaced: dict[str, str] = {}
         # The records of packages and the administrator's directory are those of the test, never
         # those of this machine.
         self.set_names("changes.packages", DPKG=self.path("dpkg"), DPKG_LOG=self.path("dpkg.log"))
@@ -163,14 +164,14 @@ class CommandTest(ScratchTest):
             self.write(name + ".db", text)
             self.write(name + ".db.gz", gzip.compress(text))
 
-    def set_names(self, module, **values):
+    def set_names(self, module: str, **values: object) -> None:
         """Names of a module of the commands have other values in each command that this test
         starts. They have to be there."""
         self.after_import(
             module, "".join(f"{name}\n{name} = {value!r}\n" for name, value in values.items())
         )
 
-    def after_import(self, module, statements):
+    def after_import(self, module: str, statements: str) -> None:
         """Statements that a command of this test executes in a module when it has been imported."""
         self.replaced[f"aide_compare.{module}"] = (
             self.replaced.get(f"aide_compare.{module}", "") + statements
@@ -178,7 +179,7 @@ class CommandTest(ScratchTest):
         self.write("replaced", repr(self.replaced))
 
     @contextlib.contextmanager
-    def mounted(self, name, *words):
+    def mounted(self, name: str, *words: str) -> Iterator[bool]:
         """What `mount` puts on a file or folder with these words, for a while. Yields whether it is
         there: it is mounted only where nobody else sees it."""
         path = self.path(name)
@@ -193,12 +194,12 @@ class CommandTest(ScratchTest):
             if is_there:
                 subprocess.call(["umount", path])
 
-    def command(self, tool, *words):
+    def command(self, tool: str, *words: str) -> list[str]:
         """The words of a tool, such as aide-compare json, and those that follow."""
         name, *subcommand = tool.split(" ")
         return [self.path("bin/" + name), *subcommand, *words]
 
-    def environment(self, **more):
+    def environment(self, **more: str) -> dict[str, str]:
         return {
             **os.environ,
             "TMPDIR": self.room,
@@ -206,7 +207,14 @@ class CommandTest(ScratchTest):
             **more,
         }
 
-    def start(self, tool, *words, environment=None, before=None, **more):
+    def start(
+        self,
+        tool: str,
+        *words: str,
+        environment: dict[str, str] | None = None,
+        before: str | None = None,
+        **more: Any,
+    ) -> subprocess.Popen[bytes]:
         """Starts a tool in this folder, without waiting for it."""
         more = {
             "stdin": subprocess.DEVNULL,
@@ -219,7 +227,15 @@ class CommandTest(ScratchTest):
             command, cwd=self.root, env=self.environment(**(environment or {})), **more
         )
 
-    def call(self, tool, *words, text=None, environment=None, limit=TIME_LIMIT, **more):
+    def call(
+        self,
+        tool: str,
+        *words: str,
+        text: bytes | None = None,
+        environment: dict[str, str] | None = None,
+        limit: float = TIME_LIMIT,
+        **more: Any,
+    ) -> Answer:
         """What a tool answers in this folder, in so many seconds. `text` is its standard input."""
         if text is not None:
             more["stdin"] = subprocess.PIPE
@@ -232,7 +248,9 @@ class CommandTest(ScratchTest):
             errors = (errors or b"") + b"\nit did not end\n"
         return Answer(output or b"", errors or b"", process.returncode)
 
-    def terminal(self, tool, *words, environment=None, **streams):
+    def terminal(
+        self, tool: str, *words: str, environment: dict[str, str] | None = None, **streams: Any
+    ) -> Terminal:
         """A tool in this folder on a terminal, without colours unless its environment says so."""
         environment = {"TERM": "xterm", "NO_COLOR": "1", **(environment or {})}
         return Terminal(
@@ -242,10 +260,17 @@ class CommandTest(ScratchTest):
             **streams,
         )
 
-    def leftovers(self):
+    def leftovers(self) -> list[str]:
         return os.listdir(self.room)
 
-    def expect(self, label, answer, status, output=None, errors=None):
+    def expect(
+        self,
+        label: str,
+        answer: Answer,
+        status: int,
+        output: Texts = None,
+        errors: Texts = None,
+    ) -> None:
         """An answer has a status, these texts where they are given (a list: each is in it), and
         leaves nothing behind."""
         with self.subTest(label):
@@ -278,14 +303,14 @@ class CommandTest(ScratchTest):
             self.assertIn(kept["error"].encode(), answer.errors, (tool, words))
         return answer
 
-    def state(self, name="state"):
+    def state(self, name: str = "state") -> dict[str, str]:
         """A state file as a map of texts, those of lists with blanks; nothing where there is
         none."""
         if not os.path.exists(self.path(name)):
             return {}
         return texts_of_state(self.read(name))
 
-    def change_state(self, name, **values):
+    def change_state(self, name: str, **values: Any) -> None:
         """A state file has other values, or is of so many seconds later."""
         fields = json.loads(self.read(name))
         fields["time"] += values.pop("seconds", 0)

@@ -102,11 +102,10 @@ class AcceptTest(AcceptingTest):
             (15, "--trusted old.db new.db"),
         ):
             self.refuses(status, name, DIGEST, *words.split())
-        digest = ("--sha256", DIGEST)
         for files in (FILES[:1], (FILES[0], "base/"), (FILES[0], "base/..")):
-            self.refused(15, name, TOOL, *digest, *files)
+            self.refused(15, name, TOOL, "--sha256", DIGEST, *files)
         told_of_missing = b"cannot open the new database missing"
-        self.refused(18, told_of_missing, TOOL, *digest, "missing", FILES[1])
+        self.refused(18, told_of_missing, TOOL, "--sha256", DIGEST, "missing", FILES[1])
         self.assertEqual(contents(self), (OLD, OLDER, NEW, 3), "what is there after all refusals")
 
     def test_cut(self) -> None:

@@ -73,8 +73,8 @@ class TextsTest(MailTest):
             (["--odd"], 15),
             (["old.db", "new.db", "--max-age", "x"], 15),
         ):
-            said = [b"aide-compare: ", b"try: aide-compare compare --help"] if status == 15 else b""
-            self.expect("an error of %s" % words, call(self, *words), status, b"", said)
+            said = [b"aide-compare: ", b"try: aide-compare compare --help"] if status == 15 else []
+            self.expect("an error of %s" % words, call(self, *words), status, b"", said or b"")
             message = sent(self)
             self.assertEqual(subject(message), SUBJECT + "no comparison (status %d)" % status)
             self.assertTrue(body(message).startswith(b"aide-compare"), words)

@@ -242,9 +242,9 @@ class TrustedTest(mail.MailTest):
         old, new = host.old.database(), host.new.database()
         for owner in (None, NOBODY) if os.getuid() == 0 else (None,):
             for name, text in (("aide.db", old), ("aide.db.new", new)):
-                path = self.write("base/" + name, text, 0o600)
+                baseline = self.write("base/" + name, text, 0o600)
                 if owner is not None:
-                    os.chown(path, owner, owner)
+                    os.chown(baseline, owner, owner)
                     os.chown(self.path("base"), owner, owner)
             done = accept(self, sha256(new), "--trusted-only", *PAIR)
             stays = b"stays open: added 1, removed 1, changed 1\n"

@@ -120,9 +120,9 @@ class OccasionTest(CommandTest):
             for closed in (">&-", ">&- 2>&-"):
                 command = shlex.join(self.command(tool, OLD, NEW))
                 run = ["sh", "-c", f"{command} {closed}"]
-                answer = subprocess.run(run, env=self.environment(), capture_output=True)
-                found = (answer.returncode, answer.stdout, b"Traceback" in answer.stderr)
-                self.assertEqual(found, (DEVICE, b"", False), (closed, answer.stderr))
+                done = subprocess.run(run, env=self.environment(), capture_output=True)
+                found = (done.returncode, done.stdout, b"Traceback" in done.stderr)
+                self.assertEqual(found, (DEVICE, b"", False), (closed, done.stderr))
 
     def test_refused(self) -> None:
         for status, errors, words in (

@@ -1,9 +1,12 @@
 """Commands that cannot change the machine: for bugs that are planted, whose trials attack what
 should guard it. And mounts that nobody else sees."""
+from __future__ import annotations
+
 import ctypes
 import functools
 import os
 import subprocess
+from collections.abc import Sequence
 
 # Bound onto themselves and read-only in a mount namespace of the command's own. Trials write below
 # /tmp, /var/tmp and /run.
@@ -16,7 +19,7 @@ PREFIX = ["unshare", "--mount", "--propagation", "private", "sh", "-c", SCRIPT, 
 
 
 @functools.lru_cache(maxsize=None)
-def prefix():
+def prefix() -> list[str]:
     """The words before a command, or none: without root's rights the machine's folders are safe,
     and some machines refuse."""
     if os.geteuid() != 0:
@@ -30,13 +33,13 @@ def prefix():
     return PREFIX if done.returncode == 0 else []
 
 
-def apart(words):
+def apart(words: Sequence[str]) -> list[str]:
     """The words of a command that runs so."""
     return prefix() + list(words)
 
 
 @functools.lru_cache(maxsize=None)
-def has_own_mounts():
+def has_own_mounts() -> bool:
     """Gives this process mounts that it shares with its children alone, and says whether it has
     them. (Python 3.9 has no os.unshare.) Only the thread that asks first gets them, and those that
     it starts."""
@@ -44,13 +47,11 @@ def has_own_mounts():
         return False
     library = ctypes.CDLL(None)
     new_mounts, recursive_private = 0x20000, 0x44000
-    return (
-        library.unshare(new_mounts) == 0
-        and library.mount(None, b"/", None, recursive_private, None) == 0
-    )
+    is_apart = library.unshare(new_mounts) == 0
+    return is_apart and library.mount(None, b"/", None, recursive_private, None) == 0
 
 
-def forget_user(name, folder):
+def forget_user(name: str, folder: str) -> None:
     """Takes a user and a group of this name out of what this process and its children see: a
     package of the machine, such as AIDE's, may have made them. `folder` gets the files that are
     seen instead."""
@@ -67,6 +68,6 @@ def forget_user(name, folder):
         subprocess.run(["mount", "--bind", other, path], check=True)
 
 
-def has_entry(path, name):
+def has_entry(path: str, name: str) -> bool:
     with open(path) as file:
         return any(line.startswith(name + ":") for line in file)

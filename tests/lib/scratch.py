@@ -1,4 +1,6 @@
 """A folder of its own, in which a trial writes files and puts commands in place of others."""
+from __future__ import annotations
+
 import os
 import shutil
 import tempfile
@@ -6,22 +8,22 @@ import tempfile
 TOP = os.path.dirname(os.path.dirname(os.path.dirname(os.path.abspath(__file__))))
 
 
-def read(name):
+def read(name: str) -> str:
     """The text of a file of this repository."""
     with open(os.path.join(TOP, name), encoding="utf-8") as file:
         return file.read()
 
 
 class Scratch:
-    def make(self, prefix="aide-test-"):
+    def make(self, prefix: str = "aide-test-") -> None:
         os.umask(0o022)  # Others have to read what root makes here, whatever umask the caller has.
         self.root = tempfile.mkdtemp(prefix=prefix)
         os.chmod(self.root, 0o755)
 
-    def path(self, *names):
+    def path(self, *names: str) -> str:
         return os.path.join(self.root, *names)
 
-    def write(self, name, text, mode=0o644):
+    def write(self, name: str, text: str | bytes, mode: int = 0o644) -> str:
         """Writes a file. A link that a trial has left there is not followed: root would write a
         file of the machine."""
         path = self.path(name)
@@ -33,13 +35,13 @@ class Scratch:
         os.chmod(path, mode)
         return path
 
-    def read(self, name):
+    def read(self, name: str) -> bytes:
         with open(self.path(name), "rb") as file:
             return file.read()
 
-    def stub(self, name, body, folder="stubs"):
+    def stub(self, name: str, body: str, folder: str = "stubs") -> str:
         """A command of the trials, found before that of the machine."""
         return self.write(os.path.join(folder, name), "#!/bin/sh\n%s\n" % body, 0o755)
 
-    def remove(self):
+    def remove(self) -> None:
         shutil.rmtree(self.root, ignore_errors=True)

@@ -1,9 +1,12 @@
 """Waiting for what another process does."""
+from __future__ import annotations
+
 import os
 import time
+from collections.abc import Callable, Sequence
 
 
-def until(condition, seconds=60):
+def until(condition: Callable[[], object], seconds: float = 60) -> bool:
     """Asks again and again until something is so, and says whether it came so in that time."""
     limit = time.monotonic() + seconds
     while not condition():
@@ -13,7 +16,7 @@ def until(condition, seconds=60):
     return True
 
 
-def is_alive(number):
+def is_alive(number: int) -> bool:
     """Whether a process is there that has not ended."""
     try:
         with open("/proc/%d/stat" % number, encoding="ascii", errors="replace") as file:
@@ -22,7 +25,7 @@ def is_alive(number):
         return False
 
 
-def waits(number, where, has_open):
+def waits(number: int, where: str, has_open: Callable[[Sequence[str]], bool]) -> bool:
     """Whether a process waits in a function of the kernel with this text in its name, and the names
     of what it has open meet a condition."""
     try:

@@ -132,9 +132,9 @@ class MachineTest(ScratchTest):
         """The two databases, and a line of the defaults that names them."""
         self.put_databases(old, new)
         path = "/etc/aide-compare/defaults"
-        if "--databases" not in self.read(path):
+        if "--databases" not in self.text_at(path):
             line = f"--databases {BASELINE} {NEWEST}\n"
-            self.write(path, self.read(path) + self.below(line))
+            self.write(path, self.text_at(path) + self.below(line))
 
     def below(self, text: str) -> str:
         """A text with the directories that it names put below the root."""
@@ -148,7 +148,7 @@ class MachineTest(ScratchTest):
         """Where a name of the machine lies below the root."""
         return os.path.join(self.root, *(name.lstrip("/") for name in names))
 
-    def read(self, name: str) -> str:
+    def text_at(self, name: str) -> str:
         """The text of a file; nothing if there is none."""
         try:
             with open(self.path(name), encoding="utf-8", errors="surrogateescape") as file:
@@ -161,7 +161,7 @@ class MachineTest(ScratchTest):
         path = self.path("/tmp", name)
         if not os.path.exists(path):
             return None
-        text = self.read("/tmp/" + name)
+        text = self.text_at("/tmp/" + name)
         os.remove(path)
         return text
 
@@ -203,7 +203,7 @@ class MachineTest(ScratchTest):
         for name in ("aide-compare.service", "aide-compare-mail.service"):
             drop_ins = sorted(glob.glob(self.path(f"/etc/systemd/system/{name}.d/*.conf")))
             units = [self.path("/usr/local/lib/systemd/system", name), *drop_ins]
-            text = "".join(self.read(os.path.relpath(unit, self.root)) for unit in units)
+            text = "".join(self.text_at(os.path.relpath(unit, self.root)) for unit in units)
             found = re.findall(r"^ExecStart=(.*)$", text.replace("\\\n", " "), re.M)
             if "" in found:
                 found = found[len(found) - found[::-1].index("") :]
@@ -219,8 +219,8 @@ class MachineTest(ScratchTest):
         return self.taken("mailed")
 
     def digest_of_state(self, name: str = STATE) -> str:
-        found = re.search('"new_sha256": "([0-9a-f]{64})"', self.read(name))
-        self.assertIsNotNone(found, self.read(name))
+        found = re.search('"new_sha256": "([0-9a-f]{64})"', self.text_at(name))
+        self.assertIsNotNone(found, self.text_at(name))
         return found.group(1) if found else ""
 
     def clone(self) -> str:

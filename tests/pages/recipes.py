@@ -69,7 +69,7 @@ class RecipesTest(MachineTest):
         os.chmod(self.path("/etc/cron.daily/aide-compare"), 0o755)
 
     def example(self, name: str) -> str:
-        return self.read("/usr/local/share/doc/aide-compare/examples/" + name)
+        return self.text_at("/usr/local/share/doc/aide-compare/examples/" + name)
 
     def text(self, name: str) -> str:
         return self.recipes["try: " + name].text
@@ -105,7 +105,7 @@ class RecipesTest(MachineTest):
         ]
 
     def state(self) -> dict[str, str]:
-        return {key: str(value) for key, value in json.loads(self.read(STATE)).items()}
+        return {key: str(value) for key, value in json.loads(self.text_at(STATE)).items()}
 
     def put_host(self, name: str, text: str | bytes, baseline: str | None) -> None:
         """What a host sends, and its baseline."""
@@ -220,8 +220,8 @@ def no_comparison(test: RecipesTest, status: int, reason: str) -> None:
     test.assertEqual(status_of_check, 3, output)
     test.assertRegex(output, r"\AAIDE UNKNOWN: .*\n\Z")
     test.assertEqual(test.recipe("metrics")[0], 0)
-    test.assertIn(f"\naide_compare_status {status}\n", test.read(METRICS))
-    test.assertNotIn("_entries", test.read(METRICS))
+    test.assertIn(f"\naide_compare_status {status}\n", test.text_at(METRICS))
+    test.assertNotIn("_entries", test.text_at(METRICS))
     test.taken("logged")
     test.assertEqual(test.recipe("log")[0], 0)
     test.assertIn(f'"status": {status},', test.taken("logged") or "")

@@ -162,7 +162,7 @@ class BlocksTest(PagesTest):
         self.shell(f"aide-compare status --state state --format prometheus {name}")
         self.assertGreater(len(blocks), 0)
         for metric in set(re.findall(r"\baide_compare_\w+", "".join(b.text for b in blocks))):
-            self.assertIn(f"\n{metric} ", self.read(name))
+            self.assertIn(f"\n{metric} ", self.text_at(name))
 
     def test_statuses(self) -> None:
         """Each status of README's table is made to happen, in the row whose words say so."""

@@ -66,16 +66,16 @@ class HandsTest(RecipesTest):
     def test_page(self) -> None:
         self.put_files(OLD, NEW)
         self.assertEqual(self.recipe("page"), (7, "", ""))
-        self.assertIn("/a é", self.read("/tmp/page.html"))
-        self.assertIn("</html>", self.read("/tmp/page.html"))
+        self.assertIn("/a é", self.text_at("/tmp/page.html"))
+        self.assertIn("</html>", self.text_at("/tmp/page.html"))
 
     def test_lines(self) -> None:
         self.put_files(of_sizes(BEFORE), of_sizes(INTRUDER))
         self.assertEqual(self.recipe("lines")[0], 0)
-        self.assertIn('"standing":"left out"', self.read("/tmp/lines"))
+        self.assertIn('"standing":"left out"', self.text_at("/tmp/lines"))
         self.needs("jq")
         self.assertEqual(self.recipe("one object"), (0, "", ""))
-        one, kinds = json.loads(self.read("/tmp/object.json")), ("added", "removed", "changed")
+        one, kinds = json.loads(self.text_at("/tmp/object.json")), ("added", "removed", "changed")
         counts = {kind: one["number_of_entries"][kind] for kind in kinds}
         self.assertEqual({kind: len(one[kind]) for kind in kinds}, counts)
         self.assertEqual({path for kind in kinds for path in one[kind]}, set(one["details"]))
@@ -86,7 +86,7 @@ class HandsTest(RecipesTest):
         mixed = HEAD + "".join(lines[at] for at in (3, 0, 5, 2, 4, 1)) + "@@end_db\n"
         self.write("/tmp/mixed.db", mixed)
         self.assertEqual(self.recipe("order")[0], 0)
-        self.assertEqual(self.read("/tmp/sorted.db"), HEAD + "".join(lines) + "@@end_db\n")
+        self.assertEqual(self.text_at("/tmp/sorted.db"), HEAD + "".join(lines) + "@@end_db\n")
         self.write("/tmp/mixed.db", mixed.replace("/a-b", "/%61"))
         done = self.recipe("order")
         self.assertEqual(done[0], 24)

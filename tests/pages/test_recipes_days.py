@@ -158,7 +158,7 @@ class QuietTest(RecipesTest):
         """AIDE's rules have each file that the commands write, and no other one there."""
         os.makedirs(self.path("/etc/aide/aide.conf.d"))
         self.assertEqual(self.recipe("own files"), (0, "", ""))
-        lines = self.read("/etc/aide/aide.conf.d/31_aide_aide-compare").splitlines()
+        lines = self.text_at("/etc/aide/aide.conf.d/31_aide_aide-compare").splitlines()
         rules = []
         for line in lines:
             if line and not line.startswith("#"):

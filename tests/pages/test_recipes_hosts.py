@@ -37,9 +37,9 @@ class HostsTest(RecipesTest):
         self.assertFalse(os.path.exists(self.path(STORE, "hosts/www/aide.db")))
         self.prints("add host", shown)
         self.assertEqual(self.on_terminal("yes\n")[0], 0)
-        self.assertEqual(self.read("/root/.ssh/known_hosts"), f"www {KEY}\n")
-        self.assertEqual(self.read(HOSTS), "www\n")
-        self.assertEqual(self.read(STORE + "/hosts/www/aide.db"), OLD)
+        self.assertEqual(self.text_at("/root/.ssh/known_hosts"), f"www {KEY}\n")
+        self.assertEqual(self.text_at(HOSTS), "www\n")
+        self.assertEqual(self.text_at(STORE + "/hosts/www/aide.db"), OLD)
 
     def on_terminal(self, answer: str) -> tuple[int, str]:
         """The status of the recipe on a terminal, and what that shows; its question gets an
@@ -66,7 +66,7 @@ class HostsTest(RecipesTest):
         for name, (_, wanted, text) in SENT.items():
             self.assertEqual(told[name][0], str(wanted), told[name])
             self.assertRegex(told[name][1], text)
-            state = json.loads(self.read(f"{STORE}/states/{name}"))
+            state = json.loads(self.text_at(f"{STORE}/states/{name}"))
             self.assertEqual(state["status"], wanted)
             if wanted > 7:
                 self.assertRegex(state["error"], text)
@@ -75,7 +75,7 @@ class HostsTest(RecipesTest):
         self.assertEqual(
             summary, f"{count} hosts: 2 differ, {count - 4} not compared, 2 without differences"
         )
-        self.assertEqual(self.read(STORE + "/hosts/other/aide.db"), OLD)
+        self.assertEqual(self.text_at(STORE + "/hosts/other/aide.db"), OLD)
         self.assertFalse(os.path.exists(self.path(STORE, "hosts/x")))
         self.report(count)
 
@@ -112,7 +112,7 @@ class HostsTest(RecipesTest):
             statuses = dict(line.split(" ")[:2] for line in lines)
             self.assertEqual(run.returncode, 7)
             self.assertEqual(statuses, {"same": "0", "other": "7", "zipped": "0"})
-        self.assertEqual(self.read(STORE + "/hosts/other/aide.db.new"), NEW)
+        self.assertEqual(self.text_at(STORE + "/hosts/other/aide.db.new"), NEW)
 
     def test_keys(self) -> None:
         """The forced command sends what is asked for: the new database, not the baseline."""
