@@ -12,8 +12,8 @@ from __future__ import annotations
 import re
 from functools import lru_cache
 
-# Control bytes, bytes that are no UTF-8 (U+DC80 to U+DCFF), the characters of the category Cf and of
-# Default_Ignorable_Code_Point (Unicode 15), the separators of the categories Zl and Zp, and the
+# Control bytes, bytes that are no UTF-8 (U+DC80 to U+DCFF), the characters of the category Cf and
+# of Default_Ignorable_Code_Point (Unicode 15), the separators of the categories Zl and Zp, and the
 # blank pattern of Braille.
 _UNSEEN = (
     "\0-\x1f\x7f-\x9f\xad\u034f\u0600-\u0605\u061c\u06dd\u070f\u0890-\u0891\u08e2\u115f-\u1160"

@@ -247,8 +247,8 @@ def main(arguments: Sequence[str]) -> int:
 
 
 def check(arguments: Sequence[str]) -> int:
-    """check_aide_compare: the format of Nagios. Every failure is UNKNOWN, since 1 and 2 say what was
-    found."""
+    """check_aide_compare: the format of Nagios. Every failure is UNKNOWN, since 1 and 2 say what
+    was found."""
     try:
         return main(["--format", "nagios", *arguments])
     except Done:

@@ -105,8 +105,9 @@ class Fleet:
         self.table.count_rows()
 
     def shared(self, row: Row, max_names: int) -> SharedChange:
-        """A change on some hosts, of which at most so many are named. Values that are of one host are shown if there is only one; of
-        old values that are not the same, only the names of their attributes."""
+        """A change on some hosts, of which at most so many are named. Values that are of one host
+        are shown if there is only one; of old values that are not the same, only the names of
+        their attributes."""
         hosts: list[int] = []
         olds: set[bytes] = set()
         owns: set[str] = set()

@@ -1,5 +1,5 @@
-"""The result of the last comparison as Nagios, Icinga and their like read it: one line, and a status
-from 0 to 3."""
+"""The result of the last comparison as Nagios, Icinga and their like read it: one line, and a
+status from 0 to 3."""
 from __future__ import annotations
 
 import os
