@@ -7,19 +7,12 @@ import os
 import random
 import re
 
-from . import test_standings as standings
-from .accepting import BASE, FILES, OLDER, AcceptingTest, contents, fresh
+from .accepting import BASE, FILES, AcceptingTest, contents, fresh
 from .sandbox import END, HEAD, NEW, NOBODY, OLD, sha256
 
 KEPT = HEAD + b"/b 36 40755 4096\n/c 36 100644 10\n/d 36 100644 2\n" + END
 OPEN = ("--keep-open", "/[ab]", "--keep-open", "/c")
 OWNERS = (None, NOBODY) if os.getuid() == 0 else (None,)
-# A comparison that fails for a bug.
-FAULT = "def failing(*words):\n    1 / 0\nWork._keep_digests\nWork._keep_digests = failing\n"
-# One whose lines may have few bytes.
-SHORT = "ask = Request\ndef Request(**words):\n    return ask(**{**words, 'max_report': 600})\n"
-# One that says whose rights it has.
-WHOSE = "compare\ndef compare(_):\n    raise Fault(18, f'as user {os.geteuid()}')\n"
 
 
 def database(entries: dict[str, int]) -> bytes:
@@ -126,43 +119,3 @@ class AcceptPartlyTest(AcceptingTest):
             wanted = {path: size for path, size in new.items() if not is_open(path)}
             wanted.update((path, size) for path, size in old.items() if is_open(path))
             self.assertEqual(contents(self)[0], database(wanted), f"random databases, {number}")
-
-    def test_trusted_only(self) -> None:
-        """Only what is silent is accepted: here a file with other times. All else is told again."""
-        host = standings.sample()
-        old, new = host.old.database(), host.new.database()
-        host.old.entries[b"/srv/same"] = host.new.entries[b"/srv/same"]
-        words = ("--sha256", sha256(new), "--trusted-only", *FILES)
-        counts = b"stays open: added 1, removed 1, changed 3\n"
-        told = b"aide-compare: 1 of 6 changes silent"
-        for owner in OWNERS:
-            self.put(old, new)
-            if owner is not None:
-                for name in ("base", *FILES):
-                    os.chown(self.path(name), owner, owner)
-            self.answered(0, counts, told, "aide-compare accept", *words)
-            self.assertEqual(contents(self)[0], host.old.database())
-        self.put(old, new)
-        self.after_import("compare.work", FAULT)
-        fault = b"a fault of this command: ZeroDivisionError"
-        self.refuses(18, fault, sha256(new), "--trusted-only")
-        self.assertEqual(contents(self)[:2], (old, OLDER), "the baseline stays")
-
-    def test_no_comparison(self) -> None:
-        """Beside a pair that is no database nothing is compared, so nothing is accepted."""
-        self.write("bad.db", b"x\n")
-        told = b"refused: nothing was compared, so nothing is silent"
-        self.refuses(24, told, sha256(NEW), "--trusted-only", "--trusted", "bad.db", "old.db")
-        self.set_names("compare.work", MIN_LINES=1)
-        self.after_import("commands.accept_work", SHORT)
-        told = b"the changes have more than 600 bytes"
-        self.refuses(18, told, sha256(NEW), "--trusted-only")
-        self.assertEqual(contents(self)[:2], (OLD, OLDER), "the baseline stays")
-
-    def test_whose_rights(self) -> None:
-        """What differs is found with the rights of the baseline's owner."""
-        self.after_import("commands.accept_work", WHOSE)
-        for owner in OWNERS:
-            fresh(self, owner)
-            user = os.geteuid() if owner is None else owner
-            self.refuses(18, b"as user %d" % user, sha256(NEW), "--trusted-only")

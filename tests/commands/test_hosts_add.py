@@ -2,10 +2,12 @@
 ssh's place and with real sshds on the loopback device."""
 from __future__ import annotations
 
+import fcntl
 import os
 import shutil
 import socket
 import subprocess
+import termios
 from typing import NamedTuple
 
 from tests.lib.waiting import until
@@ -14,25 +16,20 @@ from .sandbox import CommandTest, NEW, OLD, sha256
 from .test_fleet import DIFFERS, Fleet
 
 PROMPT = b"yes or no: "
-# A key of nobody, and what ssh-keygen(1) says of it.
-KEY = "ssh-ed25519 AAAAC3NzaC1lZDI1NTE5AAAAIIaS9mDLWYfaRaq7GYEbe2sm9tMRUE2XNYaLWqBLEIaG"
-PRINT = "SHA256:L2v0QbKcufJgssnGsi5PmfNUIYsRnd/PnVc75xj4Nu8"
+SSH_PROMPT = b"(yes/no/[fingerprint])? "
 SSHD = "/usr/sbin/sshd"
-SSH = """case $1 in -G)
-    echo "userknownhostsfile ROOT/known_hosts ROOT/more"
-    echo "identityfile ROOT/key"
-    exit 0 ;;
-esac
+# It asks for a key where no way to log in is tried, and knows it from then on.
+SSH = """way=
 while [ "${1#-}" != "$1" ]; do
-    case $2 in UserKnownHostsFile=*) file=${2#*=\\"} file=${file%%\\"*} ;; esac
+    [ "$2" = PreferredAuthentications=none ] && way=none
     [ "$1" = -o ] && shift
     shift
 done
+[ "$way" ] && { [ "$1" = changed ] || echo "$1 KEY" >> ROOT/known_hosts; exit 255; }
 case $1 in
     denied) echo "root@denied: Permission denied (publickey)." >&2; exit 255 ;;
     changed) echo "Host key verification failed." >&2; exit 255 ;;
 esac
-[ -e "ROOT/known-$1" ] || echo "$1 KEY" > "$file"
 exec cat "ROOT/remote/$1\""""
 
 
@@ -43,25 +40,38 @@ class Asked(NamedTuple):
     text: str
 
 
-def add(sandbox: CommandTest, host: str, answer: str, *words: str, early: bytes = b"") -> Asked:
-    """Runs the command on a terminal, and answers its question once it is asked."""
+def add(
+    sandbox: CommandTest, host: str, answer: str, *words: str, early: bytes = b"", key: bytes = b""
+) -> Asked:
+    """Runs the command on a terminal, and answers its question once it is asked; and that of ssh
+    before it, if there is an answer to that."""
     options = ("--store", sandbox.path("store"), "--hosts-file", sandbox.path("etc-hosts"))
-    terminal = sandbox.terminal("aide-compare hosts add", *options, *words, host)
+    # ssh asks on the terminal that its session has.
+    terminal = sandbox.terminal(
+        "aide-compare hosts add",
+        *options,
+        *words,
+        host,
+        start_new_session=True,
+        preexec_fn=lambda: fcntl.ioctl(0, termios.TIOCSCTTY, 0),
+    )
+    if key:
+        terminal.read(SSH_PROMPT)
+        terminal.type(key)
     terminal.type(early)
     status, text = terminal.answered(PROMPT, answer.encode())
     return Asked(status, text.decode("utf-8", "replace"))
 
 
 def files(sandbox: CommandTest) -> dict[str, str]:
-    """What is kept: the key, the file of hosts, and the baselines."""
+    """What is kept: the file of hosts, and the baselines."""
     found = {}
-    for name in ("known_hosts", "etc-hosts"):
-        if os.path.exists(sandbox.path(name)):
-            found[name] = sandbox.read(name).decode()
+    if os.path.exists(sandbox.path("etc-hosts")):
+        found["etc-hosts"] = sandbox.read("etc-hosts").decode()
     hosts = sandbox.path("store/hosts")
     for host in os.listdir(hosts) if os.path.isdir(hosts) else []:
         for name in os.listdir(f"{hosts}/{host}"):
-            if name != "lock":
+            if name == "aide.db":
                 found[f"{host}/{name}"] = sandbox.read(f"store/hosts/{host}/{name}").decode()
     return found
 
@@ -132,9 +142,9 @@ class HostsAddTest(CommandTest):
         super().setUp()
         self.fleet = Fleet(self)
         shutil.rmtree(self.path("store"))
-        self.stub("ssh", SSH.replace("ROOT", self.root).replace("KEY", KEY))
+        self.stub("ssh", SSH.replace("ROOT", self.root))
 
-    def refuses(self, status: int, told: str, host: str, *words: str) -> str:
+    def refuses(self, status: int, told: str, host: str, *words: str) -> None:
         """A host is not asked about, and nothing of it is kept, or no more than there was."""
         before = files(self)
         asked = add(self, host, "yes\n", *words)
@@ -142,26 +152,21 @@ class HostsAddTest(CommandTest):
         self.assertIn(told, asked.text)
         self.assertNotIn("yes or no", asked.text)
         self.assertEqual(files(self), before, asked)
-        return asked.text
 
     def test_yes(self) -> None:
-        """The key and the digest are shown before the question; after yes all is there, once."""
+        """The digest is shown before the question; after yes all is there, once."""
         self.fleet.put("www", OLD, None)
         asked = add(self, "www", "yes\n")
         self.assertEqual(asked.status, 0, asked)
         before = asked.text.partition("yes or no: ")[0]
         for part in (
-            f"    {PRINT} (ssh-ed25519)\n",
             f"    {sha256(OLD)}\n",
-            "    cat /etc/ssh/ssh_host_*_key.pub | ssh-keygen -lf -\n",
             "    zcat -f /var/lib/aide/aide.db.new | sha256sum\n",
         ):
             self.assertIn(part, before)
         self.assertLessEqual(max(map(len, before.split("\n"))), 80, before)
-        kept = {"known_hosts": f"www {KEY}\n", "etc-hosts": "www\n"}
-        kept.update({"www/aide.db": OLD.decode(), "www/aide.db.new": OLD.decode()})
-        self.assertEqual(files(self), kept)
-        self.assertEqual(os.stat(self.path("known_hosts")).st_mode & 0o777, 0o600)
+        self.assertEqual(files(self), {"etc-hosts": "www\n", "www/aide.db": OLD.decode()})
+        self.assertEqual(self.read("known_hosts"), b"www KEY\n", "ssh has asked once")
         self.refuses(24, "has a baseline already", "www")
         shutil.rmtree(self.path("store/hosts/www"))
         asked = add(self, "www", "YES\n")
@@ -182,19 +187,13 @@ class HostsAddTest(CommandTest):
         self.assertIn(b"Permission denied", text)
         self.assertEqual(text.count(PROMPT), 3, text)
 
-    def test_known(self) -> None:
-        """A host whose key is known is added to a file whose last line has no end."""
-        self.write("known_hosts", f"www {KEY}\n")
+    def test_list(self) -> None:
+        """A host is added to a file whose last line has no end."""
         self.write("etc-hosts", "www\n# no end of line")
-        self.write("known-db1", "")
         self.fleet.put("db1", NEW, None)
         asked = add(self, "db1", "yes\n")
         self.assertEqual(asked.status, 0, asked)
-        self.assertIn("has the key that is known here", asked.text)
-        self.assertNotIn("ssh-keygen", asked.text)
-        kept = files(self)
-        self.assertEqual(kept["etc-hosts"], "www\n# no end of line\ndb1\n")
-        self.assertEqual(kept["known_hosts"], f"www {KEY}\n", "no key twice")
+        self.assertEqual(files(self)["etc-hosts"], "www\n# no end of line\ndb1\n")
         self.assertIn("db1 0 no differences", self.fleet.compare_one("db1").output)
 
     def test_no(self) -> None:
@@ -206,11 +205,6 @@ class HostsAddTest(CommandTest):
             self.assertIn("nothing was added", asked.text)
         asked = add(self, "www", "no\n", early=b"yes\n")
         self.assertEqual((asked.status, files(self)), (24, {}), "typed before the question")
-        stub = SSH.replace("ROOT/known_hosts ROOT/more", "none").replace("ROOT", self.root)
-        self.stub("ssh", stub.replace("KEY", KEY))
-        asked = add(self, "www", "yes\n")
-        self.assertEqual((asked.status, files(self)), (18, {}), "ssh keeps no keys")
-        self.assertFalse(os.path.exists(self.path("none")))
         command = "aide-compare hosts add"
         said = self.fleet.call(command, "www")
         self.assertEqual((said.status, files(self)), (15, {}), said)
@@ -221,12 +215,9 @@ class HostsAddTest(CommandTest):
 
     def test_faults(self) -> None:
         """What cannot be fetched or is no database is not asked about."""
-        self.write("key.pub", "ssh-ed25519 AAAA collector\n")
         for host, data in (("denied", OLD), ("changed", OLD), ("empty", b""), ("other", b"x\n")):
             self.fleet.put(host, data, None)
-        line = 'restrict,command="cat /var/lib/aide/aide.db.new" ssh-ed25519 AAAA'
-        text = self.refuses(18, line, "denied")
-        self.assertRegex(text, "(?m)^restrict,command=", "a line that can be copied as it is")
+        self.refuses(18, "is the key of this user in its authorized_keys?", "denied")
         self.refuses(18, "Host key verification failed", "changed")
         self.refuses(18, "sent nothing", "empty")
         self.refuses(24, "no sound database", "other")
@@ -245,7 +236,10 @@ class HostsAddTest(CommandTest):
         for name in ("www", "db1"):
             self.write(f"remote/{name}", OLD)
             sshds.start(name, f"cat {self.path('remote/' + name)}")
-            asked = add(self, name, "yes\n")
+            asked = add(self, name, "", key=b"no\n")
+            self.assertEqual((asked.status, name in files(self)), (18, False), asked)
+            self.assertIn("is its key in known_hosts?", asked.text)
+            asked = add(self, name, "yes\n", key=b"yes\n")
             self.assertEqual(asked.status, 0, asked)
             words = ["ssh-keygen", "-lf", self.path(f"{name}.key.pub")]
             fingerprint = subprocess.check_output(words).decode().split(" ")[1]

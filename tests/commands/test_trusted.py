@@ -8,8 +8,7 @@ import os
 from typing import List, Tuple
 
 from tests.commands import mail
-from tests.commands.accepting import accept, contents
-from tests.commands.made_up import Host, Night, objects_of, standings_of, time_of
+from tests.commands.made_up import Host, standings_of, time_of
 from tests.commands.sandbox import CommandTest, NOBODY, sha256
 from tests.commands.viewers.pages import heads_in
 
@@ -112,11 +111,6 @@ class TrustedTest(mail.MailTest):
         self.assertEqual(objects[-1]["standings"]["open"], len(WATCHERS))
         heads = heads_in(self.call("aide-compare page", *PAIR, *BOTH).output)
         self.assertEqual(sum(head["standing"] == "open" for head in heads), len(WATCHERS))
-        digest = sha256(self.read("host-new.db"))
-        words = ("--sha256", digest, "--trusted-only", *PAIR, "host-new.db", "host-old.db")
-        self.assertEqual(self.call(TOOL + " accept", *words).status, 0)
-        answer = self.call(TOOL + " json", *BOTH)
-        self.assertEqual(set(standings_of(objects_of(answer))) - {b"/"}, set(WATCHERS), answer)
 
     def test_forms(self) -> None:
         """The pair may be packed, or come by a descriptor, before or after the databases. A column
@@ -235,27 +229,6 @@ class TrustedTest(mail.MailTest):
             self.expect(f"a default {line}", self.call(TOOL, *BOTH), status, errors=[words])
         told = b"aide-compare: 6 open (6 high) of 7 changes\n"
         self.expect("no defaults", self.call(TOOL, "--no-defaults", *BOTH), 7, errors=[told])
-
-    def test_accept(self) -> None:
-        """What is silent beside the pair becomes the baseline, and all else is told again."""
-        host, _ = put(self)
-        old, new = host.old.database(), host.new.database()
-        for owner in (None, NOBODY) if os.getuid() == 0 else (None,):
-            for name, text in (("aide.db", old), ("aide.db.new", new)):
-                baseline = self.write("base/" + name, text, 0o600)
-                if owner is not None:
-                    os.chown(baseline, owner, owner)
-                    os.chown(self.path("base"), owner, owner)
-            done = accept(self, sha256(new), "--trusted-only", *PAIR)
-            stays = b"stays open: added 1, removed 1, changed 1\n"
-            self.expect("what is silent", done, 0, stays, b"aide-compare: 4 of 7 changes silent")
-            merged = Night()
-            for path in host.old.entries.keys() | host.new.entries.keys():
-                is_open = WANTED.get(path, "").startswith("open")
-                side = host.old if is_open else host.new
-                if path in side.entries:
-                    merged.entries[path] = side.entries[path]
-            self.assertEqual(contents(self)[0], merged.database(), ("what stays", contents(self)))
 
     def test_owner(self) -> None:
         """Root opens the pair, and compares with the rights of the user in whose directory the

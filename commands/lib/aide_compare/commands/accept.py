@@ -3,7 +3,7 @@ whole, or but for what stays open."""
 from __future__ import annotations
 
 from collections.abc import Iterator, Sequence
-from typing import NamedTuple, Optional
+from typing import NamedTuple
 
 from aide_compare.base.ending import Fault, Status, say, tell
 from aide_compare.base.escapes import shown
@@ -13,25 +13,16 @@ from aide_compare.base.options import (
     QUIET,
     SHA256,
     STATE,
-    TRUSTED,
     Asked,
     Operand,
     field,
-    option,
 )
 from aide_compare.base.parser import read
 from aide_compare.base.paths import Pattern
 from aide_compare.base.words import KINDS, date_of
-from aide_compare.commands.accept_question import (
-    can_ask,
-    wanted_after_question,
-)
+from aide_compare.commands.accept_question import can_ask, wanted_after_question
 from aide_compare.commands.accept_work import Accepted, AcceptRequest, accept
-from aide_compare.commands.defaults import (
-    comparison_defaults,
-    exclusions_of,
-    machines_databases,
-)
+from aide_compare.commands.defaults import comparison_defaults, machines_databases
 from aide_compare.compare.state import DAILY, State, read_state
 
 NAME = "aide-compare accept"
@@ -53,19 +44,14 @@ class AcceptOptions(Asked):
     """What the options ask for."""
 
     is_quiet: bool = field(QUIET, help="do not print what was done")
-    digest: Optional[str] = field(SHA256)
-    state: Optional[str] = field(
+    digest: str | None = field(SHA256)
+    state: str | None = field(
         STATE,
         help="print the time and the counts of the comparison from this file"
         f" ({DAILY}); it decides nothing",
     )
     max_size: int = field(MAX_SIZE)
     keep_open: Sequence[Pattern] = field(KEEP_OPEN)
-    trusted_only: bool = option(
-        "--trusted-only",
-        "only the silent changes: the same, and those of the trusted pair; all others stay open",
-    )
-    trusted: Sequence[str] = field(TRUSTED, default=())
     files: Sequence[str] = field(
         Operand(
             "NEW BASELINE",
@@ -83,8 +69,6 @@ class AcceptOptions(Asked):
         if not self.digest and (self.is_quiet or not can_ask()):
             why = "give --sha256 DIGEST, or run this on a terminal to be asked"
             raise Fault(Status.USAGE, why, HINT)
-        if self.digest and self.trusted and not self.trusted_only:
-            raise Fault(Status.USAGE, "--trusted goes with --trusted-only", HINT)
         if self.state and not self.digest:
             raise Fault(Status.USAGE, "--state goes with --sha256", HINT)
 
@@ -172,22 +156,13 @@ def main(arguments: Sequence[str]) -> int:
     asked = read(AcceptOptions, arguments, NAME, DESCRIPTION, EPILOG, usage)
     asked.check()
     new, baseline = asked.files or reversed(machines_databases(arguments))
-    defaults = comparison_defaults((baseline, new), arguments, (STATE, TRUSTED))
     if asked.digest:
+        defaults = comparison_defaults((baseline, new), arguments, (STATE,))
         reported = reported_in(asked.state, defaults.get(STATE.attribute, DAILY))
         digest = asked.digest
     else:
-        state = wanted_after_question(new, baseline, asked.trusted)
+        state = wanted_after_question(new, baseline)
         reported = Reported(state)
         digest = state.new_sha256
-    request = AcceptRequest(
-        new=new,
-        baseline=baseline,
-        digest=digest,
-        keep_open=asked.keep_open,
-        only_trusted=asked.trusted_only,
-        max_size=asked.max_size,
-        trusted=asked.trusted or defaults.get(TRUSTED.attribute, ()),
-        exclusions=exclusions_of((), ()) if asked.trusted_only else None,
-    )
+    request = AcceptRequest(new, baseline, digest, asked.keep_open, asked.max_size)
     return run(request, reported, asked.is_quiet)

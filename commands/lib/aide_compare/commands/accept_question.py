@@ -2,11 +2,9 @@
 from __future__ import annotations
 
 import os
-from collections.abc import Sequence
 
 from aide_compare.base.ending import Fault, Status, tell
 from aide_compare.base.escapes import shown
-from aide_compare.base.options import TRUSTED
 from aide_compare.base.terminal import answer_to
 from aide_compare.base.words import minute_of
 from aide_compare.commands.compare import Printer
@@ -21,12 +19,10 @@ def can_ask() -> bool:
     return os.isatty(0) and os.isatty(1)
 
 
-def compare_and_print(new: str, baseline: str, trusted: Sequence[str]) -> State:
+def compare_and_print(new: str, baseline: str) -> State:
     """Compares as aide-compare does, with the same defaults and privileges, and prints what
     differs."""
     words = ["--", baseline, new]
-    if trusted:
-        words = [TRUSTED.name, *trusted, *words]
     request = with_defaults(given_by(words), words)
     ended = Printer(request, words).task().carry_out()
     if ended.status > 7:
@@ -34,9 +30,9 @@ def compare_and_print(new: str, baseline: str, trusted: Sequence[str]) -> State:
     return ended.state()
 
 
-def wanted_after_question(new: str, baseline: str, trusted: Sequence[str]) -> State:
+def wanted_after_question(new: str, baseline: str) -> State:
     """The State of a comparison whose new database a person wants who has seen its changes."""
-    state = compare_and_print(new, baseline, trusted)
+    state = compare_and_print(new, baseline)
     line = f"New database: {shown(new)}"
     if state.new_written is not None:
         line += f", written {minute_of(state.new_written)}"

@@ -4,40 +4,27 @@ from __future__ import annotations
 
 import gzip
 import os
-from collections.abc import Iterator, Mapping, Sequence
+from collections.abc import Sequence
 from contextlib import suppress
-from typing import TYPE_CHECKING, NamedTuple
+from typing import NamedTuple
 
-from aide_compare.base.ending import Fault, Status, write_all
+from aide_compare.base.ending import Fault, Status
 from aide_compare.base.escapes import shown
-from aide_compare.base.files import BLOCK, nameless, reopened
+from aide_compare.base.files import blocks_of, nameless, reopened
 from aide_compare.base.directories import closed_after
-from aide_compare.base.options import MAX_REPORT_BYTES
 from aide_compare.base.paths import Pattern
-from aide_compare.base.words import TRUSTED_SIDES, counted
 from aide_compare.compare.baseline import Baseline, Owners, owners
-from aide_compare.compare.comparison import NO_COPIES, Request
-from aide_compare.compare.kept_open import Listed, Merged, Patterns, keep_open
+from aide_compare.compare.kept_open import Merged, Patterns, keep_open
 from aide_compare.compare.soundness import refuse_unsound
 from aide_compare.compare.unpack import (
     GZIP,
     Copy,
     Opened,
-    copy_database,
     copy_opened,
     copy_packed,
     database_digest,
     open_database,
 )
-from aide_compare.compare.work import compare
-from aide_compare.show.outputs import all_lines
-from aide_compare.show.told import told_of
-
-if TYPE_CHECKING:
-    from aide_compare.compare.exclusions import Exclusions
-
-# Databases by their sides.
-Copies = dict[str, Copy]
 
 
 class AcceptRequest(NamedTuple):
@@ -47,13 +34,7 @@ class AcceptRequest(NamedTuple):
     baseline: str
     digest: str  # The first digits of the SHA-256 of the new database.
     keep_open: Sequence[Pattern]
-    only_trusted: bool
     max_size: int
-    trusted: Sequence[str] = ()  # The paths of a trusted pair, or none.
-    trusted_copies: Mapping[str, Copy] = NO_COPIES  # A pair that was opened before.
-    max_report: int = MAX_REPORT_BYTES  # Of the changes that are asked for what is silent.
-    is_quiet: bool = False  # Nothing is said of the comparison.
-    exclusions: Exclusions | None = None  # What a comparison leaves out.
 
 
 class Offer:
@@ -74,10 +55,8 @@ class Offer:
         target = nameless()
         with open(os.dup(target), "wb") as file:
             with gzip.GzipFile(filename="", mode="wb", fileobj=file, mtime=0) as member:
-                offset = 0
-                while block := os.pread(copy.fd, BLOCK, offset):
+                for block in blocks_of(copy.fd):
                     member.write(block)
-                    offset += len(block)
         return target
 
 
@@ -114,30 +93,6 @@ def former_of(baseline: Baseline, max_size: int) -> Former | None:
     return Former("", owner)
 
 
-def _open_keys(request: AcceptRequest, copies: Copies) -> Iterator[bytes]:
-    """Compares, and says what was found. The keys, in path order, of the changes that are not
-    silent."""
-    comparison = compare(
-        Request(
-            old=request.baseline,
-            new=request.new,
-            copies=copies,
-            max_report=request.max_report,
-            exclusions=request.exclusions,
-        )
-    )
-    if comparison.status > 7:
-        text = "refused: nothing was compared, so nothing is silent"
-        raise comparison.fault or Fault(Status(comparison.status), text)
-    reader = all_lines(comparison)
-    if not request.is_quiet:
-        end = comparison.known_lines().end
-        silent = f"{end.changes - end.others} of {counted(end.changes, 'change')}"
-        text = f"{told_of(comparison)}aide-compare: {silent} silent\n"
-        write_all(2, text.encode("utf-8", "replace"))
-    return (outline.key for outline in reader.outlines() if outline.silent is None)
-
-
 def merge(request: AcceptRequest, offer: Offer, baseline: Baseline) -> Merged:
     """The new database with the old entries of what stays open."""
     descriptor = baseline.reading()
@@ -149,19 +104,7 @@ def merge(request: AcceptRequest, offer: Offer, baseline: Baseline) -> Merged:
     old = copy_opened(Opened("old", baseline.path, descriptor), request.max_size)
     refuse_unsound(offer.copy, old)
     patterns = Patterns(request.keep_open)
-    listed = Listed(())
-    if request.only_trusted:
-        copies = {"old": old, "new": offer.copy, **request.trusted_copies}
-        for side, path in zip(TRUSTED_SIDES, request.trusted):
-            copies[side] = copy_database(side, path, request.max_size)
-        listed = Listed(_open_keys(request, copies))
-
-    def stays_open(key: bytes) -> bool:
-        # Both are asked for each key, since both count what they are asked for.
-        answers = [patterns(key), listed(key)]
-        return any(answers)
-
-    merged = keep_open(old, offer.copy, stays_open)
+    merged = keep_open(old, offer.copy, patterns)
     for unused in patterns.unused():
         text = f"refused: nothing that differs is kept open by {shown(unused.text, 200)}"
         raise Fault(Status.DATABASE, text)
@@ -187,7 +130,7 @@ def accept(request: AcceptRequest) -> Accepted:
     merged = None
     sha256 = offer.sha256
     source = offer.fd
-    if request.keep_open or request.only_trusted:
+    if request.keep_open:
         merged = merge(request, offer, baseline)
         sha256 = merged.copy.sha256
         source = offer.packed(merged.copy)

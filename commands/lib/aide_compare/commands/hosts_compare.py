@@ -29,11 +29,12 @@ from aide_compare.base.parser import defaults_for, read
 from aide_compare.commands.defaults import exclusions_of
 from aide_compare.compare.asking import errors_of_list
 from aide_compare.compare.state import State
-from aide_compare.hosts.canary import Run, failed_note, keep_run, trusted_pair, used_note
+from aide_compare.hosts.canary import Run, keep_run, trusted_pair
 from aide_compare.hosts.fetching import fetch
 from aide_compare.hosts.fleet import Fleet
 from aide_compare.hosts.host_comparison import MAX_JUDGED, MAX_KEPT, Settings, compare
-from aide_compare.hosts.hosts_read import hosts_of, read_host
+from aide_compare.hosts.hosts_file import hosts_of
+from aide_compare.hosts.hosts_read import read_host
 from aide_compare.hosts.hosts_text import WHY, not_listed
 from aide_compare.hosts.reported import HostCounts
 from aide_compare.hosts.store import ERRORS, HostDirectory, check_name
@@ -160,12 +161,12 @@ def results_beside(canary: str, hosts: Sequence[str], settings: Settings) -> Ite
     try:
         if first.status > 7:
             raise Fault(first.status, first.text)
-        trusted = trusted_pair(canary, settings)
-        beside = settings._replace(trusted=trusted.copies)
-        note = used_note(canary, trusted.was_accepted)
-        run = Run(canary, note, trusted.pair, trusted.was_accepted)
+        run, copies = trusted_pair(canary, settings)
+        beside = settings._replace(trusted=copies)
     except (Fault, OSError) as error:
-        run = Run(canary, failed_note(canary, without_name(canary, fault_of(error).text)))
+        why = without_name(canary, fault_of(error).text)
+        lost = f"canary {canary} was not used, so the others were compared without it"
+        run = Run(canary, f"{lost}: {why}")
         tell(guarded(run.note))
     keep_run(settings.store, run)
     yield from results([host for host in hosts if host != canary], work_of(beside))

@@ -7,7 +7,8 @@ from aide_compare.base.ending import Status, tell
 from aide_compare.base.escapes import guarded
 from aide_compare.base.options import HOST_STORE, HOST_TIME, HOSTS_OPERAND, RESULT_AGE, Asked, field
 from aide_compare.base.parser import read
-from aide_compare.hosts.hosts_read import hosts_of, read_host
+from aide_compare.hosts.hosts_file import hosts_of
+from aide_compare.hosts.hosts_read import read_host
 from aide_compare.hosts.reported import Host
 
 NAME = "aide-compare hosts list"

@@ -7,12 +7,10 @@ from contextlib import closing, suppress
 
 from aide_compare.base.ending import Fault, Status, failing, tell
 from aide_compare.base.escapes import shown
-from aide_compare.base.files import read_file
 from aide_compare.base.options import HOST_STORE, HOST_TIME, HOSTS_FILE, Asked, Operand
 from aide_compare.base.options import field, option
 from aide_compare.base.parser import read
-from aide_compare.base.replacement import ANYBODY_READS, replace
-from aide_compare.hosts.adding import MAX_FILE
+from aide_compare.hosts.hosts_file import remove_host
 from aide_compare.hosts.hosts_read import directory_of
 from aide_compare.hosts.store import check_name
 
@@ -39,18 +37,6 @@ class RemoveRequest(Asked):
     host: str = field(Operand("HOST", "its name"))
 
 
-def remove_from_list(host: str, path: str) -> bool:
-    """Takes a host out of a file of hosts. Whether it was there."""
-    if not os.path.lexists(path):
-        return False
-    lines = read_file(path, MAX_FILE, "the file of hosts ").split(b"\n")
-    kept = [line for line in lines if line.strip() != host.encode()]
-    if kept == lines:
-        return False
-    replace(path, b"\n".join(kept), ANYBODY_READS, "the file of hosts")
-    return True
-
-
 def remove_directory(host: str, store: str, seconds: int) -> bool:
     """Removes what a store keeps of a host. Whether there was something."""
     if not os.path.lexists(f"{store}/hosts/{host}"):
@@ -69,7 +55,7 @@ def main(arguments: Sequence[str]) -> int:
     usage = f"{NAME} [OPTIONS] HOST"
     request = read(RemoveRequest, arguments, NAME, DESCRIPTION, EPILOG, usage)
     host = check_name(request.host)
-    was_listed = remove_from_list(host, request.hosts_file)
+    was_listed = remove_host(host, request.hosts_file)
     was_kept = remove_directory(host, request.store, request.seconds)
     if not was_listed and not was_kept:
         raise Fault(

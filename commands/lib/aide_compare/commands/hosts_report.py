@@ -32,7 +32,8 @@ from aide_compare.commands.mail_request import with_days
 from aide_compare.hosts.canary import notes_of
 from aide_compare.hosts.fleet import Fleet
 from aide_compare.hosts.hosts_page import page
-from aide_compare.hosts.hosts_read import hosts_of, read_host
+from aide_compare.hosts.hosts_file import hosts_of
+from aide_compare.hosts.hosts_read import read_host
 from aide_compare.hosts.hosts_text import Report, headline, report_lines, short_lines
 from aide_compare.hosts.reported import CUT, UNREADABLE, HostCounts, Summary
 from aide_compare.lines.reader import ENCODE

@@ -6,7 +6,7 @@ from __future__ import annotations
 import os
 import shutil
 from collections import Counter
-from collections.abc import Callable, Iterable, Iterator, Sequence
+from collections.abc import Callable, Iterator, Sequence
 from heapq import merge
 from itertools import groupby
 from typing import NamedTuple
@@ -39,20 +39,6 @@ class Patterns:
     def unused(self) -> list[Pattern]:
         """The patterns that left nothing open."""
         return [pattern for pattern in self.patterns if pattern not in self.counts]
-
-
-class Listed:
-    """The paths of a list that is in path order, by their keys. They are asked for in this order
-    too."""
-
-    def __init__(self, keys: Iterable[bytes]) -> None:
-        self.keys = iter(keys)
-        self.next: bytes | None = b""
-
-    def __call__(self, key: bytes) -> bool:
-        while self.next is not None and self.next < key:
-            self.next = next(self.keys, None)
-        return self.next == key
 
 
 class SidedEntry(NamedTuple):

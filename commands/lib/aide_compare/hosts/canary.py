@@ -12,7 +12,7 @@ import time
 from collections.abc import Mapping, Sequence
 from contextlib import closing, suppress
 from hashlib import sha256
-from typing import NamedTuple, Optional
+from typing import NamedTuple
 
 from aide_compare import VERSION
 from aide_compare.base.ending import Fault, Status
@@ -23,7 +23,8 @@ from aide_compare.base.words import TRUSTED_SIDES
 from aide_compare.compare.exclusions import Exclusions
 from aide_compare.compare.state import State, read_state
 from aide_compare.compare.unpack import Copy, copy_database
-from aide_compare.hosts.host_comparison import MAX_BASELINE, Settings
+from aide_compare.hosts.first_baseline import MAX_BASELINE
+from aide_compare.hosts.host_comparison import Settings
 from aide_compare.hosts.hosts_read import KeptChanges, host_of
 from aide_compare.hosts.reported import WHOLE, Host
 from aide_compare.hosts.store import BASELINE, NEW, PREVIOUS, HostDirectory
@@ -34,6 +35,7 @@ RUN = "canary"
 LISTED = "listed"
 MAX_TEXT = 60000
 MAX_NOTE = 5000
+SILENT = "is silent on the other hosts"
 UNLISTED = (
     "what was silent beside it is not listed here, since it was compared again or is no host of"
     " this report; compare all hosts again"
@@ -58,11 +60,10 @@ class Run(NamedTuple):
 
     host: str
     note: str  # For the reports that follow.
-    pair: Optional[Pair] = None  # None if it was not used.
-    was_accepted: bool = False  # The report of the pair is one of the days before.
+    sha256: str = ""  # Of its new database, if these have to list what differs in it.
 
 
-def rules_of(exclusions: Optional[Exclusions], configuration: Optional[str]) -> str:
+def rules_of(exclusions: Exclusions | None, configuration: str | None) -> str:
     """The SHA-256 of what decides which changes a comparison lists."""
     text = exclusions.text if exclusions else b""
     options = read_file(configuration, 4 << 20, "the configuration ") if configuration else b""
@@ -97,7 +98,7 @@ def copies_of(
     return copies
 
 
-def listed_pair(directory: HostDirectory, rules: str) -> Optional[Pair]:
+def listed_pair(directory: HostDirectory, rules: str) -> Pair | None:
     """The pair that has listed something the last time, if that was some days ago at most, and if
     the same would be listed today."""
     with suppress(Fault, OSError, ValueError, TypeError):
@@ -108,16 +109,10 @@ def listed_pair(directory: HostDirectory, rules: str) -> Optional[Pair]:
     return None
 
 
-class Trusted(NamedTuple):
-    """The databases that the other hosts are compared beside."""
-
-    pair: Pair
-    copies: Mapping[str, Copy]
-    was_accepted: bool
-
-
-def trusted_pair(host: str, settings: Settings) -> Trusted:
-    """The pair of a canary that was compared just now."""
+def trusted_pair(host: str, settings: Settings) -> tuple[Run, Mapping[str, Copy]]:
+    """What there is to note of a canary that was compared just now, and the databases that the
+    other hosts are compared beside."""
+    note = f"canary {host}: what changed there in the same way"
     rules = rules_of(settings.exclusions, settings.configuration)
     with closing(HostDirectory(settings.store, host, settings.seconds)) as directory:
         state = read_state(directory.state_path)
@@ -129,34 +124,12 @@ def trusted_pair(host: str, settings: Settings) -> Trusted:
             with suppress(Fault):
                 if earlier:
                     copies = copies_of(directory, ACCEPTED, earlier)
-                    return Trusted(earlier, copies, True)
-        return Trusted(pair, copies_of(directory, COMPARED, pair), False)
+                    return Run(host, f"{note}, and was accepted, {SILENT}"), copies
+        run = Run(host, f"{note} {SILENT}", pair.new)
+        return run, copies_of(directory, COMPARED, pair)
 
 
-def copies_of_run(store: str, run: Run, seconds: float) -> Mapping[str, Copy]:
-    """The databases of a run that were trusted; the canary may have been accepted since then."""
-    if run.pair is None:
-        return {}
-    with closing(HostDirectory(store, run.host, seconds)) as directory:
-        if not run.was_accepted:
-            with suppress(Fault):
-                return copies_of(directory, COMPARED, run.pair)
-        return copies_of(directory, ACCEPTED, run.pair)
-
-
-def used_note(host: str, was_accepted: bool) -> str:
-    if was_accepted:
-        text = "what changed there in the same way, and was accepted, is silent on the other hosts"
-    else:
-        text = "what changed there in the same way is silent on the other hosts"
-    return f"canary {host}: {text}"
-
-
-def failed_note(host: str, why: str) -> str:
-    return f"canary {host} was not used, so the others were compared without it: {why}"
-
-
-def keep_run(store: str, run: Optional[Run]) -> None:
+def keep_run(store: str, run: Run | None) -> None:
     """Keeps what a run knew of its canary for the commands that follow; none if it had none."""
     path = f"{store}/{RUN}"
     if run is None:
@@ -167,25 +140,25 @@ def keep_run(store: str, run: Optional[Run]) -> None:
     replace(path, text.encode(), 0o600, "the note of the canary")
 
 
-def run_in(store: str) -> Optional[Run]:
+def run_in(store: str) -> Run | None:
     """What the last run over a store knew of its canary; None if it had none."""
     path = f"{store}/{RUN}"
     if not os.path.lexists(path):
         return None
     text = read_file(path, MAX_TEXT, "the note of the canary ")
     try:
-        host, note, pair, was_accepted = json.loads(text)
-        return Run(str(host), guarded(str(note)), pair and Pair(*pair), bool(was_accepted))
+        host, note, digest = json.loads(text)
+        return Run(str(host), guarded(str(note)), str(digest))
     except (ValueError, TypeError):
         raise Fault(Status.DEVICE, f"{shown(path)} is no note of a canary") from None
 
 
 def is_in_report(run: Run, hosts: Sequence[Host]) -> bool:
     """Whether a report over these hosts lists what was silent beside the canary of a run."""
-    if run.pair is None or run.was_accepted:
+    if not run.sha256:
         return True
     for host in hosts:
-        if host.name == run.host and host.new_sha256 == run.pair.new:
+        if host.name == run.host and host.new_sha256 == run.sha256:
             return not host.differs or host.report == WHOLE
     return False
 

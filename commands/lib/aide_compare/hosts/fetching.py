@@ -4,13 +4,12 @@ from __future__ import annotations
 import filecmp
 import os
 import re
-from collections.abc import Sequence
-from contextlib import closing
+from contextlib import closing, suppress
 
 from aide_compare.base.ending import Fault, failing, write_all
 from aide_compare.base.escapes import shown
 from aide_compare.base.replacement import NewFile
-from aide_compare.base.processes import NOT_STARTED, OverTime, run
+from aide_compare.base.processes import NOT_STARTED, OverTime, run, run_here
 from aide_compare.hosts.store import CAUSE, NEW, HostDirectory, write_cause
 
 DATABASE = "/var/lib/aide/aide.db.new"
@@ -25,16 +24,21 @@ SSH = (
 UNKNOWN_KEY = "Host key verification failed"
 # What ssh writes before that about a host whose key is another one than before.
 CHANGED_KEY = b"REMOTE HOST IDENTIFICATION HAS CHANGED"
-NOT_ALLOWED = "Permission denied"
 HINTS = (
     (UNKNOWN_KEY, "is its key in known_hosts?"),
-    (NOT_ALLOWED, "is the key of this user in its authorized_keys?"),
+    ("Permission denied", "is the key of this user in its authorized_keys?"),
 )
 
 
-def transfer(
-    directory: HostDirectory, part: NewFile, limit: int, options: Sequence[str] = ()
-) -> None:
+def ask_for_key(directory: HostDirectory) -> None:
+    """Lets ssh ask on the terminal, as it does for people, if it does not know the key of a host.
+    Nothing is sent: no way to log in is tried."""
+    words = ["ssh", "-n", "-o", "StrictHostKeyChecking=ask", "-o", "PreferredAuthentications=none"]
+    with suppress(FileNotFoundError):  # The transfer says so.
+        run_here([*words, directory.host], int(directory.seconds), os.environ, is_silent=True)
+
+
+def transfer(directory: HostDirectory, part: NewFile, limit: int) -> None:
     """Runs ssh, which has to send something, and no more than `limit` bytes, into the part."""
     errors = bytearray()
 
@@ -51,7 +55,7 @@ def transfer(
         if len(errors) > MAX_ERRORS:
             raise directory.fault(f"sent more than {MAX_ERRORS} bytes of errors")
 
-    words = [*SSH, *options, directory.host, COMMAND]
+    words = [*SSH, directory.host, COMMAND]
     try:
         status = run(words, {1: take, 2: take_error}, deadline=directory.deadline)
     except OverTime:

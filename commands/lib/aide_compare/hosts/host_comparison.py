@@ -7,7 +7,7 @@ import signal
 import time
 from collections.abc import Mapping
 from contextlib import closing
-from typing import NamedTuple, Optional
+from typing import NamedTuple
 
 from aide_compare.base.ending import Fault, Status
 from aide_compare.base.replacement import NewFile, replace
@@ -17,11 +17,11 @@ from aide_compare.compare.configuration import NONE
 from aide_compare.compare.exclusions import Exclusions
 from aide_compare.compare.state import State
 from aide_compare.compare.unpack import Copy, copy_database
+from aide_compare.hosts.first_baseline import MAX_BASELINE
 from aide_compare.hosts.kept_lines import write_kept
 from aide_compare.hosts.store import BASELINE, ERRORS, LINES, NEW, HostDirectory, write_cause
 from aide_compare.show.told import told_of
 
-MAX_BASELINE = 4 << 30
 # Without --max-size a new database may always have so many bytes, and so many times those of the
 # baseline.
 MIN_SIZE = 64 << 20
@@ -43,8 +43,8 @@ class Settings(NamedTuple):
     store: str
     seconds: int
     jobs: int
-    configuration: Optional[str]
-    exclusions: Optional[Exclusions]
+    configuration: str | None
+    exclusions: Exclusions | None
     max_size: int  # 0: by the size of the baseline.
     same_for: int  # A host may send the same bytes for so many seconds; 0: without end.
     fetches: bool

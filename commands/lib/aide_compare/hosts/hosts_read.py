@@ -1,5 +1,4 @@
-"""The hosts of a file, and what the store knows of each: its state, and the changes in the lines
-that were kept of it."""
+"""What the store knows of a host: its state, and the changes in the lines that were kept of it."""
 from __future__ import annotations
 
 import errno
@@ -10,7 +9,7 @@ from contextlib import closing
 
 from aide_compare.base.ending import Fault, Status, reason
 from aide_compare.base.escapes import shown
-from aide_compare.base.files import open_regular, read_file, read_whole
+from aide_compare.base.files import open_regular
 from aide_compare.base.directories import closed_after
 from aide_compare.base.words import SEVERITIES, age_in_words, date_of
 from aide_compare.compare.state import State, read_state
@@ -20,24 +19,9 @@ from aide_compare.hosts.store import LINES, HostDirectory, check_name
 from aide_compare.lines.change import Fields
 from aide_compare.lines.reader import Outline, Refused
 
-MAX_LIST = 16 << 20
 # What a disk says of a place that is damaged, and a file system of the network of a file that is
 # gone there.
 DAMAGED = (errno.EIO, errno.EBADMSG, errno.EUCLEAN, errno.ESTALE)
-
-
-def hosts_of(path: str) -> list[str]:
-    """The names in a file, each once."""
-    what = "the file of hosts "
-    if path == "-":
-        data = read_whole(0, MAX_LIST, what)
-    else:
-        data = read_file(path, MAX_LIST, what)
-    lines = [line.strip() for line in data.decode("utf-8", "surrogateescape").split("\n")]
-    names = list(dict.fromkeys(line for line in lines if line and not line.startswith("#")))
-    if not names:
-        raise Fault(Status.DEVICE, f"there is no host in the file {shown(path)}")
-    return names
 
 
 def host_of(name: str, status: int, error: str, state: State | None = None) -> Host:

@@ -82,6 +82,11 @@ class HostDirectory:
     def has(self, name: str) -> bool:
         return os.path.lexists(self.file(name))
 
+    def refuse_baseline(self) -> None:
+        """A Fault if the host has a baseline."""
+        if self.has(BASELINE):
+            raise self.fault("has a baseline already; nothing was accepted", Status.DATABASE)
+
     def remove(self, name: str) -> None:
         unlink(name, self.fd)
 

@@ -1,0 +1,53 @@
+"""The file of hosts: the name of a watched host in each line."""
+from __future__ import annotations
+
+import os
+
+from aide_compare.base.ending import Fault, Status
+from aide_compare.base.escapes import shown
+from aide_compare.base.files import read_file, read_whole
+from aide_compare.base.replacement import replace
+
+MAX_BYTES = 16 << 20
+WHAT = "the file of hosts "
+
+
+def hosts_of(path: str) -> list[str]:
+    """The names in a file, each once."""
+    if path == "-":
+        data = read_whole(0, MAX_BYTES, WHAT)
+    else:
+        data = read_file(path, MAX_BYTES, WHAT)
+    lines = [line.strip() for line in data.decode("utf-8", "surrogateescape").split("\n")]
+    names = list(dict.fromkeys(line for line in lines if line and not line.startswith("#")))
+    if not names:
+        raise Fault(Status.DEVICE, f"there is no host in the file {shown(path)}")
+    return names
+
+
+def lines_without(host: str, path: str) -> tuple[list[bytes], bool]:
+    """The lines of a file without those of a host, and whether there was one. The last one is
+    empty if the file has an end of its last line, or is missing."""
+    lines = [b""]
+    if os.path.lexists(path):
+        lines = read_file(path, MAX_BYTES, WHAT).split(b"\n")
+    kept = [line for line in lines if line.strip() != host.encode()]
+    return kept, kept != lines
+
+
+def add_host(host: str, path: str) -> None:
+    """Adds a host at the end of a file that does not have it. The file is made if it is missing."""
+    lines, is_there = lines_without(host, path)
+    if not is_there:
+        if lines[-1]:
+            lines.append(b"")
+        lines[-1:] = [host.encode(), b""]
+        replace(path, b"\n".join(lines), what=WHAT.strip())
+
+
+def remove_host(host: str, path: str) -> bool:
+    """Takes a host out of a file. Whether it was there."""
+    lines, is_there = lines_without(host, path)
+    if is_there:
+        replace(path, b"\n".join(lines), what=WHAT.strip())
+    return is_there
