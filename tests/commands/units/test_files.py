@@ -1,6 +1,7 @@
 """Paths that are walked, private copies, and the program."""
 from __future__ import annotations
 
+import fcntl
 import gzip
 import hashlib
 import os
@@ -178,6 +179,11 @@ class FilesTest(PlacesTest):
         for block in (b"1234", b"5"):
             drain.take(block)
         self.expect("a report that is cut", (bytes(kept), drain.size), (b"old\nne", 19))
+        others = fcntl.fcntl(old, fcntl.F_DUPFD, 50)  # That programs inherit, as some of a shell.
+        self.addCleanup(os.close, others)
+        body = f"[ -e /proc/self/fd/{others} ] && exit 1; exit 0"
+        ended = program.run_program(self.stub("aide", body), [], {3: new, 4: old}, len)
+        self.expect("no other descriptors", ended, program.Answer(0, b""))
         for body, why in (
             ("kill -9 $$", "was ended by signal 9"),
             ("exit 99", "could not be run: status 99"),

@@ -9,17 +9,15 @@ import os
 import resource
 import select
 import signal
-import subprocess
 import time
 from collections.abc import Callable, Mapping, Sequence
 from contextlib import ExitStack, suppress
 from functools import partial
 from types import MappingProxyType
-from typing import Union
+from typing import NoReturn, Union
 
 from aide_compare.base.ending import Fault, Status
 from aide_compare.base.escapes import shown
-from aide_compare.base.directories import closed_after
 from aide_compare.base.files import BLOCK
 
 MAX_FILE = 256 << 20
@@ -94,61 +92,52 @@ def limit_time(seconds: int) -> None:
     signal.alarm(seconds)
 
 
-def _prepare_program(parent: int, places: Mapping[int, int]) -> None:
-    """What the process of a program does before it becomes that: it has a group of its own, ends
-    with its parent, has its descriptors by the numbers that they have there, and has bounds."""
-    os.setpgid(0, 0)
-    if not end_with(parent):
-        os._exit(NOT_STARTED)
-    for place, descriptor in places.items():
+def start_child(work: Callable[[], int], lives_on: bool = False) -> int:
+    """The number of a child that does some work, and ends with its status. The kernel ends it if
+    this process ends first, unless it lives on."""
+    parent = os.getpid()
+    child = os.fork()
+    if child:
+        return child
+    status = NOT_STARTED
+    try:
+        if lives_on or end_with(parent):
+            status = work()
+    finally:
+        os._exit(status)
+
+
+def _become_program(
+    words: Words, descriptors: Mapping[int, int], environment: Mapping[str, str]
+) -> NoReturn:
+    """This process becomes a program. `descriptors` are its own by the numbers that they have
+    there; other standard ones are /dev/null, and it has no more than these."""
+    for number in (signal.SIGPIPE, signal.SIGXFSZ):  # Python ignores them.
+        signal.signal(number, signal.SIG_DFL)
+    for name in os.listdir("/proc/self/fd"):
+        with suppress(OSError):  # The one of this list is closed.
+            fcntl.fcntl(int(name), fcntl.F_SETFD, fcntl.FD_CLOEXEC)
+    null = os.open("/dev/null", os.O_RDWR | os.O_CLOEXEC)
+    given = {0: null, 1: null, 2: null, **descriptors}
+    # First above all these numbers, of which some may be those of others.
+    after = max(given) + 1
+    copies = {place: fcntl.fcntl(given[place], fcntl.F_DUPFD_CLOEXEC, after) for place in given}
+    for place, descriptor in copies.items():
         os.dup2(descriptor, place)
     if _limits_before:
         resource.setrlimit(resource.RLIMIT_AS, _limits_before)
+    os.execvpe(words[0], list(words), environment)
+
+
+def _become_bounded(
+    words: Words, descriptors: Mapping[int, int], environment: Mapping[str, str]
+) -> NoReturn:
+    """The same in a group of its own. It writes no larger file than MAX_FILE and leaves no core
+    behind."""
+    os.setpgid(0, 0)
     bound_of(resource.RLIMIT_FSIZE, MAX_FILE)
     bound_of(resource.RLIMIT_CORE, 0)
-
-
-def _occupy_numbers(last: int, opened: ExitStack) -> None:
-    """Opens files until all numbers up to this one are taken, so that no descriptor of Python's own
-    has one that a program is given."""
-    while (descriptor := os.open("/dev/null", os.O_PATH | os.O_CLOEXEC)) <= last:
-        opened.enter_context(closed_after(descriptor))
-    os.close(descriptor)
-
-
-def _start(
-    words: Words, descriptors: Mapping[int, int], environment: Mapping[str, str]
-) -> subprocess.Popen[bytes]:
-    """Starts a program. `descriptors` are its own by the numbers that they have there; other
-    standard ones are /dev/null. It writes no larger file than MAX_FILE and leaves no core behind,
-    and the kernel ends it if this process ends first."""
-    with ExitStack() as opened:
-        last = max([2, *descriptors])
-        _occupy_numbers(last, opened)
-        null = opened.enter_context(closed_after(os.open("/dev/null", os.O_RDWR | os.O_CLOEXEC)))
-        places = dict.fromkeys(range(3), null)
-        for place, descriptor in descriptors.items():
-            if descriptor <= last:  # Another one may be given this number.
-                descriptor = fcntl.fcntl(descriptor, fcntl.F_DUPFD_CLOEXEC, last + 1)
-                opened.enter_context(closed_after(descriptor))
-            places[place] = descriptor
-        process = subprocess.Popen(
-            words,
-            env=environment,
-            pass_fds=tuple(places),
-            preexec_fn=partial(_prepare_program, os.getpid(), places),
-        )
-    return process
-
-
-def _status_of(process: subprocess.Popen[bytes], deadline: float) -> int | None:
-    """The exit code of a program, negative for a signal; None if it has not ended by the
-    deadline."""
-    if deadline == math.inf:
-        return process.wait()
-    with suppress(subprocess.TimeoutExpired):
-        return process.wait(max(deadline - time.monotonic(), 0))
-    return None
+    _become_program(words, descriptors, environment)
 
 
 def run(
@@ -173,78 +162,49 @@ def run(
                 opened.callback(os.close, reading)
                 writing.callback(os.close, places[place])
                 readings[reading] = taker
-            try:
-                process = _start(words, places, environment)
-            except (FileNotFoundError, PermissionError, subprocess.SubprocessError):
-                return NOT_STARTED
-        status = None
-        try:
-            if pump(readings, deadline):
-                status = _status_of(process, deadline)
-        finally:
-            if status is None:
-                stop(process.pid)
+            child = start_child(partial(_become_bounded, words, places, environment))
+        status = _end_of(words, child, readings, deadline)
+    return status
+
+
+def _end_of(words: Words, child: int, readings: Mapping[int, Taker], deadline: float) -> int:
+    """The exit code of the child that has become a program, when all that it writes was taken."""
+    status = None
+    try:
+        if pump(readings, deadline):
+            status = ended(child, deadline)
+    finally:
+        if status is None:
+            stop(child)
     if status is None:
         raise OverTime(words[0])
     return status
 
 
 def run_here(
-    words: Words,
-    seconds: int,
-    environment: Mapping[str, str],
-    is_silent: bool = False,
+    words: Words, seconds: int, environment: Mapping[str, str], is_silent: bool = False
 ) -> int:
-    """Runs a program of the system as a part of this command: on its terminal, in its group, so
-    that ^C ends both, and in the root directory. Returns its exit code; it is killed, and that is
-    an OverTime, if it takes longer. It writes where this command does, unless it is silent."""
-    output = subprocess.DEVNULL if is_silent else None
-    try:
-        done = subprocess.run(
-            words,
-            stdin=subprocess.DEVNULL,
-            stdout=output,
-            stderr=output,
-            env=environment,
-            cwd="/",
-            timeout=seconds,
-            check=False,
-        )
-    except subprocess.TimeoutExpired:
-        raise OverTime(words[0]) from None
-    return done.returncode
+    """Runs a program of the system as a part of this command: on its terminal, and in its group, so
+    that ^C ends both. Returns its exit code; it is killed, and that is an OverTime, if it takes
+    longer. It writes where this command does, unless it is silent."""
+    places = NO_DESCRIPTORS if is_silent else {1: 1, 2: 2}
+    child = start_child(partial(_become_program, words, places, environment))
+    return _end_of(words, child, {}, time.monotonic() + seconds)
 
 
 def run_on(words: Words, descriptors: Mapping[int, int], seconds: int) -> int | None:
     """Runs a program that lives on if this process is ended. Returns its exit code; None if it had
     not ended by then, and was killed. `descriptors` are its standard ones."""
-    process = subprocess.Popen(
-        words,
-        stdin=descriptors[0],
-        stdout=descriptors[1],
-        stderr=descriptors[2],
-        start_new_session=True,
-    )
-    try:
-        return process.wait(seconds)
-    except subprocess.TimeoutExpired:
-        stop(process.pid)
-    return None
 
+    def become() -> NoReturn:
+        os.setsid()
+        _become_program(words, descriptors, os.environ)
 
-def start_child(work: Callable[[], int]) -> int:
-    """The number of a child that does some work, and ends with its status. The kernel ends it if
-    this process ends first."""
-    parent = os.getpid()
-    child = os.fork()
-    if child:
-        return child
-    status = NOT_STARTED
-    try:
-        if end_with(parent):
-            status = work()
-    finally:
-        os._exit(status)
+    child = start_child(become, lives_on=True)
+    status = ended(child, time.monotonic() + seconds)
+    if status is None:
+        stop(child)
+    return status
 
 
 def pump(takers: Mapping[int, Taker], deadline: float = math.inf) -> bool:
@@ -265,17 +225,11 @@ def pump(takers: Mapping[int, Taker], deadline: float = math.inf) -> bool:
     return True
 
 
-def kill_group(child: int) -> None:
-    """Kills a child with its group."""
-    for kill in (os.killpg, os.kill):
-        with suppress(ProcessLookupError):
-            kill(child, signal.SIGKILL)
-
-
 def ended(child: int, deadline: float) -> int | None:
     """The exit code of a child, negative for a signal; None if it has not ended by the deadline."""
+    options = 0 if deadline == math.inf else os.WNOHANG
     while True:
-        process, status = os.waitpid(child, os.WNOHANG)
+        process, status = os.waitpid(child, options)
         if process:
             return os.waitstatus_to_exitcode(status)
         if time.monotonic() >= deadline:
@@ -286,5 +240,7 @@ def ended(child: int, deadline: float) -> int | None:
 def stop(child: int) -> int | None:
     """Kills a child with its group: its exit code. One in a call that does not return is left to
     itself after some seconds."""
-    kill_group(child)
+    for kill in (os.killpg, os.kill):
+        with suppress(ProcessLookupError):
+            kill(child, signal.SIGKILL)
     return ended(child, time.monotonic() + STOP_SECONDS)

@@ -10,7 +10,7 @@ from typing import NamedTuple
 from aide_compare.base import progress
 from aide_compare.base.ending import Fault, Status, reason
 from aide_compare.base.escapes import shown
-from aide_compare.base.processes import Taker, run
+from aide_compare.base.processes import NOT_STARTED, Taker, run
 
 # Its descriptors, beside the standard ones.
 OLD = 3
@@ -137,6 +137,8 @@ def run_program(
     progress.note_step("the program has run")
     if status < 0:
         raise Fault(Status.DEVICE, f"{shown(program)} was ended by signal {-status}")
+    if status == NOT_STARTED:
+        raise Fault(Status.DEVICE, f"cannot run {shown(program)}")
     if status not in KNOWN:
         raise Fault(Status.DEVICE, f"{shown(program)} could not be run: status {status}")
     return Answer(status, bytes(errors))

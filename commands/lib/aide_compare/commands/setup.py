@@ -319,6 +319,7 @@ def main(arguments: Sequence[str]) -> int:
     if os.geteuid() != 0 and not request.changes_nothing:
         text = "only root can set this up; --dry-run and --check are for everybody"
         raise Fault(Status.USAGE, text)
+    os.chdir("/")  # Where the programs of the system work.
     machine = Machine(request)
     if request.is_check:
         return tell_missing(machine)
