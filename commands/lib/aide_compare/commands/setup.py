@@ -8,7 +8,7 @@ import stat
 from collections.abc import Callable, Iterator, Sequence
 from contextlib import suppress
 from functools import partial
-from typing import NamedTuple, Optional
+from typing import NamedTuple
 
 from aide_compare.base.ending import Fault, Status, tell
 from aide_compare.base.escapes import shown
@@ -17,23 +17,18 @@ from aide_compare.base.replacement import replace
 from aide_compare.base.directories import closed_after, open_directory
 from aide_compare.base.options import DATABASES, QUIET, TO, Asked, field, option
 from aide_compare.base.parser import read
-from aide_compare.base.program import MAX_DIFFERENT
 from aide_compare.base.words import counted
 from aide_compare.commands.setup_machine import (
     PATHS,
     aides_user,
-    has_signed,
     make_cron_job,
     make_signed,
     make_without,
-    next_time,
     rename_safely,
     run_shown,
     says_yes,
 )
 from aide_compare.commands.setup_options import DAILY, has_options, options_there, write_options
-from aide_compare.commands.compare import Printer
-from aide_compare.commands.compare_task import given_by, with_defaults
 from aide_compare.commands.setup_databases import databases_there
 from aide_compare.mail.waiting import hint_for_exim, troubles
 
@@ -48,15 +43,6 @@ EPILOG = (
 TIMER = "aide-compare.timer"
 DATABASE_STARTS = (b"\x1f\x8b", b"@@begin_db", b"#")
 SECONDS_OF_INIT = 6 * 3600
-# What a mail looks like.
-SUBJECT = "    Subject: aide on {host}: 3 open (1 high), 41 recorded of 512 changes"
-MAIL = (
-    "    Open, severity high:",
-    "      changed  /usr/bin/ls: content",
-    "    ...",
-    "    Recorded, as dpkg on this host says:",
-    "      openssl 3.0.17-1: 41 files",
-)
 # What aide-compare archive reads. What a newer package replaces goes again.
 APT_TEXT = b"""\
 // Packages stay for aide-compare archive. See aide-compare-setup(8).
@@ -70,15 +56,9 @@ class SetupRequest(Asked):
     """What the options ask for."""
 
     is_quiet: bool = field(QUIET, help="print nothing but why a step failed")
-    is_dry_run: bool = option("--dry-run", "print the steps, and change nothing")
-    is_check: bool = option("--check", "print what is missing, compare once, and change nothing")
-    address: Optional[str] = field(TO, help="who gets the mails (root)")
-    wants_cron: bool = option("--cron", "a job of cron instead of the timer")
+    is_check: bool = option("--check", "print what is missing, and change nothing")
+    address: str | None = field(TO, help="who gets the mails (root)")
     no_mail: bool = option("--no-mail", "send no test mail")
-
-    @property
-    def changes_nothing(self) -> bool:
-        return self.is_dry_run or self.is_check
 
 
 class Step(NamedTuple):
@@ -95,7 +75,7 @@ class Machine:
     def __init__(self, request: SetupRequest) -> None:
         self.request = request
         self.user = aides_user()
-        self.has_timer = os.path.isdir(PATHS.systemd) and not request.wants_cron
+        self.has_timer = os.path.isdir(PATHS.systemd)
         self.is_debian = os.path.lexists(PATHS.debian_configuration)
         self.baseline, self.new = databases_there()
         daily = os.path.join(PATHS.own_directory, DAILY)
@@ -171,20 +151,8 @@ class Machine:
     def refuse_other_job(self) -> None:
         """With two jobs each mail would come twice."""
         if self.has_timer and os.path.lexists(PATHS.cron_job):
-            text = f"{PATHS.cron_job} is there beside the timer; remove it, or go on with --cron"
+            text = f"{PATHS.cron_job} is there beside the timer; remove it"
             raise Fault(Status.DEVICE, text)
-        if self.request.wants_cron and says_yes(["systemctl", "is-enabled", "--quiet", TIMER]):
-            text = f"the timer is there beside the job of cron; systemctl disable --now {TIMER}"
-            raise Fault(Status.DEVICE, text)
-
-    def next_run(self) -> str:
-        """When the job runs next, as far as systemd says it."""
-        if not self.has_timer:
-            return "with the other jobs of cron.daily"
-        time = next_time(TIMER)
-        if not time:
-            return f"by {TIMER}"
-        return f"on {time}"
 
     def reader(self) -> str:
         """Who gets the mails."""
@@ -195,31 +163,18 @@ class Machine:
         done = "All was there already."
         if count:
             done = f"Done: {counted(count, 'step')} now."
+        job = "The job of cron compares each day."
+        if self.has_timer:
+            job = f"The timer compares each day: systemctl list-timers {TIMER}"
         reader = self.reader()
-        mail = f"Then {reader} gets a mail if a change is not silent, or if nothing was compared:"
-        first = f"The first comparison runs {self.next_run()}."
-        example = [SUBJECT.format(host=shown(os.uname().nodename)), *MAIL]
-        lines = ["", done, first, mail, "", *example, "", "To compare now: aide-compare"]
+        mail = f"Then {reader} gets a mail if a change is not silent, or if nothing was compared."
+        lines = ["", done, job, mail, "To compare now: aide-compare"]
         if not self.request.no_mail:
             test = f"A test mail went to {reader}: look now whether it came."
             lines += ["", test]
             if reader == "root":
                 lines += hint_for_exim(PATHS.aliases)
         return lines
-
-    def options_asked(self) -> dict[str, str]:
-        """The options of each day that the command line asks for."""
-        return {"--to": self.request.address} if self.request.address else {}
-
-    def comparison(self) -> int | None:
-        """The status of a comparison of now, which prints why it fails; None without databases, or
-        for a user who cannot read them."""
-        paths = (self.baseline, self.new)
-        if os.geteuid() != 0 or not all(map(os.path.lexists, paths)):
-            return None
-        words = ["--quiet"]
-        request = with_defaults(given_by(words), words).but(state=None)
-        return Printer(request, ()).task().carry_out().status
 
     def send_test(self) -> None:
         words = ["aide-compare", "mail", "--test", "--user", self.user.pw_name]
@@ -248,15 +203,14 @@ class Machine:
             keep = partial(replace, PATHS.apt, APT_TEXT)
             yield Step(title, os.path.lexists(PATHS.apt), keep)
         title = f"options of each day: {PATHS.defaults}"
-        asked = self.options_asked()
-        write = partial(write_options, asked, self.needed)
-        yield Step(title, has_options(asked, self.needed), write)
+        asked = (self.request.address, self.needed)
+        yield Step(title, has_options(*asked), partial(write_options, *asked))
         directory = os.path.join(PATHS.own_directory, DAILY)
         title = f"a directory of {user}'s: {directory}"
         yield Step(title, self.owns(directory), self.make_directory)
         if self.is_debian and self.has_timer:
             title = f"upgrades to signed packages are silent: {PATHS.signed}"
-            yield Step(title, has_signed(), make_signed)
+            yield Step(title, os.path.lexists(PATHS.signed), make_signed)
         self.refuse_other_job()
         yield self.job()
         if not (self.request.no_mail or self.request.is_check):
@@ -274,7 +228,7 @@ class Machine:
 
 
 def take_steps(machine: Machine) -> None:
-    """Makes what is missing, or only says which steps there are."""
+    """Makes what is missing."""
     count = 0
     for number, step in enumerate(machine.steps(), 1):
         if step.is_done:
@@ -282,23 +236,14 @@ def take_steps(machine: Machine) -> None:
             continue
         tell(f"{number}. {step.title}")
         count += 1
-        if not machine.request.is_dry_run:
-            step.make()
-    if not machine.request.is_dry_run:
-        tell(*machine.summary(count))
+        step.make()
+    tell(*machine.summary(count))
 
 
 def tell_missing(machine: Machine) -> int:
     """Says what is missing, and changes nothing."""
     missing = [step.title for step in machine.steps() if not step.is_done]
-    troubles = list(machine.troubles())
-    status = machine.comparison()
-    if status is not None and status > MAX_DIFFERENT:
-        missing.append(f"a comparison: it ends with status {status}")
-    elif status is not None:
-        found = "differences: aide-compare" if status else "no difference"
-        tell(f"a comparison of now finds {found}")
-    missing += troubles
+    missing += machine.troubles()
     if not missing:
         tell("nothing is missing")
         return Status.OK
@@ -316,8 +261,8 @@ def main(arguments: Sequence[str]) -> int:
     if not any(map(os.path.lexists, configurations)):
         text = "AIDE is not installed here, or has no configuration; on Debian: apt install aide"
         raise Fault(Status.DEVICE, text)
-    if os.geteuid() != 0 and not request.changes_nothing:
-        text = "only root can set this up; --dry-run and --check are for everybody"
+    if os.geteuid() != 0 and not request.is_check:
+        text = "only root can set this up; --check is for everybody"
         raise Fault(Status.USAGE, text)
     os.chdir("/")  # Where the programs of the system work.
     machine = Machine(request)

@@ -4,8 +4,6 @@ from __future__ import annotations
 
 import os
 import pwd
-import re
-import time
 from collections.abc import Sequence
 from contextlib import suppress
 
@@ -13,8 +11,7 @@ from aide_compare.base.directories import open_directory
 from aide_compare.base.ending import Fault, Status, failing, tell
 from aide_compare.base.escapes import shown
 from aide_compare.base.files import read_file
-from aide_compare.base.processes import run, run_here
-from aide_compare.base.program import Drain
+from aide_compare.base.processes import run_here
 from aide_compare.base.replacement import replace
 
 HERE = os.path.dirname(os.path.realpath(__file__))
@@ -44,13 +41,10 @@ class Paths:
 PATHS = Paths("")
 PROGRAM_PATH = "/usr/local/sbin:/usr/local/bin:/usr/sbin:/usr/bin:/sbin:/bin"
 QUESTION_SECONDS = 60
-MAX_ANSWER = 1000
 ENVIRONMENT = {"PATH": PROGRAM_PATH, "LC_ALL": "C.UTF-8", "HOME": "/root"}
 AIDES_USER = "_aide"
 MAX_EXAMPLE = 1 << 20
-OLD_VARIABLE = b"TRUSTED="
 SECONDS = 600
-DATE = re.compile("[A-Za-z0-9 :+-]{10,60}")
 
 
 def example(name: str) -> bytes:
@@ -73,14 +67,6 @@ def run_shown(words: Sequence[str], seconds: int = SECONDS) -> None:
 
 def make_without() -> None:
     replace(PATHS.without, example("aide/debian.without"))
-
-
-def has_signed() -> bool:
-    """Whether the file beside the unit is there. That of a former version gave the unit options,
-    which are among the defaults now."""
-    with suppress(Fault, OSError):
-        return OLD_VARIABLE not in read_file(PATHS.signed, MAX_EXAMPLE)
-    return False
 
 
 def make_signed() -> None:
@@ -123,17 +109,3 @@ def aides_user() -> pwd.struct_passwd:
         return pwd.getpwnam(AIDES_USER)
     except KeyError:
         return pwd.getpwuid(0)
-
-
-def next_time(timer: str) -> str:
-    """When a timer elapses next, as systemd says it; "" if it does not."""
-    words = ["systemctl", "show", "--value", "--property=NextElapseUSecRealtime", timer]
-    answer = bytearray()
-    takers = {1: Drain(MAX_ANSWER, answer.extend).take}
-    deadline = time.monotonic() + QUESTION_SECONDS
-    with suppress(Fault, OSError):
-        run(words, takers, environment=ENVIRONMENT, deadline=deadline)
-    date = answer.decode("ascii", "replace").strip()
-    if DATE.fullmatch(date):
-        return date
-    return ""

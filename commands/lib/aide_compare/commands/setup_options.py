@@ -3,12 +3,13 @@ from __future__ import annotations
 
 import os
 import re
-from collections.abc import Mapping, Sequence
+from collections.abc import Sequence
 from contextlib import suppress
 
 from aide_compare.base.ending import Fault, Status
 from aide_compare.base.escapes import shown
 from aide_compare.base.files import read_file
+from aide_compare.base.options import TO
 from aide_compare.base.parser import DEFAULTS_LINE
 from aide_compare.base.replacement import replace
 from aide_compare.commands.setup_machine import PATHS
@@ -48,21 +49,27 @@ def missing_lines(needed: Sequence[str]) -> list[str]:
     ]
 
 
-def has_options(asked: Mapping[str, str], needed: Sequence[str]) -> bool:
-    """Whether nothing is missing, and the options that are asked for are there."""
-    has_all = asked.items() <= options_there().items()
-    return os.path.lexists(PATHS.defaults) and has_all and not missing_lines(needed)
+def is_told(address: str | None) -> bool:
+    """Whether the file says who gets the mails, if somebody is asked for."""
+    return not address or options_there().get(TO.name) == address
 
 
-def write_options(asked: Mapping[str, str], needed: Sequence[str]) -> None:
+def has_options(address: str | None, needed: Sequence[str]) -> bool:
+    """Whether nothing is missing, and the mails go to the address that is asked for."""
+    return os.path.lexists(PATHS.defaults) and is_told(address) and not missing_lines(needed)
+
+
+def write_options(address: str | None, needed: Sequence[str]) -> None:
     """Writes the file as it is at first, or adds what it lacks of the job of each day."""
-    lines = [f"{name} {value}" for name, value in asked.items()]
-    text = FIRST_LINES
+    lines = missing_lines(needed)
     if os.path.lexists(PATHS.defaults):
-        if not asked.items() <= options_there().items():
-            why = f"{PATHS.defaults} stays as it is; write there: {shown(', '.join(lines))}"
+        if not is_told(address):
+            why = f"{PATHS.defaults} stays as it is; write there: {TO.name} {shown(address or '')}"
             raise Fault(Status.DEVICE, why)
         text = text_there()
-        lines = []
-    text += "".join(f"{line}\n" for line in [*missing_lines(needed), *lines])
+    else:
+        text = FIRST_LINES
+        if address:
+            lines.append(f"{TO.name} {address}")
+    text += "".join(f"{line}\n" for line in lines)
     replace(PATHS.defaults, text.encode("utf-8", "surrogateescape"))
