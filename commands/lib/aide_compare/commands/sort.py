@@ -7,7 +7,6 @@ from aide_compare.base import progress
 from aide_compare.base.database import MAX_LINE, Kind, Layout
 from aide_compare.base.ending import Fault, Status, say, write_blocks
 from aide_compare.base.escapes import shown
-from aide_compare.base.files import private_file
 from aide_compare.base.options import MAX_SIZE, QUIET, Asked, Operand, field
 from aide_compare.base.parser import read
 from aide_compare.base.paths import path_of
@@ -16,6 +15,15 @@ from aide_compare.compare.unpack import Copy, copy_database
 
 BLOCK = 1 << 16
 MAX_NAMED = 100
+# The parts of a database, in their order.
+BEFORE = 0
+ENTRIES = 1
+AFTER = 2
+SCHEMA = "create table lines (part integer, path_key blob, line blob)"
+IN_ORDER = "select line from lines order by part, path_key, rowid"
+REPEATED = f"""
+select path_key from lines where part = {ENTRIES}
+group by path_key having count(*) > 1 order by path_key"""
 
 NAME = "aide-compare sort"
 DESCRIPTION = """\
@@ -52,40 +60,31 @@ class SortRequest(Asked):
 
 
 class Unsorted:
-    """A database that is read once: its entries go into a table, the lines before them are
-    kept in `head`, and `end` is where its end line begins in `file`."""
+    """The lines of a database, each with the key by which it is put in order: those before the
+    entries, the entries, and those from the end on."""
 
-    def __init__(self, copy: Copy, rows: Rows) -> None:
+    def __init__(self, copy: Copy) -> None:
         self.file = open(copy.fd, "rb", buffering=BLOCK)
         self.file.seek(0)
-        self.head = private_file()
-        self.end = 0
+        self.layout = Layout()
         self.count = 0
         # How many entries have to come before the one above them.
         self.breaks = 0
         self._last_key = b""
-        self.layout = Layout()
-        rows.do_all("insert into lines values (?, ?)", self._entries())
 
-    def _entries(self) -> Iterator[tuple[bytes, bytes]]:
-        for number, line in enumerate(self._lines(), 1):
-            kind = self.layout.kind_of(line)
-            if kind is Kind.END:
-                return
-            if kind is Kind.ENTRY:
-                yield self._key_of(number, line), line
-            else:
-                self.head.write(line)
-            self.end += len(line)
-        raise Fault(Status.DATABASE, "no @@end_db")
-
-    def _lines(self) -> Iterator[bytes]:
-        number = 1
+    def __iter__(self) -> Iterator[tuple[int, bytes, bytes]]:
+        number = 0
         while line := self.file.readline(MAX_LINE + 2):
+            number += 1
             if len(line.rstrip(b"\n")) > MAX_LINE:
                 raise Fault(Status.DATABASE, f"line {number}: more than {MAX_LINE} bytes")
-            yield line
-            number += 1
+            kind = self.layout.kind_of(line)
+            if kind is Kind.ENTRY:
+                yield ENTRIES, self._key_of(number, line), line
+            else:
+                yield AFTER if self.layout.is_over else BEFORE, b"", line
+        if not self.layout.is_over:
+            raise Fault(Status.DATABASE, "no @@end_db")
 
     def _key_of(self, number: int, line: bytes) -> bytes:
         if not self.layout.columns:
@@ -103,60 +102,31 @@ class Unsorted:
         return key
 
 
-class RepeatedPaths:
-    """The paths that stand twice, found among sorted keys; the first of them are named."""
-
-    def __init__(self) -> None:
-        self.count = 0
-        self._names: list[str] = []
-        self._last_key = b""
-        self._is_counted = False
-
-    def add(self, key: bytes) -> None:
-        if key != self._last_key:
-            self._last_key = key
-            self._is_counted = False
-        elif not self._is_counted:
-            self._is_counted = True
-            self.count += 1
-            if len(self._names) < MAX_NAMED:
-                self._names.append(shown(path_of(key)))
-
-    def say(self) -> None:
-        for name in self._names:
-            say(f"appears twice: {name}")
-        more = self.count - len(self._names)
-        if more:
-            say(f"more paths that appear twice: {more:,}")
-
-
-def sorted_blocks(database: Unsorted, rows: Rows, repeated: RepeatedPaths) -> Iterator[bytes]:
-    """Yields the whole database in path order."""
-    database.head.seek(0)
-    while block := database.head.read(BLOCK):
-        yield block
-    for key, line in rows.ask("select path_key, line from lines order by path_key, rowid"):
-        repeated.add(key)
-        yield line
-    database.file.seek(database.end)
-    while block := database.file.read(BLOCK):
-        yield block
+def say_repeated(rows: Rows) -> bool:
+    """Names the paths that stand twice, the first of them. Whether there are any."""
+    count = 0
+    for (key,) in rows.ask(REPEATED):
+        count += 1
+        if count <= MAX_NAMED:
+            say(f"appears twice: {shown(path_of(key))}")
+    if count > MAX_NAMED:
+        say(f"more paths that appear twice: {count - MAX_NAMED:,}")
+    return count > 0
 
 
 def sort(request: SortRequest) -> int:
     """Writes the database in path order, and says what was out of order. Returns the status."""
-    repeated = RepeatedPaths()
-    rows = Rows("create table lines (path_key blob, line blob)", 4 * request.max_size)
+    rows = Rows(SCHEMA, 4 * request.max_size)
     path = "/dev/stdin" if request.path == "-" else request.path
-    database = Unsorted(copy_database("given", path, request.max_size), rows)
-    write_blocks(1, sorted_blocks(database, rows, repeated))
+    database = Unsorted(copy_database("given", path, request.max_size))
+    rows.do_all("insert into lines values (?, ?, ?)", database)
+    write_blocks(1, (line for (line,) in rows.ask(IN_ORDER)))
     progress.note_step("the lines are in order")
     if not request.is_quiet:
         say(f"out of order: {database.breaks:,} of {database.count:,} lines")
         if database.breaks:
             say(ADVICE)
-    repeated.say()
-    return Status.DATABASE if repeated.count else Status.OK
+    return Status.DATABASE if say_repeated(rows) else Status.OK
 
 
 def main(arguments: Sequence[str]) -> int:
