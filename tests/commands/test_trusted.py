@@ -221,9 +221,9 @@ class TrustedTest(mail.MailTest):
         for line, status, words in (
             ("--trusted canary-old.db canary-new.db", 7, TOLD),
             ("--trusted=canary-old.db  canary-new.db", 7, TOLD),
-            ("--trusted canary-old.db", 15, b"--trusted needs 2 values"),
-            ("--trusted a b c", 15, b"--trusted needs 2 values"),
-            ("--trusted", 15, b"--trusted needs a value"),
+            ("--trusted canary-old.db", 15, b"--trusted: expected 2 arguments"),
+            ("--trusted a b c", 15, b"defaults, line 2: unrecognized arguments: c"),
+            ("--trusted", 15, b"--trusted: expected 2 arguments"),
         ):
             self.write("etc/defaults", f"{databases}{line}\n")
             self.expect(f"a default {line}", self.call(TOOL, *BOTH), status, errors=[words])

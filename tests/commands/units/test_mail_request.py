@@ -9,7 +9,7 @@ from tests.commands.units.calls import ModuleTest
 
 from aide_compare.base import parser, progress
 from aide_compare.base.ending import Fault
-from aide_compare.base.options import COMPARISON_DEFAULTS
+from aide_compare.base.options import COMPARISON_DEFAULTS, MAIL_DEFAULTS
 from aide_compare.base.parser import defaults_for
 from aide_compare.commands import mail_request
 from aide_compare.commands.mail_request import own_parser, request_of
@@ -110,8 +110,9 @@ class MailRequestTest(ModuleTest):
             *("--attach-page yes", "--max-age", "--odd", "--to"),
         ):
             self.write("defaults", b"# x\n\n--max-size 1G\n%s\n" % line.encode())
+            options = (*COMPARISON_DEFAULTS, *MAIL_DEFAULTS)
             with self.subTest(line):
-                self.fails(15, "defaults, line 4: ", defaults_for, COMPARISON_DEFAULTS, ())
+                self.fails(15, "defaults, line 4: ", defaults_for, options, ())
 
     def test_help(self) -> None:
         words = " ".join(own_parser().format_help().split())

@@ -10,7 +10,7 @@ from __future__ import annotations
 import argparse
 import os
 import re
-from collections.abc import Iterable, Sequence
+from collections.abc import Iterable, Mapping, Sequence
 from contextlib import suppress
 from typing import Any, NoReturn
 
@@ -148,8 +148,12 @@ class Parser(argparse.ArgumentParser):
         self.add_argument(
             "--version", action="version", version=version, help="print the version and stop"
         )
+        self.add_rows(asked.rows())
+
+    def add_rows(self, rows: Mapping[str, Option | Operand]) -> None:
+        """Adds options and operands, whose values are those of these fields."""
         groups: dict[str, argparse._ArgumentGroup] = {}
-        for field, row in asked.rows().items():
+        for field, row in rows.items():
             if isinstance(row, Operand):
                 self.add_argument(field, **words_of_operand(row))
                 continue
@@ -242,7 +246,7 @@ def administrators_file(name: str) -> str | None:
 def defaults_for(options: Iterable[Option], words: Sequence[str]) -> Defaults:
     """What the lines of the defaults give these options; nothing if the words of the command line
     turn the defaults off."""
-    names = [option.name for option in options]
+    rows = {option.attribute: option for option in options}
     before = set(words[: end_of_options(words)])
     if before & {NO_DEFAULTS.name, "--help", "-h", "--version"}:
         return {}
@@ -250,47 +254,32 @@ def defaults_for(options: Iterable[Option], words: Sequence[str]) -> Defaults:
     if path is None:
         return {}
     defaults: Defaults = {}
+    parser = Parser(Asked, "", "", "", "")
+    parser.add_rows(rows)
     for line, place in lines_of(path, "the defaults"):
-        option, text = _default_in(line, place)
-        if option.name not in names:
+        option, line_words = option_in(line, place)
+        if option.attribute not in rows:
             continue
-        value = _value_of(option, text, place)
+        try:
+            (value,) = vars(parser.parse_args(line_words)).values()
+        except Fault as fault:
+            raise Fault(fault.status, f"{place}: {fault.text}") from None
         if option.is_repeated:
-            value = [*defaults.get(option.attribute, ()), value]
+            value = [*defaults.get(option.attribute, ()), *value]
         defaults[option.attribute] = value
     return defaults
 
 
-def _default_in(line: bytes, place: str) -> tuple[Option, str]:
-    """The option of a line of the defaults, and the text of its value; "" without one."""
+def option_in(line: bytes, place: str) -> tuple[Option, list[str]]:
+    """The option of a line of the defaults, and its words as they stand on a command line."""
     match = re.fullmatch(DEFAULTS_LINE, os.fsdecode(line))
     if match is None or match.group(1) not in MAY_BE_DEFAULTS:
         text = shown(line, 100)
         raise Fault(Status.USAGE, f"{place}: this option cannot be a default: {text}")
-    option = MAY_BE_DEFAULTS[match.group(1)]
-    value: str = match.group(2) or ""
-    if option.has_value and not value and not option.bare:
-        raise Fault(Status.USAGE, f"{place}: {option.name} needs a value")
-    if option.number_of_values > 1 and len(value.split()) != option.number_of_values:
-        raise Fault(Status.USAGE, f"{place}: {option.name} needs {option.number_of_values} values")
-    if value and not option.has_value:
-        raise Fault(Status.USAGE, f"{place}: {option.name} needs no value")
-    return option, value
-
-
-def _value_of(option: Option, text: str, place: str) -> object:
-    """The value that the text of a line means."""
-    if not option.has_value:
-        return True
-    if not text:
-        return option.bare
-    if option.choices and text not in option.choices:
-        choices = ", ".join(option.choices)
-        why = f"invalid choice: {shown(text, 100)} (choose from {choices})"
-        raise Fault(Status.USAGE, f"{place}: {option.name}: {why}")
-    try:
-        if option.number_of_values > 1:
-            return [option.kind(word) for word in text.split()]
-        return option.kind(text)
-    except argparse.ArgumentTypeError as error:
-        raise Fault(Status.USAGE, f"{place}: {option.name} {error}") from None
+    name, value = match.groups("")
+    option = MAY_BE_DEFAULTS[name]
+    if not value:
+        return option, [name]
+    if option.number_of_values > 1:
+        return option, [name, *value.split()]
+    return option, [f"{name}={value}"]
