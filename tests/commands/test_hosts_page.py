@@ -53,8 +53,8 @@ class HostsPageTest(CommandTest):
         head, values = self.only(rows, "/etc/p", "hosts")
         self.assertEqual((head["old_various"], values["new"]["Perm"]), (["Perm", "SHA256"], "0600"))
 
-    def test_groups(self) -> None:
-        """Of one severity, the changes of the same hosts stand together, the fewest first."""
+    def test_fewest(self) -> None:
+        """Of one severity, what the fewest hosts have comes first."""
         hosts = Hosts(self)
         many = [line(b"/usr/bin/%d" % number) for number in range(4)]
         texts = {"good1": many, "good2": many, "good3": [line(b"/usr/bin/2x")]}

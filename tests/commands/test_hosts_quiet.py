@@ -149,7 +149,9 @@ class HostsQuietTest(CommandTest):
         said = fleet.call("aide-compare hosts list", hosts)
         self.assertEqual((said.status, said.errors), (0, ""), said)
         lines = said.output.splitlines()
-        self.assertRegex(lines[0], "^h01 7 4 open of 4 changes, 20.*")
+        self.assertRegex(
+            lines[0], "^h01 7 added 1, removed 1, changed 2: 4 open of 4 changes, 20.*"
+        )
         self.assertEqual(lines[2], "never 18 was never compared")
         words = ("--hosts-file", hosts)
         remove = "aide-compare hosts remove"

@@ -185,7 +185,9 @@ class HostsReportTest(CommandTest):
         hosts = four_hosts(self)
         paths = [each["path"] for each in hosts.objects()[2]]
         self.assertEqual(paths, sorted(paths))
-        listed = re.findall(r"(?m)^\w+ on (\d) of 5 hosts: \w+ (/.*)$", hosts.report().output)
+        listed = re.findall(
+            r"(?m)^\w+ on (\d) of 5 hosts: .*\n\w+ \w+: (/.*)$", hosts.report().output
+        )
         self.assertEqual(listed[:3], [("1", "/usr/.x"), ("3", "/usr/.x"), ("4", "/d")])
 
     def test_importance(self) -> None:
@@ -199,7 +201,9 @@ class HostsReportTest(CommandTest):
             line(b"/zz/suid", b"x", perm=b"104755"),
         )
         hosts.compared({"www1": (old, new), "www2": (old, old)})
-        paths = re.findall(r"(?m)^\w+ on 1 of 2 hosts: \w+ (/.*)$", hosts.report().output)
+        paths = re.findall(
+            r"(?m)^\w+ on 1 of 2 hosts: www1\n\w+ \w+: (/.*)$", hosts.report().output
+        )
         self.assertEqual(paths[0], "/zz/suid")
         self.assertEqual(paths, self.paths_of_mail(old, new))
 
@@ -221,12 +225,13 @@ class HostsReportTest(CommandTest):
         first = "aide on 5 hosts: 4 differ, 0 not compared, 1 without differences\n"
         self.assertTrue(said.output.startswith(first), said)
         for part in (
-            "added on 3 of 5 hosts: File /usr/.x\n    on www1, www2 and 1 more\n",
-            "\n    size 4, mode -rwsr-xr-x, owner 0",
-            "added on 1 of 5 hosts: File /usr/.x\n    on www4\n",
-            "changed on 4 of 5 hosts: File /etc/p\n",
-            "\n    mode (various) -> -rw-------, ",
-            "\n  www4: added 1, removed 1, changed 2\n",
+            "\nhigh on 3 of 5 hosts: www1, www2 and 1 more\nadded File: /usr/.x\n    size       4\n",
+            "\n    mode       -rwsr-xr-x\n",
+            "\n    of each host: mtime, inode, links\n",
+            "\nhigh on 1 of 5 hosts: www4\nadded File: /usr/.x\n",
+            "on 4 of 5 hosts: www1, www2 and 2 more\nchanged File: /etc/p\n",
+            "\n    mode       (various) -> -rw-------\n",
+            "\n  www4: added 1, removed 1, changed 2: 4 open",
         ):
             self.assertIn(part, said.output)
 
@@ -322,7 +327,7 @@ class HostsReportTest(CommandTest):
         output = hosts.report().output
         self.assertNotRegex(output, "[\x00-\x09\x0b-\x1f\x7f\u202e]")
         self.assertLess(max(map(len, output.split("\n"))), 6000)
-        starts = re.findall(r"(?m)^added on (\d+) of (\d+) hosts: ", output)
+        starts = re.findall(r"(?m)^\w+ on (\d+) of (\d+) hosts: ", output)
         self.assertEqual(starts, [("2", "2")] * len(HOSTILE), "no name begins a line")
 
     def mailed(self, hosts: Hosts, *words: str) -> str:
@@ -359,7 +364,7 @@ class HostsReportTest(CommandTest):
         command = command_in(self.mailed(hosts, "--max-age", "2d"))
         self.assertEqual(shlex.split(command)[5:-1], ["--max-age", "172800"])
         done = subprocess.run(["sh", "-c", command], capture_output=True, env=self.environment())
-        listed = done.stdout.count(b"\nadded on 2 of 4 hosts: File /n")
+        listed = done.stdout.count(b" on 2 of 4 hosts: good1, good2\nadded File: /n")
         self.assertEqual(listed, 500, "the command prints all")
         text = self.mailed(hosts, "--attach-page")
         self.assertIn("multipart/", text)

@@ -84,10 +84,10 @@ class HostsTest(RecipesTest):
         head = f"aide on {count} hosts: 2 differ, {count - 4} not compared"
         self.assertEqual(status, 24)
         self.assertTrue(output.startswith(head + ", 2 without differences\n"), output)
-        both = "File /a é\n    on other, user@other.example-1\n"
+        both = f"on 2 of {count} hosts: other, user@other.example-1\n"
         for text in (
-            f"added on 2 of {count} hosts: {both}",
-            f"changed on 2 of {count} hosts: File /c\n",
+            f"{both}added File: /a é\n",
+            f"{both}changed File: /c\n",
             "\n  forged: ",
             "\n  down: ssh: connect to host down port 22: No route to host",
             "\n  a b: the name of a host",

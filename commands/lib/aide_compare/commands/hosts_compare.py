@@ -1,9 +1,9 @@
 """aide-compare hosts compare: the databases of many hosts fetched and compared, some at a time."""
 from __future__ import annotations
 
+from collections.abc import Iterator, Sequence
 from contextlib import suppress
 from functools import partial
-from typing import Iterator, Optional, Sequence
 
 from aide_compare.base.ending import Fault, Status, fault_of, say, tell, write_all
 from aide_compare.base.escapes import guarded
@@ -28,13 +28,12 @@ from aide_compare.base.options import (
 from aide_compare.base.parser import defaults_for, read
 from aide_compare.commands.defaults import exclusions_of
 from aide_compare.compare.asking import errors_of_list
-from aide_compare.compare.state import State
 from aide_compare.hosts.canary import Run, keep_run, trusted_pair
 from aide_compare.hosts.fetching import fetch
 from aide_compare.hosts.fleet import Fleet
 from aide_compare.hosts.host_comparison import MAX_JUDGED, MAX_KEPT, Settings, compare
 from aide_compare.hosts.hosts_file import hosts_of
-from aide_compare.hosts.hosts_read import read_host
+from aide_compare.hosts.hosts_read import read_host, words_of
 from aide_compare.hosts.hosts_text import WHY, not_listed
 from aide_compare.hosts.reported import HostCounts
 from aide_compare.hosts.store import ERRORS, HostDirectory, check_name
@@ -68,13 +67,13 @@ class HostsCompareRequest(Asked):
         "--one",
         "HOSTS-FILE is the name of one host, whose changes are printed too, without --quiet",
     )
-    canary: Optional[str] = option(
+    canary: str | None = option(
         "--canary",
         "compared first; what changed there in the same way is silent on all other hosts",
         "HOST",
         kind=check_name,
     )
-    configuration: Optional[str] = field(CONFIG, help="a configuration of this machine (none)")
+    configuration: str | None = field(CONFIG, help="a configuration of this machine (none)")
     exclude_from: Sequence[str] = field(EXCLUDE_FROM)
     exclude: Sequence[str] = field(EXCLUDE)
     no_defaults: bool = field(NO_DEFAULTS)
@@ -111,28 +110,15 @@ class HostsCompareRequest(Asked):
         )
 
 
-def counts_text(state: State) -> str:
-    """What a comparison that has found differences has counted."""
-    added, removed, changed = state.counts or ("?", "?", "?")
-    text = f"added {added}, removed {removed}, changed {changed}"
-    if state.standings:
-        text += f": {state.standings.words()}"
-    if state.standings and state.standings.left_out:
-        text += f"; {state.standings.left_out_words()}"
-    return text
-
-
 def compare_host(settings: Settings, host: str) -> HostResult:
     """Fetches and compares one host."""
     directory = HostDirectory(settings.store, host, settings.seconds)
     if settings.fetches:
         fetch(directory, settings.jobs)
     state = compare(directory, settings)
-    if state.status == 0:
-        return HostResult(host, 0, "no differences")
     if state.status > 7:
         return HostResult(host, state.status, without_name(host, state.error))
-    return HostResult(host, state.told_status, counts_text(state), has_changes=True)
+    return HostResult(host, state.told_status, words_of(state), state.status > 0)
 
 
 def note_death(store: str, host: str, text: str) -> None:
@@ -172,15 +158,6 @@ def results_beside(canary: str, hosts: Sequence[str], settings: Settings) -> Ite
     yield from results([host for host in hosts if host != canary], work_of(beside))
 
 
-def counts_of(found: Sequence[HostResult]) -> HostCounts:
-    """How many hosts there are of each kind."""
-    not_compared = sum(result.status > 7 for result in found)
-    differ = sum(result.is_alarm for result in found) - not_compared
-    silent = sum(result.has_changes and not result.is_alarm for result in found)
-    unchanged = len(found) - not_compared - differ - silent
-    return HostCounts(len(found), unchanged, differ, silent, not_compared)
-
-
 def compare_all(request: HostsCompareRequest, settings: Settings, hosts: Sequence[str]) -> int:
     """Prints a line for each host and the summary; returns the greatest status."""
     is_quiet = request.is_quiet
@@ -191,13 +168,14 @@ def compare_all(request: HostsCompareRequest, settings: Settings, hosts: Sequenc
         all_results = results(hosts, work_of(settings))
     found = []
     for result in all_results:
-        found.append(result._replace(text=""))
+        found.append((result.status, result.has_changes and not result.is_alarm))
         if result.is_alarm or not is_quiet:
             tell(result.line(color))
-    if not is_quiet or any(result.is_alarm for result in found):
-        counts = counts_of(found)
+    worst = max((status for status, _ in found), default=0)
+    if not is_quiet or worst:
+        counts = HostCounts.of(found)
         tell(f"{counts.headline()}, {counts.others()}")
-    return max((result.status for result in found), default=0)
+    return worst
 
 
 def print_changes(name: str, store: str, seconds: int) -> None:

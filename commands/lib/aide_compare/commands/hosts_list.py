@@ -28,15 +28,9 @@ class ListRequest(Asked):
 
 
 def line_of(host: Host) -> str:
-    if host.status > 7:
-        text = host.error
-    elif not any(host.counts or ()):
-        text = "no differences"
-    else:
-        opened = "?" if host.open is None else str(host.open)
-        text = f"{opened} open of {sum(host.counts or ())} changes"
-    if host.date and host.status <= 7:
-        text += f", {host.date}"
+    text = host.error
+    if host.status <= 7:
+        text = f"{host.words}, {host.date}"
     return guarded(f"{host.name} {host.status} {text}")
 
 

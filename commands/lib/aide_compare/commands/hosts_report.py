@@ -3,8 +3,8 @@ page or as a mail."""
 from __future__ import annotations
 
 import os
+from collections.abc import Iterable, Iterator, Sequence
 from functools import partial
-from typing import Iterable, Iterator, Optional, Sequence
 
 from aide_compare.base import progress
 from aide_compare.base.ending import Fault, Status, write_blocks
@@ -63,20 +63,20 @@ class ReportRequest(Asked):
         help="a host that was compared longer ago counts as not compared (26h; 0: no limit)",
     )
     seconds: int = field(HOST_TIME, help="how long to wait for a run over a host (10m)")
-    format: Optional[str] = option(
+    format: str | None = option(
         "--format",
         "text (the default), brief: 80 lines, json: an object a line, or page: for a browser",
         choices=("text", "brief", "json", "page"),
         group="output",
     )
-    address: Optional[str] = field(
+    address: str | None = field(
         TO,
         help="mail the brief text, if a host differs or was not compared",
         group="output",
     )
     has_page: bool = field(ATTACH_PAGE, help="with --to: attach the page to the text")
     mail_seconds: int = field(MAIL_TIME)
-    weekly: Optional[str] = field(
+    weekly: str | None = field(
         WEEKLY,
         help="with --to: send a heartbeat on one day of the week (Mon) if there is nothing to"
         " report",
@@ -113,15 +113,8 @@ class HostsReport:
         # Silent differences are no reason for a mail.
         has_alarm = any(host.differs or host.status > 7 for host in self.hosts)
         self.is_alarm = has_alarm or notes.are_alarms
-        counts = HostCounts(
-            hosts=len(names),
-            unchanged=sum(host.status == 0 and not host.is_silent for host in self.hosts),
-            differ=sum(host.differs for host in self.hosts),
-            silent=sum(host.is_silent for host in self.hosts),
-            not_compared=sum(host.status > 7 for host in self.hosts),
-        )
         self.summary = Summary(
-            counts=counts,
+            counts=HostCounts.of([(host.status, host.is_silent) for host in self.hosts]),
             cut=sum(host.report == CUT for host in self.hosts),
             not_listed=sum(host.report == UNREADABLE for host in self.hosts),
             changes=len(self.fleet.table),

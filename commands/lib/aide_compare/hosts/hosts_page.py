@@ -3,9 +3,9 @@ have it."""
 from __future__ import annotations
 
 import shlex
-from typing import Iterator, NamedTuple, Sequence
+from collections import Counter
+from collections.abc import Iterator, Sequence
 
-from aide_compare.base.files import private_file
 from aide_compare.hosts.hosts_text import (
     ORDER,
     Report,
@@ -71,50 +71,26 @@ def row_of(shared: SharedChange, hosts: int) -> bytes:
     return embedded([head_of(row), values_of(row)])
 
 
-class Place(NamedTuple):
-    """Where a row is in a private file, and a number for its hosts."""
-
-    hosts: int
-    start: int
-    size: int
-
-
-def grouped(places: list[Place]) -> Iterator[Place]:
-    """The rows of a severity: those of the same hosts together, and the smallest group first, so
-    that nothing that some hosts have many of stands before what others have."""
-    groups: dict[int, list[Place]] = {}
-    for place in places:
-        groups.setdefault(place.hosts, []).append(place)
-    for group in sorted(groups.values(), key=len):
-        yield from group
-
-
 def page(report: Report, limit: int = 0) -> Iterator[bytes]:
     """Yields the page, of at most so many bytes. The most severe changes have room first."""
     total = report.summary.changes
     title = headline(report.summary)
     text = "\n".join(short_lines(report))
     room = (limit or MAX_PAGE) - size_beside(title, text, lambda: heading_of(report, total, total))
-    rows = private_file()
-    places: dict[int, list[Place]] = {}
-    for part in digest(report.table, room_of(report, max(room // MIN_ROW, 1)), lambda *_: ""):
-        for row in part.rows:
-            shared = report.shared(row)
-            data = row_of(shared, report.summary.counts.hosts)
-            room -= len(data) + BESIDE
-            if room < 0:
-                break
-            hosts = hash((shared.hosts, *shared.names))
-            places.setdefault(row.level, []).append(Place(hosts, rows.tell(), len(data)))
-            rows.write(data)
-    (all_high,) = next(report.table.ask("select count(*) from changes where level = 0"))
-    left_out = total - sum(map(len, places.values()))
-    heading = heading_of(report, left_out, all_high - len(places.get(0, ())))
+    left_out = Counter(row.level for row in report.table.rows())
 
-    def listed_rows() -> Iterator[bytes]:
-        for level in sorted(places):
-            for place in grouped(places[level]):
-                rows.seek(place.start)
-                yield rows.read(place.size)
+    def rows() -> Iterator[bytes]:
+        size = 0
+        for part in digest(report.table, room_of(report, max(room // MIN_ROW, 1)), lambda *_: ""):
+            for row in part.rows:
+                data = row_of(report.shared(row), report.summary.counts.hosts)
+                size += len(data) + BESIDE
+                if size > room:
+                    return
+                left_out[row.level] -= 1
+                yield data
 
-    return whole_page(title, text, listed_rows(), lambda: heading)
+    def heading() -> Fields:
+        return heading_of(report, sum(left_out.values()), left_out[0])
+
+    return whole_page(title, text, rows(), heading)

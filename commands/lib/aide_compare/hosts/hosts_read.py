@@ -24,6 +24,19 @@ from aide_compare.lines.reader import Outline, Refused
 DAMAGED = (errno.EIO, errno.EBADMSG, errno.EUCLEAN, errno.ESTALE)
 
 
+def words_of(state: State) -> str:
+    """What a comparison has counted."""
+    if not state.status:
+        return "no differences"
+    added, removed, changed = state.counts or ("?", "?", "?")
+    text = f"added {added}, removed {removed}, changed {changed}"
+    if state.standings:
+        text += f": {state.standings.words()}"
+        if state.standings.left_out:
+            text += f"; {state.standings.left_out_words()}"
+    return text
+
+
 def host_of(name: str, status: int, error: str, state: State | None = None) -> Host:
     """A host with its status, and why it was not compared or what its state says, if there is
     one."""
@@ -33,7 +46,7 @@ def host_of(name: str, status: int, error: str, state: State | None = None) -> H
     if status > 7:
         return host._replace(error=error.removeprefix(f"{name}: "))
     assert state is not None  # A host is compared only where a state says so.
-    host = host._replace(counts=state.counts, new_sha256=state.new_sha256)
+    host = host._replace(counts=state.counts, new_sha256=state.new_sha256, words=words_of(state))
     counts = state.standings
     if counts is None:
         return host

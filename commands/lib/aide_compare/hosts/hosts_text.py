@@ -5,16 +5,17 @@ many lines and columns that people read it.
 """
 from __future__ import annotations
 
-from typing import Callable, Iterable, Iterator, NamedTuple, Sequence
+from collections.abc import Callable, Iterable, Iterator, Sequence
+from typing import NamedTuple
 
-from aide_compare.base.escapes import guarded, shown
-from aide_compare.base.words import KINDS, SEVERITIES, counted
+from aide_compare.base.escapes import guarded
+from aide_compare.base.words import SEVERITIES, counted
 from aide_compare.changes.table import Row, Table
 from aide_compare.hosts.reported import CUT, UNREADABLE, Host, SharedChange, Summary
 from aide_compare.lines.attributes import word_of
 from aide_compare.lines.change import Change
 from aide_compare.mail.columns import command_lines
-from aide_compare.show.changes import values_in
+from aide_compare.show.changes import change_lines
 from aide_compare.show.digest import MAIL, Room, digest, entry_line
 
 MAX_ROWS = 80
@@ -78,13 +79,7 @@ def host_lists(hosts: Iterable[Host]) -> dict[str, list[str]]:
         if host.status > 7:
             missing.append(f"{host.name}: {host.error}")
         elif host.differs:
-            counts = "no counts are known"
-            if host.counts is not None:
-                counts = ", ".join(f"{kind} {count}" for kind, count in zip(KINDS, host.counts))
-            if host.left_out:
-                changes = counted(sum(host.counts or ()), "change")
-                counts += f"; left out: {host.left_out} of {changes}"
-            differ.append(f"{host.name}: {counts}")
+            differ.append(f"{host.name}: {host.words}")
             if host.report in WHY:
                 cut.append(not_listed(host))
     return {
@@ -94,46 +89,14 @@ def host_lists(hosts: Iterable[Host]) -> dict[str, list[str]]:
     }
 
 
-def change_lines(shared: SharedChange, hosts: int) -> Iterator[str]:
-    """The lines of a change in the whole text.
-
-    The path stands last in its line, so that no path can look like another line's words. An old
-    value that is not the same on all hosts is not shown.
-    """
-    change = shared.change
-    where = f"on {shared.hosts} of {hosts} hosts"
-    yield f"{change.kind} {where}: {change.type} {shown(change.path)}"
-    yield f"    on {shared.names_text()}"
-    if shared.severity:
-        yield f"    {shared.severity}"
-    values = list(value_texts(shared))
-    if values or change.letters:
-        yield "    " + (", ".join(values) or shown(change.letters, 18))
+def shared_lines(shared: SharedChange, hosts: int) -> Iterator[str]:
+    """The lines of a change in the whole text: which hosts have it, and its values. An old value
+    that is not the same on all of them is not shown."""
+    yield f"{shared.severity} on {shared.hosts} of {hosts} hosts: {shared.names_text()}"
+    yield from (line[:-1] for line in change_lines(shared.change, shared.various))
     if shared.per_host:
         yield "    of each host: " + ", ".join(map(word_of, shared.per_host))
     yield ""
-
-
-def value_texts(shared: SharedChange) -> Iterator[str]:
-    """The attributes of a change with their values."""
-    for row in values_in(shared.change, shared.various):
-        old = row.old
-        if row.label in shared.various:
-            old = "(various)"
-        if shared.change.kind == "added":
-            yield f"{row.word} {row.new}"
-        elif shared.change.kind == "removed":
-            yield f"{row.word} {old}"
-        else:
-            yield f"{row.word} {old or 'none'} -> {row.new or 'none'}"
-
-
-def list_lines(title: str, lines: Sequence[str]) -> Iterator[str]:
-    """A list with its title; nothing if it is empty."""
-    if lines:
-        yield title + ":"
-        yield from ("  " + guarded(line) for line in lines)
-        yield ""
 
 
 def report_lines(report: Report) -> Iterator[str]:
@@ -148,7 +111,7 @@ def report_lines(report: Report) -> Iterator[str]:
         yield f"{counted(summary.changes, 'different change')}, {ORDER}:"
         yield ""
     for row in report.table.rows():
-        yield from change_lines(report.shared(row), summary.counts.hosts)
+        yield from shared_lines(report.shared(row), summary.counts.hosts)
 
 
 def shortened(text: str, width: int) -> str:
@@ -202,16 +165,17 @@ def grouped_lines(report: Report, rows: Iterable[Row]) -> Iterator[str]:
             yield entry_line(row, read, f"  {'':<{NAMES_WIDTH}}  ", MAX_COLUMNS)
 
 
-def short_list(title: str, lines: Sequence[str], rows: int) -> Iterator[str]:
-    """The beginning of a list of hosts, with its title and how many there are."""
+def list_lines(title: str, lines: Sequence[str], rows: int = 0) -> Iterator[str]:
+    """A list of hosts, with its title and how many there are; of a short text so many rows at
+    most."""
     if not lines:
         return
     yield f"{title} ({len(lines)}):"
     first = lines
-    if len(lines) > rows:
+    if 0 < rows < len(lines):
         first = lines[: rows - 1]
-    for line in first:
-        yield "  " + shortened(guarded(line), MAX_COLUMNS - 2)
+    for line in map(guarded, first):
+        yield "  " + (shortened(line, MAX_COLUMNS - 2) if rows else line)
     if len(lines) > len(first):
         yield f"  and {len(lines) - len(first)} more"
     yield ""
@@ -246,8 +210,8 @@ def short_lines(report: Report) -> Iterator[str]:
     lists = host_lists(report.hosts)
     head = [beginning(line, MAX_COLUMNS) for line in canary_lines(summary, MAX_NOTES)]
     head += [headline(summary), summary.counts.others(), ""]
-    head += short_list("Not compared", lists["Not compared"], MAX_MISSING)
-    head += short_list("Not all listed", lists["Not all changes are listed"], MAX_CUT)
+    head += list_lines("Not compared", lists["Not compared"], MAX_MISSING)
+    head += list_lines("Not all listed", lists["Not all changes are listed"], MAX_CUT)
     yield from head
     # An empty line, and the command at the end.
     yield from short_changes(report, MAX_ROWS - len(head) - 6)

@@ -2,7 +2,7 @@
 of them have. Each has an object in the report in JSON."""
 from __future__ import annotations
 
-from collections.abc import Sequence
+from collections.abc import Collection, Sequence
 from functools import cached_property
 from typing import NamedTuple
 
@@ -24,6 +24,15 @@ class HostCounts(NamedTuple):
     differ: int  # By changes that somebody has to read.
     silent: int  # By others alone.
     not_compared: int
+
+    @classmethod
+    def of(cls, ends: Collection[tuple[int, bool]]) -> HostCounts:
+        """Counts hosts, each by its status and by whether it has silent differences alone."""
+        not_compared = sum(status > 7 for status, _ in ends)
+        differ = sum(1 <= status <= 7 for status, _ in ends)
+        silent = sum(is_silent for _, is_silent in ends)
+        unchanged = len(ends) - not_compared - differ - silent
+        return cls(len(ends), unchanged, differ, silent, not_compared)
 
     def headline(self) -> str:
         hosts = counted(self.hosts, "host")
@@ -66,6 +75,7 @@ class Host(NamedTuple):
     status: int  # That of what is not silent.
     date: str = ""  # When it was compared; "" if it never was.
     error: str = ""  # Why it was not compared; "" if it was.
+    words: str = ""  # What its comparison has counted.
     counts: tuple[int, int, int] | None = None  # By KINDS; None if they are not known.
     new_sha256: str = ""
     open: int | None = None  # How many changes are not silent; None if nobody has judged.

@@ -2,7 +2,7 @@
 from __future__ import annotations
 
 import json
-from typing import TYPE_CHECKING, Iterable, Iterator, NamedTuple, Optional
+from typing import TYPE_CHECKING, Collection, Iterator, NamedTuple, Optional
 
 from aide_compare.base.escapes import guarded, shown
 from aide_compare.lines.attributes import FORMS, STRENGTH, word_of
@@ -50,7 +50,7 @@ class Row(NamedTuple):
         return f"    {self.word:<10} {texts[1]}\n"
 
 
-def values_in(change: Change, others: Iterable[str] = ()) -> Iterator[Row]:
+def values_in(change: Change, others: Collection[str] = ()) -> Iterator[Row]:
     """Each attribute of a change, and those that it has too, with both values for people, None for
     one that is not there. Of the digests the strongest says as much as all, and the type is said
     already unless it changed."""
@@ -85,9 +85,11 @@ def changes_with_values(
         yield b"no change at these paths\n"
 
 
-def change_lines(change: Change) -> Iterator[str]:
+def change_lines(change: Change, various: Collection[str] = ()) -> Iterator[str]:
     """The lines of a change. The path stands last in its line, so that no path can look like the
-    words of another one."""
+    words of another one. Of many hosts `various` attributes have several old values."""
     yield f"{change.kind} {change.type}: {shown(change.path)}\n"
-    for row in values_in(change):
+    for row in values_in(change, various):
+        if row.label in various:
+            row = row._replace(old="(various)")
         yield row.line(change.kind)

@@ -20,7 +20,7 @@ RED = "\033[1;31m"
 YELLOW = "\033[33m"
 PLAIN = "\033[0m"
 COLOURS = {"high": RED, "medium": YELLOW}
-HOSTS_SEVERITY = "    (high|medium)(?=, )"
+HOSTS_SEVERITY = "(high|medium)(?= on )"
 SEVERITY = "(?m)^  (high|medium) "
 TITLE = "(?m)^(Open|Recorded.*):$"
 
@@ -48,7 +48,7 @@ def severity_in_colour(line: str, choice: str) -> str:
     if match is None:
         return line
     severity: str = match.group(1)
-    return "    " + in_colour(severity, COLOURS[severity], choice) + line[match.end() :]
+    return in_colour(severity, COLOURS[severity], choice) + line[match.end() :]
 
 
 def _coloured_severity(match: re.Match[str]) -> str:
