@@ -2,7 +2,6 @@
 from __future__ import annotations
 
 from collections.abc import Iterator, Sequence
-from contextlib import suppress
 from functools import partial
 
 from aide_compare.base.ending import Fault, Status, fault_of, say, tell, write_all
@@ -29,15 +28,14 @@ from aide_compare.base.parser import defaults_for, read
 from aide_compare.commands.defaults import exclusions_of
 from aide_compare.compare.asking import errors_of_list
 from aide_compare.hosts.canary import Run, keep_run, trusted_pair
-from aide_compare.hosts.fetching import fetch
 from aide_compare.hosts.fleet import Fleet
-from aide_compare.hosts.host_comparison import MAX_JUDGED, MAX_KEPT, Settings, compare
+from aide_compare.hosts.host_comparison import MAX_JUDGED, MAX_KEPT, Settings
 from aide_compare.hosts.hosts_file import hosts_of
-from aide_compare.hosts.hosts_read import read_host, words_of
+from aide_compare.hosts.hosts_read import read_host
 from aide_compare.hosts.hosts_text import WHY, not_listed
 from aide_compare.hosts.reported import HostCounts
-from aide_compare.hosts.store import ERRORS, HostDirectory, check_name
-from aide_compare.hosts.workers import PAUSE, HostResult, Work, results, without_name
+from aide_compare.hosts.store import ERRORS, check_name
+from aide_compare.hosts.workers import HostResult, results, without_name
 from aide_compare.show.changes import change_lines
 
 NAME = "aide-compare hosts compare"
@@ -110,38 +108,10 @@ class HostsCompareRequest(Asked):
         )
 
 
-def compare_host(settings: Settings, host: str) -> HostResult:
-    """Fetches and compares one host."""
-    directory = HostDirectory(settings.store, host, settings.seconds)
-    if settings.fetches:
-        fetch(directory, settings.jobs)
-    state = compare(directory, settings)
-    if state.status > 7:
-        return HostResult(host, state.status, without_name(host, state.error))
-    return HostResult(host, state.told_status, words_of(state), state.status > 0)
-
-
-def note_death(store: str, host: str, text: str) -> None:
-    """The state says that nothing was compared. Another run may have the lock by now, and writes a
-    state of its own."""
-    with suppress(Fault, OSError):
-        directory = HostDirectory(store, host, PAUSE)
-        directory.not_compared(f"{host}: {text}")
-
-
-def work_of(settings: Settings) -> Work:
-    return Work(
-        carry_out=partial(compare_host, settings),
-        jobs=settings.jobs,
-        seconds=settings.seconds,
-        note_death=partial(note_death, settings.store),
-    )
-
-
 def results_beside(canary: str, hosts: Sequence[str], settings: Settings) -> Iterator[HostResult]:
     """The results of all hosts beside the canary, whose own result comes first. Without its pair
     the others are compared all the same, and that is said before them."""
-    (first,) = results([canary], work_of(settings._replace(max_kept=MAX_JUDGED)))
+    (first,) = results([canary], settings._replace(max_kept=MAX_JUDGED))
     yield first
     beside = settings
     try:
@@ -155,7 +125,7 @@ def results_beside(canary: str, hosts: Sequence[str], settings: Settings) -> Ite
         run = Run(canary, f"{lost}: {why}")
         tell(guarded(run.note))
     keep_run(settings.store, run)
-    yield from results([host for host in hosts if host != canary], work_of(beside))
+    yield from results([host for host in hosts if host != canary], beside)
 
 
 def compare_all(request: HostsCompareRequest, settings: Settings, hosts: Sequence[str]) -> int:
@@ -165,7 +135,7 @@ def compare_all(request: HostsCompareRequest, settings: Settings, hosts: Sequenc
     if request.canary:
         all_results = results_beside(request.canary, hosts, settings)
     else:
-        all_results = results(hosts, work_of(settings))
+        all_results = results(hosts, settings)
     found = []
     for result in all_results:
         found.append((result.status, result.has_changes and not result.is_alarm))

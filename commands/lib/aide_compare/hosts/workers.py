@@ -1,4 +1,4 @@
-"""Work on many hosts, some at a time: each in a process of its own, with a limit of memory and of
+"""Many hosts are compared, some at a time: each in a process of its own, with a limit of memory and of
 time. A host that ends its process ends no other one."""
 from __future__ import annotations
 
@@ -7,7 +7,8 @@ import os
 import select
 import signal
 import time
-from collections.abc import Callable, Iterator, Sequence
+from collections.abc import Iterator, Sequence
+from contextlib import suppress
 from functools import partial
 from typing import NamedTuple
 
@@ -15,7 +16,10 @@ from aide_compare.base.directories import closed_after
 from aide_compare.base.ending import Fault, Status, fault_of, write_all
 from aide_compare.base.escapes import guarded, shown
 from aide_compare.base.processes import limit_memory, start_child
-from aide_compare.hosts.store import MAX_MEMORY
+from aide_compare.hosts.fetching import fetch
+from aide_compare.hosts.host_comparison import Settings, compare
+from aide_compare.hosts.hosts_read import words_of
+from aide_compare.hosts.store import MAX_MEMORY, HostDirectory
 from aide_compare.show.told import RED, YELLOW, in_colour
 
 MAX_TEXT = 300
@@ -51,23 +55,25 @@ def without_name(host: str, text: str) -> str:
     return text.removeprefix(f"{host}: ")
 
 
-class Work(NamedTuple):
-    """What is done for each host."""
-
-    carry_out: Callable[[str], HostResult]
-    jobs: int
-    seconds: int
-    note_death: Callable[[str, str], None]  # Gets a host whose process died, and how.
+def compare_host(host: str, settings: Settings) -> HostResult:
+    """Fetches and compares one host."""
+    directory = HostDirectory(settings.store, host, settings.seconds)
+    if settings.fetches:
+        fetch(directory, settings.jobs)
+    state = compare(directory, settings)
+    if state.status > 7:
+        return HostResult(host, state.status, without_name(host, state.error))
+    return HostResult(host, state.told_status, words_of(state), state.status > 0)
 
 
 class Worker:
     """The process of one host, which the kernel ends if this one ends, and the pipe of its
     answer."""
 
-    def __init__(self, host: str, work: Work) -> None:
+    def __init__(self, host: str, settings: Settings) -> None:
         self.host = host
-        self.work = work
-        self.deadline = time.monotonic() + work.seconds + GRACE
+        self.settings = settings
+        self.deadline = time.monotonic() + settings.seconds + GRACE
         self.fd, writing = os.pipe()
         self.child = start_child(partial(self._write_result, writing))
         os.close(writing)
@@ -76,7 +82,7 @@ class Worker:
         """The work of the process."""
         limit_memory(MAX_MEMORY)
         try:
-            result = self.work.carry_out(self.host)
+            result = compare_host(self.host, self.settings)
         except (Fault, OSError, MemoryError) as error:
             fault = fault_of(error)
             text = without_name(self.host, fault.text)
@@ -94,17 +100,20 @@ class Worker:
         if answer and ended == 0:
             return HostResult(self.host, *json.loads(answer))
         text = f"ended without an answer ({ended})"
-        self.work.note_death(self.host, text)
+        # The state says so. Another run may have the lock by now, and writes a state of its own.
+        with suppress(Fault, OSError):
+            directory = HostDirectory(self.settings.store, self.host, PAUSE)
+            directory.not_compared(f"{self.host}: {text}")
         return HostResult(self.host, int(Status.DEVICE), text)
 
 
-def results(hosts: Sequence[str], work: Work) -> Iterator[HostResult]:
+def results(hosts: Sequence[str], settings: Settings) -> Iterator[HostResult]:
     """The results of all hosts as they end, so many at a time."""
     waiting = list(reversed(hosts))
     workers: dict[int, Worker] = {}
     while waiting or workers:
-        while waiting and len(workers) < work.jobs:
-            worker = Worker(waiting.pop(), work)
+        while waiting and len(workers) < settings.jobs:
+            worker = Worker(waiting.pop(), settings)
             workers[worker.fd] = worker
         left = min(worker.deadline for worker in workers.values()) - time.monotonic()
         for descriptor in select.select(list(workers), [], [], max(left, PAUSE))[0]:
