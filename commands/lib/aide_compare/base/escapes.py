@@ -21,10 +21,6 @@ _UNSEEN = (
     "\ufe00-\ufe0f\ufeff\uffa0\ufff0-\ufffb\U000110bd\U000110cd\U00013430-\U0001343f"
     "\U0001bca0-\U0001bca3\U0001d173-\U0001d17a\U000e0000-\U000e0fff"
 )
-# Printable ASCII without the backslash, and without blanks at its ends.
-PLAIN = re.compile(r"[!-\[\]-~](?:[ -\[\]-~]*[!-\[\]-~])?")
-
-
 # Each byte as a backslash and three octal digits.
 _OCTAL = [f"\\{byte:03o}" for byte in range(256)]
 
@@ -93,24 +89,3 @@ def shown_lines(data: str | bytes | bytearray) -> str:
     """Whole lines: newlines and tabs stay, and backslashes, since the reports and error lines have
     escapes of their own."""
     return _with_escapes(_bytes_of(data).decode("utf-8", "surrogateescape"), "\\\t\n")
-
-
-def _seen(text: str) -> str:
-    """A text in which every character is seen, also where Python's Unicode is older."""
-    if text.isprintable():
-        return text
-    letters = []
-    for letter in text:
-        letters.append(letter if letter.isprintable() else _escaped(_bytes_of(letter)))
-    return "".join(letters)
-
-
-def shown_note(text: str, limit: int = 200) -> str:
-    """A text for people that a command of ours has written, such as a reason, in which names are
-    escaped already."""
-    if len(text) <= limit and PLAIN.fullmatch(text):
-        return text
-    note = _seen(guarded(text[: limit + 1]))
-    if len(note) > limit:
-        return note[:limit] + "..."
-    return note

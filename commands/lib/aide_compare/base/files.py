@@ -162,24 +162,16 @@ def private_directory() -> str:
     return os.environ.get("TMPDIR") or "/var/tmp"
 
 
-class MadeFile:
-    """A new file, by its descriptor, and its name; "" if it has none."""
-
-    def __init__(self, descriptor: int, name: str) -> None:
-        self.fd = descriptor
-        self.name = name
-
-
-def new_file(directory: int, name: str, more: int = 0) -> MadeFile:
-    """A new file in an open directory, of the caller only. It has this name only where the file
-    system does not know files without one."""
+def new_file(directory: int, name: str, more: int = 0) -> tuple[int, str]:
+    """The descriptor and the name of a new file in an open directory, of the caller only. It has
+    this name only where the file system does not know files without one, and otherwise ""."""
     flags = os.O_TMPFILE | os.O_RDWR | os.O_CLOEXEC | more
     try:
-        return MadeFile(os.open(".", flags, PRIVATE, dir_fd=directory), "")
+        return os.open(".", flags, PRIVATE, dir_fd=directory), ""
     except OSError as error:
         if error.errno not in NO_TMPFILE:
             raise
-    return MadeFile(os.open(name, NEW_FILE, PRIVATE, dir_fd=directory), name)
+    return os.open(name, NEW_FILE, PRIVATE, dir_fd=directory), name
 
 
 def unlink(name: str, directory: int) -> None:
@@ -194,10 +186,10 @@ def nameless(path: str = "") -> int:
     path = path or private_directory()
     with failing(f"cannot make a private file in {shown(path)}{NAME_ANOTHER}"):
         with closed_after(os.open(path, PLACE)) as directory:
-            file = new_file(directory, random_name(), os.O_EXCL)
-            if file.name:
-                os.unlink(file.name, dir_fd=directory)
-            return file.fd
+            descriptor, name = new_file(directory, random_name(), os.O_EXCL)
+            if name:
+                os.unlink(name, dir_fd=directory)
+            return descriptor
 
 
 def private_file() -> BufferedRandom:

@@ -5,10 +5,9 @@ import errno
 import os
 import time
 import zlib
-from collections.abc import Callable
+from collections.abc import Callable, Iterable
 from contextlib import closing, suppress
 from functools import cache
-from typing import Optional
 
 from aide_compare.base.directories import LISTING, Directory, closed_after, failure
 from aide_compare.base.directories import open_directory
@@ -16,7 +15,7 @@ from aide_compare.base.ending import Fault, Status, why_of, write_all
 from aide_compare.base.escapes import shown
 from aide_compare.base.files import (
     TEMPORARY,
-    copy_file,
+    blocks_of,
     new_file,
     random_name,
     refuse_other_kinds,
@@ -36,9 +35,7 @@ class NewFile:
 
     def __init__(self, directory: int) -> None:
         self.directory = directory
-        file = new_file(directory, random_name())
-        self.fd = file.fd
-        self.name = file.name
+        self.fd, self.name = new_file(directory, random_name())
 
     def put(self, name: str, over: bool = True) -> None:
         """Gives it this name, when its bytes are on the disk, and the name too before this returns.
@@ -111,11 +108,11 @@ class Replacement:
 
     def commit(self, data: bytes) -> None:
         """Puts bytes in the place of the file, on the disk before this returns."""
-        self._do(lambda directory: self._put(directory, lambda part: write_all(part, data)))
+        self._do(lambda directory: self._put(directory, [data]))
 
     def commit_copy(self, source: int) -> None:
         """The same of the bytes of an open file."""
-        self._do(lambda directory: self._put(directory, lambda part: copy_file(source, part)))
+        self._do(lambda directory: self._put(directory, blocks_of(source)))
 
     def close(self) -> None:
         for part in self.waiting:
@@ -154,9 +151,10 @@ class Replacement:
             return self.waiting.pop()
         return NewFile(directory.fd)
 
-    def _put(self, directory: Directory, write: Callable[[int], None]) -> None:
+    def _put(self, directory: Directory, blocks: Iterable[bytes]) -> None:
         with closing(self._new_file(directory)) as part:
-            write(part.fd)
+            for block in blocks:
+                write_all(part.fd, block)
             os.fchmod(part.fd, self.mode)
             part.put(self.name)
 
@@ -180,7 +178,7 @@ def replace_by_copy(path: str, source: int, mode: int, what: str) -> None:
 
 
 @cache
-def renameat2() -> Optional[Callable[..., int]]:
+def renameat2() -> Callable[..., int] | None:
     """The call of the C library, None if there is none. A command loads it before it becomes a user
     who may not read the module."""
     try:

@@ -197,18 +197,18 @@ class Baseline:
     def _named_copy(self, source: int, name: str) -> os.stat_result:
         """Copies an open file, with owner and mode if that is allowed, to the disk before it gets
         the name."""
-        new = new_file(self.directory, name)
-        with closed_after(new.fd):
-            copy_file(source, new.fd)
+        new, given_name = new_file(self.directory, name)
+        with closed_after(new):
+            copy_file(source, new)
             mode = FIRST_MODE
             if self.former is not None:
                 mode = self.former.status.st_mode & FILE_MODES
-                self._give_to_owner(new.fd, self.former.status)
-            os.fchmod(new.fd, mode)
-            os.fsync(new.fd)
-            if not new.name:
-                os.link(f"/proc/self/fd/{new.fd}", name, dst_dir_fd=self.directory)
-            return os.fstat(new.fd)
+                self._give_to_owner(new, self.former.status)
+            os.fchmod(new, mode)
+            os.fsync(new)
+            if not given_name:
+                os.link(f"/proc/self/fd/{new}", name, dst_dir_fd=self.directory)
+            return os.fstat(new)
 
     def _give_to_owner(self, new: int, former: os.stat_result) -> None:
         """Gives the new file to the owner of the former one, as far as the caller may."""

@@ -11,7 +11,7 @@ from html import escape
 from io import BufferedRandom
 from typing import TYPE_CHECKING, Callable, Dict, Iterable, Iterator, List, Optional
 
-from aide_compare.base.escapes import guarded, shown, shown_note
+from aide_compare.base.escapes import guarded, shown
 from aide_compare.base.files import private_file
 from aide_compare.base.words import KINDS, SEVERITIES, SIDES, minute_of
 from aide_compare.lines.attributes import CONTENT, FORMS, STRENGTH, word_of
@@ -89,7 +89,7 @@ def page(
     script = script_of()
     policy = POLICY.format(style=digest_of(style), script=digest_of(script))
     head = part_of("page.html").format(
-        title=escape(shown_note(title)),
+        title=escape(guarded(title)),
         style=style,
         script=script,
         policy=policy,
