@@ -118,44 +118,26 @@ class Pattern:
         self.pieces = pieces
         self.fixed = tuple(takewhile(_is_fixed, pieces))
 
-    # What follows is made when a path is tested: most patterns of a table never test one.
-
-    @cached_property
+    @cached_property  # Most patterns of a table never test a path.
     def tests(self) -> list[Callable[[bytes], object] | None]:
-        """The tests of the pieces, None for `**`."""
-        return [None if piece == b"**" else _test(piece) for piece in self.pieces]
-
-    @cached_property
-    def padded(self) -> list[Callable[[bytes], object] | None]:
-        """The same, and behind the last piece no piece fits."""
-        return [*self.tests, _never]
-
-    @cached_property
-    def min_pieces(self) -> int:
-        """For a quick no: a path has at least so many pieces."""
-        return len(self.pieces) - self.pieces.count(b"**")
-
-    @cached_property
-    def named(self) -> set[bytes]:
-        """For a quick no: a path has these pieces."""
-        return set(filter(_is_fixed, self.pieces))
+        """The tests of the pieces, None for `**`, and behind the last one that no piece fits."""
+        tests = [None if piece == b"**" else _test(piece) for piece in self.pieces]
+        return [*tests, _never]
 
     def matches(self, pieces: list[bytes]) -> bool:
         """Whether the pattern means the pieces of a path. `**` takes as few as will do, and one
         more if the rest does not fit."""
-        if len(pieces) < self.min_pieces or not self.named.issubset(pieces):
-            return False
         at = 0
         position = 0
         star: int | None = None
         retry = 0
         while position < len(pieces):
-            test = self.padded[at]
+            test = self.tests[at]
             if test is None:
                 star = at
                 retry = position
                 at += 1
-                if at == len(self.tests):
+                if at == len(self.pieces):
                     return True
             elif test(pieces[position]):
                 at += 1
@@ -166,7 +148,7 @@ class Pattern:
                 position = retry
             else:
                 return False
-        return at == len(self.tests)  # What lies below `/a/**` has a piece more than `/a` itself.
+        return at == len(self.pieces)  # What lies below `/a/**` has a piece more than `/a` itself.
 
 
 def pattern_of(text: bytes, place: str) -> Pattern:
