@@ -145,7 +145,6 @@ class Host:
         self.old = Night()
         self.new = Night()
         self.packages: List[Package] = []
-        self.diversions = b""
         for path in (b"/", b"/usr"):
             self.both(lambda night: night.directory(path))
 
@@ -157,8 +156,7 @@ class Host:
 
     def records(self) -> Dict[str, bytes]:
         """dpkg's records, by their names."""
-        files = {"diversions": self.diversions}
-        files["status"] = b"".join(package.status() + b"\n" for package in self.packages)
+        files = {"status": b"".join(package.status() + b"\n" for package in self.packages)}
         for package in self.packages:
             files[f"info/{package.name}.list"] = package.paths()
             files[f"info/{package.name}.md5sums"] = package.sums()

@@ -157,7 +157,7 @@ class CommandTest(ScratchTest):
         self.replaced: dict[str, str] = {}
         # The records of packages and the administrator's directory are those of the test, never
         # those of this machine.
-        self.set_names("changes.packages", DPKG=self.path("dpkg"), DPKG_LOG=self.path("dpkg.log"))
+        self.set_names("changes.packages", DPKG=self.path("dpkg"))
         self.after_import("changes.packages", "Dpkg.__init__.__defaults__ = (DPKG,)\n")
         self.set_names("base.parser", DIRECTORY=self.path("etc"))
         for name, text in (("old", OLD), ("new", NEW)):

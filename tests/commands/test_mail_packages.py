@@ -42,27 +42,6 @@ class MailPackagesTest(mail.MailTest):
         self.assertTrue(named.endswith(", package-44, zz-tool"), named)
         self.assertLessEqual(len(lines), 80 + 1)
 
-    def test_compiled(self) -> None:
-        """Files that Python compiles of changed sources are open: nothing says that their content
-        is recorded, or who wrote it."""
-        host = Host()
-        for name in (b"one", b"three", b"two"):
-            directory = b"/usr/lib/%s/" % name
-            sources = {directory + b"%d.py" % number: TWO for number in range(2)}
-            host.packages.append(Package(name.decode(), "1", sources))
-            compiled = [directory + b"__pycache__/%d.cpython-311.pyc" % at for at in range(2)]
-            for path in (*sources, *compiled):
-                host.old.file(path, ONE)
-                host.new.file(path, TWO)
-        lines = self.lines(host)
-        self.assertTrue(
-            lines[0].startswith("6 changes are open, 0 of severity high. 6 more"), lines
-        )
-        at = lines.index("Open, compiled of changed sources, their contents in no record:")
-        wanted = ["  one 1: 2 files", "  three 1: 2 files", "  and 2 files of other packages", ""]
-        self.assertEqual(lines[at + 1 : at + 5], wanted, lines)
-        self.assertLess(at, lines.index("Recorded, as dpkg on this host says:"), lines)
-
     def test_too_many(self) -> None:
         """Of more packages than there are lines for, the others are counted."""
         host = Host()

@@ -40,16 +40,9 @@ def many_kinds() -> Host:
         host.new.file(path, TWO)
         if number % 3:
             files[path] = TWO
-        source = LIB + b"python3/m%02d.py" % number
-        compiled = LIB + b"python3/__pycache__/m%02d.cpython-311.pyc" % number
-        host.old.file(source, ONE).file(compiled, ONE)
-        host.new.file(source, TWO if number % 2 else ONE).file(compiled, TWO)
-        files[source] = TWO
     host.new.link(LIB + b"tool.so", b"tool01").link(LIB + b"evil.so", b"/tmp/evil")
     files[b"/lib/bare"] = TWO
-    host.new.file(LIB + b"bare", TWO).file(LIB + b"moved", TWO)
-    files[LIB + b"here"] = TWO
-    host.diversions = LIB + b"here\n" + LIB + b"moved\n:\n"
+    host.new.file(LIB + b"bare", TWO)
     listed = (LIB + b"tool.so", LIB + b"evil.so")
     host.packages.append(Package("tool", "2", files, listed=listed))
     host.packages.append(Package("other", "1", {}, conffiles={LIB + b"tool00": TWO}))
@@ -66,9 +59,8 @@ class ManyTest(CommandTest):
         kinds = {" ".join(words.split()[::2]) for words in wanted.values()}
         self.assertIn("recorded tool", kinds, wanted)
         self.assertEqual(wanted[LIB + b"evil.so"].split()[0], "open")
-        for path in (b"tool.so", b"bare", b"moved", b"tool00", b"tool01"):
+        for path in (b"tool.so", b"bare", b"tool00", b"tool01"):
             self.assertTrue(wanted[LIB + path].startswith("recorded"), (path, wanted))
-        self.assertRegex(brief, r"contents in no record:\n  tool 2: 6 files\n")
         for count in (1, 2, 7):
             self.set_names("changes.recorded", MAX_ASKED=count)
             self.assertEqual(standings_of(host.ask(self)[1]), wanted, count)

@@ -103,14 +103,11 @@ class RecordedTest(CommandTest):
             self.check(f"another {label}", upgraded(TWO, **more), {BIN + b"tool": OPEN})
 
     def test_names(self) -> None:
-        """Diversions are followed, and so are directories that are links to those in /usr."""
+        """Directories that are links to those in /usr are followed."""
         host = upgraded(TWO, Package("tool", "2", {b"/bin/tool": TWO}))
         for links, want in (({}, OPEN), ({b"/bin": b"usr/bin"}, RECORDED), ({b"/bin": b"x"}, OPEN)):
             self.after_import("changes.usr", f"link_here\nlink_here = {links!r}.get\n")
             self.check(f"links of this machine: {links}", host, {BIN + b"tool": want})
-        host = upgraded(TWO, Package("tool", "2", {BIN + b"there": TWO}))
-        host.diversions = BIN + b"there\n" + BIN + b"tool\nother\n"
-        self.check("a diversion", host, {BIN + b"tool": RECORDED})
 
     def test_links(self) -> None:
         """A link is recorded if a package lists it, and what it points to."""
@@ -129,79 +126,20 @@ class RecordedTest(CommandTest):
             wanted = {LIB + b"tool.so": want, LIB + b"beside": RECORDED}
             self.check(f"a link to {target!r}", host, wanted)
 
-    def test_made(self) -> None:
-        """What scripts of packages make is open, and has one line for a package; what a package
-        has with another content has a line of its own, and so has a compiled file whose source did
-        not change.
-        """
-        host = Host()
-        cache = LIB + b"python3/__pycache__/"
-        for name in (b"one", b"two"):
-            source, compiled = LIB + b"python3/%s.py" % name, cache + b"%s.cpython-311.pyc" % name
-            host.old.file(source, ONE).file(compiled, ONE)
-            host.new.file(source, TWO).file(compiled, TWO)
-        sources = {LIB + b"python3/%s.py" % name: TWO for name in (b"one", b"two")}
-        host.packages.append(Package("python", "2", sources))
-        # Of three.py, which did not change, and of foreign.py, which no package has.
-        compiled_files = [cache + name + b".cpython-311.pyc" for name in (b"three", b"foreign")]
-        for name in (*compiled_files, LIB + b"python3/foreign.py", LIB + b"python3/evil.py"):
-            host.old.file(name, ONE)
-            host.new.file(name, EVIL)
-        files = {LIB + b"python3/evil.py": TWO, LIB + b"python3/three.py": TWO}
-        host.old.file(LIB + b"cache", ONE)
-        host.new.file(LIB + b"cache", EVIL)
-        host.packages.append(Package("tool", "2", files, listed=(LIB + b"cache",)))
-        text = host.brief(self)
-        by_path = "\nOpen, compiled of changed sources, their contents in no record:\n  python 2: 2 files\n"
-        self.assertEqual(text.count(by_path), 1, ("one line for a package", text))
-        for name in (*compiled_files, LIB + b"python3/evil.py", LIB + b"cache"):
-            line = f"  medium  changed  {name.decode()}: content"
-            self.assertEqual(text.count(line), 1, (f"a line of its own: {name!r}", text))
-        self.holds("compiled files are open", text.startswith("7 open, 2 recorded of 9"), text)
-
-    def test_made_beside_pair(self) -> None:
-        """The same of a compiled file whose source is as in a trusted pair."""
-        host = Host()
-        source = LIB + b"python3/one.py"
-        host.old.file(source, ONE)
-        host.new.file(source, TWO)
-        host.packages.append(Package("python", "2", {source: TWO}))
-        self.write("trusted-old.db", host.old.database())
-        self.write("trusted-new.db", host.new.database())
-        for name in (b"one", b"evil"):
-            compiled = LIB + b"python3/__pycache__/%s.cpython-311.pyc" % name
-            host.old.file(compiled, ONE)
-            host.new.file(compiled, EVIL)
-        host.write(self)
-        words = ("--trusted", "trusted-old.db", "trusted-new.db", "host-old.db", "host-new.db")
-        text = self.call("aide-compare", *words).output.decode()
-        self.assertIn("contents in no record:\n  python 2: 1 file\n", text)
-        self.assertIn("  medium  changed  /usr/lib/python3/__pycache__/evil.cpython-311.pyc", text)
-        self.assertEqual(text.count("one.cpython"), 0, text)
-
     def test_named(self) -> None:
-        """Packages that came, went or fell to an older version are named before all else."""
+        """Packages that came or went, also those of which configuration is left, are named before
+        all else."""
         host = Host()
-        names = {"came": "1", "fell": "1", "rose": "3", "stayed": "1"}
-        for name, version in names.items():
-            host.packages.append(Package(name, version, {}))
-        for name in ("fell", "rose", "went"):
+        for name in ("came", "rose", "stayed"):
+            host.packages.append(Package(name, "1", {}))
+        host.packages.append(Package("left", "1", {}, state="deinstall ok config-files"))
+        for name in ("left", "rose", "went"):
             host.old.file(INFO + name.encode() + b".list", ONE)
-        for name in ("came", "fell", "rose"):
+        for name in ("came", "left", "rose"):
             host.new.file(INFO + name.encode() + b".list", TWO)
-        log = "2026-11-26 06:00:01 status installed fell:amd64 2\n"
-        log += "2026-11-26 06:00:01 upgrade fell:amd64 2 1\n2026-11-26 06:00:02 upgrade rose:amd64 2 3\n"
-        self.write("dpkg.log", log)
         lines = host.brief(self).split("\n")
-        wanted = [
-            "Downgraded packages: fell 1, which was 2",
-            "New packages: came 1",
-            "Removed packages: went",
-        ]
+        wanted = ["New packages: came 1", "Removed packages: left, went", ""]
         self.assertEqual(lines[1:4], wanted, ("the packages", lines[:6]))
-        os.remove(self.path("dpkg.log"))
-        lines = host.brief(self).split("\n")
-        self.holds("without a log", lines[1:3] == wanted[1:] and not lines[3], lines[:6])
         host = Host()
         for number in range(60):
             name = f"new-{number:02}"

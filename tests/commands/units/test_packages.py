@@ -11,7 +11,7 @@ from tests.commands.made_up import Package
 
 from aide_compare.base.ending import Fault
 from aide_compare.changes import packages
-from aide_compare.changes.packages import Dpkg, Found, Member
+from aide_compare.changes.packages import Dpkg, Member, Members, add_member
 
 TOOL = Package("tool", "2", {b"/usr/bin/tool": b"2"}, {b"/etc/tool": b"2", b"/etc/more": b"2"})
 GONE = Package(
@@ -42,7 +42,7 @@ class PackagesTest(ModuleTest):
         self.expect("the paths", sorted(members), [b"/etc/tool", b"/usr/bin/tool"])
         for path, found in members.items():
             kinds = [(member.package, member.column) for member in found]
-            self.expect(f"of {path!r}", kinds, [("tool 2", ""), ("tool 2", "md5")])
+            self.expect(f"of {path!r}", kinds, [("tool 2", "md5")])
 
     def test_others(self) -> None:
         """No record is read that others can write, and none but a regular file."""
@@ -59,26 +59,25 @@ class PackagesTest(ModuleTest):
             self.assertRaises(Fault, self.dpkg().members, {b"/usr/bin/tool"}, same)
 
     def test_named(self) -> None:
-        """A package comes and goes with its list. Beside a trusted pair one that is new or has
-        other digests is signed or not by its digests."""
+        """A package comes and goes with its list. Beside a trusted pair one that has other digests
+        is not signed."""
         names = [(b"tool.list", "added"), (b"new.list", "added"), (b"new.md5sums", "added")]
-        names += [(b"old.list", "removed"), (b"old.md5sums", "removed")]
+        names += [(b"old.list", "removed"), (b"old.md5sums", "removed"), (b"gone.list", "changed")]
         names += [(b"other.md5sums", "changed")]
         rows = [SimpleNamespace(path=INFO + name, kind=kind) for name, kind in names]
         findings: Any = SimpleNamespace(below=lambda _directory: rows)
-        named = self.dpkg().named(findings, {}, None).titled()
-        wanted = [("New packages", ["tool 2", "new "]), ("Removed packages", ["old"])]
-        self.expect("without a pair", named, wanted)
-        named = self.dpkg().named(findings, {}, {INFO + b"tool.md5sums"}).titled()
-        wanted[:1] = [("Unsigned packages", ["new ", "other "])]
-        wanted[1:1] = [("New signed packages", ["tool 2"])]
+        wanted = {"New packages": ["tool 2", "new "], "Removed packages": ["old", "gone"]}
+        self.expect("without a pair", self.dpkg().named(findings, {}, False), wanted)
+        wanted["Unsigned packages"] = ["new ", "other "]
+        wanted["New packages"] = ["tool 2"]
+        named = self.dpkg().named(findings, {}, True)
         self.expect("beside a pair", named, wanted)
+        self.expect("in their order", list(named)[0], "Unsigned packages")
 
     def test_bound(self) -> None:
-        """Records that say the same again and again are refused."""
-        found = Found()
-        with mock.patch.object(packages, "MAX_MEMBERS", 2):
-            for _ in range(2):
-                found.add(b"/a", Member("tool 1"))
-            self.assertRaises(Fault, found.add, b"/b", Member("tool 1"))
-        self.expect("what was found", found.members, {b"/a": [Member("tool 1")] * 2})
+        """Of records that say the same again and again the first ones count."""
+        members: Members = {}
+        with mock.patch.object(packages, "MAX_PACKAGES", 2):
+            for name in ("one", "two", "three"):
+                add_member(members, b"/a", Member(name))
+        self.expect("what was found", members, {b"/a": [Member("one"), Member("two")]})

@@ -13,13 +13,10 @@ from aide_compare.changes.packages import Member
 from aide_compare.changes.recorded import (
     Contents,
     Matcher,
-    source_of,
     target_of,
 )
 from aide_compare.changes.table import Table
 from aide_compare.changes.weighing import Weighed
-
-COMPILED = b"/a/__pycache__/b.cpython-311%s.pyc"
 
 
 def table(*rows: tuple[bytes, str, bool]) -> Table:
@@ -33,13 +30,6 @@ def table(*rows: tuple[bytes, str, bool]) -> Table:
 
 class RecordedTest(ModuleTest):
     def test_names(self) -> None:
-        for path, source in (
-            (COMPILED % b"", b"/a/b.py"),
-            (COMPILED % b".opt-2", b"/a/b.py"),
-            (COMPILED % b".opt-3", None),
-            (b"/a/b.cpython-311.pyc", None),
-        ):
-            self.gives(source, source_of, path)
         for link, target in (("c", b"/a/c"), (b"../../c", b"/c"), ("//c/.", b"/c"), (None, None)):
             self.gives(target, target_of, b"/a/b", {"Lname": link})
         self.gives(None, target_of, b"/a/b", {})
@@ -84,7 +74,6 @@ class RecordedTest(ModuleTest):
             ("read", strong, member, 11, True),
             ("read, another one", strong, member._replace(digest=b"x" * 16), 11, False),
             ("no room", strong, member, 10, False),
-            ("of another kind", strong, member._replace(column="whirlpool"), 11, False),
             ("no digest", {}, member, 11, False),
             ("a weak digest", {"sha1": digests["sha1"]}, member, 11, False),
             ("another content", {"sha256": digests["sha256"][::-1]}, member, 11, False),

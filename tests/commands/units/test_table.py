@@ -15,7 +15,7 @@ from aide_compare.changes import table as tables
 from aide_compare.changes.importance import group_of_owner
 from aide_compare.changes.table import Table
 from aide_compare.changes.weighing import Weighed, directory_of, party_of
-from aide_compare.lines.change import Counts, Standing
+from aide_compare.lines.change import Counts
 from aide_compare.show.digest import MAIL, Room, digest, in_directory, rooms_of
 
 ONE_EACH = Room(shares=((1, 1, 1),) * 3, few=(9, 9, 9), first=5, party=1, named=1)
@@ -70,12 +70,11 @@ class TableTest(ModuleTest):
     def test_notes(self) -> None:
         """What records say of a change, until it is forgotten."""
         table = table_of(change(b"/a"), change(b"/b", "low"), change(b"/c", "low"))
-        table.note(1, Standing.RECORDED, "tool 1")
-        table.note(2, Standing.OPEN, "tool 1")
+        table.record(1, "tool 1")
         wanted = Counts(recorded=1, recorded_high=1, open=2, open_low=2, told_status=4)
         self.expect("the counts", table.counts(), wanted)
         room = ONE_EACH._replace(shares=((9, 9, 9),) * 3)
-        self.expect("not listed", listed(table, room), [("low", [b"/c"], [])])
+        self.expect("not listed", listed(table, room), [("low", [b"/b", b"/c"], [])])
         table.forget_records()
         self.expect("all are open", table.counts().open, 3)
         self.expect("and listed", [len(part[1]) for part in listed(table, room)], [1, 2])

@@ -7,21 +7,18 @@ from __future__ import annotations
 
 import json
 from collections import Counter
-from typing import Iterator, NamedTuple, Optional, Set
+from typing import Iterator, NamedTuple, Optional
 
 from aide_compare.base.ending import Fault, Status
 from aide_compare.changes.importance import Importance
-from aide_compare.changes.packages import INFO_DIRECTORY, Dpkg, Named
+from aide_compare.changes.packages import Dpkg, Named
 from aide_compare.changes.recorded import Matcher
 from aide_compare.changes.rpm import Rpm
 from aide_compare.changes.table import Row, Table
 from aide_compare.changes.usr import link_here, usr_of
 from aide_compare.changes.weighing import Scales, Weighed
-from aide_compare.lines.change import Change, Counts, Standing, change_of
+from aide_compare.lines.change import Change, Counts, change_of
 from aide_compare.lines.reader import Reader
-
-# The sources of more compiled files are not known as accounted for.
-MAX_SOURCES = 20000
 
 
 class JudgedLine(NamedTuple):
@@ -41,14 +38,11 @@ class Judged:
 
     def __init__(self, reader: Reader) -> None:
         self.file = reader.file
-        self.named = Named()
+        self.named: Named = {}
         self.by = ""
         self.silent: Counter[str] = Counter()
         # How many changes the lines of the list leave out, by their numbers.
         self.left_out: Counter[int] = Counter()
-        # Of dpkg's records: what is as in the trusted pair.
-        self.trusted: Set[bytes] = set()
-        self.sources: Set[bytes] = set()  # Of compiled files, as they are there.
         self.table = Table()
         self.table.add(self._weighed(reader))
         self.counts = self._counted()
@@ -66,27 +60,18 @@ class Judged:
                 self.silent[outline.silent.key] += 1
                 if outline.left_out:
                     self.left_out[outline.left_out] += 1
-                if outline.silent is Standing.TRUSTED:
-                    self._note_trusted(outline.path)
             line_at += len(outline.line)
 
     def _counted(self) -> Counts:
         return self.table.counts()._replace(**self.silent)
 
-    def _note_trusted(self, path: bytes) -> None:
-        if path.startswith(INFO_DIRECTORY):
-            self.trusted.add(path)
-        elif path.endswith(b".py") and len(self.sources) < MAX_SOURCES:
-            self.sources.add(path)
-
     def group_by(self, records: Dpkg | Rpm, has_pair: bool) -> None:
         """Finds out which changes are as the packages' records of this machine have them.
         `has_pair`: a trusted pair says which of the records are signed."""
-        matcher = Matcher(records, usr_of(link_here), self.read, self.sources)
+        matcher = Matcher(records, usr_of(link_here), self.read)
         try:
             matcher.match(self.table)
-            trusted = self.trusted if has_pair else None
-            self.named = records.named(self.table, matcher.kinds, trusted)
+            self.named = records.named(self.table, matcher.kinds, has_pair)
         except BaseException:
             self.table.forget_records()
             raise
@@ -109,7 +94,4 @@ class Judged:
                 yield JudgedLine(outline.line, outline.silent.value, "", "", None)
                 continue
             row = next(waiting)
-            package = ""
-            if row.standing == Standing.RECORDED.value:
-                package = row.package
-            yield JudgedLine(outline.line, row.standing, row.severity, package, row.importance)
+            yield JudgedLine(outline.line, row.standing, row.severity, row.package, row.importance)

@@ -1,33 +1,25 @@
-"""Which changes have a content that a package's records on this host have: dpkg's lists and
-digests, or what rpm says. Whoever is root there can write such records, so they silence nothing:
-they group what people read, and packages that came, went or fell to an older version are named
-first."""
+"""Which paths dpkg's records on this host have, with the digests of contents. Whoever is root there
+can write such records, so they silence nothing: they group what people read, and packages that came
+or went are named first."""
 from __future__ import annotations
 
 import os
 import re
 import stat
-from collections.abc import Callable, Iterator
+from collections.abc import Callable, Iterable, Iterator
 from contextlib import suppress
-from functools import cached_property
 from typing import NamedTuple
 
+from aide_compare.base.directories import LISTING, closed_after, open_directory
 from aide_compare.base.ending import Fault, Status, failing
 from aide_compare.base.escapes import shown
-from aide_compare.base.files import open_regular
-from aide_compare.base.directories import LISTING, closed_after, open_directory
-from aide_compare.base.processes import run
 from aide_compare.changes.table import Table
 
 DPKG = "/var/lib/dpkg"
-DPKG_LOG = "/var/log/dpkg.log"
-MAX_FILE = 64 << 20
 MAX_ALL = 256 << 20
-MAX_LOG = 4 << 20
 MAX_FILES = 200000
-MAX_COMPARED = 500
-# Of all paths that are asked for at once. Each takes some 120 bytes of memory.
-MAX_MEMBERS = 500000
+# So many packages are known of one path.
+MAX_PACKAGES = 64
 READ_ONLY = os.O_RDONLY | os.O_NOFOLLOW | os.O_NONBLOCK | os.O_CLOEXEC
 PARAGRAPH = rb"(?m)^(Package|Status|Architecture|Version|Conffiles):[ \t]*(.*(?:\n[ \t].*)*)"
 NAME = rb"(?m)^Package:[ \t]*([^ \t\n]+)"
@@ -36,9 +28,10 @@ LIST = ".list"
 CONFFILE = rb"(?m)^ ?(/.*?) ([0-9a-f]{32})(?: [a-z-]+)*$"
 SUM = re.compile(rb"([0-9a-f]{32})  ?(.+)")
 INFO_DIRECTORY = b"/var/lib/dpkg/info"
-INFO = rb"(/var/lib/dpkg/info/([A-Za-z0-9][A-Za-z0-9+.-]*)(?::[a-z0-9-]+)?)\.(list|md5sums)"
-SUMS = b"md5sums"
-UPGRADE = rb"(?m)^[-0-9]+ [:0-9]+ upgrade ([^: \n]+)(?::[^ \n]*)? ([^ \n]+) ([^ \n]+)$"
+INFO = rb"/var/lib/dpkg/info/([A-Za-z0-9][A-Za-z0-9+.-]*)(?::[a-z0-9-]+)?\.(list|md5sums)"
+UNSIGNED = "Unsigned packages"
+NEW = "New packages"
+REMOVED = "Removed packages"
 
 
 class Member(NamedTuple):
@@ -58,55 +51,25 @@ Wanted = set[bytes]
 Fields = dict[bytes, bytes]
 # The kinds of the recorded changes of each package.
 Kinds = dict[str, set[str]]
+# The packages that people hear of first, with their versions, by the title above them.
+Named = dict[str, list[str]]
 
 
-class Found:
-    """What records say of paths, as it is read. Whoever writes them may say it again and again."""
-
-    def __init__(self) -> None:
-        self.members: Members = {}
-        self.count = 0
-
-    def add(self, path: bytes, member: Member) -> None:
-        """Takes what records say of a path; a Fault if they have said too much."""
-        self.count += 1
-        if self.count > MAX_MEMBERS:
-            text = f"packages' records name what has changed more than {MAX_MEMBERS} times"
-            raise Fault(Status.DEVICE, text)
-        self.members.setdefault(path, []).append(member)
+def named_packages(rows: Iterable[tuple[str, str]]) -> Named:
+    """Packages by their titles, each once, in the order in which people read them."""
+    named: dict[str, dict[str, None]] = {UNSIGNED: {}, NEW: {}, REMOVED: {}}
+    for title, words in rows:
+        named[title][words] = None
+    for words in named[UNSIGNED]:
+        named[NEW].pop(words, None)
+    return {title: list(names) for title, names in named.items() if names}
 
 
-class Named:
-    """The packages that people hear of first, with their versions."""
-
-    def __init__(self) -> None:
-        # New or changed, and not as in the trusted pair.
-        self.unsigned: list[str] = []
-        self.downgraded: list[str] = []
-        self.came: list[str] = []
-        # New, and as in the trusted pair.
-        self.signed: list[str] = []
-        self.removed: list[str] = []
-
-    def add_new(self, words: str, sums: bytes, trusted: set[bytes] | None) -> None:
-        """Takes a new package, by the path of its digests."""
-        if trusted is None:
-            self.came.append(words)
-        elif sums in trusted:
-            self.signed.append(words)
-        else:
-            self.unsigned.append(words)
-
-    def titled(self) -> list[tuple[str, list[str]]]:
-        """What is not empty, each with its title, in the order in which people read it."""
-        rows = [
-            ("Unsigned packages", self.unsigned),
-            ("Downgraded packages", self.downgraded),
-            ("New packages", self.came),
-            ("New signed packages", self.signed),
-            ("Removed packages", self.removed),
-        ]
-        return [(title, list(dict.fromkeys(names))) for title, names in rows if names]
+def add_member(members: Members, path: bytes, member: Member) -> None:
+    """Takes what records say of a path. Whoever writes them may say it again and again."""
+    found = members.setdefault(path, [])
+    if len(found) < MAX_PACKAGES:
+        found.append(member)
 
 
 class Dpkg:
@@ -137,9 +100,8 @@ class Dpkg:
                 is_own = status.st_uid in (0, os.geteuid()) and not status.st_mode & 0o022
                 if not stat.S_ISREG(status.st_mode) or not is_own:
                     raise Fault(Status.DEVICE, f"other users can write {words}")
-                limit = min(MAX_FILE, self.remaining)
-                if status.st_size > limit:
-                    raise Fault(Status.DEVICE, f"{words} has more than {limit} bytes")
+                if status.st_size > self.remaining:
+                    raise Fault(Status.DEVICE, f"{words} has more than {self.remaining} bytes")
                 self.remaining -= status.st_size
                 yield from file
 
@@ -155,27 +117,22 @@ class Dpkg:
         return None
 
     def members(self, wanted: Wanted, usr: Callable[[bytes], bytes]) -> Members:
-        """What the records say of the wanted paths. A diversion moves a file of another package."""
+        """What the records say of the wanted paths. A list has a path without /usr if its directory
+        is a link."""
         self.remaining = MAX_ALL
-        lines = [usr(line.rstrip(b"\n")) for line in self._lines("diversions")]
-        diverted = dict(zip(lines[::3], lines[1::3]))
-        moved = {old for old, to in diverted.items() if to in wanted}
-        asked = {path + b"\n" for path in _spellings(wanted | moved)}
-        found = Found()
+        bare = {path[len(b"/usr") :] for path in wanted if path.startswith(b"/usr/")}
+        asked = {path + b"\n" for path in wanted | bare}
+        members: Members = {}
         for base in self._bases():
             listed = {line[:-1] for line in asked.intersection(self._lines(f"info/{base}{LIST}"))}
             fields = self._package(os.fsencode(base)) if listed else None
             if fields is None:
                 continue
             package = words_of(fields[b"Package"].strip(), _version_in(fields))
-            members = [(path, Member(package)) for path in listed]
-            for path, digest in self._digests(base, fields, listed).items():
-                members.append((path, Member(package, "md5", digest)))
-            for path, member in members:
-                path = usr(path)
-                for place in {path, diverted.get(path, path)} & wanted:
-                    found.add(place, member)
-        return found.members
+            digests = self._digests(base, fields, listed)
+            for path in listed:
+                add_member(members, usr(path), Member(package, "md5", digests.get(path, b"")))
+        return members
 
     def _digests(self, base: str, fields: Fields, paths: Wanted) -> dict[bytes, bytes]:
         """The digests that a package has of some paths, those of configuration files too."""
@@ -196,61 +153,32 @@ class Dpkg:
                 names = [name for name in os.listdir(info) if name.endswith(LIST)]
         return [name[: -len(LIST)] for name in sorted(names)[:MAX_FILES]]
 
-    def named(self, changes: Table, _kinds: Kinds, trusted: set[bytes] | None) -> Named:
-        """The packages whose list came or went, those of which dpkg's log says that their last
-        change was to an older version, and those that are not as in a trusted pair: `trusted` are
-        the paths of the digests that are, None without a pair."""
-        named = Named()
-        count = 0
+    def named(self, changes: Table, _kinds: Kinds, has_pair: bool) -> Named:
+        """The packages whose list came or went, and, beside a trusted pair, those whose digests are
+        not as in it."""
+        return named_packages(self._named_rows(changes, has_pair))
+
+    def _named_rows(self, changes: Table, has_pair: bool) -> Iterator[tuple[str, str]]:
         for row in changes.below(INFO_DIRECTORY):
             match = re.fullmatch(INFO, row.path)
             if match is None:
                 continue
-            start, name, ending = match.groups()
-            version = _version_in(self._package(name) or {})
-            words = words_of(name, version)
-            if ending == SUMS:
-                if row.kind != "removed" and trusted is not None:
-                    named.unsigned.append(words)
+            name, ending = match.groups()
+            fields = self._package(name)
+            words = words_of(name, _version_in(fields or {}))
+            if ending == b"md5sums":
+                if has_pair and row.kind != "removed":
+                    yield UNSIGNED, words
             elif row.kind == "added":
-                named.add_new(words, start + b"." + SUMS, trusted)
-            elif row.kind == "removed":
-                named.removed.append(shown(name, 100))
-            elif name in self._versions_before and count < MAX_COMPARED:
-                count += 1
-                before = self._versions_before[name]
-                if is_less(version, before):
-                    named.downgraded.append(f"{words}, which was {shown(before, 100)}")
-        return named
-
-    @cached_property
-    def _versions_before(self) -> dict[bytes, bytes]:
-        """The version that each package had before its last upgrade, as far as the log has that."""
-        versions: dict[bytes, bytes] = {}
-        for path in (DPKG_LOG + ".1", DPKG_LOG):
-            with suppress(Fault, OSError), closed_after(open_regular(path)) as log:
-                start = max(os.fstat(log).st_size - MAX_LOG, 0)
-                for name, version, _ in re.findall(UPGRADE, os.pread(log, MAX_LOG, start)):
-                    versions[name] = version
-        return versions
+                yield NEW, words
+            elif row.kind == "removed" or fields is None:
+                yield REMOVED, shown(name, 100)
 
 
 def _version_in(fields: Fields) -> bytes:
     return fields.get(b"Version", b"").strip()
 
 
-def _spellings(paths: Wanted) -> Wanted:
-    """Paths, and each without /usr too: that is how a list has it whose directory is a link."""
-    bare = {path[len(b"/usr") :] for path in paths if path.startswith(b"/usr/")}
-    return paths | bare
-
-
 def words_of(name: bytes, version: bytes) -> str:
     """A package and its version, for people."""
     return f"{shown(name, 100)} {shown(version, 100)}"
-
-
-def is_less(version: bytes | str, other: bytes | str) -> bool:
-    """Whether a version of a package is older than another one, as dpkg says."""
-    words = ["/usr/bin/dpkg", "--compare-versions", os.fsdecode(version), "lt", os.fsdecode(other)]
-    return run(words, {}) == 0

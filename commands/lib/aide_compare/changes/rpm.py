@@ -10,13 +10,15 @@ from aide_compare.base.ending import Fault, Status, failing
 from aide_compare.base.processes import run
 from aide_compare.changes import packages
 from aide_compare.changes.packages import (
+    NEW,
     Dpkg,
-    Found,
     Kinds,
     Member,
     Members,
     Named,
     Wanted,
+    add_member,
+    named_packages,
     words_of,
 )
 from aide_compare.changes.table import Table
@@ -65,7 +67,7 @@ class Rpm:
     def members(self, wanted: Wanted, usr: Callable[[bytes], bytes]) -> Members:
         """What rpm says of the wanted paths. Of a file that it did not write itself it says the
         path."""
-        found = Found()
+        members: Members = {}
         package = ""
         column = ""
         for line in io.BytesIO(self.text):
@@ -76,16 +78,15 @@ class Rpm:
             elif fields[0] == b"F" and len(fields) == 5 and usr(fields[1]) in wanted:
                 member = Member(package)
                 if fields[4] == b"0":  # rpm has written it.
-                    member = Member(package, column, digest_in(fields[2]), fields[3])
-                found.add(usr(fields[1]), member)
-        return found.members
+                    digest = digest_in(fields[2]) if column else b""
+                    member = Member(package, column, digest, fields[3])
+                add_member(members, usr(fields[1]), member)
+        return members
 
-    def named(self, _changes: Table, kinds: Kinds, _trusted: set[bytes] | None) -> Named:
+    def named(self, _changes: Table, kinds: Kinds, _has_pair: bool) -> Named:
         """The packages of which each recorded path came. rpm keeps nothing of those that went."""
-        named = Named()
-        for name in sorted(name for name, found in kinds.items() if found == {"added"}):
-            named.came.append(name)
-        return named
+        came = sorted(package for package, found in kinds.items() if found == {"added"})
+        return named_packages((NEW, package) for package in came)
 
 
 def records_of_host() -> Dpkg | Rpm | None:

@@ -22,7 +22,6 @@ from aide_compare.base.escapes import shown
 from aide_compare.base.files import BLOCK, in_memory, nameless, open_regular, read_file
 from aide_compare.base.processes import Taker, bounded, run
 from aide_compare.base.program import Drain
-from aide_compare.changes.packages import is_less
 
 MAX_INDEX = 128 << 20
 MAX_RELEASE = 16 << 20
@@ -149,6 +148,11 @@ def packages_of(release: Release, keys: int) -> Iterator[Signed]:
             index = UNPACK[ending](read_signed(path, MAX_INDEX, digest))
             for paragraph in index.decode("utf-8", "surrogateescape").split("\n\n"):
                 yield {**dict(FIELD.findall(paragraph)), RELEASE: release.path}
+
+
+def is_less(version: str, other: str) -> bool:
+    """Whether a version of a package is older than another one, as dpkg says."""
+    return run(["/usr/bin/dpkg", "--compare-versions", version, "lt", other], {}) == 0
 
 
 def file_name(signed: Signed) -> str:

@@ -13,7 +13,7 @@ from aide_compare.base.rows import Rows
 from aide_compare.base.words import SEVERITIES, status_of_counts
 from aide_compare.changes.importance import Importance
 from aide_compare.changes.weighing import Weighed
-from aide_compare.lines.change import Counts, Standing
+from aide_compare.lines.change import Counts
 
 # A table of more rows is refused.
 MAX_ROWS = 1000000
@@ -30,9 +30,7 @@ values ({', '.join('?' for _ in Weighed._fields)})"""
 # What people read first, as in changes/importance.py, and what the fewest of many hosts have. The
 # path has the last word.
 ORDER = "level, owners, hosts, rank, kind = 'added', place"
-# What a list of open changes has. Files known by their path alone are told by their package.
-LISTED = "standing = 'open' and (package = '' or level = 0)"
-MADE = "standing = 'open' and package <> '' and level > 0"
+LISTED = "standing = 'open'"
 RECORDED = "standing = 'recorded'"
 
 
@@ -53,7 +51,7 @@ class Row(NamedTuple):
     line_size: int
     hosts: int  # How many hosts have it, of many.
     standing: str
-    package: str  # Its name and version, of a recorded change or one known by its path alone.
+    package: str  # Its name and version, of a recorded change.
     is_listed: bool
 
     @property
@@ -98,21 +96,15 @@ class Table(Rows):
     def row(self, place: int) -> Row:
         return next(self.rows("place = ?", place))
 
-    def note(self, place: int, standing: Standing, package: str) -> None:
-        """Notes what records say of a change: it is recorded, or was made by a package."""
-        words = "update changes set standing = ?, package = ? where place = ?"
-        self.do(words, standing.value, package, place)
+    def record(self, place: int, package: str) -> None:
+        """Notes that the records of a package have a change."""
+        self.do(
+            "update changes set standing = 'recorded', package = ? where place = ?", package, place
+        )
 
     def forget_records(self) -> None:
         """Leaves each change open."""
-        self.do("update changes set standing = 'open', package = '' where package <> ''")
-
-    def among(self, paths: Iterable[bytes]) -> set[bytes]:
-        """Those of some paths that have changed."""
-        keys = set(map(key_of_path, paths))
-        if keys:
-            keys.intersection_update(key for (key,) in self.ask("select path_key from changes"))
-        return set(map(path_of, keys))
+        self.do("update changes set standing = 'open', package = ''")
 
     def below(self, directory: bytes) -> Iterator[Row]:
         """The changes in a directory, in the order of paths."""

@@ -9,7 +9,7 @@ from aide_compare.mail.columns import WIDTH, wrapped
 
 MAX_NAME_LINES = 10  # For the names of packages under one title.
 # Titles of which one line is enough.
-SHORT = ("New signed packages", "Removed packages")
+SHORT = ("Removed packages",)
 
 
 def names_lines(title: str, names: Sequence[str]) -> list[str]:
@@ -30,7 +30,7 @@ def names_lines(title: str, names: Sequence[str]) -> list[str]:
 def named_lines(judged: Judged) -> list[str]:
     """The packages that people have to hear of. Of new ones the name is enough."""
     lines = []
-    for title, names in judged.named.titled():
+    for title, names in judged.named.items():
         if title.startswith("New"):
             names = [name.partition(" ")[0] for name in names]
         lines += names_lines(title, names)

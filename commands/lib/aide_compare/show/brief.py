@@ -37,7 +37,7 @@ def silent_words(counts: Counts) -> str:
 
 def package_lines(judged: Judged) -> Iterator[str]:
     """The packages that people hear of first, by name."""
-    for title, names in judged.named.titled():
+    for title, names in judged.named.items():
         named = names[:MAX_NAMED]
         if len(names) > MAX_NAMED:
             named.append(f"and {len(names) - MAX_NAMED} more")

@@ -6,18 +6,16 @@ from collections.abc import Iterator
 from aide_compare.base.escapes import guarded
 from aide_compare.base.words import counted
 from aide_compare.changes.judged import Judged
-from aide_compare.changes.table import MADE, RECORDED, Table
+from aide_compare.changes.table import RECORDED, Table
 from aide_compare.show.digest import MAX_LETTERS, shortened_path
 
 MAX_NAME = 40
 MAX_HIGH = 3  # Of each package so many paths of severity high are named.
-# The packages with recorded changes, those with most of severity high first; and those with files
-# that records know by their path alone.
+# The packages with recorded changes, those with most of severity high first.
 RECORDED_OF = (
     f"select package, count(*), sum(level = 0) from changes where {RECORDED}"
     " group by 1 order by 3 desc, 2 desc, 1"
 )
-MADE_OF = f"select package, count(*) from changes where {MADE} group by 1 order by 2 desc, 1"
 
 
 def files_words(count: int, high: int = 0) -> str:
@@ -54,28 +52,9 @@ def recorded_lines(table: Table, limit: int, width: int) -> Iterator[str]:
         yield f"  and {counted(packages, 'package')} more: {files_words(files, all_high)}"
 
 
-def made_lines(table: Table, limit: int) -> Iterator[str]:
-    """A line for each package with files that records know by their path alone."""
-    files = 0
-    for number, (package, count) in enumerate(table.ask(MADE_OF)):
-        if number < limit:
-            yield f"  {guarded(package)[:MAX_NAME]}: {files_words(count)}"
-        else:
-            files += count
-    if files:
-        yield f"  and {files_words(files)} of other packages"
-
-
 def group_lines(judged: Judged, limit: int, width: int) -> list[str]:
-    """The lines, each part under its title: of at most so many packages, and a third as many with
-    files that records know by their path alone."""
-    table = judged.table
-    by_path = list(made_lines(table, limit // 3))
-    if by_path:
-        by_path.insert(0, "Open, compiled of changed sources, their contents in no record:")
-    recorded = list(recorded_lines(table, limit, width))
-    if recorded:
-        recorded.insert(0, f"Recorded, as {judged.by} on this host says:")
-    if by_path and recorded:
-        by_path.append("")
-    return by_path + recorded
+    """The lines under their title, of at most so many packages."""
+    lines = list(recorded_lines(judged.table, limit, width))
+    if lines:
+        lines.insert(0, f"Recorded, as {judged.by} on this host says:")
+    return lines
