@@ -211,7 +211,7 @@ class ArchiveTest(ArchiveCase):
         self.write("made.db", self.applied(told=b"no signed index has it: foreign\n").output)
         words = ("--trusted", "host-old.db", "made.db", "host-old.db", "host-new.db")
         lines = self.call("aide-compare", *words).output.split(b"\n")
-        wanted = [b"Unsigned packages: foreign ", b"New packages: came 2"]
+        wanted = [b"Unsigned packages: foreign", b"New packages: came"]
         self.assertEqual([line.strip() for line in lines[1:3]], [line.strip() for line in wanted])
 
     def test_kept_packages(self) -> None:

@@ -118,20 +118,12 @@ class ColumnsTest(CommandTest):
         silent = "1 change, all silent; the columns fstype, ??x are not compared"
         self.mails("odd.db", silent)
 
-    def test_lost(self) -> None:
-        """A mail that was lost has told nothing: the next one tells the column."""
-        mail.prepare(self)
-        self.stub("sendmail", "exit 75")
-        for _ in range(2):
-            lost = mail.call(self, *STATE, "o.db", "same.db")
-            self.expect("a mail is lost", lost, 18, b"", b"cannot send the mail")
+    def test_failed(self) -> None:
+        """After a run that compared nothing a column is told once more."""
         mail.take_mail(self)
         self.mails("same.db", FSTYPE)
-        self.mails("same.db", None)
-        self.assertEqual(self.state()["told_columns"], "fstype", "the state says what was told")
-        self.call(TOOL, *STATE, "o.db", "same.db")
-        self.mails("same.db", FSTYPE)  # It is told once more after a run by hand.
         failed = mail.call(self, *STATE, "o.db", "none.db")
         self.expect("a run that fails", failed, 18, b"")
         mail.sent(self)
+        self.mails("same.db", FSTYPE)
         self.mails("same.db", None)

@@ -146,7 +146,7 @@ class FaultsTest(CommandTest):
         told = b"aide: a\\001b\naide: c\n"
         self.refused(18, told, TOOL, "old.db", "new.db", state="state")
         state = self.state()
-        self.assertEqual((state["error"], len(state)), ("aide: a\\001b", 21), "an odd error line")
+        self.assertEqual((state["error"], len(state)), ("aide: a\\001b", 20), "an odd error line")
 
     def test_closed_errors(self) -> None:
         """Nobody reads the error lines: the status and the state are as they would be."""

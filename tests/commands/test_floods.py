@@ -145,11 +145,11 @@ class FloodsTest(CommandTest):
         for path in ROOTS:
             self.assertTrue(0 < text.find(path + b": ") < first, (path, text))
         self.assertIn(SHELL + b": ", text)
-        self.assertIn(b"100,007 changes are open", text)
+        self.assertIn(b"100007 open (100007 high) of ", text)
         lines = [line for line in text.split(b"\n") if line.startswith(b"  added    /home/")]
         of_anna = [line for line in lines if re.match(rb"  added    /home/anna/\.ssh/\d", line)]
         self.assertEqual(len(of_anna), 5, "the first few of each folder come first")
-        rest = b"  and %s more, " % format(100000 - len(lines), ",").encode()
+        rest = b"  and %d more, " % (100000 - len(lines))
         self.assertIn(rest, text, "what is not listed is counted")
 
     def test_flooded_page(self) -> None:
@@ -178,7 +178,7 @@ class FloodsTest(CommandTest):
                 self.assertIn(b"  " + path + b"\n", text)
         self.assertEqual(text.count(b"/home/anna/n"), 5, "the share of a folder")
         self.assertIn(b" more\n", text)
-        self.assertIn(b"5,003 added", text)
+        self.assertIn(b"5003 added", text)
 
     def test_same_content(self) -> None:
         """An entry with all that it had but times and inode is the same, by a digest of 256 bits of

@@ -41,7 +41,9 @@ class LineRightsTest(CommandTest):
             RIGHTS & {*change.get("old_text", {}), *change.get("new_text", {})}, change
         )
         brief = host.brief(self)
-        self.assertRegex(brief, r"(?m)^  high    changed  /srv/file: content, size 3 -> 5$")
+        self.assertRegex(
+            brief, r"(?m)^Open, severity high:\n  changed  /srv/file: content, size 3 -> 5$"
+        )
         words = ("host-old.db", "host-new.db")
         page = self.call("aide-compare page", *words).output.decode()
         (head,) = heads_in(page)

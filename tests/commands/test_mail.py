@@ -43,7 +43,7 @@ class TextsTest(MailTest):
             self.assertTrue(message["Date"])
         text = body(message)
         self.assertIn(CHANGES, text, "the changes of a mail")
-        self.assertTrue(text.startswith(b"4 changes are open, 0 of "), text)
+        self.assertTrue(text.startswith(b"4 open of 4 changes\n"), text)
         accept = f"aide-compare accept --sha256 {sha256(NEW)} {new} {old}"
         self.assertIn(accept, words_of(text), "the command that accepts")
         self.assertIn(f"aide-compare page {old} {new} > changes.html", words_of(text))

@@ -32,13 +32,15 @@ class MailPackagesTest(mail.MailTest):
         mail.call(self, *words, "host-old.db", "host-new.db")
         return mail.body(mail.sent(self)).decode().split("\n")
 
+    def named(self, lines: List[str]) -> List[str]:
+        """The lines with the names of packages, behind the counts."""
+        return lines[1 : lines.index("")]
+
     def test_new_packages(self) -> None:
-        """Each of 46 new packages is named in the second paragraph; in a mail a foreign one was
-        counted."""
+        """Each of 46 new packages is named first; in a mail a foreign one was counted."""
         lines = self.lines(many_packages())
-        at = lines.index("")
-        named = " ".join(lines[at + 1 : lines.index("", at + 1)])
-        self.assertIn("New packages: package-00, package-01, ", named)
+        named = " ".join(self.named(lines))
+        self.assertTrue(named.startswith("New packages: package-00, package-01, "), named)
         self.assertTrue(named.endswith(", package-44, zz-tool"), named)
         self.assertLessEqual(len(lines), 80 + 1)
 
@@ -50,8 +52,7 @@ class MailPackagesTest(mail.MailTest):
             host.new.file(INFO + name + b".list", TWO)
             host.packages.append(Package(name.decode(), "1", {}))
         lines = self.lines(host)
-        at = lines.index("")
-        named = lines[at + 1 : lines.index("", at + 1)]
+        named = self.named(lines)
         self.assertLessEqual(len(named), 10)
         self.assertRegex(named[-1], r", and \d+ more$")
         self.assertLessEqual(max(map(len, lines)), 80)
@@ -64,20 +65,16 @@ class MailPackagesTest(mail.MailTest):
         self.assertEqual(lines[at + 1], "    " + MODULE.decode())
         self.assertIn("\n    " + MODULE.decode() + "\n", host.brief(self))
 
-    def test_many_patterns(self) -> None:
-        """The command for a page does not repeat 90 patterns."""
+    def test_options(self) -> None:
+        """The command for a page does not repeat the options of the job."""
         words = [f"--exclude=/srv/{number}/**" for number in range(90)]
-        lines = self.lines(many_packages(), *words)
-        self.assertLessEqual(len(lines), 80 + 1)
-        self.assertNotIn("/srv/", "\n".join(lines))
-        self.assertIn("All changes as a page (add the 90 --exclude of this job):", lines)
-        few = self.lines(many_packages(), *words[:2])
-        self.assertIn("--exclude=/srv/0/**", "\n".join(few).replace("'", ""))
-
-    def test_sentence(self) -> None:
-        host = many_packages()
-        host.old.file(b"/srv/same", ONE)
-        host.new.file(b"/srv/same", ONE, inode=7)
-        text = " ".join(self.lines(host)[:4])
-        self.assertIn(" more match the package records of this host.", text)
-        self.assertIn(" Silent: 1 as before, but for times, inode and a digest that one", text)
+        title = "All changes with their values, as a page"
+        rows: list[tuple[list[str], str]] = [
+            (words, f"{title} (add the options of this job):"),
+            ([], f"{title}:"),
+        ]
+        for given, wanted in rows:
+            lines = self.lines(many_packages(), *given)
+            self.assertLessEqual(len(lines), 80 + 1)
+            self.assertNotIn("/srv/", "\n".join(lines))
+            self.assertIn(wanted, lines)

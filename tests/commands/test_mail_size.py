@@ -58,8 +58,8 @@ class SizesTest(MailTest):
         # Without a judgement nobody knows what matters: the first paths of each directory, and how
         # many there are.
         for limit, rest in (
-            (1 << 30, b"  and %s more, 20 of them in /d"),
-            (1 << 20, b"  and %s more\n"),
+            (1 << 30, b"  and %d more, 20 of them in /d"),
+            (1 << 20, b"  and %d more\n"),
         ):
             self.set_names("base.options", MAX_REPORT_BYTES=limit)
             answer = call(self, "empty.db", "large.db")
@@ -69,10 +69,10 @@ class SizesTest(MailTest):
             check_size(self, "a mail about many changes", text)
             count = text.count(b"  added    /d0")
             self.assertGreater(count, 40, text)
-            self.assertIn(rest % format(60000 - count, ",").encode(), text)
+            self.assertIn(rest % (60000 - count), text)
             if limit > 1 << 20:
                 self.assertIn("60000 open", subject(message))
-        self.assertIn(b"60,000 added", text)
+        self.assertIn(b"60000 added", text)
         self.assertIn(b"its lines have more than 1048576 bytes", text, "why it was not judged")
 
     def test_low(self) -> None:
@@ -107,7 +107,7 @@ class SizesTest(MailTest):
         self.assertEqual(first, wanted, ("rights come first, then what is started", lines[:12]))
         high = lines[: lines.index("Open, severity medium:")]
         named = sum(line.startswith("  added    ") for line in high)
-        counts = [line.split()[1].replace(",", "") for line in high if line.startswith("  and ")]
+        counts = [line.split()[1].rstrip(",") for line in high if line.startswith("  and ")]
         self.assertEqual(named + sum(map(int, counts)), 33304, ("all of severity high", lines))
         opt = sum(line.startswith("  added    /opt/") for line in lines)
         self.assertGreaterEqual(opt, 5, ("a share is left for what is less severe", lines))
@@ -125,7 +125,7 @@ class SizesTest(MailTest):
         self.expect("a short mail", answer, 1, b"", [b"only a short mail was sent", b"too big"])
         text = body(sent(self))
         self.assertIn(b"message too big", text)
-        self.assertIn(b"500 changes are open", text)
+        self.assertIn(b"500 open of 500 changes", text)
 
     def test_room(self) -> None:
         """A TMPDIR of each size: a mail goes out, or the status says that none did; never a

@@ -138,7 +138,7 @@ class RecordedTest(CommandTest):
         for name in ("came", "left", "rose"):
             host.new.file(INFO + name.encode() + b".list", TWO)
         lines = host.brief(self).split("\n")
-        wanted = ["New packages: came 1", "Removed packages: left, went", ""]
+        wanted = ["New packages: came", "Removed packages: left, went", ""]
         self.assertEqual(lines[1:4], wanted, ("the packages", lines[:6]))
         host = Host()
         for number in range(60):
@@ -147,7 +147,7 @@ class RecordedTest(CommandTest):
             host.packages.append(Package(name, "1", {}))
         text = host.brief(self)
         head = re.sub(r"\s+", " ", text.partition("\n\n")[0])
-        missing = [number for number in range(60) if f"new-{number:02} 1" not in head]
+        missing = [number for number in range(60) if f"new-{number:02}" not in head]
         self.assertFalse(missing, ("all of many", (missing, text[:900])))
 
     def test_damage(self) -> None:
@@ -202,7 +202,7 @@ class RecordedTest(CommandTest):
         line = "  tool 1:2-3: 2 files, 1 of severity high\n"
         text = host.brief(self)
         self.assertIn(line, text, "their line")
-        self.assertIn("\nNew packages: fresh 1\n", text, "one of which each path came")
+        self.assertIn("\nNew packages: fresh\n", text, "one of which each path came")
         self.set_names("changes.rpm", MAX_ALL=1 << 20)
         for stub, said in (
             ("exit 1", b"rpm did not say which packages there are"),

@@ -14,7 +14,7 @@ from .sandbox import COUNTS, DIFFER, END, HEAD, NEW, OLD, UMASK, Answer, Command
 KINDS = ["added", "removed", "changed"]
 NAMES = "old_sha256 new_sha256 old new old_written new_written error".split()
 MORE = "trusted_old trusted_old_sha256 trusted_new trusted_new_sha256"
-COLUMNS = ["skipped_old", "skipped_new", "told_columns"]
+COLUMNS = ["skipped_old", "skipped_new"]
 KEYS = ["format", "date", "status", "time", *KINDS, *NAMES, *MORE.split(), *COLUMNS]
 ALL_KEYS = KEYS + list(standings.COUNTS)  # With the counts of the standings.
 TOOL = "aide-compare compare --report"

@@ -150,7 +150,7 @@ class SilencedTest(mail.MailTest):
             line += f", {len(AUTOSTART)} of severity high"
             lines = self.first_lines(host)
             self.assertIn(line, lines)
-            self.assertEqual("New packages: zz-tool 1" in lines, not before, lines)
+            self.assertEqual("New packages: zz-tool" in lines, not before, lines)
 
     def test_weak_digests(self) -> None:
         """A file with nothing but a weak digest, equal, was "the same content" once its package

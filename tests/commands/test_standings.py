@@ -31,11 +31,12 @@ UNNAMED = "def unnamed(*_):\n    raise MemoryError\nDpkg.named\nDpkg.named = unn
 WORDS = "4 open (1 high), 1 recorded of 6 changes"
 BRIEF = f"""{WORDS}
 
-Open:
-  high    added    /usr/.x y: -rwsr-xr-x root:root 28 bytes, 1970-01-01 00:16 UTC
-  medium  removed  /srv/gone: -rw-r--r-- root:root 3 bytes
-  medium  changed  /srv/log: content, size 3 -> 28
-  medium  changed  /srv/plain: mode -rw-r--r-- -> -rw-------
+Open, severity high:
+  added    /usr/.x y: -rwsr-xr-x root:root 28 bytes, 1970-01-01 00:16 UTC
+Open, severity medium:
+  removed  /srv/gone: -rw-r--r-- root:root 3 bytes
+  changed  /srv/log: content, size 3 -> 28
+  changed  /srv/plain: mode -rw-r--r-- -> -rw-------
 
 Recorded, as dpkg on this host says:
   tool 2: 1 file
@@ -267,7 +268,7 @@ class StandingsTest(mail.MailTest):
             r"/usr/\.x y",
             r"/srv/gone",
             r"/srv/m/0000",
-            r"  medium  and 2,980 more in /srv/m\n",
+            r"\n  and 2980 more in /srv/m\n",
             r"Recorded, as dpkg on this host says:",
         )
         self.assertRegex(text, re.compile(".*".join(parts), re.S))
@@ -284,7 +285,13 @@ class StandingsTest(mail.MailTest):
 
     def test_hostile(self) -> None:
         """Names of others are escaped in the text, and cannot make a line of it."""
-        for name in (b"/a\nOpen:", b"/a\033[31m", b"/a\xe2\x80\xae", b"/a\xff", b"/a\\"):
+        for name in (
+            b"/a\nOpen, severity high:",
+            b"/a\033[31m",
+            b"/a\xe2\x80\xae",
+            b"/a\xff",
+            b"/a\\",
+        ):
             host = Host()
             host.new.file(name, ONE)
             text = host.brief(self)

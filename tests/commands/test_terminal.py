@@ -44,7 +44,7 @@ class TerminalTest(CommandTest):
         self.assertEqual((status, text.startswith(told), text.endswith(line)), (0, True, True))
         self.assertEqual(self.on_terminal("-q", *PAIR), (7, b""))
         self.assertEqual(self.on_terminal("--color", "always", *PAIR, output=False)[0], 7)
-        self.assertIn(b"Open:", self.read("out"), "a file gets the same")
+        self.assertIn(b"Open, ", self.read("out"), "a file gets the same")
 
     def test_report(self) -> None:
         """People know databases by their names; a report has no colours."""
@@ -56,16 +56,20 @@ class TerminalTest(CommandTest):
             self.assertEqual((status, b"\033" in text), (7, False), text)
             self.assertIn(report, text)
         status, text = self.on_terminal(*PAIR, "-A", "report_level=minimal")
-        self.assertEqual((status, b"Open:" in text), (7, False), text)
+        self.assertEqual((status, b"Open, " in text), (7, False), text)
         self.assertIn(b"AIDE found differences", text)
 
     def test_colours(self) -> None:
         """Around words of ours, and only for who looks at them."""
         plain = standings.BRIEF.encode()
-        coloured = plain.replace(b"  high ", b"  %shigh%s " % (RED, PLAIN))
-        coloured = coloured.replace(b"  medium ", b"  %smedium%s " % (YELLOW, PLAIN))
-        titles = rb"(?m)^(4 open .*|Open:|Recorded.*:)$"
-        coloured = re.sub(titles, lambda found: BOLD + found.group() + PLAIN, coloured)
+        coloured = plain
+        for title, colour in (
+            (rb"4 open .*", BOLD),
+            (rb"Open, severity high:", RED),
+            (rb"Open, severity medium:", YELLOW),
+            (rb"Recorded.*:", BOLD),
+        ):
+            coloured = re.sub(rb"(?m)^%s$" % title, colour + rb"\g<0>" + PLAIN, coloured)
         never, always = ("--color", "never"), ("--color", "always")
         rows: list[tuple[str, tuple[str, ...], bytes]] = [
             ("", (), coloured),
@@ -82,13 +86,13 @@ class TerminalTest(CommandTest):
 
     def test_hostile(self) -> None:
         """No byte of a name is obeyed, also not of one on the command line."""
-        name = b"/usr/%1b[31m%0a%20%20high%20%20x"
+        name = b"/usr/%1b[31m%0aOpen,%20severity%20high:%0a"
         self.write("h\033[2J.db", self.read("n.db").replace(b"/usr/.x%20y", name))
         status, text = self.on_terminal("o.db", "h\033[2J.db")
         ours = re.sub(rb"\033\[(1|1;31|33|0)m", b"", text)
         self.assertEqual((status, b"\033" in ours), (7, False), text)
         self.assertIn(b"h\\033[2J.db", ours)
-        self.assertNotIn(b"\n  high  x", ours)
+        self.assertEqual(text.count(b"Open, severity high:" + PLAIN), 1, text)
 
     def test_verbose(self) -> None:
         answer = self.call(TOOL, "-v", *PAIR)

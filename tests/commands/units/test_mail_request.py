@@ -11,7 +11,6 @@ from aide_compare.base import parser, progress
 from aide_compare.base.ending import Fault
 from aide_compare.base.options import COMPARISON_DEFAULTS, MAIL_DEFAULTS
 from aide_compare.base.parser import defaults_for
-from aide_compare.commands import mail_request
 from aide_compare.commands.mail_request import own_parser, request_of
 
 
@@ -25,22 +24,21 @@ class MailRequestTest(ModuleTest):
     def asks(self, words: str, **wanted: Any) -> Any:
         """The comparison of some words, which ask for nothing else that no words ask for."""
         request = request_of(words.split())
-        usual = request_of(["o", "n"]).but(comparison=request.comparison, asked=request.asked)
+        usual = request_of(["o", "n"]).but(comparison=request.comparison)
         self.expect(words, request, usual.but(**wanted))
         return request.comparison
 
     def test_words(self) -> None:
         rows: dict[str, dict[str, Any]] = {
-            "o n": {"address": "root", "default_fault": ""},
+            "o n": {"address": "root", "notes": []},
+            "o n -c x": {"has_options": True},
             "--to a@b": {"address": "a@b"},
             "--mail-time 9s": {"seconds": 9},
             "--attach-page": {"has_page": True},
             "--queue q --alarm-sent-is-success": {"queue": "q", "sent_is_success": True},
             "--test": {"is_test": True},
             "--send-queue q --unit-failed x": {"send_queue": "q", "unit_failed": "x"},
-            "--state s --weekly o n": {"state": "s", "weekly": "Mon"},
             "--state s --weekly Tue o n": {"state": "s", "weekly": "Tue"},
-            "--state s o --weekly": {"state": "s", "weekly": "Mon"},
         }
         for words, wanted in rows.items():
             self.asks(words, **wanted)
@@ -56,7 +54,7 @@ class MailRequestTest(ModuleTest):
         """What means nothing without another word, or with it. A word of the comparison that means
         nothing is mailed."""
         for words, why in (
-            ("--weekly o n", "--weekly needs --state"),
+            ("--weekly Mon o n", "--weekly needs --state"),
             ("--state -", "--state: needs a file"),
             ("--unit-failed x", "--unit-failed needs --send-queue"),
             ("--unit-failed x/y --send-queue q", "needs the name of a unit"),
@@ -71,36 +69,34 @@ class MailRequestTest(ModuleTest):
         self.assertIn("--odd", self.asks("--odd").text)
 
     def test_defaults(self) -> None:
-        """The defaults come first; --weekly counts only with a state. What a mail cannot use is
-        said, and costs no mail."""
+        """The defaults come first. A fault in them costs no mail, and the mail says it."""
         self.write("defaults", b"--to a@b\n--weekly Tue\n--max-age 5d\n")
-        with mock.patch.object(mail_request, "say") as say:
-            self.asks("--to c@d", address="c@d")
-            self.asks("-- --state=s n", address="a@b")
-            self.assertEqual(self.asks("o n", address="a@b").max_age, 5 * 86400)
-            for state in ("--state=s", "--state s"):
-                self.asks(state, address="a@b", weekly="Tue", state="s")
-            say.assert_not_called()
-            for line, why in (("--to -x", "address"), ("--odd", "defaults, line 1: ")):
-                self.write("defaults", line.encode())
-                request = request_of(["o", "n"])
-                self.assertIn(why, request.default_fault)
-                say.assert_called_with(request.default_fault)
-                self.assertEqual(isinstance(request.comparison, Fault), line == "--odd", line)
-            self.assertIn("--not-known", request_of(["--not-known"]).comparison.text)  # type: ignore
+        usual = {"address": "a@b", "weekly": "Tue"}
+        self.asks("--to c@d", **{**usual, "address": "c@d"})
+        comparison = self.asks("o n --max-size 1G", has_options=True, **usual)
+        self.assertEqual(comparison.max_age, 5 * 86400)
+        self.asks("-- o n", **usual)
+        self.asks("--state=s", state="s", **usual)
+        for line, why in (("--to -x", "address"), ("--odd", "defaults, line 1: ")):
+            self.write("defaults", line.encode())
+            request = request_of(["o", "n"])
+            self.assertEqual(request.address, "root")
+            self.assertIn(why, request.comparison.text)  # type: ignore
+        self.assertIn("--not-known", request_of(["--not-known"]).comparison.text)  # type: ignore
 
     def test_machine(self) -> None:
         """The databases and the state of this machine are those of the defaults, and a list has
         what both say."""
         lines = b"--databases o  n\n--state s\n--weekly Tue\n--exclude /a\n"
         self.write("defaults", lines)
-        comparison = self.asks("--exclude /b", state="s", weekly="Tue")
+        comparison = self.asks("--exclude /b", state="s", weekly="Tue", has_options=True)
         got = (comparison.databases, comparison.state, comparison.exclude)
         self.assertEqual(got, (["o", "n"], "s", ["/a", "/b"]))
         comparison = self.asks("--state t x y", state="t", weekly="Tue")
         self.assertEqual((comparison.databases, comparison.state), (["x", "y"], "t"))
-        self.assertIsNone(self.asks("x y").state, "the state of this machine is not of others")
-        comparison = self.asks("--no-defaults")
+        other = self.asks("x y", weekly="Tue")
+        self.assertIsNone(other.state, "the state of this machine is not of others")
+        comparison = self.asks("--no-defaults", has_options=True, weekly=None)
         self.assertEqual((comparison.databases, comparison.exclude), ((), []))
 
     def test_bad_lines(self) -> None:

@@ -190,7 +190,7 @@ class TextsTest(ModuleTest):
             ("open_low", None),
             ("recorded", -1),
             ("skipped_old", "x"),
-            ("told_columns", [1]),
+            ("skipped_new", [1]),
         ):
             with self.subTest(key=key, value=value), self.assertRaises(ValueError):
                 state.parse_state(json.dumps({**fields, key: value}).encode())

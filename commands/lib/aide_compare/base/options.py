@@ -34,7 +34,6 @@ class Option(NamedTuple):
     default: object = None
     choices: Sequence[str] = ()
     letter: str = ""  # Such as "-c".
-    bare: str = ""  # Its value where it stands alone.
     is_repeated: bool = False  # Its value is the list of all that were given.
     is_single: bool = False  # It may be given once only.
     group: str = ""  # Of options that exclude one another.
@@ -207,10 +206,9 @@ MAIL_TIME = Option(
 ATTACH_PAGE = Option("--attach-page", "attach the page with all values to the text")
 WEEKLY = Option(
     "--weekly",
-    "with --state: send a heartbeat on one day of the week (Mon)",
+    "with --state: send a heartbeat on a day of the week, as Mon",
     metavar="DAY",
     choices=DAYS,
-    bare=DAYS[0],
 )
 WARNING = Option(
     "--warning",

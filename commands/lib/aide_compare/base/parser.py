@@ -104,8 +104,6 @@ def words_of_option(option: Option, name: str) -> dict[str, Any]:
         words["choices"] = option.choices
     else:
         words["type"] = option.kind
-    if option.bare:
-        words.update(nargs="?", const=option.bare)
     if option.is_repeated:
         words["action"] = "append"
     if option.number_of_values > 1:

@@ -41,13 +41,13 @@ def age_in_words(seconds: float) -> str:
     return counted(int(seconds // 86400), "day")
 
 
-def counted(number: int, word: str, form: str = "d") -> str:
-    """A number in a form and a word, which is in the plural unless the number is 1."""
+def counted(number: int, word: str) -> str:
+    """A number and a word, which is in the plural unless the number is 1."""
     if number == 1:
-        return f"{number:{form}} {word}"
+        return f"{number} {word}"
     if word.endswith("y") and word[-2] not in "aeiou":
-        return f"{number:{form}} {word[:-1]}ies"
-    return f"{number:{form}} {word}s"
+        return f"{number} {word[:-1]}ies"
+    return f"{number} {word}s"
 
 
 def status_of_counts(counts: tuple[int, int, int]) -> int:

@@ -51,17 +51,17 @@ Wanted = set[bytes]
 Fields = dict[bytes, bytes]
 # The kinds of the recorded changes of each package.
 Kinds = dict[str, set[str]]
-# The packages that people hear of first, with their versions, by the title above them.
+# The packages that people hear of first, by the title above them.
 Named = dict[str, list[str]]
 
 
 def named_packages(rows: Iterable[tuple[str, str]]) -> Named:
     """Packages by their titles, each once, in the order in which people read them."""
     named: dict[str, dict[str, None]] = {UNSIGNED: {}, NEW: {}, REMOVED: {}}
-    for title, words in rows:
-        named[title][words] = None
-    for words in named[UNSIGNED]:
-        named[NEW].pop(words, None)
+    for title, name in rows:
+        named[title][name] = None
+    for name in named[UNSIGNED]:
+        named[NEW].pop(name, None)
     return {title: list(names) for title, names in named.items() if names}
 
 
@@ -164,14 +164,12 @@ class Dpkg:
             if match is None:
                 continue
             name, ending = match.groups()
-            fields = self._package(name)
-            words = words_of(name, _version_in(fields or {}))
             if ending == b"md5sums":
                 if has_pair and row.kind != "removed":
-                    yield UNSIGNED, words
+                    yield UNSIGNED, shown(name, 100)
             elif row.kind == "added":
-                yield NEW, words
-            elif row.kind == "removed" or fields is None:
+                yield NEW, shown(name, 100)
+            elif row.kind == "removed" or self._package(name) is None:
                 yield REMOVED, shown(name, 100)
 
 

@@ -86,7 +86,7 @@ class Rpm:
     def named(self, _changes: Table, kinds: Kinds, _has_pair: bool) -> Named:
         """The packages of which each recorded path came. rpm keeps nothing of those that went."""
         came = sorted(package for package, found in kinds.items() if found == {"added"})
-        return named_packages((NEW, package) for package in came)
+        return named_packages((NEW, package.partition(" ")[0]) for package in came)
 
 
 def records_of_host() -> Dpkg | Rpm | None:

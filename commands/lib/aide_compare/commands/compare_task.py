@@ -7,7 +7,7 @@ from typing import TYPE_CHECKING, Optional
 
 from aide_compare.base.ending import Fault, Status, write_blocks
 from aide_compare.base.escapes import shown
-from aide_compare.base.files import nameless
+from aide_compare.base.files import in_memory, nameless
 from aide_compare.base.kinds import pattern
 from aide_compare.base.options import (
     AFTER,
@@ -34,7 +34,6 @@ from aide_compare.commands.defaults import ADVICE, comparison_defaults, exclusio
 from aide_compare.compare.comparison import Comparison, Request
 from aide_compare.compare.configuration import NONE
 from aide_compare.compare.outputs import FileOutput, Output, descriptor_of, open_output
-from aide_compare.compare.state import State
 from aide_compare.compare.unpack import Opened
 from aide_compare.compare.work import FAILURES, Work, failed_comparison
 from aide_compare.lines.change import Counts
@@ -161,8 +160,8 @@ def keep_failure(path: Optional[str], error: Exception) -> None:
         return
     with suppress(Fault, OSError):
         become_owner(path)
-        state = failed_comparison(error).state()
-        FileOutput(path, "the state file", ANYBODY_READS).commit(state.text())
+        place = FileOutput(path, "the state file", ANYBODY_READS)
+        place.commit(in_memory(failed_comparison(error).state().text()))
 
 
 class Row:
@@ -174,24 +173,16 @@ class Row:
         self.place = place
         self.make = make
         self.of_failure = of_failure
-        self.fd: Optional[int] = None
-        self.data = b""
+        self.fd = -1
 
     def write(self, comparison: Comparison, judged: Optional[Judged]) -> None:
         """Makes the bytes."""
-        parts = self.make(comparison, judged)
-        if self.of_failure:
-            self.data = b"".join(parts)
-            return
-        self.fd = nameless()
-        write_blocks(self.fd, parts)
+        self.fd = in_memory(b"") if self.of_failure else nameless()
+        write_blocks(self.fd, self.make(comparison, judged))
 
     def put(self) -> None:
         """Hands the bytes to the place."""
-        if self.fd is None:
-            self.place.commit(self.data)
-        else:
-            self.place.commit_copy(self.fd)
+        self.place.commit(self.fd)
 
 
 def output_rows(request: CompareRequest) -> list[Row]:
@@ -226,7 +217,6 @@ class Task:
         self.before = before
         self.after = after
         self.rows: Sequence[Row] = ()
-        self.state_file: Optional[FileOutput] = None
 
     def carry_out(self) -> Comparison:
         """Compares, judges, and writes what is wanted. Root opens the databases, and then becomes
@@ -256,11 +246,6 @@ class Task:
             keep_failure(self.options.state, fault)
             raise
 
-    def keep(self, state: State) -> None:
-        """Writes another state where the options want it."""
-        if self.state_file:
-            self.state_file.commit(state.text())
-
     def _files(self) -> list[str]:
         """The paths of the outputs that are files."""
         paths = [path for path in self.options.outputs.values() if descriptor_of(path) is None]
@@ -268,17 +253,18 @@ class Task:
 
     def _open_outputs(self, user: Optional[int]) -> None:
         """Opens the places of the outputs, as this user may write them."""
+        state_file = None
         try:
             if self.options.state:
-                self.state_file = FileOutput(self.options.state, "the state file", ANYBODY_READS)
+                state_file = FileOutput(self.options.state, "the state file", ANYBODY_READS)
             rows = [*self.before, *output_rows(self.options)]
         except Fault as fault:
             if user is not None:
                 fault = Fault(fault.status, fault.text, *fault.more, rights_hint(user))
-            self.keep(failed_comparison(fault).state())
+            keep_failure(self.options.state, fault)
             raise fault
-        if self.state_file:
-            rows.append(Row(self.state_file, state_bytes, of_failure=True))
+        if state_file:
+            rows.append(Row(state_file, state_bytes, of_failure=True))
         self.rows = [*rows, *self.after]
 
     def _made(self, comparison: Comparison) -> Comparison:

@@ -27,8 +27,7 @@ from aide_compare.base.options import (
 from aide_compare.base.parser import read
 from aide_compare.base.program import FRONT, find_installed
 from aide_compare.base.words import counted
-from aide_compare.commands.mail import Heartbeat, count_quiet_run
-from aide_compare.commands.mail_request import with_days
+from aide_compare.commands.mail import count_quiet_run
 from aide_compare.hosts.canary import notes_of
 from aide_compare.hosts.fleet import Fleet
 from aide_compare.hosts.hosts_page import page
@@ -78,7 +77,7 @@ class ReportRequest(Asked):
     mail_seconds: int = field(MAIL_TIME)
     weekly: str | None = field(
         WEEKLY,
-        help="with --to: send a heartbeat on one day of the week (Mon) if there is nothing to"
+        help="with --to: send a heartbeat on a day of the week, as Mon, if there is nothing to"
         " report",
     )
     hosts_file: str = field(HOSTS_OPERAND)
@@ -163,9 +162,8 @@ class HostsReport:
         silent = sum(sum(host.counts or ()) for host in self.hosts if host.is_silent)
         hosts = counted(self.summary.counts.hosts, "host")
 
-        def send(mail: Heartbeat) -> None:
-            subject = f"aide on {hosts}: {mail.subject}"
-            deliver(way, build(address, subject, clean(mail.text)))
+        def send(subject: str, text: str) -> None:
+            deliver(way, build(address, f"aide on {hosts}: {subject}", clean(text)))
 
         count_quiet_run(f"{request.store}/report.quiet", request.weekly, silent, send)
 
@@ -185,9 +183,8 @@ def encoded(line: str) -> bytes:
 
 
 def request_of(arguments: Sequence[str]) -> ReportRequest:
-    words = with_days(arguments)
     usage = f"{NAME} [OPTIONS] [HOSTS-FILE]"
-    request = read(ReportRequest, words, NAME, DESCRIPTION, EPILOG, usage)
+    request = read(ReportRequest, arguments, NAME, DESCRIPTION, EPILOG, usage)
     of_mail = {
         ATTACH_PAGE.name: request.has_page,
         WEEKLY.name: request.weekly,

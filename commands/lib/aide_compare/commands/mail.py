@@ -19,7 +19,7 @@ from aide_compare.base.replacement import Replacement
 from aide_compare.base.rights import become_owner, give_up
 from aide_compare.base.words import counted
 from aide_compare.commands.compare_task import Row, Task, keep_failure
-from aide_compare.commands.mail_message import Told, message_of, unknown_columns
+from aide_compare.commands.mail_message import ColumnsBefore, message_of
 from aide_compare.commands.mail_request import MailRequest, request_of
 from aide_compare.compare.outputs import Kept
 from aide_compare.compare.state import State, read_state
@@ -44,13 +44,6 @@ def short_mail(request: MailRequest, subject: str, text: str) -> bytes:
     return build(request.address, f"aide on {host_name()}: {subject}", clean(text))
 
 
-class Heartbeat(NamedTuple):
-    """A mail that says that nothing had to be said."""
-
-    subject: str
-    text: str
-
-
 class QuietRuns(NamedTuple):
     """How many runs have raised no alarm, when the last heartbeat was sent, and how many silent
     changes these runs have found."""
@@ -66,14 +59,14 @@ class QuietRuns(NamedTuple):
         is_late = self.sent > 0 and now - self.sent > WEEK
         return is_late or (DAYS[today.tm_wday] == day and is_new_day)
 
-    def heartbeat(self) -> Heartbeat:
+    def heartbeat(self) -> tuple[str, str]:
+        """The subject and the text of a mail that says that nothing had to be said."""
         if not self.silent:
             text = f"{counted(self.runs, 'comparison')} found no difference.\n"
-            return Heartbeat(f"no difference in {counted(self.runs, 'run')}", text)
+            return f"no difference in {counted(self.runs, 'run')}", text
         changes = counted(self.silent, "change")
-        subject = f"{counted(self.runs, 'quiet run')}, {changes} silent"
         text = f"In {counted(self.runs, 'comparison')} each change was silent: {changes}.\n"
-        return Heartbeat(subject, text)
+        return f"{counted(self.runs, 'quiet run')}, {changes} silent", text
 
 
 def quiet_runs_in(path: str, now: int) -> QuietRuns:
@@ -90,7 +83,7 @@ def quiet_runs_in(path: str, now: int) -> QuietRuns:
 
 
 def count_quiet_run(
-    path: str, day: str | None, silent: int, send: Callable[[Heartbeat], object]
+    path: str, day: str | None, silent: int, send: Callable[[str, str], object]
 ) -> None:
     """Counts a run that raises no alarm, and its silent changes, in a file. A heartbeat has both
     counts, and they begin anew."""
@@ -102,53 +95,45 @@ def count_quiet_run(
         raise Fault(Status.DEVICE, text)
     with closing(Replacement(path, what="the number of quiet runs in").begin()) as file:
         if quiet.is_due(day, now):
-            send(quiet.heartbeat())
+            send(*quiet.heartbeat())
             quiet = QuietRuns(0, now, 0)
         file.commit(b"%d %d %d\n" % quiet)
 
 
 class Outcome(NamedTuple):
-    """What a comparison has found, its mail, and what keeps a State of it."""
+    """What a comparison has found, and its mail."""
 
     state: State
     message: bytes
-    keep: Callable[[State], None]
 
 
-def no_place(_state: State) -> None:
-    """Where the state of a run is kept that could not write it."""
-
-
-def compared(request: MailRequest, told: Told) -> Outcome:
+def compared(request: MailRequest) -> Outcome:
     """Compares, and puts the mail together."""
+    before = columns_before(request)
     mail = Kept()
     try:
         if isinstance(request.comparison, Fault):
             raise request.comparison
-        row = Row(mail, partial(message_of, request, told), of_failure=True)
-        task = Task(request.comparison, after=[row])
-        ended = task.carry_out()
-        return Outcome(ended.state(), mail.data, task.keep)
+        row = Row(mail, partial(message_of, request, before), of_failure=True)
+        ended = Task(request.comparison, after=[row]).carry_out()
+        return Outcome(ended.state(), mail.data)
     except (Fault, MemoryError, OSError) as error:
         keep_failure(request.state, error)
         comparison = failed_comparison(error)
-        message = b"".join(message_of(request, told, comparison, None))
-        return Outcome(comparison.state(), message, no_place)
+        return Outcome(comparison.state(), b"".join(message_of(request, before, comparison, None)))
 
 
-def told_columns(request: MailRequest) -> Told:
-    """The columns that mails have told, as the state of the last run says."""
+def columns_before(request: MailRequest) -> ColumnsBefore:
+    """The columns that the last run has not compared, as its state says."""
     if isinstance(request.comparison, Fault) or not request.state:
         return None
     with suppress(Fault):
-        return read_state(request.state).told_columns
+        return read_state(request.state).skipped
     return []
 
 
 def compare_and_mail(request: MailRequest) -> int:
-    told = told_columns(request)
-    outcome = compared(request, told)
-    state = outcome.state
+    state, message = compared(request)
     try:
         way = way_of(request)
     except Fault as fault:
@@ -156,53 +141,42 @@ def compare_and_mail(request: MailRequest) -> int:
         alert(f"{fault.text}; {subject}")
         text = f"{fault.text}; the comparison ended with status {state.status}"
         raise Fault(fault.status, text)
-    if outcome.message:
-        deliver(way, outcome.message)
-    elif request.weekly:
+    if message:
+        deliver(way, message)
+    elif request.weekly and request.state:
         silent = state.standings.silent if state.standings else 0
         count_quiet_run(
             f"{request.state}.quiet",
             request.weekly,
             silent,
-            lambda mail: deliver(way, short_mail(request, mail.subject, mail.text)),
+            lambda subject, text: deliver(way, short_mail(request, subject, text)),
         )
-    # This mail is on its way now: one that is lost has told nothing.
-    names = [name for name in told or () if state.status > 7 or name in state.skipped]
-    names += unknown_columns(told, state)
-    if names:
-        outcome.keep(state._replace(told_columns=names))
     if request.sent_is_success:
         return Status.OK
     return state.told_status
 
 
-class FailedUnit(NamedTuple):
-    """The unit that should have queued a mail, and how it has failed."""
-
-    name: str
-    how: str = ""
-
-
-def failed_unit(request: MailRequest) -> FailedUnit | None:
-    """The command line says which unit has failed; systemd 251 and later say how by variables,
-    which are enough without the option too."""
+def failure_text(request: MailRequest) -> str:
+    """What a mail says of the unit that should have queued one and has failed; "" if none has. The
+    command line says which unit it is; systemd 251 and later say how it failed by variables, which
+    are enough without the option too."""
+    name = request.unit_failed or ""
+    how = ""
     result = os.environ.get("MONITOR_SERVICE_RESULT", "success")
-    if result == "success":
-        return FailedUnit(request.unit_failed) if request.unit_failed else None
-    name = os.environ.get("MONITOR_UNIT", "")
-    if not re.fullmatch(UNIT_NAME, name):
-        name = "a unit"
-    status = os.environ.get("MONITOR_EXIT_STATUS", "unknown")
-    return FailedUnit(request.unit_failed or name, f": {result}, status {status}")
+    if result != "success":
+        unit = os.environ.get("MONITOR_UNIT", "")
+        name = name or (unit if re.fullmatch(UNIT_NAME, unit) else "a unit")
+        how = f": {result}, status {os.environ.get('MONITOR_EXIT_STATUS', 'unknown')}"
+    if not name:
+        return ""
+    return f"{name} failed{how}. Its lines: journalctl -u {shlex.quote(name)}\n"
 
 
 def empty_queue(request: MailRequest, directory: str) -> int:
     """Sends what waits, and first that the unit that should have queued a mail has failed."""
     way = way_of(request)
-    unit = failed_unit(request)
-    if unit:
-        lines = f"Its lines: journalctl -u {shlex.quote(unit.name)}"
-        text = f"{unit.name} failed{unit.how}. {lines}\n"
+    text = failure_text(request)
+    if text:
         deliver(way, short_mail(request, "the comparison failed", text))
     send_all(directory, way)
     return Status.OK

@@ -45,7 +45,6 @@ class State(NamedTuple):
     trusted_new_sha256: str = ""
     skipped_old: list[str] = []  # The columns that were not compared.
     skipped_new: list[str] = []
-    told_columns: list[str] = []  # Those that mails have told already.
     standings: Counts | None = None  # None if nobody has judged the changes.
 
     @property

@@ -1,27 +1,31 @@
-"""What people read first of a comparison: packages that came, went or fell, what is open, the most
-severe first, and then what is recorded, package by package."""
+"""What people read first of a comparison, on a screen and in a mail: packages that came or went,
+what is open, the most severe first, and then what is recorded, package by package."""
 from __future__ import annotations
 
-from collections.abc import Iterator
+from collections.abc import Iterator, Sequence
 from textwrap import wrap
 
+from aide_compare.base.escapes import guarded
+from aide_compare.base.words import SEVERITIES
 from aide_compare.changes.judged import Judged
 from aide_compare.lines.change import Counts, Standing
-from aide_compare.show.digest import SCREEN, digest, entry_line, in_directory
+from aide_compare.show.digest import Room, digest, entry_line, in_directory
 from aide_compare.show.groups import group_lines
 
-MAX_GROUPS = 40
-MAX_NAMED = 1000
-WIDTH = 100
+WIDTH = 100  # Of lines with names, if lines have no limit.
+MAX_NAME = 40
 
 
-def open_lines(judged: Judged) -> Iterator[str]:
-    """The lines for open changes, by severity and by the groups of owners."""
-    for part in digest(judged.table, SCREEN, in_directory):
-        begin = f"  {part.severity:<6}  "
+def open_lines(judged: Judged, room: Room) -> Iterator[str]:
+    """The lines for open changes, each severity under its title."""
+    last = ""
+    for part in digest(judged.table, room, in_directory):
+        if part.severity != last:
+            yield f"Open, severity {part.severity}:"
+        last = part.severity
         for row in part.rows:
-            yield entry_line(row, judged.read, begin, SCREEN.width)
-        yield from (begin + words for words in part.rest)
+            yield entry_line(row, judged.read, "  ", room.width)
+        yield from (f"  {words}" for words in part.rest)
 
 
 def silent_words(counts: Counts) -> str:
@@ -35,26 +39,33 @@ def silent_words(counts: Counts) -> str:
     return f"Silent: {', '.join(parts)}"
 
 
-def package_lines(judged: Judged) -> Iterator[str]:
-    """The packages that people hear of first, by name."""
-    for title, names in judged.named.items():
-        named = names[:MAX_NAMED]
-        if len(names) > MAX_NAMED:
-            named.append(f"and {len(names) - MAX_NAMED} more")
-        text = f"{title}: {', '.join(named)}"
-        yield from wrap(text, WIDTH, subsequent_indent="  ", break_on_hyphens=False)
+def names_lines(title: str, names: Sequence[str], room: Room) -> list[str]:
+    """As many names of packages as there are lines for, and how many more there are."""
+    words = [guarded(name)[:MAX_NAME] for name in names]
+    count = len(words)
+    while True:
+        text = f"{title}: {', '.join(words[:count])}"
+        if count < len(words):
+            text += f", and {len(words) - count} more"
+        lines = wrap(text, room.width or WIDTH, subsequent_indent="  ", break_on_hyphens=False)
+        if len(lines) <= room.names or count == 1:
+            return lines[: room.names]
+        count -= 1 + count // 64
 
 
-def brief(judged: Judged) -> str:
-    """The text."""
+def brief(judged: Judged, room: Room, warnings: Sequence[str] = (), height: int = 0) -> list[str]:
+    """The lines, with warnings behind the counts: at most so many, without a height any number."""
     counts = judged.counts
-    lines = [counts.words(), *package_lines(judged)]
-    if counts.open:
-        lines += ["", "Open:", *open_lines(judged)]
-    groups = group_lines(judged, MAX_GROUPS, SCREEN.width)
-    if groups:
-        lines += ["", *groups]
+    head = [counts.words(), *warnings]
+    for title, names in judged.named.items():
+        head += names_lines(title, names, room)
     silent = silent_words(counts)
-    if silent:
-        lines += ["", silent]
-    return "\n".join(lines) + "\n\n"
+    end = [group_lines(judged, room.groups, room.width), [silent] if silent else []]
+    if height:
+        used = len(head) + sum(len(part) + 1 for part in end if part) + 1 + len(SEVERITIES)
+        room = room._replace(height=max(height - used, 1))
+    lines = head
+    for part in (list(open_lines(judged, room)), *end):
+        if part:
+            lines += ["", *part]
+    return lines

@@ -49,6 +49,8 @@ class Room(NamedTuple):
     first: int  # So many of each directory, or host, come before what all have more.
     party: int  # How many lines a party has before all others.
     named: int  # How many lines count what is not listed of one severity and one group.
+    groups: int = 0  # How many packages are listed of what is recorded.
+    names: int = 0  # How many lines there are for the names of packages under one title.
     is_of_hosts: bool = False  # What some leave goes to the first of each host before all others.
     height: int = 0  # How many lines there are; 0: those of the shares, and no more.
     width: int = 0  # Of a line; 0: without a limit.
@@ -60,6 +62,8 @@ SCREEN = Room(
     first=5,
     party=50,
     named=5,
+    groups=40,
+    names=100,
 )
 MAIL = Room(
     shares=((24, 4, 4), (6, 2, 2), (1, 1, 1)),
@@ -67,6 +71,8 @@ MAIL = Room(
     first=5,
     party=10,
     named=1,
+    groups=6,
+    names=10,
     width=80,
 )
 
@@ -153,9 +159,9 @@ def rest_words(table: Table, level: int, owners: int, room: Room, names: Names) 
     most = f"select site, count(*) from changes where {part} group by 1 order by 2 desc, 1 limit ?"
     for number, (site, count) in enumerate(table.ask(most, level, owners, room.named), 1):
         if number < room.named or count == left:
-            words = f"and {count:,} more "
+            words = f"and {count} more "
         else:
-            words = f"and {left:,} more, {count:,} of them "
+            words = f"and {left} more, {count} of them "
         yield words + names(site, room.width and room.width - len("  ") - len(words))
         left -= count
 

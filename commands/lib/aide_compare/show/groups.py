@@ -19,10 +19,10 @@ RECORDED_OF = (
 
 
 def files_words(count: int, high: int = 0) -> str:
-    files = counted(count, "file", ",")
+    files = counted(count, "file")
     if not high:
         return files
-    return f"{files}, {high:,} of severity high"
+    return f"{files}, {high} of severity high"
 
 
 def high_line(table: Table, package: str, width: int) -> str:

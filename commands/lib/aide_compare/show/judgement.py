@@ -11,6 +11,7 @@ from aide_compare.changes.rpm import records_of_host
 from aide_compare.compare.comparison import Comparison
 from aide_compare.lines.reader import Refused, reader_over
 from aide_compare.show.brief import brief
+from aide_compare.show.digest import SCREEN
 
 
 class Reviewed:
@@ -62,4 +63,7 @@ def _grouped(judged: Judged, comparison: Comparison) -> Comparison:
 
 def brief_of(judged: Optional[Judged]) -> bytes:
     """The bytes of what people read first; nothing if the changes were not judged."""
-    return brief(judged).encode("utf-8", "backslashreplace") if judged else b""
+    if judged is None:
+        return b""
+    text = "\n".join([*brief(judged, SCREEN), "", ""])
+    return text.encode("utf-8", "backslashreplace")

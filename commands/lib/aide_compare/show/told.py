@@ -21,8 +21,7 @@ YELLOW = "\033[33m"
 PLAIN = "\033[0m"
 COLOURS = {"high": RED, "medium": YELLOW}
 HOSTS_SEVERITY = "(high|medium)(?= on )"
-SEVERITY = "(?m)^  (high|medium) "
-TITLE = "(?m)^(Open|Recorded.*):$"
+TITLE = "(?m)^(?:Open, severity (high|medium|low)|Recorded.*):$"
 
 
 def wants_colours(choice: str) -> bool:
@@ -51,17 +50,14 @@ def severity_in_colour(line: str, choice: str) -> str:
     return in_colour(severity, COLOURS[severity], choice) + line[match.end() :]
 
 
-def _coloured_severity(match: re.Match[str]) -> str:
-    severity: str = match.group(1)
-    return f"  {COLOURS[severity]}{severity}{PLAIN} "
+def _coloured_title(match: re.Match[str]) -> str:
+    return COLOURS.get(match.group(1), BOLD) + match.group() + PLAIN
 
 
 def coloured(text: bytes) -> bytes:
-    """The bytes of what people read first, with its first line, its titles and the severities in
-    colours."""
+    """The bytes of what people read first, with its first line and its titles in colours."""
     first, _, rest = text.decode("utf-8", "surrogateescape").partition("\n")
-    rest = re.sub(SEVERITY, _coloured_severity, rest)
-    rest = re.sub(TITLE, rf"{BOLD}\g<0>{PLAIN}", rest)
+    rest = re.sub(TITLE, _coloured_title, rest)
     return f"{BOLD}{first}{PLAIN}\n{rest}".encode("utf-8", "surrogateescape")
 
 
@@ -111,7 +107,7 @@ def with_names(text: bytes, comparison: Comparison, before: bytes) -> bytes:
 
 def no_difference(comparison: Comparison) -> bytes:
     """The one line of a comparison that has found none."""
-    entries = counted(comparison.known_lines().end.total, "entry", ",")
+    entries = counted(comparison.known_lines().end.total, "entry")
     return f"no differences in {entries}\n".encode()
 
 
