@@ -183,6 +183,9 @@ class StandingsTest(mail.MailTest):
         self.assertEqual((counts["open"], counts["recorded"], counts["same"]), (4, 1, 1))
         entries = {entry["path"]: entry for entry, _ in data["rows"]}
         self.assertEqual(entries["/usr/lib/tool"]["package"], "tool 2")
+        standings = [entry["standing"] for entry, _ in data["rows"]]
+        self.assertEqual(standings, ["open"] * 4 + ["recorded", "same"], "what has room first")
+        self.assertEqual(data["rows"][0][0]["path"], "/usr/.x y")
 
     def test_monitoring(self) -> None:
         """Nagios, Prometheus and JSON read the same counts."""

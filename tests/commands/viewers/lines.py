@@ -10,12 +10,13 @@ from typing import Any
 from tests.lib.programs import lines_program_of
 
 from aide_compare.base.ending import Fault, Status
+from aide_compare.base.escapes import guarded
 from aide_compare.base.words import SEVERITIES
-from aide_compare.changes.importance import Importance
 from aide_compare.compare.work import failed_comparison
+from aide_compare.lines.change import change_of
 from aide_compare.lines.reader import Reader
 from aide_compare.show.json_lines import added_lines
-from aide_compare.show.page import MAX_PAGE, Rows, class_of, page
+from aide_compare.show.page import MAX_PAGE, Rows, page
 
 Fields = dict[str, Any]
 # A comparison that knows nothing beside its lines.
@@ -73,13 +74,19 @@ def lines_of(objects: list[Fields]) -> bytes:
     return b"".join(json.dumps(fields).encode() + b"\n" for fields in objects)
 
 
+def order_of(fields: Fields) -> tuple[str, int]:
+    """The place of a change among others."""
+    return fields["standing"], SEVERITIES.index(fields.get("severity", "high"))
+
+
 def page_over(objects: list[Fields], limit: int = MAX_PAGE) -> bytes:
     """The page of the objects of lines, with the standings that they say."""
     rows = Rows()
-    for fields in changes_of(objects):
-        level = SEVERITIES.index(fields.get("severity", "high"))
-        importance = Importance(level, 0, 0, False)
-        rows.add(class_of(fields["standing"], importance), {**fields, "order": 0})
+    for fields in sorted(changes_of(objects), key=order_of):
+        marks = {
+            name: fields[name] for name in ("standing", "severity", "package") if name in fields
+        }
+        rows.add(change_of(fields), {name: guarded(mark) for name, mark in marks.items()})
     database = {"side": "Old database", "name": "/a", "time": "", "sha256": "00"}
     heading: Fields = {"title": "File changes", "outcome": "", "databases": [database]}
     heading.update(counts=[["open", 1]], remarks=[], facts=[], lists=[])

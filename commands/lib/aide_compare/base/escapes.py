@@ -1,6 +1,6 @@
 """Bytes of others as people may see them. Every command that shows such bytes uses `shown` or
-`shown_lines`, so that nothing is invisible or changes what stands around it. The script of a page
-does the same.
+`shown_lines`, so that nothing is invisible or changes what stands around it. A page gets texts that
+are escaped so.
 
 Escaped, as a backslash and three octal digits for each byte, as paths are in reports: control bytes
 and the backslash, bytes that are no UTF-8, and what a terminal or a reader obeys in place of

@@ -6,6 +6,7 @@ a package's records on this host have is grouped by the package, and the rest is
 from __future__ import annotations
 
 import json
+import os
 from collections import Counter
 from typing import Iterator, NamedTuple, Optional
 
@@ -79,8 +80,7 @@ class Judged:
         self.counts = self._counted()
 
     def line(self, row: Row) -> bytes:
-        self.file.seek(row.line_at)
-        return self.file.read(row.line_size)
+        return os.pread(self.file.fileno(), row.line_size, row.line_at)
 
     def read(self, row: Row) -> Change:
         """The values of a change, as its line has them."""

@@ -32,6 +32,8 @@ values ({', '.join('?' for _ in Weighed._fields)})"""
 ORDER = "level, owners, hosts, rank, kind = 'added', place"
 LISTED = "standing = 'open'"
 RECORDED = "standing = 'recorded'"
+# What is open in this order, and then what is recorded, package by package.
+BY_STANDING = f"standing, count(*) over (partition by package) desc, package, {ORDER}"
 
 
 class Row(NamedTuple):

@@ -6,6 +6,7 @@ import shlex
 from collections import Counter
 from collections.abc import Iterator, Sequence
 
+from aide_compare.base.escapes import guarded
 from aide_compare.hosts.hosts_text import (
     ORDER,
     Report,
@@ -17,11 +18,9 @@ from aide_compare.hosts.hosts_text import (
 )
 from aide_compare.hosts.reported import SharedChange
 from aide_compare.lines.change import Fields
-from aide_compare.lines.rights import differing
 from aide_compare.show.digest import digest
-from aide_compare.show.json_lines import text_members
-from aide_compare.show.page import BESIDE, MAX_PAGE, embedded, head_of, page as whole_page
-from aide_compare.show.page import size_beside, values_of
+from aide_compare.show.page import BESIDE, MAX_PAGE, embedded, page as whole_page, row_of
+from aide_compare.show.page import size_beside
 
 MAX_LIST = 1500000  # Of each list of hosts.
 MIN_ROW = 400  # So many bytes most rows have at least.
@@ -31,10 +30,10 @@ def listed(lines: Sequence[str]) -> list[str]:
     """The lines of a list of hosts for which there is room."""
     room = MAX_LIST
     for number, line in enumerate(lines):
-        room -= len(embedded(line))
+        room -= len(embedded(guarded(line)))
         if room < 0:
-            return [*lines[:number], f"and {len(lines) - number:,} more"]
-    return list(lines)
+            return [*map(guarded, lines[:number]), f"and {len(lines) - number:,} more"]
+    return list(map(guarded, lines))
 
 
 def heading_of(report: Report, left_out: int, high: int) -> Fields:
@@ -64,11 +63,16 @@ def heading_of(report: Report, left_out: int, high: int) -> Fields:
     }
 
 
-def row_of(shared: SharedChange, hosts: int) -> bytes:
+def shared_row(shared: SharedChange, hosts: int) -> bytes:
     """The row of a change, with its hosts."""
-    row = {**differing(shared.fields), **text_members(shared.fields), "standing": "open"}
-    row["note"] = f"on {shared.hosts:,} of {hosts:,} hosts: {shared.names_text()}"
-    return embedded([head_of(row), values_of(row)])
+    marks = {
+        "standing": "open",
+        "severity": shared.severity,
+        "note": guarded(f"on {shared.hosts} of {hosts} hosts: {shared.names_text()}"),
+        "old_various": shared.various,
+        "per_host": shared.per_host,
+    }
+    return embedded(row_of(shared.change, {name: mark for name, mark in marks.items() if mark}))
 
 
 def page(report: Report, limit: int = 0) -> Iterator[bytes]:
@@ -83,7 +87,7 @@ def page(report: Report, limit: int = 0) -> Iterator[bytes]:
         size = 0
         for part in digest(report.table, room_of(report, max(room // MIN_ROW, 1)), lambda *_: ""):
             for row in part.rows:
-                data = row_of(report.shared(row), report.summary.counts.hosts)
+                data = shared_row(report.shared(row), report.summary.counts.hosts)
                 size += len(data) + BESIDE
                 if size > room:
                     return

@@ -26,29 +26,19 @@ function make(tag, attributes, ...inner) {
 
 // An entry of a row. `section` is the heading of its group.
 function entryOf([head, values]) {
-  const path = shownPath(head), { standing, severity = '' } = head, labels = head.labels.split(' ').filter(Boolean);
-  const parts = { open: severity && 'Open, severity ' + severity, recorded: head.package && shownNote(head.package) };
+  const { path, standing, severity = '', package: name = '' } = head, labels = head.labels.split(' ').filter(Boolean);
+  const parts = { open: severity && 'Open, severity ' + severity, recorded: name };
   return {
     head, values, labels, path, standing, severity, kind: head.kind, place: 0, item: null, node: null,
-    section: parts[standing] || TITLES[standing], package: standing === 'recorded' ? shownNote(head.package || '') : '',
-    attribute: [...new Set(labels.map((label) => names[label]))].join(', '), size: growthOf(head.kind, values) || 0,
-    folded: path.toLowerCase(), key: path.replaceAll('/', '\0'),
+    section: parts[standing] || TITLES[standing], package: name, attribute: [...new Set(labels.map((label) => names[label]))].join(', '),
+    size: growthOf(head.kind, values) || 0, folded: path.toLowerCase(), key: path.replaceAll('/', '\0'),
   };
 }
 
-// The places of entries in the order of importance: what is open by severity, then what is recorded, package by package.
+// The places of entries in the order of importance: rows have it, and what is silent comes last, by its standing.
 function placeByImportance() {
-  const counts = new Map();
-  for (const { section } of entries) counts.set(section, (counts.get(section) || 0) + 1);
-  const keyed = entries.map((entry) => {
-    const level = entry.standing === 'open' ? choices.severity.indexOf(entry.severity) : -counts.get(entry.section);
-    return [[choices.standing.indexOf(entry.standing), level, entry.section, entry.head.order || 0], entry];
-  });
-  keyed.sort(([one], [two]) => {
-    const at = one.findIndex((part, index) => part !== two[index]);
-    return at < 0 ? 0 : one[at] < two[at] ? -1 : 1;
-  });
-  keyed.forEach(([, entry], place) => { entry.place = place; });
+  const rank = ({ standing }) => choices.standing.indexOf(standing);
+  entries.sort((one, two) => rank(one) - rank(two)).forEach((entry, place) => { entry.place = place; });
 }
 
 // Finds what fits, and counts it directory by directory; what is in the chosen one is shown, in the chosen order.
@@ -81,8 +71,8 @@ function itemOf(entry) {
       make('b', { class: entry.kind + mark }, [entry.kind, entry.severity].join(' ')),
       make('code', {}, path.slice(0, cut), make('b', {}, path.slice(cut))),
       entry.told,
-      ...head.note ? [make('span', { class: 'reason' }, ' ' + shownNote(head.note))] : [],
-      make('i', {}, ' ' + factsOf(entry)),
+      ...head.note ? [make('span', { class: 'reason' }, ' ' + head.note)] : [],
+      make('i', {}, ' ', ...factsOf(entry).flatMap((fact) => [', ', make('span', {}, fact)]).slice(1)),
     ];
     const inner = valuesOf(entry);
     entry.item = make('li', {}, ...inner ? [make('details', {}, make('summary', {}, ...parts), ...inner)] : parts);

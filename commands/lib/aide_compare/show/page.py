@@ -1,6 +1,6 @@
-"""The page of changes: one file with its style, its script and its data. The data are the lines of
-the changes, from which the script makes what is seen: no markup is made here of what a host has
-written."""
+"""The page of changes: one file with its style, its script and its data. The data are the changes,
+each text of them escaped, from which the script makes what is seen: no markup is made here of what
+a host has written."""
 from __future__ import annotations
 
 import base64
@@ -8,21 +8,28 @@ import hashlib
 import json
 import os
 from html import escape
-from io import BufferedRandom
-from typing import TYPE_CHECKING, Callable, Dict, Iterable, Iterator, List, Optional
+from typing import TYPE_CHECKING, Callable, Iterable, Iterator, List, Optional, Tuple
 
 from aide_compare.base.escapes import guarded, shown
 from aide_compare.base.files import private_file
 from aide_compare.base.words import KINDS, SEVERITIES, SIDES, minute_of
 from aide_compare.lines.attributes import CONTENT, FORMS, STRENGTH, word_of
-from aide_compare.lines.change import Counts, Fields, Standing
+from aide_compare.changes.table import BY_STANDING
+from aide_compare.lines.change import (
+    Change,
+    Counts,
+    Fields,
+    Standing,
+    Texts,
+    Value,
+    Values,
+    change_of,
+)
+from aide_compare.lines.decoded import NOTED_BESIDE_TIMES, texts_of
 from aide_compare.lines.reader import ENCODE, Reader
-from aide_compare.lines.rights import differing
-from aide_compare.show.json_lines import marked_lines, text_members
 from aide_compare.show.judgement import brief_of
 
 if TYPE_CHECKING:
-    from aide_compare.changes.importance import Importance
     from aide_compare.changes.judged import Judged
     from aide_compare.compare.comparison import Comparison
 
@@ -41,9 +48,6 @@ CHOICES = {
     "attribute": list(dict.fromkeys(NAMES.values())),
 }
 KNOWN = {"choices": CHOICES, "names": NAMES, "labels": list(FORMS), "strength": STRENGTH}
-VALUES = ("old", "new", "old_text", "new_text")
-HEAD = ("kind", "path", "path_hex", "standing", "severity", "package", "order")
-HEAD_OF_HOSTS = ("note", "old_various", "per_host")
 # The most bytes of a page, and what is kept free for remarks.
 MAX_PAGE = 20000000
 RESERVE = 8000
@@ -51,11 +55,9 @@ MAX_DIGEST = 200000
 MAX_NAME = 1000
 MAX_COLUMNS = 20
 BESIDE = len(b"[,],\n")
-# The classes of rows in the order in which they get room: what is open by its severity and the
-# group of its owner, what is recorded, and what is silent.
-OWNERS = 3
-RECORDED = OWNERS * len(SEVERITIES)
-SILENT = RECORDED + 1
+# Of a value of a host.
+MAX_VALUE = 100000
+MAX_NUMBER = 1 << 53  # A script would round it.
 
 
 def part_of(name: str) -> str:
@@ -109,38 +111,50 @@ def size_beside(title: str, digest: str, heading: Callable[[], Fields]) -> int:
     return RESERVE + sum(map(len, page(title, digest, (), heading)))
 
 
-def head_of(fields: Fields) -> Fields:
-    """What is always there of a row: its place, and the names of its values."""
-    head = {name: fields[name] for name in (*HEAD, *HEAD_OF_HOSTS) if name in fields}
-    sides = [fields.get(side, {}) for side in SIDES]
-    names = {name.removesuffix("_hex") for side in sides for name in side}
-    head["labels"] = " ".join(label for label in FORMS if label in names)
-    return head
+def shown_value(value: Value) -> int | str:
+    """A value as it is, for people."""
+    if value is None:
+        return "none"
+    if isinstance(value, int):
+        return value if abs(value) < MAX_NUMBER else str(value)
+    return shown(value, MAX_VALUE)
 
 
-def values_of(fields: Fields) -> Fields:
-    """The values of a row, with their texts."""
-    return {name: fields[name] for name in VALUES if name in fields}
+def values_of(values: Values, texts: Texts) -> Fields:
+    """The values of a side. One that has a text for people has it with it."""
+    fields: Fields = {}
+    for label, value in values.items():
+        fields[label] = shown_value(value)
+        if label in texts:
+            fields[label] = [fields[label], texts[label]]
+    return fields
+
+
+def row_of(change: Change, marks: Fields) -> List[Fields]:
+    """The row of a change: what is always there, which is its place, the names of its values and
+    some marks; and its values."""
+    names = {*change.old, *change.new}
+    labels = " ".join(label for label in FORMS if label in names)
+    head = {"kind": change.kind, "path": shown(change.path), "labels": labels, **marks}
+    texts = texts_of(change, NOTED_BESIDE_TIMES)
+    values = {"old": values_of(change.old, texts.old), "new": values_of(change.new, texts.new)}
+    return [head, values]
 
 
 class Rows:
-    """The rows of a page: each the head and the values of a change. Those that matter most have
-    room first, and values go before heads."""
+    """The rows of a page, those that matter most first: these have room first, and values go before
+    heads."""
 
     def __init__(self) -> None:
-        self.files: Dict[int, BufferedRandom] = {}  # By class, its rows in path order.
+        self.file = private_file()
         self.size = 0  # Of all heads.
         self.count = 0
         self.listed = 0
         self.valued = 0
 
-    def add(self, number: int, fields: Fields) -> None:
-        """Adds the object of a change to a class."""
-        if number not in self.files:
-            self.files[number] = private_file()
-        fields = {**differing(fields), **text_members(fields)}
-        head = embedded(head_of(fields))
-        self.files[number].write(b"%s\t%s\n" % (head, embedded(values_of(fields))))
+    def add(self, change: Change, marks: Fields) -> None:
+        head, values = map(embedded, row_of(change, marks))
+        self.file.write(b"%s\t%s\n" % (head, values))
         self.size += len(head) + BESIDE
         self.count += 1
 
@@ -149,20 +163,19 @@ class Rows:
         than seven eighths of it, and of the first ones the values."""
         for_values = max(room - self.size, room // 8)
         for_heads = room - for_values
-        for number in sorted(self.files):
-            self.files[number].seek(0)
-            for line in self.files[number]:
-                head, _, values = line[:-1].partition(b"\t")
-                for_heads -= len(head) + BESIDE
-                if for_heads < 0:
-                    return
-                for_values -= len(values)
-                self.listed += 1
-                if for_values >= 0:
-                    self.valued += 1
-                    yield b"[%s,%s]" % (head, values)
-                else:
-                    yield b"[%s]" % head
+        self.file.seek(0)
+        for line in self.file:
+            head, _, values = line[:-1].partition(b"\t")
+            for_heads -= len(head) + BESIDE
+            if for_heads < 0:
+                return
+            for_values -= len(values)
+            self.listed += 1
+            if for_values >= 0:
+                self.valued += 1
+                yield b"[%s,%s]" % (head, values)
+            else:
+                yield b"[%s]" % head
 
     def remarks(self) -> List[str]:
         """What is missing."""
@@ -177,28 +190,27 @@ class Rows:
         return remarks
 
 
-def class_of(standing: str, importance: Optional[Importance]) -> int:
-    """The class of a change."""
-    if standing == Standing.RECORDED.value:
-        return RECORDED
-    if standing != Standing.OPEN.value:
-        return SILENT
-    if importance is None:
-        return 0
-    return OWNERS * importance.level + importance.owners
+def changes_in_order(judged: Optional[Judged], reader: Reader) -> Iterator[Tuple[Change, Fields]]:
+    """All changes with their marks, those that are read first before the others."""
+    if judged is not None:
+        for row in judged.table.rows(order=BY_STANDING):
+            marks = {"standing": row.standing, "severity": row.severity}
+            if row.package:
+                marks["package"] = row.package
+            yield judged.read(row), marks
+    for outline in reader.outlines():
+        if judged is None or outline.silent:
+            change = change_of(json.loads(outline.line))
+            yield change, {"standing": change.standing.value}
 
 
-def order_of(importance: Importance) -> int:
-    """The place of a change among those of its severity, as one number."""
-    return (importance.owners << 32) + 2 * importance.rank + importance.is_added
-
-
-def heading_of(comparison: Comparison, rows: Rows, title: str, end: Fields) -> Fields:
+def heading_of(comparison: Comparison, rows: Rows, title: str) -> Fields:
     """What stands above the changes of a comparison."""
+    end = comparison.known_lines().end
     counts = comparison.standings or Counts()
     words = {standing.value: counts.of(standing) for standing in reversed(Standing)}
     words.update({severity: counts.of_severity(severity) for severity in SEVERITIES})
-    words.update({kind: end[kind] for kind in KINDS})
+    words.update(zip(KINDS, end.kinds))
     databases = []
     for side in SIDES:
         copy = comparison.copies[side]
@@ -211,7 +223,7 @@ def heading_of(comparison: Comparison, rows: Rows, title: str, end: Fields) -> F
     names = dict.fromkeys(name for side in comparison.skipped.values() for name in side)
     for name in list(names)[:MAX_COLUMNS]:
         remarks.append(f"The column {guarded(name)} is not compared: the program does not know it.")
-    total = f"{end['total']:,} in the new database"
+    total = f"{end.total:,} in the new database"
     return {
         "title": title,
         "facts": [["Compared", minute_of(comparison.time)], ["Entries", total]],
@@ -228,16 +240,13 @@ def page_of(
 ) -> Iterator[bytes]:
     """The page of a comparison, whose lines a Reader has."""
     rows = Rows()
-    for line, marks, importance in marked_lines(reader, judged):
-        fields = {**json.loads(line), **marks}
-        if importance is not None:
-            fields["order"] = order_of(importance)
-        rows.add(class_of(marks["standing"], importance), fields)
-    title = f"File changes on {os.uname().nodename}"
+    for change, marks in changes_in_order(judged, reader):
+        rows.add(change, marks)
+    title = shown(f"File changes on {os.uname().nodename}")
     digest = brief_of(judged).decode() or "No differences\n"
 
     def heading() -> Fields:
-        return heading_of(comparison, rows, title, reader.end)
+        return heading_of(comparison, rows, title)
 
     room = limit - size_beside(title, digest, heading)
     return page(title, digest, rows.chosen(room), heading)
