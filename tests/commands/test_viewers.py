@@ -32,6 +32,7 @@ from tests.commands.viewers.schema import Validator, schema_of_lines
 from aide_compare.base.words import SEVERITIES
 from aide_compare.lines import reader
 from aide_compare.lines.attributes import FORMS, word_of
+from aide_compare.lines.change import change_of
 from aide_compare.lines.reader import Reader, Refused
 from aide_compare.show.page import CHOICES, part_of, script_of
 
@@ -98,8 +99,11 @@ def values_in(entry: Fields) -> dict[str, list[bytes | None]]:
 
 
 def read_all(lines: bytes) -> None:
-    for _ in Reader(io.BytesIO(lines)):
-        pass
+    for outline in Reader(io.BytesIO(lines)).outlines():
+        try:
+            change_of(json.loads(outline.line))
+        except reader.ODD:
+            raise Refused(0, "no change") from None
 
 
 def is_refused(work: Callable[[bytes], object], lines: bytes) -> bool:
@@ -167,7 +171,7 @@ class ViewersTest(ProgramTest):
         head, *changes, end = rich_lines().splitlines(keepends=True)
         more = b'{"kind":"added","path":"/z%d","summary":"ffffffffffffffffff"}\n'
         endless = head + b"".join([*changes, *(more % number for number in range(10, 100))])
-        self.assertRaises(Refused, list, Reader(io.BytesIO(endless)))
+        self.assertRaises(Refused, read_all, endless)
         self.assertGreater(max(map(len, changes)), 300)
         with mock.patch.object(reader, "LINE_LIMIT", 300):
             self.assertRaises(Refused, objects_of, head + b"".join(changes) + end)

@@ -12,9 +12,6 @@ LINE: dict[str, Any] = {
     "kind": "changed",
     "type": "File",
     "summary": "f >",
-    "standing": "recorded",
-    "severity": "low",
-    "package": "p 1",
     "old": {"Size": 1, "Inode": "9999999999999999999", "LinkName": "9", "ACL_hex": "ff"},
     "new": {"Size": None},
 }
@@ -25,11 +22,9 @@ CHANGE = Change(
     letters="f >",
     old={"Size": 1, "Inode": 9999999999999999999, "LinkName": "9", "ACL": b"\xff"},
     new={"Size": None},
-    standing=Standing.RECORDED,
-    severity="low",
-    package="p 1",
+    silent=None,
 )
-LEAST = Change(b"/a", "added", "Entry", "", {}, {}, Standing.OPEN, "", "")
+LEAST = Change(b"/a", "added", "Entry", "", {}, {}, None)
 COUNTS = Counts(100, 20, 3, 6, 1, 2, 3, 0, 1, 2, 7, 5)
 
 
@@ -40,34 +35,28 @@ class ChangesTest(ModuleTest):
         self.gives(LEAST, change_of, {"path": "/a", "kind": "added"})
 
     def test_standings(self) -> None:
-        """Only what a proof gives is silent, and a word that says more is refused."""
-        rows: list[tuple[dict[str, str], Standing, bool]] = [
-            ({"same_as": "old"}, Standing.SAME, True),
-            ({"same_as": "trusted", "standing": "trusted"}, Standing.TRUSTED, True),
-            ({"standing": "recorded"}, Standing.RECORDED, False),
-            ({"standing": "open"}, Standing.OPEN, False),
-            ({}, Standing.OPEN, False),
+        """Only what a proof gives is silent."""
+        rows: list[tuple[dict[str, Any], Standing | None]] = [
+            ({"same_as": "old"}, Standing.SAME),
+            ({"same_as": "trusted"}, Standing.TRUSTED),
+            ({"left_out": 3}, Standing.LEFT_OUT),
+            ({"standing": "same"}, None),
+            ({}, None),
         ]
-        for more, standing, is_silent in rows:
-            got = change_of({"path": "/a", "kind": "added", **more}).standing
-            self.expect(f"{more}", (got, got.is_silent), (standing, is_silent))
+        for more, silent in rows:
+            got = change_of({"path": "/a", "kind": "added", **more}).silent
+            self.expect(f"{more}", got, silent)
 
     def test_none(self) -> None:
         rows: list[dict[str, Any]] = [
             {"kind": "moved"},
             {"path_hex": "61"},
-            {"severity": "none"},
-            {"severity": 1},
             {"type": None},
-            {"package": ["p"]},
             {"summary": 3},
-            {"standing": "same"},
-            {"standing": "left out"},
             {"left_out": 0},
             {"left_out": True},
             {"left_out": "1"},
-            {"left_out": 1, "same_as": "old", "standing": "same"},
-            {"same_as": "old"},
+            {"left_out": 1, "same_as": "old"},
             {"same_as": "new"},
             {"old": {"Size": [1]}},
             {"new": {"Size": True}},

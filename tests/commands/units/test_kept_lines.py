@@ -131,7 +131,6 @@ class KeptLinesTest(ModuleTest):
             ("this is no change", [first, {**SOUND[0], "path": "srv"}, SOUND[1], END]),
             ("this is no change", [first, {**SOUND[0], "kind": "x"}, SOUND[1], END]),
             ("another standing", [first, {**SOUND[0], "same_as": "old"}, SOUND[1], END]),
-            ("another standing", [first, {**SOUND[0], "standing": "recorded"}, SOUND[1], END]),
             ("the end does not fit", [first, SOUND[0], END]),
             ("the end does not fit", [first, *SOUND, few]),
             ("the end does not fit", [first, *SOUND, {**END, "open": 5}]),

@@ -12,9 +12,8 @@ from aide_compare.base import rows
 from aide_compare.base.paths import key_of_path
 from aide_compare.base.words import SEVERITIES
 from aide_compare.changes import table as tables
-from aide_compare.changes.importance import group_of_owner
 from aide_compare.changes.table import Table
-from aide_compare.changes.weighing import Weighed, directory_of, party_of
+from aide_compare.changes.weighing import Weighed, directory_of, group_of_owner, party_of
 from aide_compare.lines.change import Counts
 from aide_compare.show.digest import MAIL, Room, digest, in_directory, rooms_of
 

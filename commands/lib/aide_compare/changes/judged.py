@@ -8,10 +8,9 @@ from __future__ import annotations
 import json
 import os
 from collections import Counter
-from typing import Iterator, NamedTuple, Optional
+from collections.abc import Iterator
 
 from aide_compare.base.ending import Fault, Status
-from aide_compare.changes.importance import Importance
 from aide_compare.changes.packages import Dpkg, Named
 from aide_compare.changes.recorded import Matcher
 from aide_compare.changes.rpm import Rpm
@@ -20,16 +19,6 @@ from aide_compare.changes.usr import link_here, usr_of
 from aide_compare.changes.weighing import Scales, Weighed
 from aide_compare.lines.change import Change, Counts, change_of
 from aide_compare.lines.reader import Reader
-
-
-class JudgedLine(NamedTuple):
-    """A line, and how its change stands."""
-
-    line: bytes
-    standing: str
-    severity: str  # "" if it is silent.
-    package: str  # "" if it is not recorded.
-    importance: Optional[Importance]  # None if it is silent.
 
 
 class Judged:
@@ -85,13 +74,3 @@ class Judged:
     def read(self, row: Row) -> Change:
         """The values of a change, as its line has them."""
         return change_of(json.loads(self.line(row)))
-
-    def lines(self, reader: Reader) -> Iterator[JudgedLine]:
-        """The lines of the same changes once more."""
-        waiting = self.table.rows(order="place")
-        for outline in reader.outlines():
-            if outline.silent is not None:
-                yield JudgedLine(outline.line, outline.silent.value, "", "", None)
-                continue
-            row = next(waiting)
-            yield JudgedLine(outline.line, row.standing, row.severity, row.package, row.importance)

@@ -11,7 +11,6 @@ from aide_compare.base.ending import Fault, Status
 from aide_compare.base.paths import key_of_path, path_of
 from aide_compare.base.rows import Rows
 from aide_compare.base.words import SEVERITIES, status_of_counts
-from aide_compare.changes.importance import Importance
 from aide_compare.changes.weighing import Weighed
 from aide_compare.lines.change import Counts
 
@@ -27,8 +26,9 @@ create table changes (
 INSERT = f"""
 insert into changes ({', '.join(Weighed._fields)})
 values ({', '.join('?' for _ in Weighed._fields)})"""
-# What people read first, as in changes/importance.py, and what the fewest of many hosts have. The
-# path has the last word.
+# What people read first. Of one severity that is what is root's, then what is a service's; what the
+# fewest of many hosts have; what the first line of the table of severities means, such as set-ID
+# bits; what was removed or changed before what was added; and then the path has the last word.
 ORDER = "level, owners, hosts, rank, kind = 'added', place"
 LISTED = "standing = 'open'"
 RECORDED = "standing = 'recorded'"
@@ -65,8 +65,12 @@ class Row(NamedTuple):
         return SEVERITIES[self.level]
 
     @property
-    def importance(self) -> Importance:
-        return Importance(self.level, self.owners, self.rank, self.kind == "added")
+    def marks(self) -> dict[str, str]:
+        """What the commands say of it, in a line and on a page."""
+        marks = {"standing": self.standing, "severity": self.severity}
+        if self.package:
+            marks["package"] = self.package
+        return marks
 
 
 class Table(Rows):

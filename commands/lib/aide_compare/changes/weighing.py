@@ -8,7 +8,6 @@ from typing import Dict, NamedTuple, Optional
 
 from aide_compare.base.database import SET_ID
 from aide_compare.base.words import SEVERITIES
-from aide_compare.changes.importance import group_of_owner
 from aide_compare.changes.severity import Held, Severity, has_same_rights, held_by
 from aide_compare.lines.change import Fields
 from aide_compare.lines.reader import Outline
@@ -18,6 +17,7 @@ SLASH = b"\1"  # In a key.
 LEVELS = {severity: level for level, severity in enumerate(SEVERITIES)}
 MAX_NUMBER = (1 << 63) - 1
 UNKNOWN = -1
+FIRST_USER = 1000  # The first number of a user who is no service, as in login.defs(5).
 MAX_REMEMBERED = 1 << 10
 # The rights of longer lines are looked at each time, so that what is remembered has a bound.
 MAX_LINE = 1 << 11
@@ -67,6 +67,15 @@ def directory_of(key: bytes) -> bytes:
     if above or key == SLASH:
         return above
     return SLASH
+
+
+def group_of_owner(owner: Optional[int]) -> int:
+    """0 for root and for an owner that is not known, 1 for a service, 2 for all others."""
+    if owner is None or owner == ROOT:
+        return 0
+    if owner < FIRST_USER:
+        return 1
+    return 2
 
 
 def party_of(owner: Optional[int]) -> Optional[int]:

@@ -277,9 +277,7 @@ class Task:
                 # The modules for it are more than all others together.
                 from aide_compare.show.judgement import judge
 
-                reviewed = judge(comparison)
-                comparison = reviewed.comparison
-                judged = reviewed.judged
+                comparison, judged = judge(comparison)
             for row in self.rows:
                 if not (row.of_failure or comparison.has_failed):
                     row.write(comparison, judged)

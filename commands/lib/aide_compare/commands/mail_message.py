@@ -11,8 +11,7 @@ from aide_compare.changes.judged import Judged
 from aide_compare.commands.mail_request import NAME, MailRequest
 from aide_compare.compare.comparison import Comparison
 from aide_compare.compare.hints import hint_for_owner
-from aide_compare.lines.change import Change
-from aide_compare.lines.reader import Reader, Refused, reader_over
+from aide_compare.lines.reader import Outline, Reader, Refused, reader_over
 from aide_compare.mail.message import build, clean, subject_of
 from aide_compare.mail.text import Mail, fault_lines, note_lines, text_of_changes, text_of_unjudged
 from aide_compare.show.told import told_of
@@ -75,11 +74,10 @@ def lines_of_mail(
     return text_of_changes(mail, judged)
 
 
-def whole_changes(reader: Reader) -> Iterator[Change]:
+def whole_changes(reader: Reader) -> Iterator[Outline]:
     """Changes as far as they are there: lines that were cut have no end."""
     with suppress(Refused):
-        for _, change in reader:
-            yield change
+        yield from reader.outlines()
 
 
 def page_of(comparison: Comparison, judged: Optional[Judged], notes: list[str]) -> Optional[bytes]:

@@ -19,7 +19,7 @@ from aide_compare.base.paths import key_of_path
 from aide_compare.changes.judged import Judged
 from aide_compare.changes.table import ORDER
 from aide_compare.compare.comparison import Comparison
-from aide_compare.lines.change import Counts, Fields, Standing, change_of
+from aide_compare.lines.change import Counts, Fields, change_of
 from aide_compare.lines.reader import ENCODE, LINE_LIMIT, ODD, Outline, Refused, reader_over
 from aide_compare.show.digest import rooms_of
 
@@ -92,7 +92,7 @@ class KeptLines:
                 change = change_of(fields)
             except ODD:
                 raise Refused(0, "this is no change") from None
-            if change.standing is not Standing.OPEN:
+            if change.silent:
                 raise Refused(0, "a change of another standing")
             self.listed += 1
             yield Outline(change.kind, change.path, None, key_of_path(change.path), line), fields

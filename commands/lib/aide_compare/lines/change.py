@@ -33,10 +33,6 @@ class Standing(Enum):
     OPEN = "open"  # All else.
 
     @property
-    def is_silent(self) -> bool:
-        return self not in (Standing.RECORDED, Standing.OPEN)
-
-    @property
     def key(self) -> str:
         """Its name among counts."""
         return self.value.replace(" ", "_")
@@ -89,9 +85,7 @@ class Change(NamedTuple):
     letters: str  # The summary string of a report.
     old: Values
     new: Values
-    standing: Standing
-    severity: str  # One of SEVERITIES; "" if it is silent, or if nobody has judged it.
-    package: str  # The name and the version of a recorded one's package.
+    silent: Optional[Standing]  # Its standing; None if it is not silent.
 
     @property
     def sides(self) -> Tuple[Values, Values]:
@@ -124,20 +118,6 @@ def silent_by(account: Optional[Standing], path: bytes) -> Optional[Standing]:
     return account
 
 
-def standing_of(fields: Fields, path: bytes) -> Standing:
-    """The standing that a line says; a ValueError if it says one that no proof has given."""
-    silent = silent_by(account_of(fields), path)
-    if silent is not None:
-        standing = silent
-    elif fields.get("standing") == Standing.RECORDED.value:
-        standing = Standing.RECORDED
-    else:
-        standing = Standing.OPEN
-    if fields.get("standing", standing.value) != standing.value:
-        raise ValueError("a standing that no proof has given")
-    return standing
-
-
 def _text_of(fields: Fields, key: str, default: str) -> str:
     """A member that is a text; a ValueError if it is none."""
     text = fields.get(key, default)
@@ -152,11 +132,8 @@ def change_of(fields: Fields) -> Change:
     letters = _text_of(fields, "summary", "")
     fields = differing(fields)
     path = bytes_of(fields, "path")
-    severity = _text_of(fields, "severity", "")
     if fields["kind"] not in KINDS or not path.startswith(b"/"):
         raise ValueError("no change")
-    if severity not in ("", *SEVERITIES):
-        raise ValueError("a severity of another form")
     return Change(
         path=path,
         kind=fields["kind"],
@@ -164,9 +141,7 @@ def change_of(fields: Fields) -> Change:
         letters=letters,
         old=values_of(fields, "old"),
         new=values_of(fields, "new"),
-        standing=standing_of(fields, path),
-        severity=severity,
-        package=_text_of(fields, "package", ""),
+        silent=silent_by(account_of(fields), path),
     )
 
 

@@ -12,8 +12,8 @@ from typing import Any, BinaryIO, Dict, Iterator, NamedTuple, Optional, Tuple
 from aide_compare.base.files import BLOCK
 from aide_compare.base.paths import key_of_path
 from aide_compare.base.words import KINDS, SIDES, TRUSTED_SIDES, status_of_counts
-from aide_compare.lines.change import BY_PROOF, LEFT_OUT, Change, Fields, Standing, account_of
-from aide_compare.lines.change import bytes_of, change_of, left_out_by, silent_by
+from aide_compare.lines.change import BY_PROOF, LEFT_OUT, Fields, Standing, account_of
+from aide_compare.lines.change import change_of, left_out_by, silent_by
 
 FORMAT = 4
 # An entry has at most the bytes of two lines of databases, and six times as many in JSON, some of
@@ -127,17 +127,9 @@ def _is_read(fields: Fields) -> bool:
     return has_columns and len(bytes.fromhex(fields["sha256"])) == DIGEST_BYTES
 
 
-def _is_summary(fields: Fields) -> bool:
-    """Whether an object can be the first one."""
-    try:
-        return all(isinstance(bytes_of(fields, side), bytes) for side in sides_of(fields))
-    except ODD:
-        return False
-
-
 class Reader:
-    """The lines of a file: the `summary` of the first one; by iteration each change as its line and
-    its value, once; then what the last line says, as `end`, its object, and `counts`."""
+    """The lines of a file: the `summary` of the first one; each change as an outline, once; then
+    what the last line says, as `end`, its object, and `counts`."""
 
     def __init__(self, file: BinaryIO) -> None:
         self.file = file
@@ -148,12 +140,6 @@ class Reader:
         self.summary = self._object_of(self._line("nothing was given: was nothing compared?"))
         if self.summary.get("format") != FORMAT:
             raise Refused(self.number, f"the first line is the summary, of format {FORMAT}")
-        if not _is_summary(self.summary):
-            raise Refused(self.number, "the summary has other values")
-
-    def __iter__(self) -> Iterator[Tuple[bytes, Change]]:
-        for outline in self.outlines():
-            yield outline.line, self._change_of(self._object_of(outline.line))
 
     def outlines(self) -> Iterator[Outline]:
         """The changes as far as the beginnings of most lines say them: their values are not looked
@@ -174,10 +160,13 @@ class Reader:
                 if "end" in fields:
                     self._read_end(fields)
                     return
-                change = self._change_of(fields)
+                try:
+                    change = change_of(fields)
+                    account = account_of(fields)
+                except ODD:
+                    raise Refused(self.number, "this is no change") from None
                 kind = change.kind
                 path = change.path
-                account = account_of(fields)
                 left_out = left_out_by(fields)
             last = self._key_after(last, path)
             self._counts[kind, account] = self._counts.get((kind, account), 0) + 1
@@ -187,8 +176,6 @@ class Reader:
         """Takes the last line, of which all counts are those of the lines before it."""
         try:
             self.counts = end_of(fields)
-            if sides_of(fields) != sides_of(self.summary):
-                raise ValueError
             for kind in KINDS:
                 if self._counted(0, kind) != getattr(self.counts, kind):
                     raise ValueError
@@ -220,12 +207,6 @@ class Reader:
         if not line.endswith(b"\n") or not isinstance(fields, dict):
             raise Refused(self.number, "this is no line of changes")
         return fields
-
-    def _change_of(self, fields: Fields) -> Change:
-        try:
-            return change_of(fields)
-        except ODD:
-            raise Refused(self.number, "this is no change") from None
 
     def _key_after(self, last: bytes, path: bytes) -> bytes:
         """The key of a path, which has to come after that of the last one."""

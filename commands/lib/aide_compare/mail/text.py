@@ -14,7 +14,7 @@ from aide_compare.base.files import given_descriptor
 from aide_compare.base.words import KINDS
 from aide_compare.changes.judged import Judged
 from aide_compare.compare.state import State
-from aide_compare.lines.change import Change
+from aide_compare.lines.reader import Outline
 from aide_compare.mail.columns import WIDTH, command_lines, wrapped
 from aide_compare.show.brief import brief
 from aide_compare.show.digest import MAIL, shortened_path
@@ -82,7 +82,7 @@ def end_lines(mail: Mail) -> list[str]:
     return lines + notes
 
 
-def first_paths(changes: Iterable[Change]) -> list[str]:
+def first_paths(changes: Iterable[Outline]) -> list[str]:
     """The first paths of changes that nobody has judged, those that were removed or changed first,
     and of each directory a few."""
     listed: Counter[tuple[str, bytes]] = Counter()
@@ -96,7 +96,7 @@ def first_paths(changes: Iterable[Change]) -> list[str]:
     return [line for each in lines.values() for line in each]
 
 
-def text_of_unjudged(mail: Mail, counts: Sequence[int], changes: Iterable[Change]) -> list[str]:
+def text_of_unjudged(mail: Mail, counts: Sequence[int], changes: Iterable[Outline]) -> list[str]:
     """The lines of a mail about changes that nobody has judged: how many there are, and the first
     paths."""
     numbers = ", ".join(f"{count} {kind}" for count, kind in zip(counts, KINDS))

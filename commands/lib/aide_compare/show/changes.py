@@ -72,7 +72,7 @@ def changes_with_values(
 ) -> Iterator[bytes]:
     """The changes of the paths that a pattern means, each with its standing and its values."""
     is_there = False
-    for line, marks, _ in marked_lines(all_lines(comparison), judged):
+    for line, marks in marked_lines(all_lines(comparison), judged):
         change = change_of(json.loads(line))
         if pattern.matches(change.path[1:].split(b"/")):
             lines = [f"{marks['standing']} {marks.get('severity', '')}".rstrip() + " "]

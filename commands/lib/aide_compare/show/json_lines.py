@@ -7,12 +7,11 @@ import os
 from typing import TYPE_CHECKING, Iterator, Optional, Tuple
 
 from aide_compare.base.words import SIDES, TRUSTED_SIDES
-from aide_compare.lines.change import Fields, change_of
+from aide_compare.lines.change import Fields, Standing, change_of
 from aide_compare.lines.decoded import NOTED_BESIDE_TIMES, texts_of
 from aide_compare.lines.reader import ENCODE, HEX, Reader
 
 if TYPE_CHECKING:
-    from aide_compare.changes.importance import Importance
     from aide_compare.changes.judged import Judged
     from aide_compare.compare.comparison import Comparison
 
@@ -47,18 +46,17 @@ def end_of(reader: Reader, comparison: Comparison, judged: Optional[Judged]) -> 
     return end
 
 
-def marked_lines(
-    reader: Reader, judged: Optional[Judged]
-) -> Iterator[Tuple[bytes, Fields, Optional[Importance]]]:
+def marked_lines(reader: Reader, judged: Optional[Judged]) -> Iterator[Tuple[bytes, Fields]]:
     """The lines of a Reader, each with the standing of its change, and with what is known of it if
     the changes were judged."""
-    if judged is None:
-        for line, change in reader:
-            yield line, {"standing": change.standing.value}, None
-        return
-    for line, standing, severity, package, importance in judged.lines(reader):
-        members = {"standing": standing, "severity": severity, "package": package}
-        yield line, {name: mark for name, mark in members.items() if mark}, importance
+    told = judged.table.rows(order="place") if judged else None
+    for outline in reader.outlines():
+        if outline.silent:
+            yield outline.line, {"standing": outline.silent.value}
+        elif told:
+            yield outline.line, next(told).marks
+        else:
+            yield outline.line, {"standing": Standing.OPEN.value}
 
 
 def text_members(fields: Fields) -> Fields:
@@ -78,7 +76,7 @@ def added_lines(
 ) -> Iterator[bytes]:
     """Yields the lines of a comparison with what is added."""
     yield line_of(summary_of(reader.summary, comparison))
-    for line, marks, _ in marked_lines(reader, judged):
+    for line, marks in marked_lines(reader, judged):
         fields = json.loads(line)
         yield line_of({**fields, **text_members(fields), **marks})
     yield line_of(end_of(reader, comparison, judged))

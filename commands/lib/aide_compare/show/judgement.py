@@ -1,8 +1,6 @@
 """The changes of a comparison, judged and written for people and for programs."""
 from __future__ import annotations
 
-from typing import Optional
-
 from aide_compare.base import progress
 from aide_compare.base.ending import why_of
 from aide_compare.base.words import TRUSTED_SIDES
@@ -14,18 +12,10 @@ from aide_compare.show.brief import brief
 from aide_compare.show.digest import SCREEN
 
 
-class Reviewed:
-    """A comparison with the standings of its changes, and these; None if they are not known."""
-
-    def __init__(self, comparison: Comparison, judged: Optional[Judged]) -> None:
-        self.comparison = comparison
-        self.judged = judged
-
-
-def judge(comparison: Comparison) -> Reviewed:
-    """Judges the changes of a comparison. If they cannot be judged, a doubt says why: the
-    comparison stands as it is, and without standings every change is an alarm. Packages' records of
-    this machine group its changes."""
+def judge(comparison: Comparison) -> tuple[Comparison, Judged | None]:
+    """A comparison with the standings of its changes, and these. If they cannot be judged, a doubt
+    says why: the comparison is left as it is, and without standings every change is an alarm.
+    Packages' records of this machine group its changes."""
     try:
         judged = _judged(comparison)
     except Refused as refused:
@@ -37,8 +27,8 @@ def judge(comparison: Comparison) -> Reviewed:
             comparison = _grouped(judged, comparison)
         progress.note_step("the changes are judged")
         known = comparison._replace(standings=judged.counts, left_out=judged.left_out)
-        return Reviewed(known, judged)
-    return Reviewed(comparison.doubtful(f"the changes are not judged: {why}"), None)
+        return known, judged
+    return comparison.doubtful(f"the changes are not judged: {why}"), None
 
 
 def _judged(comparison: Comparison) -> Judged:
@@ -61,7 +51,7 @@ def _grouped(judged: Judged, comparison: Comparison) -> Comparison:
     return comparison
 
 
-def brief_of(judged: Optional[Judged]) -> bytes:
+def brief_of(judged: Judged | None) -> bytes:
     """The bytes of what people read first; nothing if the changes were not judged."""
     if judged is None:
         return b""

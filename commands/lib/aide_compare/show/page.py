@@ -27,6 +27,7 @@ from aide_compare.lines.change import (
 )
 from aide_compare.lines.decoded import NOTED_BESIDE_TIMES, texts_of
 from aide_compare.lines.reader import ENCODE, Reader
+from aide_compare.show.json_lines import marked_lines
 from aide_compare.show.judgement import brief_of
 
 if TYPE_CHECKING:
@@ -194,14 +195,10 @@ def changes_in_order(judged: Optional[Judged], reader: Reader) -> Iterator[Tuple
     """All changes with their marks, those that are read first before the others."""
     if judged is not None:
         for row in judged.table.rows(order=BY_STANDING):
-            marks = {"standing": row.standing, "severity": row.severity}
-            if row.package:
-                marks["package"] = row.package
-            yield judged.read(row), marks
-    for outline in reader.outlines():
-        if judged is None or outline.silent:
-            change = change_of(json.loads(outline.line))
-            yield change, {"standing": change.standing.value}
+            yield judged.read(row), row.marks
+    for line, marks in marked_lines(reader, None):
+        if judged is None or marks["standing"] != Standing.OPEN.value:
+            yield change_of(json.loads(line)), marks
 
 
 def heading_of(comparison: Comparison, rows: Rows, title: str) -> Fields:
