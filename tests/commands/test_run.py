@@ -241,8 +241,8 @@ class RunTest(CommandTest):
             self.assertTrue(answer.errors.startswith(plain.errors), answer)
 
     def test_runs(self) -> None:
-        """Each program compares once: one for the report if that is printed, one for the changes if
-        anything needs these."""
+        """Each program compares once: one for the changes, and one for the report if that is
+        printed."""
         for program, name in ((self.program, "aide"), (self.lines_program, "aide_lines")):
             os.rename(program, program + ".away")
             text = 'echo "%s$1" >> "%s"; exec "%s.away" "$@"' % (name, self.path("ran"), program)
@@ -252,9 +252,9 @@ class RunTest(CommandTest):
         pair, state = ["old.db", "new.db"], ["--state", "state"]
         minimal = [*state, "-A", "report_level=minimal", *pair]
         for words, runs in (
-            (["--report", *pair], ["aide-E"]),
+            (["--report", *pair], ["aide_lines-E", "aide-E"]),
             (["-q", *pair], ["aide_lines-E"]),
-            (["--report", "-q", *pair], ["aide-E"]),
+            (["--report", "-q", *pair], ["aide_lines-E"]),
             (["--report", *state, *pair], ["aide_lines-E", "aide-E"]),
             ([*state, *pair], ["aide_lines-E"]),
             (pair, ["aide_lines-E"]),

@@ -202,7 +202,7 @@ def state_bytes(comparison: Comparison, _judged: Optional[Judged]) -> Sequence[b
 
 class Task:
     """A comparison that is carried out, and its outputs. `judges`: one of these needs its changes
-    with their standings; otherwise the report alone is wanted."""
+    with their standings."""
 
     def __init__(
         self,
@@ -213,7 +213,7 @@ class Task:
     ) -> None:
         self.judges = judges
         self.options = request
-        self.request = work_request(request)._replace(wants_lines=judges)
+        self.request = work_request(request)
         self.before = before
         self.after = after
         self.rows: Sequence[Row] = ()

@@ -40,7 +40,6 @@ class Request(NamedTuple):
     exclusions: Exclusions | None = None
     trusted: Sequence[str] = ()  # The paths of a trusted pair, or none.
     copies: Mapping[str, Copy] = NO_COPIES  # By side, of databases that were opened before.
-    wants_lines: bool = True  # The changes, and not only the report.
     target: int | None = None  # The descriptor of a file for the lines.
 
 
@@ -81,8 +80,7 @@ class Comparison(NamedTuple):
     copies: Mapping[str, Copy]
     compared: Mapping[str, int]  # The descriptors of what the program has read.
     skipped: Mapping[str, Sequence[str]]  # Columns.
-    lines: Lines | None  # None if nothing was compared, or the report alone is wanted.
-    report: int | None  # The descriptor of the report, if that alone is wanted.
+    lines: Lines | None  # None if nothing was compared.
     standings: Counts | None = None  # None if nobody has judged the changes.
     # How many changes the lines of the list leave out, by their numbers.
     left_out: Mapping[int, int] = MappingProxyType({})

@@ -7,9 +7,8 @@ from aide_compare.compare.comparison import Comparison, Request
 from aide_compare.compare.unpack import Copy
 from aide_compare.compare.work import compare
 
-MAX_REPORT = 1 << 20
+MAX_LINES = 1 << 20
 MAX_ERROR_LINE = 1000
-SHORTEST = "report_level=minimal"
 
 
 def read_by_program(old: Copy, new: Copy) -> Comparison:
@@ -17,9 +16,7 @@ def read_by_program(old: Copy, new: Copy) -> Comparison:
         old="",
         new="",
         copies={"old": old, "new": new},
-        after=SHORTEST,
-        wants_lines=False,
-        max_report=MAX_REPORT,
+        max_report=MAX_LINES,
     )
     return compare(request)
 

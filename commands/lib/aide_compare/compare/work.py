@@ -5,7 +5,7 @@ from __future__ import annotations
 import json
 import os
 import time
-from collections.abc import Iterator, Mapping, Sequence
+from collections.abc import Iterator, Sequence
 
 from aide_compare.base.ending import Fault, Status, write_all
 from aide_compare.base.escapes import shown
@@ -65,19 +65,13 @@ class Work:
         exception."""
         try:
             self._copy(opened)
-            if self.request.wants_lines:
-                lines = self._lines()
-                report = None
-            else:
-                lines = None
-                report = self._report()
-            return self._ended(lines, report)
+            return self._ended(self._lines())
         except FAILURES as error:
             return self.failed(error)
 
     def failed(self, error: BaseException) -> Comparison:
         """The comparison, which an exception has ended."""
-        return self._comparison(None, None).failed(error)
+        return self._comparison(None).failed(error)
 
     def _refusal(self) -> Fault:
         """The program has refused the texts, the list or the databases."""
@@ -90,19 +84,15 @@ class Work:
         hints = hints_of(self.answer.errors, self.texts, path, self.copies)
         return Refusal(self.answer, hints)
 
-    def _ended(self, lines: Lines | None, report: int | None) -> Comparison:
+    def _ended(self, lines: Lines) -> Comparison:
         skipped = skipped_in(self.answer.errors, self.compared)
         self.notes += [*column_notes(skipped), *order_notes(self.copies)]
         self.notes += equal_notes(self.copies)
-        if any(self.texts) and self._is_silent(lines):
+        if any(self.texts) and lines.end.others == 0:
             self.notes += ignored_notes(settings_of(self.texts))
-        return self._comparison(lines, report)._replace(skipped=skipped)
+        return self._comparison(lines)._replace(skipped=skipped)
 
-    def _is_silent(self, lines: Lines | None) -> bool:
-        """Whether nothing differs, or nothing that is not accounted for."""
-        return self.answer.status == 0 or (lines is not None and lines.end.others == 0)
-
-    def _comparison(self, lines: Lines | None, report: int | None) -> Comparison:
+    def _comparison(self, lines: Lines | None) -> Comparison:
         return Comparison(
             request=self.request,
             texts=self.texts,
@@ -118,7 +108,6 @@ class Work:
             compared=self.compared,
             skipped={},
             lines=lines,
-            report=report,
         )
 
     def _copy(self, opened: Sequence[Opened]) -> None:
@@ -165,18 +154,6 @@ class Work:
         for side, copy in self.copies.items():
             self.copies[side] = copy.with_digest(digests[side])
 
-    def _report(self) -> int:
-        report = write_report(self.texts, _pair(self.compared), self.request.max_report)
-        self.answer = report.answer
-        if report.answer.status > 7:
-            raise self._refusal()
-        return report.known_descriptor()
-
-
-def _pair(compared: Mapping[str, int]) -> dict[str, int]:
-    """What the report is of: it knows nothing of a trusted pair."""
-    return {side: compared[side] for side in SIDES}
-
 
 def compare(request: Request) -> Comparison:
     """Compares two databases. What ends it is told by the status and the fault, never by an
@@ -195,12 +172,11 @@ def failed_comparison(error: BaseException) -> Comparison:
 
 
 def report_of(comparison: Comparison) -> int:
-    """The descriptor of the program's own report, which is written now if it was not yet. A Fault
-    if it does not say what the lines have said."""
-    if comparison.report is not None:
-        return comparison.report
+    """The descriptor of the program's own report, which knows nothing of a trusted pair. A Fault if
+    it does not say what the lines have said."""
     limit = comparison.request.max_report
-    report = write_report(comparison.texts, _pair(comparison.compared), limit)
+    pair = {side: comparison.compared[side] for side in SIDES}
+    report = write_report(comparison.texts, pair, limit)
     if report.answer.status > 7:
         path = comparison.request.configuration
         hints = hints_of(report.answer.errors, comparison.texts, path, comparison.copies)
