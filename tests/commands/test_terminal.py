@@ -34,8 +34,6 @@ class TerminalTest(CommandTest):
         status, text = self.on_terminal("--color", "never", *PAIR)
         self.assertEqual(status, 7, text)
         self.assertIn(brief, text)
-        more = b"\nAIDE's report: aide-compare --report --color never o.db n.db\n"
-        self.assertIn(more, text, "how to get the whole")
         self.assertNotIn(b"Added entries:", text)
         same = ("o.db", self.write("same.db", self.read("o.db")))
         line = b"no differences in 7 entries\n"
@@ -47,10 +45,8 @@ class TerminalTest(CommandTest):
         self.assertIn(b"Open, ", self.read("out"), "a file gets the same")
 
     def test_report(self) -> None:
-        """People know databases by their names; a report has no colours."""
-        report = self.call(TOOL, "--report", *PAIR, "-A", "report_base16=yes").output
-        for side, name in ((b"3", b"o.db"), (b"4", b"n.db")):
-            report = report.replace(b" database: /proc/self/fd/" + side, b" database: " + name)
+        """A terminal gets the bytes of the report, without colours."""
+        report = self.call(TOOL, "--report", *PAIR).output
         for options in (["--report"], ["--report", "--color", "always"]):
             status, text = self.on_terminal(*options, *PAIR)
             self.assertEqual((status, b"\033" in text), (7, False), text)

@@ -24,7 +24,7 @@ def compare_and_print(new: str, baseline: str) -> State:
     differs."""
     words = ["--", baseline, new]
     request = with_defaults(given_by(words), words)
-    ended = Printer(request, words).task().carry_out()
+    ended = Printer(request).task().carry_out()
     if ended.status > 7:
         raise Fault(Status(ended.status), "nothing was compared, so nothing is accepted")
     return ended.state()

@@ -2,11 +2,11 @@
 from __future__ import annotations
 
 import os
-from collections.abc import Iterable, Iterator, Sequence
+from collections.abc import Iterable, Sequence
 from typing import TYPE_CHECKING, Optional
 
 from aide_compare.base.ending import Fault, Status
-from aide_compare.base.escapes import guarded, shown
+from aide_compare.base.escapes import shown
 from aide_compare.base.files import blocks_of
 from aide_compare.base.rights import give_up
 from aide_compare.base.words import date_of, words_of_side
@@ -22,18 +22,12 @@ from aide_compare.commands.compare_task import (
 from aide_compare.compare.comparison import Comparison
 from aide_compare.compare.outputs import STDOUT, Notes, StreamOutput, descriptor_of
 from aide_compare.compare.work import report_of
-from aide_compare.show.told import coloured, no_difference, told_of, wants_colours, with_names
+from aide_compare.show.told import coloured, no_difference, told_of, wants_colours
 
 if TYPE_CHECKING:
     from aide_compare.changes.judged import Judged
 
-NAME_LINES = (b"Old database: ", b"New database: ")
 NO_LIST = "the report knows no list: it has what is left out elsewhere, and AIDE's status"
-# People compare digests in base 16.
-BASE16 = "report_base16=yes"
-# What a terminal has beside what people read first: two lines for the databases, notes, and the
-# command for the report.
-LINES_BESIDE = 6
 # What standard output gets, unless -q says otherwise: what people read first, the changes of some
 # paths, the report of AIDE, or nothing.
 BRIEF = "brief"
@@ -56,32 +50,14 @@ def form_of(request: CompareRequest) -> str:
     return BRIEF
 
 
-def named_lines(report: int, comparison: Comparison) -> Iterator[bytes]:
-    """The lines of a report, by its descriptor, in which both databases have their names."""
-    with open(os.dup(report), "rb") as file:
-        file.seek(0)
-        for line in file:
-            if line.startswith(NAME_LINES):
-                line = with_names(line, comparison, b" database: ")
-            yield line
-
-
 class Printer:
     """Prints a comparison: first what there is to say beside it, then what was found, so that on a
     terminal nothing pushes that off the screen."""
 
-    def __init__(self, request: CompareRequest, arguments: Sequence[str]) -> None:
+    def __init__(self, request: CompareRequest) -> None:
         self.request = request
         self.form = form_of(request)
         self.is_printed = self.form != NOTHING and not request.is_quiet
-        self.arguments = arguments
-
-    @property
-    def task_request(self) -> CompareRequest:
-        """What is compared so that it can be printed."""
-        if self.form != REPORT or self.request.configuration or not os.isatty(1):
-            return self.request
-        return self.request.but(after=f"{BASE16}\n{self.request.after}")
 
     def task(self) -> Task:
         """The comparison that prints so."""
@@ -90,7 +66,7 @@ class Printer:
             before.append(Row(StreamOutput(STDOUT, "cannot write the report"), self._printed))
         after = [Row(Notes(), self._failure, of_failure=True)]
         judges = self.form != REPORT or self.request.outputs or self.request.state
-        return Task(self.task_request, before, after, bool(judges))
+        return Task(self.request, before, after, bool(judges))
 
     def status_of(self, comparison: Comparison) -> int:
         """The status of the command. A report has AIDE's."""
@@ -109,8 +85,9 @@ class Printer:
         if self.form == BRIEF and judged is not None:
             from aide_compare.show.judgement import brief_of
 
-            return self._brief(brief_of(judged))
-        return self._report(comparison)
+            text = brief_of(judged)
+            return [coloured(text) if wants_colours(self.request.color) else text]
+        return blocks_of(report_of(comparison))
 
     def _notes(self, comparison: Comparison, judged: Optional[Judged]) -> Iterable[bytes]:
         """What is not in a report: it names only the descriptors of the databases."""
@@ -136,25 +113,6 @@ class Printer:
             text = told_of(comparison, self.request.is_quiet, self.request.is_verbose)
             yield text.encode("utf-8", "backslashreplace")
 
-    def _report(self, comparison: Comparison) -> Iterable[bytes]:
-        report = report_of(comparison)
-        if os.isatty(1):
-            return named_lines(report, comparison)
-        return blocks_of(report)
-
-    def _brief(self, text: bytes) -> Iterator[bytes]:
-        """On a terminal the first line comes again at the end if the screen is too small for
-        all."""
-        yield coloured(text) if wants_colours(self.request.color) else text
-        if not os.isatty(1):
-            return
-        import shlex
-
-        report = guarded(shlex.join(["aide-compare", "--report", *self.arguments]))
-        yield b"\nAIDE's report: %s\n" % report.encode("utf-8", "backslashreplace")
-        if 0 < os.get_terminal_size(1).lines < text.count(b"\n") + LINES_BESIDE:
-            yield text.partition(b"\n")[0] + b"\n"
-
 
 def main(arguments: Sequence[str]) -> int:
     given = given_by(arguments)
@@ -162,7 +120,7 @@ def main(arguments: Sequence[str]) -> int:
     if own_request.user:
         give_up(own_request.user)
     try:
-        printer = Printer(with_defaults(given, arguments), arguments)
+        printer = Printer(with_defaults(given, arguments))
         task = printer.task()
     except Fault as fault:
         keep_failure(own_request.state, fault)

@@ -6,7 +6,7 @@ import argparse
 from collections.abc import Sequence
 from typing import Optional, Union
 
-from aide_compare.base.ending import Fault, Status
+from aide_compare.base.ending import Fault, Status, say
 from aide_compare.base.kinds import unit_name
 from aide_compare.base.options import (
     ATTACH_PAGE,
@@ -83,14 +83,17 @@ def request_of(words: Sequence[str]) -> MailRequest:
     defaults: Defaults = {}
     notes: list[str] = []
     fault = None
+    compares = "send_queue" not in given and "is_test" not in given
     try:
         asked = given_by(rest)
         checked(asked)
-        if "send_queue" not in given and "is_test" not in given:
+        if compares:
             defaults = comparison_defaults(asked["databases"], words, note=notes.append)
         defaults.update(defaults_for(MAIL_DEFAULTS, words))
     except Fault as error:
         fault = error
+        if not compares:
+            say(error.text)
     request = filled(MailRequest, given, defaults)
     check(request, given, bool(asked["databases"]))
     comparison = filled(CompareRequest, asked, defaults)

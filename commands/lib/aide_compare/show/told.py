@@ -89,20 +89,14 @@ def _faults_of(comparison: Comparison) -> list[str]:
 def _errors_of(comparison: Comparison) -> list[str]:
     """The lines of the program itself, in which databases have their names, and not those of
     descriptors."""
-    errors = with_names(comparison.errors, comparison, b" database ")
-    return [line for line in shown_lines(errors).split("\n") if line]
-
-
-def with_names(text: bytes, comparison: Comparison, before: bytes) -> bytes:
-    """Bytes of the program in which both databases have their names, wherever their descriptors
-    follow some words."""
     # Here, so that status does not load what starts programs.
     from aide_compare.base.program import DESCRIPTORS
 
+    errors = comparison.errors
     for side, copy in comparison.copies.items():
-        descriptor = b"/proc/self/fd/%d" % DESCRIPTORS[side]
-        text = text.replace(before + descriptor, before + os.fsencode(shown(copy.name)))
-    return text
+        words = b" database /proc/self/fd/%d" % DESCRIPTORS[side]
+        errors = errors.replace(words, b" database " + os.fsencode(shown(copy.name)))
+    return [line for line in shown_lines(errors).split("\n") if line]
 
 
 def no_difference(comparison: Comparison) -> bytes:
