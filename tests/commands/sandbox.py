@@ -15,6 +15,7 @@ import tempfile
 from collections.abc import Iterator
 from typing import Any, Optional, Union
 
+from tests.lib.answer import Answer
 from tests.lib.apart import has_own_mounts
 from tests.lib.byte_code import compile_modules
 from tests.lib.copies import copy_directory
@@ -108,16 +109,6 @@ def texts_of_state(text: str | bytes) -> dict[str, str]:
     words = {key: " ".join(value) for key, value in fields.items() if isinstance(value, list)}
     unknown = {key: "" for key, value in fields.items() if value is None}
     return {key: str(value) for key, value in {**fields, **words, **unknown}.items()}
-
-
-class Answer:
-    """What a tool answered: two texts and a status."""
-
-    def __init__(self, output: bytes, errors: bytes, status: int) -> None:
-        self.output, self.errors, self.status = output, errors, status
-
-    def __repr__(self) -> str:
-        return "status %d, output %.400r, errors %.600r" % (self.status, self.output, self.errors)
 
 
 @functools.lru_cache(maxsize=None)

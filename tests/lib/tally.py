@@ -4,8 +4,9 @@ import subprocess
 import sys
 from concurrent.futures import ThreadPoolExecutor
 
+from tests.lib.answer import Answer
 from tests.oracle.lines import lines_answer_of
-from tests.oracle.session import Answer, Unread, answer_of
+from tests.oracle.session import Unread, answer_of
 
 # Only for a program that hangs: on a machine with much other work a run may take minutes.
 TIME_LIMIT = 600

@@ -1,5 +1,6 @@
 """What a session answers: standard output, standard error and a status."""
-from collections import namedtuple
+
+from tests.lib.answer import Answer
 
 from . import configuration, patterns
 from .database import database_of, first_fault
@@ -58,20 +59,18 @@ FLAGS = ["compare", "config-check"]
 TRUSTED = ["trusted-old", "trusted-new"]
 WITHOUT = "without"
 
-Answer = namedtuple("Answer", "output errors status")
 
+class Beginning(bytes):
+    """In place of an output: whatever is a beginning of these bytes."""
 
-class Beginning:
-    """In place of an output: whatever is a beginning of a text."""
+    def __eq__(self, output: object) -> bool:
+        return isinstance(output, bytes) and self.startswith(output)
 
-    def __init__(self, text):
-        self.text = text
+    def __ne__(self, output: object) -> bool:
+        return not self == output
 
-    def __eq__(self, output):
-        return isinstance(output, bytes) and self.text.startswith(output)
-
-    def __repr__(self):
-        return "a beginning of %d bytes, %.600r" % (len(self.text), self.text)
+    def __repr__(self) -> str:
+        return f"a beginning of {super().__repr__()}"
 
 
 class Unread:

@@ -59,7 +59,7 @@ def holds_code(trial, name, folder, private):
 def install(trial, name, source, prefix):
     wide = ["sh", "-c", 'umask 0; exec "$@"', "sh", "sh"]
     done = trial.install("--prefix", prefix, "--program", trial.program, source=source, shell=wide)
-    trial.assertTrue(done[0] == 0 and done[2] == "", ("install " + name, done))
+    trial.assertTrue(done.status == 0 and done.error_text == "", ("install " + name, done))
     holds_code(
         trial,
         "installed " + name,

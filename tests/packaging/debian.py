@@ -5,8 +5,9 @@ import os
 import re
 import shutil
 
+from tests.lib.answer import Answer
 from tests.packaging import byte_code
-from tests.packaging.installation import Answer, InstallTest, texts, tree
+from tests.packaging.installation import InstallTest, texts, tree
 
 TIMER = "aide-compare.timer"
 UNITS = ["aide-compare-failed.service", "aide-compare-mail.service", "aide-compare.service", TIMER]
@@ -46,8 +47,8 @@ def try_texts(trial: InstallTest, folder: str) -> None:
     here = command.replace("/usr/", folder + "/usr/")
     here = here.replace("aide-compare", folder + "/usr/bin/aide-compare", 1)
     done = trial.run_words(["sh", "-c", here])
-    trial.assertEqual([str(done[0])], re.findall(r"ends with status (\d+)", readme), done)
-    trial.assertRegex(done[1], r"\A[0-9]+ open .*of [0-9]+ changes\n")
+    trial.assertEqual([str(done.status)], re.findall(r"ends with status (\d+)", readme), done)
+    trial.assertRegex(done.output_text, r"\A[0-9]+ open .*of [0-9]+ changes\n")
     for name in re.findall(r"/(?:usr|etc)/[\w./-]*\w", readme):
         # What the administrator or aide-compare setup makes for this machine is in no package.
         if not name.startswith(("/etc/systemd/system/", "/etc/aide-compare/defaults")):
@@ -69,9 +70,9 @@ def try_stop(trial: InstallTest, folder: str) -> None:
         script = script.replace(place, machine)
     trial.assertEqual(sorted(os.listdir(os.path.join(folder, "usr/lib/systemd/system"))), UNITS)
     done = trial.run_words(["sh", "-c", script, "prerm", "upgrade", "2"], env=more)
-    trial.assertEqual((done, os.path.exists(log)), ((0, "", ""), False))
+    trial.assertEqual((done, os.path.exists(log)), (Answer(b"", b"", 0), False))
     done = trial.run_words(["sh", "-c", script, "prerm", "remove"], env=more)
-    trial.assertEqual(done, (0, "", ""))
+    trial.assertEqual(done, Answer(b"", b"", 0))
     with open(log) as file:
         stopped = [line.split()[1:] for line in file if line.startswith("stop ")]
     trial.assertEqual(sorted(stopped[0]), ["aide-compare.service", TIMER], "the comparison first")
@@ -92,7 +93,7 @@ class Machine:
     def dpkg(self, action: str, what: str) -> None:
         forced = ["--log=/dev/null", "--force-script-chrootless", "--force-confold"]
         done = self.trial.run_words(["dpkg", "--root=" + self.root, *forced, action, what])
-        self.trial.assertEqual(done[0], 0, done)
+        self.trial.assertEqual(done.status, 0, done)
 
     def install(self) -> None:
         self.dpkg("--install", self.package)
@@ -154,7 +155,7 @@ def code(trial: InstallTest, machine: Machine) -> None:
             place = "--admindir=" + os.path.join(machine.root, "var/lib/dpkg")
             words = ["dpkg-trigger", place, "--by-package=python3-minimal", "/usr/bin/python3"]
             done = trial.run_words(words)
-            trial.assertEqual(done[0], 0, ("dpkg-trigger", done))
+            trial.assertEqual(done.status, 0, ("dpkg-trigger", done))
             machine.dpkg("--triggers-only", "aide-compare")
         else:
             os.remove(os.path.join(machine.root, former))

@@ -6,8 +6,9 @@ import os
 import shutil
 import stat
 import subprocess
-from typing import Any, Tuple
+from typing import Any
 
+from tests.lib.answer import Answer
 from tests.lib.program_test import ScratchTest
 from tests.lib.programs import find_program, lines_program_of
 from tests.lib.scratch import TOP as HERE
@@ -16,8 +17,6 @@ PARTS = [
     *("commands contrib docs examples/small_tree man packaging".split()),
     *("README.md CHANGELOG.md SECURITY.md VERSION".split()),
 ]
-# The status and both outputs of a command.
-Answer = Tuple[int, str, str]
 NOBODY = 65534
 # What the scripts may need: the base system without a compiler, git, dpkg-deb or rt.
 NEEDED = """[ awk basename cat chmod cmp comm cp cut date dirname env find grep gzip head id ln ls md5sum mkdir mktemp mv printf
@@ -82,10 +81,8 @@ class InstallTest(ScratchTest):
         return folder
 
     def run_words(self, words: list[str], **more: Any) -> Answer:
-        """The status and both outputs of a command."""
         done = subprocess.run(words, stdin=subprocess.DEVNULL, capture_output=True, **more)
-        output, errors = (text.decode(errors="replace") for text in (done.stdout, done.stderr))
-        return done.returncode, output, errors
+        return Answer(done.stdout, done.stderr, done.returncode)
 
     def install(self, *words: str, source: str = "", shell: Any = ("sh",), **more: Any) -> Answer:
         """Runs packaging/install of a copy, in a folder that is not the repository."""
@@ -102,7 +99,7 @@ class InstallTest(ScratchTest):
         """Installs the program below a new folder, and gives what lies there."""
         folder = self.path(name)
         done = self.install("--destdir", folder, "--program", self.program, *words)
-        self.assertEqual((done[0], done[2]), (0, ""), done)
+        self.assertEqual((done.status, done.error_text), (0, ""), done)
         return tree(folder)
 
     def plain(self) -> dict[str, str]:

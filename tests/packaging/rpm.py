@@ -16,8 +16,8 @@ def try_life(trial, package):
 
     def rpm(*words):
         done = trial.run_words(["rpm", "--root", root, "--define", "_dbpath /var/lib/rpm", *words])
-        trial.assertEqual(done[0], 0, ("rpm " + words[0], done))
-        return done[1]
+        trial.assertEqual(done.status, 0, ("rpm " + words[0], done))
+        return done.output_text
 
     rpm("--initdb")
     rpm("--install", "--nodeps", "--noscripts", package)

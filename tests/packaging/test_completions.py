@@ -69,7 +69,7 @@ def options_of_program():
 
 
 def help_of(trial, words):
-    return trial.run_words([trial.first("bin/aide-compare"), *words.split(), "--help"])[1]
+    return trial.run_words([trial.first("bin/aide-compare"), *words.split(), "--help"]).output_text
 
 
 def named_in(text):
@@ -82,13 +82,11 @@ def named_in(text):
 
 def ask_bash(trial, *words):
     path = trial.first(BASH)
-    status, output, errors = trial.run_words(
+    done = trial.run_words(
         ["bash", "--norc", "-c", ASK_BASH, "bash", path, *words], cwd=trial.source
     )
-    trial.assertEqual(
-        (status, errors), (0, ""), ("bash completes " + " ".join(words), (status, errors))
-    )
-    return output.split()
+    trial.assertEqual((done.status, done.errors), (0, b""), ("bash completes", words))
+    return done.output_text.split()
 
 
 @slow
@@ -181,7 +179,7 @@ class CompletionsTest(InstallTest):
                 ["zsh", "-f", "-c", ASK_ZSH, "zsh", folder, line], cwd=self.source, timeout=60
             )
             self.assertTrue(
-                done[0] == 0 and wanted in done[1].replace("\r", ""),
+                done.status == 0 and wanted in done.output_text.replace("\r", ""),
                 ("zsh completes " + line, done),
             )
 
@@ -212,13 +210,13 @@ class CompletionsTest(InstallTest):
                 env=surroundings,
                 timeout=60,
             )
-            given = [one.split("\t")[0] for one in done[1].splitlines()]
-            self.assertTrue(done[0] == 0 and given == wanted, ("fish completes " + line, done))
+            given = [one.split("\t")[0] for one in done.output_text.splitlines()]
+            self.assertTrue(done.status == 0 and given == wanted, ("fish completes " + line, done))
         done = self.run_words(
             ["fish", "-c", "complete -C 'aide-compare -E -A report_'"],
             cwd=self.source,
             env=surroundings,
             timeout=60,
         )
-        named = {one.split("=")[0] for one in done[1].splitlines()}
+        named = {one.split("=")[0] for one in done.output_text.splitlines()}
         self.assertEqual(named, set(REPORT_OPTIONS), "fish names the options of the report")

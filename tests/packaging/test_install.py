@@ -6,10 +6,11 @@ import re
 import shutil
 from typing import Any
 
+from tests.lib.answer import Answer
 from tests.lib.program_test import slow
 from tests.lib.programs import lines_program_of
 from tests.packaging import byte_code
-from tests.packaging.installation import HERE, Answer, InstallTest, files, rights, tree
+from tests.packaging.installation import HERE, InstallTest, files, rights, tree
 from tools.source.checker import libraries
 
 DOCUMENTS = "share/doc/aide-compare"
@@ -97,13 +98,13 @@ class InstallingTest(InstallTest):
 
     def removes_all(self, folder: str, **more: Any) -> None:
         done = self.install("--destdir", folder, "--uninstall", **more)
-        self.assertEqual((done[0], done[2], tree(folder)), (0, "", {}), done)
+        self.assertEqual((done.status, done.error_text, tree(folder)), (0, "", {}), done)
 
     def refuses(self, label: str, folder: str, done: Answer, *said: str) -> None:
         """It ended with 1 and these words, and nothing was written."""
-        self.assertEqual(done[0], 1, (label, done))
+        self.assertEqual(done.status, 1, (label, done))
         for text in said:
-            self.assertIn(text, done[2], label)
+            self.assertIn(text, done.error_text, label)
         self.assertFalse(os.path.exists(folder), label)
 
     def test_targets(self) -> None:
@@ -133,7 +134,7 @@ class InstallingTest(InstallTest):
                 folder = self.path(words[0])
                 narrow = ["sh", "-c", 'umask 077; exec "$@"', "sh", *words]
                 done = self.run_install(folder, shell=narrow)
-                self.assertEqual((done[0], done[2]), (0, ""), done)
+                self.assertEqual((done.status, done.error_text), (0, ""), done)
                 self.assertEqual(differing(tree(folder), first), [])
                 self.removes_all(folder, shell=words)
 
@@ -148,7 +149,7 @@ class InstallingTest(InstallTest):
         before = tree(folder)
         with open(os.path.join(folder, "usr/local/libexec/aide-compare/aide"), "rb") as running:
             done = self.run_install(folder, source=source)
-            self.assertEqual((done[0], differing(tree(folder), before)), (0, []), done)
+            self.assertEqual((done.status, differing(tree(folder), before)), (0, []), done)
             old, new = os.fstat(running.fileno()), os.stat(running.name)
             self.assertNotEqual(old.st_ino, new.st_ino, "the program is replaced by another file")
             self.assertEqual(
@@ -156,7 +157,7 @@ class InstallingTest(InstallTest):
             )
         os.remove(more)
         done = self.run_install(folder, source=source)
-        self.assertEqual((done[0], os.path.exists(target)), (0, False), done)
+        self.assertEqual((done.status, os.path.exists(target)), (0, False), done)
         self.removes_all(folder, source=source)
 
     def test_uninstall(self) -> None:
@@ -173,14 +174,14 @@ class InstallingTest(InstallTest):
         with open(os.path.join(folder, "usr/local", MANIFEST), "a") as file:
             file.write("file /usr/local/../../../outside\nfile /etc/kept\n")
         done = self.install("--destdir", folder, "--uninstall")
-        self.assertEqual((done[0], done[2]), (0, ""), done)
+        self.assertEqual((done.status, done.error_text), (0, ""), done)
         left = tree(folder)
         self.assertTrue(os.path.exists(outside), "a file outside the prefix is left")
         self.assertEqual({path: left.get(path) for path in before}, before)
         above = {mine[:at] for at, letter in enumerate(mine) if letter == "/"}
         self.assertEqual(left.keys() - before.keys(), {mine} | above - before.keys())
         done = self.install("--destdir", folder, "--uninstall")
-        self.assertEqual((done[0], "nothing is installed" in done[2]), (1, True), done)
+        self.assertEqual((done.status, "nothing is installed" in done.error_text), (1, True), done)
 
     def test_interrupted(self) -> None:
         """An installation that stopped half-way can be removed."""
@@ -194,7 +195,7 @@ class InstallingTest(InstallTest):
         with open(script, "w") as file:
             file.write(text.replace("put() {\n", killed))
         done = self.run_install(folder, source=source)
-        self.assertNotEqual(done[0], 0)
+        self.assertNotEqual(done.status, 0)
         self.assertGreater(len(files(tree(folder))), 10)
         self.removes_all(folder)
 
@@ -215,7 +216,7 @@ class InstallingTest(InstallTest):
             self.write(f"{name}/usr/local/{path}", "")
             before = tree(self.path(name))
             done = self.run_install(self.path(name))
-            self.assertEqual((done[0], "is in the way" in done[2]), (1, True), done)
+            self.assertEqual((done.status, "is in the way" in done.error_text), (1, True), done)
             self.assertEqual(tree(self.path(name)), before)
 
     def test_refusals(self) -> None:
@@ -225,7 +226,7 @@ class InstallingTest(InstallTest):
         words = [["--prefix", prefix] for prefix in prefixes] + [["--prefix"], ["--prefix="]]
         for arguments in (*words, ["--destdir"], ["--nonsense"], ["more"]):
             done = self.run_install(folder, *arguments)
-            self.assertEqual(done[:2], (2, ""), (arguments, done))
+            self.assertEqual((done.status, done.output), (2, b""), (arguments, done))
             self.assertFalse(os.path.exists(folder), arguments)
         alone = self.write("alone/aide", "a program\n", 0o755)
         for program, missing in (
@@ -236,8 +237,8 @@ class InstallingTest(InstallTest):
             done = self.install("--destdir", folder, "--program", program)
             self.refuses("a program that is not there", folder, done, missing)
         done = self.install("--help")
-        self.assertEqual((done[0], "--uninstall" in done[1]), (0, True), done)
-        self.assertIn("13 minutes", done[1])
+        self.assertEqual((done.status, "--uninstall" in done.output_text), (0, True), done)
+        self.assertIn("13 minutes", done.output_text)
 
     def test_build(self) -> None:
         """A program that is not built, or that is old, is built first."""
@@ -270,22 +271,24 @@ class InstallingTest(InstallTest):
             with open(calls) as file:
                 lines = [line for line in file.read().splitlines() if " run " in line]
             called = [f"{source}/crates/{crate} run -- -D -c /dev/null" for crate in wanted]
-            self.assertEqual((done[0], lines), (0, called), done)
-            self.assertEqual("13 minutes" in done[2], bool(wanted), "it says how long")
-            steps = done[2].count("\n  1 of 5 crates proved, 0 min: aide_attr\n")
+            self.assertEqual((done.status, lines), (0, called), done)
+            self.assertEqual("13 minutes" in done.error_text, bool(wanted), "it says how long")
+            steps = done.error_text.count("\n  1 of 5 crates proved, 0 min: aide_attr\n")
             self.assertEqual(steps, len(wanted), done)
         found = tree(os.path.join(folder, "usr/local"))
         for program, target in zip((self.program, lines_program_of(self.program)), PROGRAMS):
             with open(program, "rb") as file:
                 self.assertEqual(found[target][1], file.read(), target)
         done = self.run_words([folder + "/usr/local/bin/aide-compare", "--version"])
-        self.assertEqual((done[0], done[1].count("a proved build: yes\n")), (0, 2), done)
+        self.assertEqual(
+            (done.status, done.output_text.count("a proved build: yes\n")), (0, 2), done
+        )
         os.remove(built)
         script = os.path.join(source, "packaging", "make_package")
         words = ["sh", script, "--output", self.path("unbuilt/out")]
         done = self.run_words(words, env=surroundings)
-        self.assertEqual((done[0], os.path.exists(built)), (0, True), done)
-        self.assertIn("13 minutes", done[2])
+        self.assertEqual((done.status, os.path.exists(built)), (0, True), done)
+        self.assertIn("13 minutes", done.error_text)
         self.write("stubs/rt", "#!/bin/sh\nexit 1\n", 0o755)
         os.remove(built)
         unproved = self.path("unproved")
@@ -309,9 +312,9 @@ class InstallingTest(InstallTest):
         pair = [os.path.join(source, f"examples/small_tree/{name}.db") for name in ("old", "new")]
         command = [byte_code.PYTHON, "-ISv", os.path.join(prefix, "bin/aide-compare")]
         done = self.run_words([*command, *pair])
-        loaded = re.findall(r"^# code object from '?(\S*?)'?$", done[2], re.M)
+        loaded = re.findall(r"^# code object from '?(\S*?)'?$", done.error_text, re.M)
         own = [path for path in loaded if "/aide_compare/" in path]
         self.assertGreater(len(own), 10, done)
         self.assertEqual([path for path in own if not path.endswith(".pyc")], [])
         done = self.install("--prefix", prefix, "--uninstall", source=source)
-        self.assertEqual((done[0], os.path.exists(prefix)), (0, False), done)
+        self.assertEqual((done.status, os.path.exists(prefix)), (0, False), done)

@@ -8,6 +8,7 @@ import pwd
 import re
 import shutil
 
+from tests.lib.answer import Answer
 from tests.lib.program_test import slow
 from tests.lib.programs import lines_program_of
 from tests.lib.scratch import read
@@ -37,11 +38,11 @@ class InstalledTest(InstallTest):
         examples = os.path.join(HERE, "examples")
         words = ["-E", "-c", examples + "/aide.conf", "-B", f"@@define DIR {examples}"]
         done = self.run_words([command, *words])
-        self.assertEqual((done[0], done[1][:22]), (7, "AIDE found differences"), done)
+        self.assertEqual((done.status, done.output_text[:22]), (7, "AIDE found differences"), done)
         for subcommand in SUBCOMMANDS + HOSTS:
             done = self.run_words([command, *subcommand.split(), "--help"])
-            self.assertEqual((done[0], done[2]), (0, ""), done)
-            self.assertIn("usage: aide-compare", done[1], subcommand)
+            self.assertEqual((done.status, done.error_text), (0, ""), done)
+            self.assertIn("usage: aide-compare", done.output_text, subcommand)
 
     def test_version_of_programs(self) -> None:
         """The version says which programs there are, and which of them are run. Proved is what has
@@ -51,12 +52,14 @@ class InstalledTest(InstallTest):
             with open(program, "rb") as file:
                 digests.append(hashlib.sha256(file.read()).hexdigest())
         done = self.run_words([self.first("bin/aide-compare"), "--version"])
-        self.assertEqual(done[0], 0, done)
-        self.assertTrue(done[1].startswith(f"aide-compare {self.version}\n"), done)
-        self.assertEqual(re.findall("\nSHA-256: (.*)\n", done[1]), digests)
-        self.assertEqual(done[1].count(UNKNOWN), 2, "two without a record")
-        self.assertEqual(done[1].count("kit: a kit\na proved build: yes\n"), 2, "two with one")
-        runs = re.findall("\nrun on this machine: (.*)", done[1])
+        self.assertEqual(done.status, 0, done)
+        self.assertTrue(done.output_text.startswith(f"aide-compare {self.version}\n"), done)
+        self.assertEqual(re.findall("\nSHA-256: (.*)\n", done.output_text), digests)
+        self.assertEqual(done.output_text.count(UNKNOWN), 2, "two without a record")
+        self.assertEqual(
+            done.output_text.count("kit: a kit\na proved build: yes\n"), 2, "two with one"
+        )
+        runs = re.findall("\nrun on this machine: (.*)", done.output_text)
         self.assertIn(runs, (["yes", "no"] * 2, ["no", "yes"] * 2), "one of two runs")
 
     def test_pages(self) -> None:
@@ -123,7 +126,9 @@ class InstalledTest(InstallTest):
         self.assertEqual(re.findall(r"^ExecStart=(.*)$", service, re.M), [START])
         if not shutil.which("systemd-analyze"):
             self.skipTest("not installed: systemd-analyze")
-        release = re.match(r"systemd (\d+)", self.run_words(["systemd-analyze", "--version"])[1])
+        release = re.match(
+            r"systemd (\d+)", self.run_words(["systemd-analyze", "--version"]).output_text
+        )
         if not release or int(release[1]) < 252:
             self.skipTest("not installed: systemd-analyze of systemd")
         for name, text in units.items():
@@ -132,15 +137,17 @@ class InstalledTest(InstallTest):
         copy, timer = self.path("units/aide-compare.service"), self.path("units/aide-compare.timer")
         exposed = ["systemd-analyze", "security", "--offline=true", "--threshold=10", copy]
         done = self.run_words(exposed)
-        self.assertEqual(done[0], 0, ("the service is exposed by 1.0 at most", done[1][-80:]))
+        self.assertEqual(
+            done.status, 0, ("the service is exposed by 1.0 at most", done.output_text[-80:])
+        )
         done = self.run_words(["systemd-analyze", "verify", "--man=no", copy, timer])
-        self.assertEqual((done[0], "aide-compare" in done[2]), (0, False), done)
+        self.assertEqual((done.status, "aide-compare" in done.error_text), (0, False), done)
 
     def test_cron(self) -> None:
         """The jobs are silent, also where the tool ends with differences or is gone."""
         folder, called = self.path("jobs"), self.path("called")
         done = self.install("--prefix", folder, "--program", self.program)
-        self.assertEqual(done[0], 0, done)
+        self.assertEqual(done.status, 0, done)
         daily = os.path.join(folder, DOCUMENTS, "examples/cron/aide-compare.cron.daily")
         os.makedirs(self.path("lib/aide"))
         with open(daily) as file:
@@ -151,9 +158,9 @@ class InstalledTest(InstallTest):
         for status in (0, 5, 18):
             stub = f'#!/bin/sh\necho "$0 $*" >> "{called}"\nexit {status}\n'
             self.write("jobs/bin/aide-compare", stub, 0o755)
-            self.assertEqual(self.run_words([daily]), (status, "", ""))
+            self.assertEqual(self.run_words([daily]), Answer(b"", b"", status))
         os.remove(tool)
-        self.assertEqual(self.run_words([daily]), (0, "", ""))
+        self.assertEqual(self.run_words([daily]), Answer(b"", b"", 0))
         with open(called) as file:
             lines = file.read().splitlines()
         user = pwd.getpwuid(os.geteuid()).pw_name
@@ -165,7 +172,7 @@ class InstalledTest(InstallTest):
                 os.makedirs(os.path.dirname(target))
                 shutil.copy(daily, target)
                 done = self.run_words(["run-parts", "--test", os.path.dirname(target)])
-                self.assertEqual(target in done[1], name == "aide-compare", done)
+                self.assertEqual(target in done.output_text, name == "aide-compare", done)
 
     def test_version(self) -> None:
         """Whatever else names a version agrees with VERSION."""
@@ -181,11 +188,15 @@ class InstalledTest(InstallTest):
         packed."""
         program = self.copied_programs(self.program, "unproved programs", "aide-unproved")
         done = self.install("--destdir", self.path("unproved"), "--program", program)
-        self.assertEqual(done[0], 0, done)
+        self.assertEqual(done.status, 0, done)
         done = self.run_words([self.path("unproved/usr/local/bin/aide-compare"), "--version"])
-        self.assertEqual((done[0], done[1].count("a proved build: no\n")), (0, 2), done)
-        self.assertTrue(done[1].startswith(f"aide-compare {self.version}, unproved\n"), done)
+        self.assertEqual(
+            (done.status, done.output_text.count("a proved build: no\n")), (0, 2), done
+        )
+        self.assertTrue(
+            done.output_text.startswith(f"aide-compare {self.version}, unproved\n"), done
+        )
         script = os.path.join(self.source, "packaging", "make_package")
         done = self.run_words(["sh", script, "--output", self.path("packed"), "--program", program])
-        self.assertEqual((done[0], "is not proved" in done[2]), (1, True), done)
+        self.assertEqual((done.status, "is not proved" in done.error_text), (1, True), done)
         self.assertFalse(os.path.exists(self.path("packed")), "nothing is packed")

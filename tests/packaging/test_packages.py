@@ -12,10 +12,11 @@ import subprocess
 import tarfile
 from typing import Any
 
+from tests.lib.answer import Answer
 from tests.lib.program_test import slow
 from tests.packaging import debian, rpm
 from tests.packaging.test_install import LINK
-from tests.packaging.installation import Answer, InstallTest, files, rights, texts, tree
+from tests.packaging.installation import InstallTest, files, rights, texts, tree
 
 FIXED = 1767225600
 DOCUMENTS = "usr/share/doc/aide-compare/"
@@ -78,16 +79,16 @@ def try_unpacking(trial: InstallTest, tarball: str) -> None:
     """What the help says of the tarball, word for word, with another folder in the place of
     /usr/local."""
     script = os.path.join(trial.source, "packaging", "make_package")
-    help_text = trial.run_words(["sh", script, "--help"])[1]
+    help_text = trial.run_words(["sh", script, "--help"]).output_text
     lines = re.findall(r"^ +(?:and to remove it: )?(tar .*)$", help_text, re.M)
     folder = trial.path("unpacked")
     os.makedirs(os.path.join(folder, "bin"))
     os.chmod(os.path.join(folder, "bin"), 0o2775)
     unpack, remove = (line.replace("/usr/local", folder).replace("FILE", tarball) for line in lines)
-    trial.assertEqual(trial.run_words(["sh", "-c", unpack]), (0, "", ""))
+    trial.assertEqual(trial.run_words(["sh", "-c", unpack]), Answer(b"", b"", 0))
     trial.assertTrue(files(tree(folder)) == without_manifest(trial), "the tarball is unpacked")
     trial.assertEqual(tree(folder)["bin"][0], 0o2775, "a folder that was there keeps its mode")
-    trial.assertEqual(trial.run_words(["sh", "-c", remove]), (0, "", ""))
+    trial.assertEqual(trial.run_words(["sh", "-c", remove]), Answer(b"", b"", 0))
     trial.assertEqual(files(tree(folder)), {}, "what was unpacked is removed")
 
 
@@ -101,12 +102,12 @@ def name_in_package(name: str) -> str:
 def try_debian(trial: InstallTest, path: str, time: int) -> None:
     """The Debian package: its fields, its sums, its times, and nothing of /usr/local."""
     done = trial.run_words(["dpkg-deb", "-f", path])
-    fields = dict(re.findall(r"^([\w-]+): (.*)$", done[1], re.M))
+    fields = dict(re.findall(r"^([\w-]+): (.*)$", done.output_text, re.M))
     wanted = {**FIELDS, "Version": trial.version + "-1"}
     trial.assertEqual({**fields, **wanted}, fields)
     folder = path + ".tree"
     done = trial.run_words(["dpkg-deb", "-R", path, folder])
-    trial.assertEqual(done[0], 0, done)
+    trial.assertEqual(done.status, 0, done)
     found = tree(folder)
     inside = {name: data for name, (_, data) in files(found).items()}
     kept = {name: data for name, data in inside.items() if not name.startswith("DEBIAN/")}
@@ -174,7 +175,7 @@ class PackagesTest(InstallTest):
     def makes(self, name: str, **more: Any) -> dict[str, bytes]:
         """The packages that are made without a fault."""
         done, found = make(self, name, **{"env": self.more, **more})
-        self.assertEqual(done[0], 0, done)
+        self.assertEqual(done.status, 0, done)
         return found
 
     def test_packages(self) -> None:
@@ -191,7 +192,7 @@ class PackagesTest(InstallTest):
         dated = self.makes("dated", env={**self.more, "SOURCE_DATE_EPOCH": "4000000000"})
         try_tarball(self, dated[self.tarball], 4000000000)
         done, none = make(self, "undated", env={**self.more, "SOURCE_DATE_EPOCH": "today"})
-        self.assertEqual((done[0], none), (1, {}), done)
+        self.assertEqual((done.status, none), (1, {}), done)
         if self.package in names:
             package = self.path("packages", self.package)
             try_debian(self, package, FIXED)
@@ -202,8 +203,8 @@ class PackagesTest(InstallTest):
         if self.of_rpm in names and os.geteuid() == 0:
             rpm.try_life(self, self.path("packages", self.of_rpm))
         done, least = make(self, "least", env={**self.more, "PATH": self.plain_path})
-        self.assertEqual((done[0], set(least)), (0, {self.tarball, "SHA256SUMS"}), done)
-        self.assertIn("no Debian package", done[1])
+        self.assertEqual((done.status, set(least)), (0, {self.tarball, "SHA256SUMS"}), done)
+        self.assertIn("no Debian package", done.output_text)
         self.assertTrue(least[self.tarball] == first[self.tarball], "without dpkg-deb")
 
     def try_elsewhere(self, first: dict[str, bytes]) -> None:

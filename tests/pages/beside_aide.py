@@ -16,10 +16,11 @@ import sys
 from typing import Any
 from urllib.parse import unquote_to_bytes
 
-from tools.lib.arguments import add_program, parser_of
+from tests.lib.answer import Answer
 from tests.lib.scratch import Scratch
 from tests.lib.tally import Tally
 from tests.pages.cases_beside_aide import A, BOTH, CASES, CONFIGURATION, RULES, TYPE, Case
+from tools.lib.arguments import add_program, parser_of
 
 AIDE = shutil.which("aide") or ""
 BITS = {"l": 1, "p": 2, "u": 3, "g": 4, "s": 5, "a": 6, "c": 7, "m": 8, "i": 9, "b": 10, "n": 11}
@@ -30,7 +31,6 @@ OTHER_BITS = {
     **{"e2fsattrs": 36, "capabilities": 37},
 }
 NAMES = b"a/b/c a/b.c a-b a%20b a a.txt a@b B %c3%bc %ff new%0aline per%2541 # ~ a/%01".split()
-Answer = tuple[int, str, str]
 
 
 class Trial(Scratch, Tally):
@@ -44,8 +44,7 @@ class Trial(Scratch, Tally):
     def run(self, program: str, words: list[str], **more: Any) -> Answer:
         streams: dict[str, Any] = {"stdin": subprocess.DEVNULL, "stdout": subprocess.PIPE, **more}
         done = subprocess.run([program, *words], cwd=self.root, stderr=subprocess.PIPE, **streams)
-        output = (done.stdout or b"").decode(errors="replace")
-        return done.returncode, output, done.stderr.decode(errors="replace")
+        return Answer(done.stdout or b"", done.stderr, done.returncode)
 
     def put(self, case: Case) -> list[str]:
         """Writes a case's files, and gives its words."""
@@ -66,14 +65,14 @@ class Trial(Scratch, Tally):
         words = self.put(case)
         for program, status, text in zip((AIDE, self.program), case.statuses, case.texts):
             got = self.run(program, words)
-            good = got[0] == status and re.search(text, got[1])
+            good = got.status == status and re.search(text, got.output_text)
             self.holds(f"{case.name}: {program}, wanted {status}", good, got)
 
     def scan(self, rule: str) -> tuple[list[str], list[bytes]]:
         """The columns and the entries of a database that AIDE writes of the folder `tree`."""
         text = f"database_out=file:{self.path('scanned')}\n{self.path('tree')} {rule}\n"
-        status, _, errors = self.run(AIDE, ["--init", "-c", self.write("init.conf", text)])
-        self.holds("aide --init", status == 0, errors)
+        done = self.run(AIDE, ["--init", "-c", self.write("init.conf", text)])
+        self.holds("aide --init", done.status == 0, done)
         with open(self.path("scanned"), "rb") as file:
             lines = file.read().split(b"\n")
         columns = next(line for line in lines if line.startswith(b"@@db_spec ")).decode()
@@ -125,13 +124,13 @@ def try_devices(trial: Trial) -> None:
     for program, status in ((AIDE, 4), (trial.program, 18)):
         with open("/dev/full", "wb") as full:
             got = trial.run(program, words, stdout=full)
-        trial.holds("a full device: " + program, got[0] == status, got)
+        trial.holds("a full device: " + program, got.status == status, got)
     for program, status in ((AIDE, -13), (trial.program, 18)):
         reader, writer = os.pipe()
         os.close(reader)
         got = trial.run(program, words, stdout=writer)
         os.close(writer)
-        trial.holds("a reader that has gone: " + program, got[0] == status, got)
+        trial.holds("a reader that has gone: " + program, got.status == status, got)
     conf = BOTH.replace("NEW", trial.path("new"))
     trial.write("conf", conf.replace("OLD", "/dev/stdin"))
     for program, status in ((AIDE, 4), (trial.program, 18)):
@@ -153,12 +152,12 @@ def try_devices(trial: Trial) -> None:
 
 def try_answers(trial: Trial) -> None:
     """AIDE's own answers that a page names."""
-    groups = dict(re.findall(r"^(\S): (.*)$", trial.run(AIDE, ["--version"])[1], re.M))
+    groups = dict(re.findall(r"^(\S): (.*)$", trial.run(AIDE, ["--version"]).output_text, re.M))
     for group, wanted in ((">", {"s", "growing"}), ("R", {*"lpugscmin", "md5", "ftype"})):
         found = set(groups.get(group, "").split("+"))
         trial.holds("AIDE's group " + group, wanted <= found, groups)
     for word, statuses in (("-E", (17, 15)), ("--help", (0, 15))):
-        got = (trial.run(AIDE, [word])[0], trial.run(trial.program, [word])[0])
+        got = tuple(trial.run(each, [word]).status for each in (AIDE, trial.program))
         trial.holds(f"the word {word} alone", got == statuses, got)
     conf = RULES + "database_in=file:DIR/@@{HOSTNAME}\ndatabase_new=file:NEW\n"
     trial.case(Case("HOSTNAME", (4, 18), conf, files={socket.gethostname().split(".")[0]: A}))
@@ -172,7 +171,7 @@ def main() -> int:
         print("skipped: AIDE is not installed")
         return 0
     trial = Trial(args.program)
-    version = trial.run(AIDE, ["--version"])[1].split("\n")[0]
+    version = trial.run(AIDE, ["--version"]).output_text.split("\n")[0]
     is_described = version.startswith("AIDE 0.18.")
     print(version, "" if is_described else "(docs/DIFFERENCES.md describes 0.18.3)")
     try:

@@ -16,8 +16,8 @@ import re
 import tempfile
 from collections import namedtuple
 
-from tests.oracle.session import Answer
 from tools.lib.arguments import parser_of
+from tests.lib.answer import Answer
 from tests.lib.tally import wanted, wanted_lines
 
 HEADER = re.compile(r"^-- (\w+)( \(escaped\)| \d+)? --$")

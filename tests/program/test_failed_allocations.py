@@ -26,11 +26,12 @@ import os
 import struct
 from collections import Counter, namedtuple
 
+from tests.lib.answer import Answer
 from tests.lib.program_test import new_seed, slow
 from tests.lib.scratch import TOP
 from tests.program import cases, refusal_rows
 from tests.program.configurations import refused as refused_configurations
-from tests.oracle.session import NO_MEMORY, USAGE, Answer, refused
+from tests.oracle.session import NO_MEMORY, USAGE, refused
 from tests.lib.preload import PreloadTest, run_with
 from tests.program.random_sessions import make_session, make_session_beside
 from tests.program.real_files.test_examples import LEVELS, folders_of_aide, words_at

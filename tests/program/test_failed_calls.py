@@ -15,8 +15,9 @@ import os
 import struct
 from collections import Counter, namedtuple
 
+from tests.lib.answer import Answer
 from tests.lib.program_test import slow
-from tests.oracle.session import BAD_CONFIGURATION, BAD_DATABASE, BAD_DEVICE, USAGE, Answer, refused
+from tests.oracle.session import BAD_CONFIGURATION, BAD_DATABASE, BAD_DEVICE, USAGE, refused
 from tests.lib.preload import PreloadTest, run_with
 from tests.program.real_files.folder import NEW, OLD, SKIPPING, Folder, names
 from tests.lib.tally import difference, side_by_side, wanted, wanted_lines

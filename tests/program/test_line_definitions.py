@@ -14,6 +14,7 @@ import re
 import subprocess
 import unicodedata
 
+from tests.lib.answer import Answer
 from tests.lib.program_test import AnswerTest, new_seed
 from tests.lib.tally import shown
 from tests.oracle import configuration
@@ -23,7 +24,7 @@ from tests.oracle.database import database_of
 from tests.oracle.fields import FILE_TYPES
 from tests.oracle.lines import lines_answer_of, string, text_member
 from tests.oracle.report import report_of
-from tests.oracle.session import Answer, Beginning, answer_of
+from tests.oracle.session import answer_of
 from tests.oracle.texts import printed
 from tests.program import line_rows
 from tests.program.random_texts.configurations import random_configuration
@@ -111,8 +112,7 @@ def value_of(attribute, members):
 
 def is_without_end(output):
     """Whether no output that is allowed has a last line."""
-    text = output.text if isinstance(output, Beginning) else output
-    return not any("end" in line for line in read(text))
+    return not any("end" in line for line in read(output))
 
 
 def side_of(members):

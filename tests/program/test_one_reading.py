@@ -11,9 +11,9 @@ import subprocess
 import threading
 import time
 
+from tests.lib.answer import Answer
 from tests.lib.program_test import new_seed, slow
 from tests.lib.tally import difference, run, side_by_side, wanted_lines
-from tests.oracle.session import Answer
 from tests.program.real_files.folder import EMPTY, NEW, OLD, SKIPPING, Folder, names
 from tests.program.real_files.test_fifos import fed
 from tests.program.test_failed_calls import FILES

@@ -5,8 +5,8 @@ from __future__ import annotations
 
 import os
 
+from tests.lib.answer import Answer
 from tests.lib.tally import difference, run, shown, wanted_lines
-from tests.oracle.session import Answer
 from tests.program import cases, field_rows, refusal_rows
 from tests.program.real_files.folder import FolderTest, database
 

@@ -12,10 +12,11 @@ import json
 import os
 
 from tests.commands.viewers.schema import Validator, schema_of_lines
+from tests.lib.answer import Answer
 from tests.lib.program_test import SESSIONS, new_seed, slow
 from tests.lib.tally import difference, run, shown, side_by_side, wanted_lines
 from tests.oracle.database import LINE_LIMIT
-from tests.oracle.session import USAGE_LINE, Answer
+from tests.oracle.session import USAGE_LINE
 from tests.program import cases, line_rows
 from tests.program.damages import WAYS
 from tests.program.test_failed_calls import FILES, NAMES

@@ -2,8 +2,8 @@
 import os
 import resource
 
+from tests.lib.answer import Answer
 from tests.lib.program_test import ProgramTest, slow
-from tests.oracle.session import Answer
 from tests.lib.tally import difference, run, side_by_side
 
 from .test_fifos import Feeder

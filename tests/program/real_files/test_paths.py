@@ -3,7 +3,8 @@ great lengths; and files that are almost the ones that were named."""
 import gzip
 import os
 
-from tests.oracle.session import Answer, answer_of
+from tests.lib.answer import Answer
+from tests.oracle.session import answer_of
 from tests.lib.tally import file_at, run, wanted
 
 from .folder import NEW, OLD, Folder, FolderTest
