@@ -1,5 +1,8 @@
 """What accounts for a change: the old entry, that of a trusted machine, or nothing."""
+from __future__ import annotations
+
 from .attributes import ATTRIBUTES
+from .database import Entry
 
 # What each machine has of its own. The size of a directory depends on the file system.
 OWN = frozenset(["a", "m", "c", "i", "b"])
@@ -23,12 +26,12 @@ STRONG = frozenset(
 )
 
 
-def type_bits(entry):
+def type_bits(entry: Entry) -> int | None:
     """The bits of the file type of an entry, None where it has no type."""
-    return entry["ftype"] >> 12 if "ftype" in entry else None
+    return int(entry["ftype"]) >> 12 if "ftype" in entry else None
 
 
-def same_kept(first, second, kind):
+def same_kept(first: Entry, second: Entry, kind: int) -> bool:
     """Whether two entries have the same in all that is neither a digest nor a machine's own."""
     own = OWN_OF_DIRECTORIES if kind == 0o04 else OWN
     kept = [attribute.name for attribute in ATTRIBUTES if attribute.name not in own | DIGESTS]
@@ -37,7 +40,7 @@ def same_kept(first, second, kind):
     )
 
 
-def agree(first, second):
+def agree(first: Entry, second: Entry) -> bool:
     """Whether two entries differ only in what each machine has of its own, and in digests that one
     lacks. Devices never agree, since no database has their numbers."""
     kind = type_bits(first)
@@ -53,12 +56,17 @@ def agree(first, second):
     return same_kept(first, second, kind)
 
 
-def both_agree(first, second):
+def both_agree(first: Entry | None, second: Entry | None) -> bool:
     """Whether both entries are there and agree."""
     return first is not None and second is not None and agree(first, second)
 
 
-def same_as(old, new, trusted_old=None, trusted_new=None):
+def same_as(
+    old: Entry | None,
+    new: Entry | None,
+    trusted_old: Entry | None = None,
+    trusted_new: Entry | None = None,
+) -> str | None:
     """What accounts for a change: 'old', 'trusted' or None. An argument is an entry, or None for no
     entry.
 

@@ -1,11 +1,26 @@
 """The table of attributes, the predefined groups, and what an expression over them means."""
+from __future__ import annotations
+
 import re
-from collections import namedtuple
+from collections.abc import Mapping
+from typing import NamedTuple
 
-Attribute = namedtuple("Attribute", "name detail column bit slot form")
+Groups = Mapping[str, "frozenset[str]"]
 
-# The forms of fields: 'type' and 'perm' (octal), 'number', 'time', 'link', 'opaque', or a digest's
-# least and greatest length.
+
+class Attribute(NamedTuple):
+    """What is known of an attribute."""
+
+    name: str
+    detail: str
+    column: str
+    bit: int | None
+    slot: str
+    # How a field has it: 'type' and 'perm' (octal), 'number', 'time', 'link', 'opaque', or a
+    # digest's least and greatest length.
+    form: str | tuple[int, int]
+
+
 ATTRIBUTES = [
     Attribute("ftype", "Type", "perm", None, "Y", "type"),
     Attribute("l", "Lname", "lname", 1, "l", "link"),
@@ -62,22 +77,23 @@ BEGINNING = re.compile(rb"(?:" + EXPRESSION.pattern + rb"(?:[+-]" + BLANK + rb")
 SIGNED = re.compile(rb"([+-]?)[ \t]*([A-Za-z0-9_>]+)")
 
 
-def set_of_name(name, defined):
+def set_of_name(name: bytes, defined: Groups) -> frozenset[str] | None:
     """The set that a name stands for, groups of the configuration first; None where it stands for
     nothing."""
-    name = name.decode("latin-1")
+    text = name.decode("latin-1")
     for groups in (defined, GROUPS):
-        if name in groups:
-            return groups[name]
-    if name in NAMES:
-        return frozenset([name])
-    return frozenset() if name in EMPTY_NAMES else None
+        if text in groups:
+            return groups[text]
+    if text in NAMES:
+        return frozenset([text])
+    return frozenset() if text in EMPTY_NAMES else None
 
 
-def expression_fault(text, defined):
+def expression_fault(text: bytes, defined: Groups) -> str | None:
     """The kind of the first fault of an expression, or None; of two at one byte the bad byte
     counts."""
-    good = BEGINNING.match(text).end()
+    beginning = BEGINNING.match(text)
+    good = beginning.end() if beginning else 0
     faults = []
     if good < len(text) or not EXPRESSION.fullmatch(text):
         faults.append((good, 0, "BadExpression"))
@@ -87,10 +103,12 @@ def expression_fault(text, defined):
     return min(faults)[2] if faults else None
 
 
-def meaning_of(text, defined):
+def meaning_of(text: bytes, defined: Groups) -> frozenset[str]:
     """The attributes of an expression without a fault: those whose last term that holds them is
     added."""
-    terms = [(sign, set_of_name(name, defined)) for sign, name in SIGNED.findall(text)]
+    terms = [
+        (sign, set_of_name(name, defined) or frozenset()) for sign, name in SIGNED.findall(text)
+    ]
     meaning = set()
     for attribute in NAMES:
         signs = [sign for sign, attributes in terms if attribute in attributes]

@@ -3,11 +3,14 @@
 A configuration is three texts, one after another. Each line that says something is marked with what
 it says. What a line says may depend only on the marks before it.
 """
-import re
-from collections import namedtuple
-from functools import lru_cache
+from __future__ import annotations
 
-from .attributes import EMPTY_NAMES, NAMES, expression_fault, meaning_of
+import re
+from collections.abc import Sequence
+from functools import lru_cache
+from typing import Any, Mapping, NamedTuple, NoReturn, Tuple
+
+from .attributes import EMPTY_NAMES, Groups, NAMES, expression_fault, meaning_of
 from .texts import BLANKS, lines_of
 
 LINE_LIMIT, VALUE_LIMIT, COUNT_LIMIT, DEPTH_LIMIT = 65536, 4096, 1024, 32
@@ -76,12 +79,38 @@ DEFAULTS = {
 WORD = re.compile(rb"[A-Za-z0-9_]{1,64}")
 REFERENCE = re.compile(rb"@@\{([^}]*)\}", re.DOTALL)
 
-# A line that says something. `block` is O, D or C where it opens, divides or closes one; `first` is
-# the part that an opening line chooses; `says` is ('define', name, value), ('undef', name),
-# ('option', name, value) or ('group', name, set).
-Mark = namedtuple("Mark", "text block used first says")
-Said = namedtuple("Said", "block first says")
-Fault = namedtuple("Fault", "text line kind")
+
+class Said(NamedTuple):
+    """What a line says."""
+
+    # O, D or C where it opens, divides or closes a block.
+    block: str
+    # The part that an opening line chooses.
+    first: bool | None
+    # ('define', name, value), ('undef', name), ('option', name, value) or ('group', name, set).
+    says: tuple[Any, ...] | None
+
+
+class Mark(NamedTuple):
+    """A line that says something, and whether it is used."""
+
+    text: str
+    block: str
+    used: bool
+    first: bool | None
+    says: tuple[Any, ...] | None
+
+
+class Fault(NamedTuple):
+    text: str
+    line: int
+    kind: str
+
+
+# An opening line, and whether a line is in its second part.
+Around = Tuple[Mark, bool]
+# The values of the options by their names.
+Settings = Mapping[str, Any]
 
 
 class Refused(Exception):
@@ -89,14 +118,14 @@ class Refused(Exception):
 
 
 @lru_cache(maxsize=None)
-def is_balanced(blocks):
+def is_balanced(blocks: str) -> bool:
     """Whether lines of blocks (O, D, C) are balanced: taking out blocks that hold none, again and
     again, leaves nothing."""
     shorter = re.sub("OD?C", "", blocks)
     return shorter == "" if shorter == blocks else is_balanced(shorter)
 
 
-def enclosing(marks):
+def enclosing(marks: list[Mark]) -> list[Around]:
     """The opening lines around the line after these marks of its text, each with whether it stands
     in its second part."""
     marks = [mark for mark in marks if mark.block]
@@ -115,18 +144,18 @@ def enclosing(marks):
     return around
 
 
-def variables_before(marks):
+def variables_before(marks: list[Mark]) -> dict[bytes, bytes]:
     """The variables that are defined after these marks: the last line that names one defines it."""
     said = [mark.says for mark in marks if mark.used and mark.says]
     last = {says[1]: says for says in said if says[0] in ("define", "undef")}
     return {name: says[2] for name, says in last.items() if says[0] == "define"}
 
 
-def groups_before(marks):
+def groups_before(marks: list[Mark]) -> Groups:
     return {mark.says[1]: mark.says[2] for mark in marks if mark.says and mark.says[0] == "group"}
 
 
-def expanded(text, marks):
+def expanded(text: bytes, marks: list[Mark]) -> bytes:
     """A text with each reference to a variable replaced by its value, or by nothing."""
     if b"@@{" not in text:
         return text
@@ -134,13 +163,13 @@ def expanded(text, marks):
     return REFERENCE.sub(lambda found: values.get(found.group(1), b""), text)
 
 
-def word_and_rest(line):
+def word_and_rest(line: bytes) -> tuple[bytes, bytes]:
     """The word of a directive and what follows it, without the blanks around it."""
-    found = re.match(rb"([^ \t]*)(.*)\Z", line[2:], re.DOTALL)
-    return found.group(1), found.group(2).strip(BLANKS)
+    word = re.split(rb"[ \t]", line[2:], maxsplit=1)[0]
+    return word, line[2 + len(word) :].strip(BLANKS)
 
 
-def condition_of(word, rest):
+def condition_of(word: bytes, rest: bytes) -> tuple[bytes, bool]:
     """The name that an opening line asks for, and whether its first part wants it defined."""
     if word in (b"ifdef", b"ifndef"):
         return rest, word == b"ifdef"
@@ -150,20 +179,22 @@ def condition_of(word, rest):
     return found.group(2).strip(BLANKS), found.group(1) is None
 
 
-def judge_word(word):
+def judge_word(word: bytes) -> NoReturn:
     """Refuses the words that are left out, and those that nobody knows."""
     if word in (b"include", b"x_include", b"ifhost", b"ifnhost"):
         raise Refused("LeftOut")
     raise Refused("BadDirective")
 
 
-def judge_name(name):
+def judge_name(name: bytes) -> None:
     if not WORD.fullmatch(name):
         raise Refused("BadName")
 
 
-def open_block(word, rest, used, around, marks):
-    name, wanted = condition_of(word, rest) if used else (None, True)
+def open_block(
+    word: bytes, rest: bytes, used: bool, around: list[Around], marks: list[Mark]
+) -> Said:
+    name, wanted = condition_of(word, rest) if used else (b"", True)
     if len(around) + 1 > DEPTH_LIMIT:
         raise Refused("TooDeep")
     if not used:
@@ -172,10 +203,10 @@ def open_block(word, rest, used, around, marks):
     return Said("O", (name in variables_before(marks)) == wanted, None)
 
 
-def define(rest, marks):
-    name, value = re.match(rb"([^ \t]*)(.*)\Z", rest, re.DOTALL).groups()
+def define(rest: bytes, marks: list[Mark]) -> Said:
+    name = re.split(rb"[ \t]", rest, maxsplit=1)[0]
     judge_name(name)
-    value = expanded(value.strip(BLANKS), marks)
+    value = expanded(rest[len(name) :].strip(BLANKS), marks)
     if len(value) > VALUE_LIMIT:
         raise Refused("ValueTooLong")
     variables = variables_before(marks)
@@ -184,7 +215,7 @@ def define(rest, marks):
     return Said("", None, ("define", name, value))
 
 
-def read_directive(line, used, around, marks):
+def read_directive(line: bytes, used: bool, around: list[Around], marks: list[Mark]) -> Said | None:
     """What a line that begins with @@ says; of an unused one the blocks alone."""
     word, rest = word_and_rest(line)
     if word in (b"ifdef", b"ifndef", b"if"):
@@ -207,7 +238,7 @@ def read_directive(line, used, around, marks):
     return judge_word(word)
 
 
-def path_of_url(url):
+def path_of_url(url: bytes) -> bytes:
     """The path of a database."""
     if url == b"stdin" or url.startswith((b"fd:", b"http:", b"https:", b"ftp:")):
         raise Refused("LeftOut")
@@ -227,7 +258,7 @@ def path_of_url(url):
     return path
 
 
-def set_of(text, marks):
+def set_of(text: bytes, marks: list[Mark]) -> frozenset[str]:
     groups = groups_before(marks)
     fault = expression_fault(text, groups)
     if fault:
@@ -235,7 +266,7 @@ def set_of(text, marks):
     return meaning_of(text, groups)
 
 
-def read_option(name, value, marks):
+def read_option(name: str, value: bytes, marks: list[Mark]) -> Said:
     """The value of an option."""
     if value == b"":
         raise Refused("BadValue")
@@ -258,7 +289,7 @@ def read_option(name, value, marks):
     return Said("", None, ("option", name, BOOLS[value] if name in BOOL_OPTIONS else text))
 
 
-def read_group(name, value, marks):
+def read_group(name: bytes, value: bytes, marks: list[Mark]) -> Said:
     text = name.decode("latin-1")
     if not (WORD.fullmatch(name) or name == b">") or text in NAMES or text in EMPTY_NAMES:
         raise Refused("BadName")
@@ -269,7 +300,7 @@ def read_group(name, value, marks):
     return Said("", None, ("group", text, attributes))
 
 
-def read_statement(line, marks):
+def read_statement(line: bytes, marks: list[Mark]) -> Said | None:
     """What a used line that is no directive says."""
     line = expanded(line, marks).strip(BLANKS)
     if not line or line.startswith(b"#"):
@@ -286,7 +317,7 @@ def read_statement(line, marks):
     return read_group(name, value, marks)
 
 
-def read_line(line, around, marks):
+def read_line(line: bytes, around: list[Around], marks: list[Mark]) -> tuple[Said | None, bool]:
     """What a line without the blanks around it says, and whether it is used; None where it says
     nothing."""
     used = all(mark.used and mark.first != divided for mark, divided in around)
@@ -297,11 +328,12 @@ def read_line(line, around, marks):
     return (read_statement(line, marks) if used else None), used
 
 
-def marks_of(texts):
+def marks_of(texts: Sequence[tuple[str, bytes]]) -> list[Mark] | Fault:
     """The marks of the lines of all texts, or the first fault."""
-    marks = []
+    marks: list[Mark] = []
     for text, content in texts:
-        lines, of_text = lines_of(content), []
+        lines = lines_of(content)
+        of_text: list[Mark] = []
         for number, line in enumerate(lines, 1):
             line = line.strip(BLANKS)
             if not line or line.startswith(b"#"):
@@ -318,13 +350,13 @@ def marks_of(texts):
     return marks
 
 
-def settings_of(marks):
+def settings_of(marks: list[Mark]) -> dict[str, Any]:
     """The last assignment of each option; of those of the report the last before the first report
     to standard output."""
     said = [mark.says[1:] for mark in marks if mark.says and mark.says[0] == "option"]
     ends = [index for index, option in enumerate(said) if option == ("report_url", "stdout")]
     before = said[: ends[0]] if ends else said
-    settings = {**DEFAULTS, "database_in": None, "database_new": None}
+    settings: dict[str, Any] = {**DEFAULTS, "database_in": None, "database_new": None}
     settings.update((name, value) for name, value in before if name in DEFAULTS)
     settings.update(
         (name, value) for name, value in said if name in ("database_in", "database_new")
@@ -332,7 +364,7 @@ def settings_of(marks):
     return settings
 
 
-def read(before, file, after, compares):
+def read(before: bytes, file: bytes, after: bytes, compares: bool) -> dict[str, Any] | Fault:
     """The settings of a configuration, or its first fault; databases have to be named where it is
     read to compare."""
     marks = marks_of([("before", before), ("config", file), ("after", after)])

@@ -1,7 +1,9 @@
 """The first fault of a database, or its entries: a map from paths to maps from attributes to
 values."""
-from collections import namedtuple
+from __future__ import annotations
+
 from itertools import accumulate
+from typing import Any, Dict, List, NamedTuple, Tuple
 
 from .attributes import ATTRIBUTES
 from .fields import Meaningless, decoded, number_of, values_of
@@ -11,18 +13,39 @@ LINE_LIMIT, BYTE_LIMIT, COLUMN_LIMIT = 1048576, 2**40, 64
 WITHOUT_ENTRIES = b"@@begin_db\n@@db_spec name\n@@end_db\n"
 KNOWN = [b"name", b"attr"] + [attribute.column.encode() for attribute in ATTRIBUTES]
 
-Fault = namedtuple("Fault", "line kind column")
-Database = namedtuple("Database", "entries skipped")
-# The lines of a text that are not skipped, as (number, fields), by what they are.
-Parts = namedtuple("Parts", "begin spec entries end")
+# The number of a line and its fields.
+Line = Tuple[int, List[bytes]]
+# The values of the attributes that an entry has, and the entries by their paths.
+Entry = Dict[str, Any]
+Entries = Dict[bytes, Entry]
 
 
-def order_of(path):
+class Fault(NamedTuple):
+    line: int
+    kind: str
+    column: int | None
+
+
+class Database(NamedTuple):
+    entries: Entries
+    skipped: list[int] = []
+
+
+class Parts(NamedTuple):
+    """The lines of a text that are not skipped, by what they are."""
+
+    begin: list[Line]
+    spec: list[Line]
+    entries: list[Line]
+    end: list[Line]
+
+
+def order_of(path: bytes) -> list[bytes]:
     """What paths are ordered by: their pieces."""
     return path.split(b"/")
 
 
-def parts_of(lines):
+def parts_of(lines: list[bytes]) -> Parts:
     """The first line, the second one, the lines up to the end line, and the end line, as far as
     they are there."""
     read = [(number, fields_of(line)) for number, line in enumerate(lines, 1)]
@@ -35,7 +58,7 @@ def parts_of(lines):
     return Parts(read[:1], read[1:2], read[2 : ends[0]], read[ends[0] :][:1])
 
 
-def is_spec(fields):
+def is_spec(fields: list[bytes]) -> bool:
     columns = fields[1:]
     known = [column for column in columns if column in KNOWN]
     return (
@@ -46,17 +69,17 @@ def is_spec(fields):
     )
 
 
-def spec_fault(fields):
+def spec_fault(fields: list[bytes]) -> str | None:
     if fields[0] == b"@@db_spec":
         return None if is_spec(fields) else "BadSpec"
     return "BadDirective" if fields[0].startswith(b"@@") and fields[0] != b"@@end_db" else "NoSpec"
 
 
-def path_of(columns, fields):
+def path_of(columns: list[bytes], fields: list[bytes]) -> bytes:
     return decoded(fields[columns.index(b"name")])
 
 
-def shape_fault(columns, fields):
+def shape_fault(columns: list[bytes], fields: list[bytes]) -> str | None:
     """What is wrong with an entry before its order is asked for."""
     if fields[0].startswith(b"@@"):
         return "BadDirective"
@@ -65,7 +88,7 @@ def shape_fault(columns, fields):
     return None if path_of(columns, fields).startswith(b"/") else "BadName"
 
 
-def column_fault(columns, fields):
+def column_fault(columns: list[bytes], fields: list[bytes]) -> tuple[str, int] | None:
     """The kind and the column of the first field without a meaning."""
     for number, (column, field) in enumerate(zip(columns, fields), 1):
         try:
@@ -79,22 +102,22 @@ def column_fault(columns, fields):
     return None
 
 
-def entry_faults(columns, entries):
+def entry_faults(columns: list[bytes], entries: list[Line]) -> list[Fault]:
     """The first fault of the entries, as a list."""
     shapes = [(number, shape_fault(columns, fields)) for number, fields in entries]
     whole = next((index for index, shape in enumerate(shapes) if shape[1]), len(entries))
     orders = [order_of(path_of(columns, fields)) for _, fields in entries[:whole]]
-    greatest = list(accumulate(orders, max))
+    greatest = list(accumulate(orders, lambda one, other: max(one, other)))
     for index, (number, fields) in enumerate(entries[:whole]):
         if index and not greatest[index - 1] < orders[index]:
             return [Fault(number, "OutOfOrder", None)]
         fault = column_fault(columns, fields)
         if fault:
             return [Fault(number, *fault)]
-    return [Fault(number, shape, None) for number, shape in shapes[whole : whole + 1]]
+    return [Fault(number, shape, None) for number, shape in shapes[whole : whole + 1] if shape]
 
 
-def text_faults(parts):
+def text_faults(parts: Parts) -> list[Fault]:
     """The first fault of the lines that are not skipped, as a list."""
     for number, fields in parts.begin:
         if fields[0] != b"@@begin_db":
@@ -107,7 +130,7 @@ def text_faults(parts):
     return []
 
 
-def line_faults(lines, limit):
+def line_faults(lines: list[bytes], limit: int) -> list[Fault]:
     """The first line with a fault, as a list; of two in a line its length comes first."""
     parts = parts_of(lines)
     last = parts.end[0][0] if parts.end else len(lines)
@@ -120,7 +143,9 @@ def line_faults(lines, limit):
     return [fault for _, _, fault in sorted(faults, key=lambda known: known[:2])[:1]]
 
 
-def first_fault(text, line_limit=LINE_LIMIT, byte_limit=BYTE_LIMIT):
+def first_fault(
+    text: bytes, line_limit: int = LINE_LIMIT, byte_limit: int = BYTE_LIMIT
+) -> Fault | None:
     """The first fault of a text, None for a sound one."""
     given, is_cut = text[:byte_limit], len(text) > byte_limit
     unfinished = given[given.rfind(b"\n") + 1 :]
@@ -136,7 +161,7 @@ def first_fault(text, line_limit=LINE_LIMIT, byte_limit=BYTE_LIMIT):
     return Fault(len(lines) + 1, "NoEnd" if parts.begin else "NoBegin", None)
 
 
-def front_of(text):
+def front_of(text: bytes) -> bytes:
     """A sound text that has the entries of a text before its first fault."""
     fault = first_fault(text)
     if fault is None:
@@ -145,7 +170,7 @@ def front_of(text):
     return WITHOUT_ENTRIES if first_fault(front) else front
 
 
-def entry_of(columns, fields):
+def entry_of(columns: list[bytes], fields: list[bytes]) -> Entry:
     """The attributes that an entry has, with their values."""
     row = dict(zip((column.decode("latin-1") for column in columns), fields))
     bits = number_of(row["attr"], 0) if "attr" in row else None
@@ -157,7 +182,7 @@ def entry_of(columns, fields):
     }
 
 
-def database_of(text):
+def database_of(text: bytes) -> Database:
     """The entries of a sound text and its skipped columns."""
     parts = parts_of(lines_of(text))
     columns = parts.spec[0][1][1:]

@@ -1,7 +1,16 @@
 """What a field of a database means, by the form of its column."""
+from __future__ import annotations
+
 import base64
 import binascii
 import re
+from typing import Any, List
+
+from .attributes import Attribute
+
+# What a field means, by the form of its attribute: a number or bytes, or None for a link without a
+# name; none at all if the entry has no such attribute.
+Values = List[Any]
 
 # A sign, noughts that do not count, and the other digits.
 NUMBER = re.compile(rb"(-?)(?=[0-9])0*([0-9]*)")
@@ -27,12 +36,12 @@ class Meaningless(Exception):
     """The kind of fault of a field that has not the form of its column."""
 
 
-def decoded(field):
+def decoded(field: bytes) -> bytes:
     """A name with its escapes decoded; a percent sign without two digits stands for itself."""
     return ESCAPE.sub(lambda found: bytes([int(found.group(1), 16)]), field)
 
 
-def number_of(field, least=LEAST):
+def number_of(field: bytes, least: int = LEAST) -> int:
     found = NUMBER.fullmatch(field)
     if (
         not found
@@ -43,13 +52,13 @@ def number_of(field, least=LEAST):
     return int(found.group(1) + b"0" + found.group(2))
 
 
-def mode_of(field):
+def mode_of(field: bytes) -> int:
     if not OCTAL.fullmatch(field) or int(field, 8) > 2**32 - 1:
         raise Meaningless("BadNumber")
     return int(field, 8)
 
 
-def bytes_of_base64(field):
+def bytes_of_base64(field: bytes) -> bytes | None:
     """What standard base64 with padding stands for, None where it is none."""
     try:
         value = base64.b64decode(field, validate=True)
@@ -58,9 +67,9 @@ def bytes_of_base64(field):
     return value if base64.b64encode(value) == field else None
 
 
-def time_of(field):
+def time_of(field: bytes) -> int:
     """Seconds, as a number or as the base64 of one."""
-    text = field
+    text: bytes | None = field
     if not (field[:1].isdigit() or field[:1] == b"-"):
         text = bytes_of_base64(field) if len(field) <= LONGEST_TIME else None
     try:
@@ -69,7 +78,7 @@ def time_of(field):
         raise Meaningless("BadTime") from None
 
 
-def digest_of(field, least, most):
+def digest_of(field: bytes, least: int, most: int) -> bytes | None:
     """The bytes of a digest, None where there is none."""
     if field == b"0":
         return None
@@ -79,7 +88,7 @@ def digest_of(field, least, most):
     return value
 
 
-def link_of(field):
+def link_of(field: bytes) -> bytes | None:
     """The name that a link has, None for no link name."""
     if field == b"0":
         return None
@@ -88,12 +97,13 @@ def link_of(field):
     return decoded(field[1:] if field.startswith(b"00") else field)
 
 
-def values_of(attribute, field, bits):
+def values_of(attribute: Attribute, field: bytes, bits: int | None) -> Values:
     """The value of an attribute in a list of its own, an empty list where the entry lacks it."""
     has_bit = attribute.bit is None or bits is None or bits >> attribute.bit & 1
+    values: Values
     if attribute.form == "type":
-        values = [mode_of(field) & TYPE_BITS]
-        return [value for value in values if value]
+        bits_of_type = mode_of(field) & TYPE_BITS
+        return [bits_of_type] if bits_of_type else []
     if attribute.form == "perm":
         values = [mode_of(field) & PERMISSION_BITS]
     elif attribute.form == "number":

@@ -4,22 +4,31 @@ configuration says.
 Strings are spelled here and not by Python's `json`, which escapes other characters. The trial reads
 the lines back by it.
 """
-import hashlib
-import typing
+from __future__ import annotations
 
-from . import left_out
+import hashlib
+from collections.abc import Iterable
+from typing import Any, NamedTuple, Tuple, Union
+
+from tests.lib.answer import Answer
+
+from . import left_out, patterns
 from .agreement import same_as
-from .attributes import ATTRIBUTES, NAMES
-from .comparison import compared, kind_of, shown, summary_of, type_of
-from .configuration import BOOL_OPTIONS, SET_OPTIONS
-from .database import WITHOUT_ENTRIES, database_of, front_of
+from .attributes import ATTRIBUTES, NAMES, Attribute
+from .comparison import Change, compared, kind_of, shown, summary_of, type_of
+from .configuration import BOOL_OPTIONS, SET_OPTIONS, Settings
+from .database import Database, Entries, Entry, WITHOUT_ENTRIES, database_of, front_of
 from .fields import FILE_TYPES
-from .report import KINDS, counts_of, status_of
-from .session import Beginning, Form, Unread, answer_of, job_beside
+from .report import Counts, KINDS, counts_of, status_of
+from .session import Beginning, File, Files, Form, Unread, answer_of, job_beside
 
 FORMAT, FORMAT_OF_SETTINGS = 4, 3
+# The name of a member of an object, and its value as JSON.
+Member = Tuple[str, bytes]
+# An entry that accounts for a change, the line of a list, or nothing.
+Account = Union[str, int, None]
 # The rules of the empty list, and its text.
-NO_LIST: tuple[list[left_out.patterns.Rule], bytes] = ([], b"")
+NO_LIST: tuple[list[patterns.Rule], bytes] = ([], b"")
 SIDES = ("old", "new", "trusted_old", "trusted_new")
 # Many readers keep 53 bits of a number, so a greater one is a string of its digits (RFC 7493
 # section 2.2).
@@ -38,32 +47,32 @@ HIDDEN = [
 ESCAPES = {**{code: "\\u%04x" % code for code in HIDDEN}, ord('"'): '\\"', ord("\\"): "\\\\"}
 
 
-def string(text):
+def string(text: str) -> bytes:
     return b'"' + text.translate(ESCAPES).encode() + b'"'
 
 
-def number(value):
+def number(value: int) -> bytes:
     return b"%d" % value if abs(value) < EXACT else b'"%d"' % value
 
 
-def truth(value):
+def truth(value: object) -> bytes:
     return b"true" if value else b"false"
 
 
-def array(values):
+def array(values: Iterable[bytes]) -> bytes:
     return b"[" + b",".join(values) + b"]"
 
 
-def object_of(members):
+def object_of(members: Iterable[Member]) -> bytes:
     """An object of pairs of a name and a value that is JSON already."""
     return b"{" + b",".join(string(name) + b":" + value for name, value in members) + b"}"
 
 
-def line(members):
+def line(members: Iterable[Member]) -> bytes:
     return object_of(members) + b"\n"
 
 
-def text_member(name, value):
+def text_member(name: str, value: bytes) -> Member:
     """A string if the bytes are UTF-8, otherwise base 16 under another name."""
     try:
         return name, string(value.decode("utf-8"))
@@ -71,11 +80,11 @@ def text_member(name, value):
         return name + "_hex", string(value.hex())
 
 
-def title_of_type(value):
+def title_of_type(value: int) -> bytes:
     return string(FILE_TYPES.get(value, ("?", "Other"))[1])
 
 
-def attribute_member(attribute, value):
+def attribute_member(attribute: Attribute, value: Any) -> Member:
     """The member of a value, by the form of its attribute."""
     if attribute.form == "type":
         return attribute.detail, title_of_type(value >> 12)
@@ -90,7 +99,7 @@ def attribute_member(attribute, value):
     return attribute.detail, string(value.hex())
 
 
-def side_members(name, entry, names):
+def side_members(name: str, entry: Entry | None, names: set[str]) -> list[Member]:
     """What one side has of these attributes, as a member; nothing if it has no entry."""
     if entry is None:
         return []
@@ -105,7 +114,7 @@ def side_members(name, entry, names):
     ]
 
 
-def account_members(account):
+def account_members(account: Account) -> list[Member]:
     """What accounts for a change: an entry, or the line of a list by its number."""
     if account is None:
         return []
@@ -114,7 +123,7 @@ def account_members(account):
     return [("same_as", string(account))]
 
 
-def change_line(change, account, settings):
+def change_line(change: Change, account: Account, settings: Settings) -> bytes:
     """The line of an added, removed or changed entry, which says what accounts for the change."""
     names = shown(change, {**settings, "report_level": "added_removed_entries"})
     kind, title = type_of(change), []
@@ -122,7 +131,7 @@ def change_line(change, account, settings):
         title = [("type", title_of_type(kind))]
     return line(
         [
-            ("kind", string(kind_of(change, settings))),
+            ("kind", string(kind_of(change, settings) or "")),
             text_member("path", change.path),
             ("summary", string(summary_of(change, settings))),
         ]
@@ -133,15 +142,15 @@ def change_line(change, account, settings):
     )
 
 
-class Source(typing.NamedTuple):
+class Source(NamedTuple):
     """A database, its path and its text."""
 
     path: bytes
     text: bytes
-    database: typing.Any
+    database: Database
 
 
-def read_of(source):
+def read_of(source: Source) -> bytes:
     """What is known of a database at its end: its digest and the places of the columns that are not
     compared."""
     digest = hashlib.sha256(source.text).hexdigest()
@@ -149,7 +158,7 @@ def read_of(source):
     return object_of([("sha256", string(digest)), ("skipped", places)])
 
 
-def first_line(sources):
+def first_line(sources: list[Source]) -> bytes:
     """The number of the format and the paths."""
     return line(
         [("format", number(FORMAT))]
@@ -157,13 +166,15 @@ def first_line(sources):
     )
 
 
-def change_lines(changes, accounts, settings):
+def change_lines(changes: list[Change], accounts: list[Account], settings: Settings) -> bytes:
     return b"".join(
         change_line(change, account, settings) for change, account in zip(changes, accounts)
     )
 
 
-def numbers_of(new, counts, accounts, has_trusted):
+def numbers_of(
+    new: Database, counts: Counts, accounts: list[Account], has_trusted: bool
+) -> list[Member]:
     """The members of the last line with the numbers of entries, and of the changes that each
     account explains."""
     numbers = [("total", len(new.entries))]
@@ -176,7 +187,7 @@ def numbers_of(new, counts, accounts, has_trusted):
     return [(name, number(value)) for name, value in numbers]
 
 
-class Parts(typing.NamedTuple):
+class Parts(NamedTuple):
     """The lines over the databases: the first one, those of the changes and the last one; and the
     status."""
 
@@ -186,7 +197,12 @@ class Parts(typing.NamedTuple):
     status: int
 
 
-def account_of(change, trusted, rules, measures):
+def account_of(
+    change: Change,
+    trusted: list[Entries],
+    rules: list[patterns.Rule],
+    measures: list[bool],
+) -> Account:
     """What accounts for a change, by the entries of a trusted pair and by the rules of a list."""
     same = same_as(change.old, change.new, *(entries.get(change.path) for entries in trusted))
     if same is not None:
@@ -194,7 +210,7 @@ def account_of(change, trusted, rules, measures):
     return left_out.line_of(rules, left_out.Change(*change, *measures)) or None
 
 
-def parts_over(sources, settings):
+def parts_over(sources: list[Source], settings: Settings) -> Parts:
     """The lines over two databases and, if they are there, the old and the new one of a trusted
     pair, beside which there is a list."""
     old, new, *trusted = sources
@@ -217,11 +233,13 @@ def parts_over(sources, settings):
     return Parts(first_line(sources), changed, line(end), status)
 
 
-def paths_of(settings):
+def paths_of(settings: Settings) -> list[bytes]:
     return [settings["database_in"], settings["database_new"], *settings.get("trusted", ())]
 
 
-def lines_of(old, new, texts, settings):
+def lines_of(
+    old: Database, new: Database, texts: list[bytes], settings: Settings
+) -> tuple[bytes, int]:
     """The lines over two databases and the texts of all that are named, and the status of their
     report."""
     databases = [old, new, *map(database_of, texts[2:])]
@@ -230,19 +248,21 @@ def lines_of(old, new, texts, settings):
     return parts.first + parts.changes + parts.last, parts.status
 
 
-def begun_lines(given, settings):
+def begun_lines(given: list[File], settings: Settings) -> bytes:
     """What may have gone out before a fault: a beginning of the first line and the lines of the
     entries before the first fault of each text, and no last line. Nothing goes out if a database is
     missing."""
-    if None in given:
-        return b""
-    fronts = [WITHOUT_ENTRIES if text is Unread else front_of(text) for text in given]
+    fronts = []
+    for text in given:
+        if text is None:
+            return b""
+        fronts.append(WITHOUT_ENTRIES if isinstance(text, Unread) else front_of(text))
     sources = list(map(Source, paths_of(settings), fronts, map(database_of, fronts)))
     parts = parts_over(sources, settings)
     return Beginning(parts.first + parts.changes)
 
 
-def settings_line(settings):
+def settings_line(settings: Settings) -> bytes:
     """What a configuration says, as one object with the names of its options."""
     members = [("format", number(FORMAT_OF_SETTINGS))]
     for name in ("database_in", "database_new"):
@@ -260,6 +280,6 @@ def settings_line(settings):
 LINES = Form(lines_of, begun_lines, settings_line, job_beside)
 
 
-def lines_answer_of(words, files):
+def lines_answer_of(words: list[bytes], files: Files) -> Answer:
     """The answer of the program that writes lines in place of the report."""
     return answer_of(words, files, LINES)

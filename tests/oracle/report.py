@@ -1,22 +1,29 @@
 """The text of a report."""
+from __future__ import annotations
+
 import base64
 import hashlib
+from typing import Dict
 
-from .attributes import ATTRIBUTES
-from .comparison import compared, is_from, kind_of, shown, summary_of, title_of
+from .attributes import ATTRIBUTES, Attribute
+from .comparison import Change, compared, is_from, kind_of, shown, summary_of, title_of
+from .configuration import Settings
+from .database import Database, Entry
 from .fields import FILE_TYPES
 from .texts import pieces_of, printed
 
+# How many changes there are of each kind.
+Counts = Dict[str, int]
 RULE = b"-" * 51
 KINDS = ["added", "removed", "changed"]
 SUMMARY_WIDTH, NAME_WIDTH, PIECE_WIDTH = 25, 10, 32
 
 
-def digest_text(value, settings):
+def digest_text(value: bytes, settings: Settings) -> bytes:
     return value.hex().encode() if settings["report_base16"] else base64.b64encode(value)
 
 
-def value_text(attribute, entry, settings):
+def value_text(attribute: Attribute, entry: Entry | None, settings: Settings) -> bytes:
     """The value of an attribute as the details print it, nothing where the entry lacks it."""
     if entry is None or attribute.name not in entry:
         return b""
@@ -32,11 +39,11 @@ def value_text(attribute, entry, settings):
     return digest_text(value, settings)
 
 
-def titled(title):
+def titled(title: bytes) -> list[bytes]:
     return [b"", RULE, title, RULE]
 
 
-def attribute_lines(attribute, change, settings):
+def attribute_lines(attribute: Attribute, change: Change, settings: Settings) -> list[bytes]:
     """The lines of an attribute in the details: pieces of the old value beside pieces of the new
     one."""
     old, new = (
@@ -52,11 +59,11 @@ def attribute_lines(attribute, change, settings):
     return lines
 
 
-def head(differs):
+def head(differs: int) -> list[bytes]:
     return [b"AIDE found %sdifferences between the two databases." % (b"" if differs else b"NO ")]
 
 
-def summary(total, counts):
+def summary(total: int, counts: Counts) -> list[bytes]:
     labels = [
         (b"Total number of entries:", total),
         (b"Added entries:", counts["added"]),
@@ -68,16 +75,14 @@ def summary(total, counts):
     ]
 
 
-def entry_line(change, settings):
-    label = (
-        summary_of(change, settings)
-        if settings["report_summarize_changes"]
-        else kind_of(change, settings)
-    )
+def entry_line(change: Change, settings: Settings) -> bytes:
+    label = kind_of(change, settings) or ""
+    if settings["report_summarize_changes"]:
+        label = summary_of(change, settings)
     return label.encode() + b": " + printed(change.path)
 
 
-def lists(changes, settings):
+def lists(changes: list[Change], settings: Settings) -> list[bytes]:
     """The lists of entries, one for each kind or one for all."""
     sections = [(kind.capitalize() + " entries:", [kind]) for kind in KINDS]
     if not settings["report_grouped"]:
@@ -92,7 +97,7 @@ def lists(changes, settings):
     return lines
 
 
-def details(changes, settings):
+def details(changes: list[Change], settings: Settings) -> list[bytes]:
     lines = []
     for change in changes:
         names = shown(change, settings)
@@ -104,7 +109,7 @@ def details(changes, settings):
     return titled(b"Detailed information about changes:") + lines if lines else []
 
 
-def databases(texts, settings):
+def databases(texts: list[bytes], settings: Settings) -> list[bytes]:
     """The digests of both databases."""
     lines = titled(b"The attributes of the databases:") + [b""]
     for label, path, text in zip(
@@ -118,16 +123,18 @@ def databases(texts, settings):
     return lines
 
 
-def counts_of(changes, settings):
+def counts_of(changes: list[Change], settings: Settings) -> Counts:
     kinds = [kind_of(change, settings) for change in changes]
     return {kind: kinds.count(kind) for kind in KINDS}
 
 
-def status_of(counts):
+def status_of(counts: Counts) -> int:
     return (counts["added"] > 0) + 2 * (counts["removed"] > 0) + 4 * (counts["changed"] > 0)
 
 
-def report_of(old, new, texts, settings):
+def report_of(
+    old: Database, new: Database, texts: list[bytes], settings: Settings
+) -> tuple[bytes, int]:
     """The report over two databases and their texts, and its status."""
     changes = compared(old.entries, new.entries)
     counts = counts_of(changes, settings)

@@ -1,9 +1,14 @@
 """What a session answers: standard output, standard error and a status."""
+from __future__ import annotations
+
+from collections.abc import Callable
+from typing import Dict, List, Tuple, Union
 
 from tests.lib.answer import Answer
 
 from . import configuration, patterns
-from .database import database_of, first_fault
+from .configuration import Settings
+from .database import Database, database_of, first_fault
 from .report import report_of
 from .texts import printed
 
@@ -77,16 +82,25 @@ class Unread:
     """In place of the bytes of a file that opens and cannot be read, as a folder."""
 
 
-def option_of(word, known):
+# The bytes of a file, None for a file that is not there; and what gives them by a path.
+File = Union[bytes, Unread, None]
+Files = Callable[[bytes], File]
+# The values of the options of a command line by their names, an empty one if there is none.
+Job = Dict[str, bytes]
+# What gives the output of a comparison and its status.
+Written = Callable[[Database, Database, List[bytes], Settings], Tuple[bytes, int]]
+
+
+def option_of(word: bytes, known: list[str]) -> tuple[list[str], bytes | None]:
     """The options that a word names, and the value that it brings along or None; no options where
     it is out of form."""
     if word.startswith(b"--"):
-        name, sign, value = word[2:].partition(b"=")
-        name = name.decode("latin-1")
+        long_name, sign, value = word[2:].partition(b"=")
+        name = long_name.decode("latin-1")
         return ([name], value if sign else None) if name in known else ([], None)
     names = []
     for index in range(1, len(word)):
-        name = LETTERS.get(chr(word[index]))
+        name = LETTERS.get(chr(word[index]), "")
         if name not in known:
             return [], None
         names.append(name)
@@ -96,10 +110,11 @@ def option_of(word, known):
     return names, None
 
 
-def options_of(words, known):
+def options_of(words: list[bytes], known: list[str]) -> Job | None:
     """The known options of a command line as a map, None where it is not understood. A value may
     not begin with a hyphen."""
-    given, rest = {}, list(words)
+    given: Job = {}
+    rest = list(words)
     while rest:
         word = rest.pop(0)
         if word == b"--" and not rest:
@@ -118,11 +133,11 @@ def options_of(words, known):
         for name in names:
             if name in given:
                 return None
-            given[name] = value
+            given[name] = value or b""
     return given
 
 
-def job_of(words):
+def job_of(words: list[bytes]) -> Job | None:
     """The options of a command line of `aide`, None where it is not understood."""
     job = options_of(words, OPTIONS)
     if job is None or "config" not in job:
@@ -130,7 +145,7 @@ def job_of(words):
     return job if ("compare" in job) != ("config-check" in job) else None
 
 
-def job_beside(words):
+def job_beside(words: list[bytes]) -> Job | None:
     """The options of a command line that may name a trusted pair: both databases of it, and then
     only for a comparison, and perhaps the text of a list."""
     job = options_of(words, OPTIONS + TRUSTED + [WITHOUT])
@@ -140,15 +155,15 @@ def job_beside(words):
     return job if is_whole and "config-check" not in job else None
 
 
-def refused(line, status):
+def refused(line: bytes, status: int) -> Answer:
     return Answer(b"", b"aide: " + line + b"\n", status)
 
 
-def refusal_of(name, path, text):
+def refusal_of(name: bytes, path: bytes, text: File) -> Answer | None:
     """The answer to the first fault of a database by its name, None for a sound one."""
     if text is None:
         return refused(b"cannot open the %s database %s" % (name, printed(path)), BAD_DEVICE)
-    if text is Unread:
+    if isinstance(text, Unread):
         return refused(b"%s database:1: read failed" % name, BAD_DEVICE)
     fault = first_fault(text)
     if fault is None:
@@ -157,7 +172,7 @@ def refusal_of(name, path, text):
     return refused(b"%s database:%d: %s" % (name, fault.line, words.encode()), BAD_DATABASE)
 
 
-def list_of(text):
+def list_of(text: bytes) -> tuple[list[patterns.Rule], bytes] | Answer:
     """The rules of a list and its text, or the answer to its first fault."""
     try:
         return patterns.rules_of(text), text
@@ -166,7 +181,7 @@ def list_of(text):
         return refused(("list:%s: %s" % (line, LIST_WORDS[kind])).encode(), BAD_CONFIGURATION)
 
 
-def compare(settings, files, form):
+def compare(settings: Settings, files: Files, form: Form) -> Answer:
     """The answer of a comparison under good settings: a form gives what goes out, and the status.
 
     The first fault counts, of the old database, then of the new one, and then of a trusted pair if
@@ -179,8 +194,9 @@ def compare(settings, files, form):
     first = next(filter(None, refusals), None)
     if first is not None:
         return first._replace(output=form.begun(texts, settings))
-    old, new = (database_of(text) for text in texts[:2])
-    output, status = form.written(old, new, texts, settings)
+    sound = [text for text in texts if isinstance(text, bytes)]
+    old, new = (database_of(text) for text in sound[:2])
+    output, status = form.written(old, new, sound, settings)
     errors = b"".join(
         b"aide: %s database: column %d skipped\n" % (side, column)
         for side, database in ((b"old", old), (b"new", new))
@@ -194,21 +210,27 @@ class Form:
     may have gone out before a fault of the given texts, and `checked` the output of a check of the
     configuration. `read` reads the words."""
 
-    def __init__(self, written, begun, checked, read):
+    def __init__(
+        self,
+        written: Written,
+        begun: Callable[[list[File], Settings], bytes],
+        checked: Callable[[Settings], bytes],
+        read: Callable[[list[bytes]], Job | None],
+    ) -> None:
         self.written = written
         self.begun = begun
         self.checked = checked
         self.read = read
 
 
-def writes_nothing(*_):
+def writes_nothing(*_: object) -> bytes:
     return b""
 
 
 REPORT = Form(report_of, writes_nothing, writes_nothing, job_of)
 
 
-def answer_of(words, files, form=REPORT):
+def answer_of(words: list[bytes], files: Files, form: Form = REPORT) -> Answer:
     """The answer to the words of a command line, the program's name aside.
 
     `files` gives the bytes of a path, None for a file that is not there, and `Unread` for one that
@@ -226,7 +248,7 @@ def answer_of(words, files, form=REPORT):
     if isinstance(left_out, Answer):
         return left_out
     text = files(job["config"])
-    if text is None or text is Unread:
+    if text is None or isinstance(text, Unread):
         return refused(b"cannot read the configuration " + printed(job["config"]), BAD_DEVICE)
     if len(text) > CONFIGURATION_LIMIT:
         return refused(
