@@ -47,8 +47,9 @@ def has_own_mounts() -> bool:
         return False
     library = ctypes.CDLL(None)
     new_mounts, recursive_private = 0x20000, 0x44000
-    is_apart = library.unshare(new_mounts) == 0
-    return is_apart and library.mount(None, b"/", None, recursive_private, None) == 0
+    if library.unshare(new_mounts) != 0:
+        return False
+    return bool(library.mount(None, b"/", None, recursive_private, None) == 0)
 
 
 def forget_user(name: str, folder: str) -> None:

@@ -1,5 +1,7 @@
 """Byte code beside the modules of the commands, which never write any: without it each start of a
 command compiles its modules."""
+from __future__ import annotations
+
 import shutil
 import subprocess
 
@@ -15,7 +17,7 @@ WORDS = [
 ]
 
 
-def compile_modules(directory):
+def compile_modules(directory: str) -> None:
     """Compiles the modules below a directory. In a copy of it, each start compiles only what was
     edited."""
     subprocess.run(
@@ -26,7 +28,7 @@ def compile_modules(directory):
     )
 
 
-def copy_modules(source, target):
+def copy_modules(source: str, target: str) -> None:
     """Copies a folder of modules with their byte code, but for what another run is writing just
     now, under a name that it has for a moment: it would be gone before it is copied."""
     shutil.copytree(source, target, ignore=shutil.ignore_patterns("*.pyc.*"))

@@ -1,10 +1,15 @@
 """Libraries that are loaded into a program before the C library, built from C that includes no
 header of it."""
+from __future__ import annotations
+
 import os
 import shutil
 import subprocess
+import struct
 import threading
+from typing import Any
 
+from tests.lib.answer import Answer
 from tests.lib.program_test import ProgramTest, ScratchTest
 from tests.lib.tally import run
 
@@ -13,10 +18,11 @@ NAMES = ["cc", "gcc", "clang"]
 FLAGS = ["-O1", "-shared", "-fPIC", "-nostdlib"]
 
 
-def compilers():
+def compilers() -> list[list[str]]:
     """The commands that may build a library: the machine's own, and that of the toolchain, with its
     linker."""
-    found = [[path] for path in map(shutil.which, NAMES) if path]
+    paths = [shutil.which(name) for name in NAMES]
+    found = [[path] for path in paths if path]
     rt = shutil.which("rt")
     if rt:
         tools = os.path.join(
@@ -28,7 +34,7 @@ def compilers():
     return found
 
 
-def built(name, folder):
+def built(name: str, folder: bytes) -> tuple[bytes | None, list[str]]:
     """Builds a library of the trials of the program: its path, or nothing and what every compiler
     has against it."""
     library, faults = os.path.join(folder, os.fsencode(name) + b".so"), []
@@ -60,7 +66,14 @@ class PreloadTest(ScratchTest, ProgramTest):
             self.fail("\n".join(faults))
 
 
-def run_with(library, program, words, form, variable, **settings):
+def run_with(
+    library: bytes,
+    program: bytes,
+    words: list[bytes],
+    form: struct.Struct,
+    variable: str,
+    **settings: int,
+) -> tuple[Answer, list[tuple[Any, ...]]]:
     """What a program answers with a library loaded before it, and the notes of the library in a
     form.
 

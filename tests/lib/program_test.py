@@ -5,7 +5,9 @@ import os
 import random
 import shutil
 import unittest
+from collections.abc import Sequence
 
+from tests.lib.answer import Answer
 from tests.lib.programs import find_program, lines_program_of
 from tests.lib.scratch import Scratch
 from tests.lib.tally import difference
@@ -35,7 +37,7 @@ class StatedTest(unittest.TestCase):
         if os.getuid() != 0:
             self.skipTest("it needs root")
 
-    def holds(self, label, good, got=""):
+    def holds(self, label: str, good: object, got: object = "") -> None:
         """Something is so; `got` is shown if it is not."""
         with self.subTest(label):
             self.assertTrue(good, got)
@@ -53,13 +55,13 @@ class ScratchTest(Scratch, StatedTest):
 class AnswerTest(StatedTest):
     """A test of answers."""
 
-    def add(self, label, faults):
+    def add(self, label: str, faults: Sequence[str]) -> None:
         """No fault was found."""
         with self.subTest(label):
             if faults:
                 self.fail("\n".join(faults))
 
-    def check(self, label, got, want):
+    def check(self, label: str, got: Answer, want: Answer) -> None:
         """The answer of a program is the wanted one."""
         self.add(label, difference(got, want))
 

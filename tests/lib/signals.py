@@ -1,8 +1,10 @@
 """The signals that a process begins with."""
+from __future__ import annotations
+
 import signal
 
 
-def heed():
+def heed() -> None:
     """Heeds the signals that this process was started to ignore.
 
     `nohup` and a shell's `&` start a command with some signals ignored. Its children inherit that,

@@ -1,10 +1,13 @@
 """The byte code of the tools: made when they are installed, of each module as it is installed, and
 gone with it."""
+from __future__ import annotations
+
 import importlib.util
 import os
 import subprocess
+from typing import Any
 
-from tests.packaging.installation import files, tree
+from tests.packaging.installation import InstallTest, files, tree
 
 LIBRARY = "lib/aide-compare/python"
 # The Python that the tools name in their first line.
@@ -13,28 +16,28 @@ PYTHON = "/usr/bin/python3"
 CHECKED = b"\3\0\0\0"
 
 
-def tag():
+def tag() -> str:
     """The part of a file's name that says which Python made the byte code."""
     words = [PYTHON, "-IS", "-c", "import sys; print(sys.implementation.cache_tag)"]
     return subprocess.run(words, stdout=subprocess.PIPE, check=True).stdout.decode().strip()
 
 
-def is_byte_code(path):
+def is_byte_code(path: str) -> bool:
     return "/__pycache__/" in "/" + path
 
 
-def wanted_of(found):
+def wanted_of(found: dict[str, Any]) -> dict[str, bytes]:
     """The byte code that belongs to the modules of a tree, and the sum of each module in it."""
     wanted = {}
     for path, (_, data) in files(found).items():
         if path.endswith(".py"):
             folder, name = os.path.split(path)
             made = os.path.join(folder, "__pycache__", "%s.%s.pyc" % (name[:-3], tag()))
-            wanted[made] = CHECKED + importlib.util.source_hash(data)
+            wanted[made] = CHECKED + bytes(importlib.util.source_hash(data))
     return wanted
 
 
-def holds_code(trial, name, folder, private):
+def holds_code(trial: InstallTest, name: str, folder: str, private: str) -> None:
     """Each module has its byte code, which has its sum, names no private folder, and is writable
     for its owner only."""
     found = tree(folder)
@@ -56,7 +59,7 @@ def holds_code(trial, name, folder, private):
     trial.assertFalse(wide, name + ": modules and byte code are writable for their owner only")
 
 
-def install(trial, name, source, prefix):
+def install(trial: InstallTest, name: str, source: str, prefix: str) -> None:
     wide = ["sh", "-c", 'umask 0; exec "$@"', "sh", "sh"]
     done = trial.install("--prefix", prefix, "--program", trial.program, source=source, shell=wide)
     trial.assertTrue(done.status == 0 and done.error_text == "", ("install " + name, done))

@@ -11,7 +11,7 @@ from typing import Any
 from tests.lib.answer import Answer
 from tests.lib.program_test import ScratchTest
 from tests.lib.programs import find_program, lines_program_of
-from tests.lib.scratch import TOP as HERE
+from tests.lib.scratch import TOP
 
 PARTS = [
     *("commands contrib docs examples/small_tree man packaging".split()),
@@ -61,7 +61,7 @@ class InstallTest(ScratchTest):
         """A copy of the parts of the repository that are installed or that install."""
         target = self.path(name)
         for part in PARTS:
-            source, copied = os.path.join(HERE, part), os.path.join(target, part)
+            source, copied = os.path.join(TOP, part), os.path.join(target, part)
             os.makedirs(os.path.dirname(copied), exist_ok=True)
             if os.path.isdir(source):
                 shutil.copytree(source, copied, ignore=shutil.ignore_patterns("__pycache__"))

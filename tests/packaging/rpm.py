@@ -1,8 +1,10 @@
 """The package for systems of rpm, as rpm installs it into a root directory of its own and removes
 it."""
+from __future__ import annotations
+
 import os
 
-from tests.packaging.installation import files, texts, tree
+from tests.packaging.installation import InstallTest, files, texts, tree
 
 UNITS = "usr/lib/systemd/system/"
 # What differs from what packaging/install installs below another prefix.
@@ -10,11 +12,11 @@ OWN = {UNITS + "aide-compare-database.service"}
 NOT = {"lib/aide-compare/installed"}
 
 
-def try_life(trial, package):
+def try_life(trial: InstallTest, package: str) -> None:
     root = trial.path("rpm-root")
     os.makedirs(root)
 
-    def rpm(*words):
+    def rpm(*words: str) -> str:
         done = trial.run_words(["rpm", "--root", root, "--define", "_dbpath /var/lib/rpm", *words])
         trial.assertEqual(done.status, 0, ("rpm " + words[0], done))
         return done.output_text

@@ -9,8 +9,9 @@ from typing import Any
 from tests.lib.answer import Answer
 from tests.lib.program_test import slow
 from tests.lib.programs import lines_program_of
+from tests.lib.scratch import TOP
 from tests.packaging import byte_code
-from tests.packaging.installation import HERE, InstallTest, files, rights, tree
+from tests.packaging.installation import InstallTest, files, rights, tree
 from tools.source.checker import libraries
 
 DOCUMENTS = "share/doc/aide-compare"
@@ -256,8 +257,8 @@ class InstallingTest(InstallTest):
         note = f'echo "$PWD $*" >> "{calls}"'
         put = f'mkdir -p out && cp "{programs}/${{PWD##*/}}" out/'
         self.write("stubs/rt", f"#!/bin/sh\n{note}\n{put}\necho crate aide_attr: x\n", 0o755)
-        shutil.copytree(os.path.join(HERE, "tools/source"), os.path.join(source, "tools/source"))
-        shutil.copy(os.path.join(HERE, "crates.txt"), source)
+        shutil.copytree(os.path.join(TOP, "tools/source"), os.path.join(source, "tools/source"))
+        shutil.copy(os.path.join(TOP, "crates.txt"), source)
         done = self.install("--destdir", folder, source=source, env=self.plain())
         self.refuses("no program and no rt", folder, done, "rt", "--program")
         surroundings = dict(os.environ, PATH=self.path("stubs") + ":" + self.plain_path)

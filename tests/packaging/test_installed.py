@@ -11,8 +11,8 @@ import shutil
 from tests.lib.answer import Answer
 from tests.lib.program_test import slow
 from tests.lib.programs import lines_program_of
-from tests.lib.scratch import read
-from tests.packaging.installation import HERE, InstallTest, texts, tree
+from tests.lib.scratch import TOP, read
+from tests.packaging.installation import InstallTest, texts, tree
 from tests.packaging.test_completions import HOSTS, SUBCOMMANDS
 from tests.packaging.test_install import DOCUMENTS
 
@@ -35,7 +35,7 @@ class InstalledTest(InstallTest):
         """The installed program compares, and each installed command prints a help."""
         command = self.first("bin/aide-compare")
         self.assertEqual(os.listdir(self.first("bin")), ["aide-compare"], "one command")
-        examples = os.path.join(HERE, "examples")
+        examples = os.path.join(TOP, "examples")
         words = ["-E", "-c", examples + "/aide.conf", "-B", f"@@define DIR {examples}"]
         done = self.run_words([command, *words])
         self.assertEqual((done.status, done.output_text[:22]), (7, "AIDE found differences"), done)
