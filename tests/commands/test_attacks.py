@@ -28,7 +28,7 @@ def is_compared(answer: Answer) -> bool:
 class AttacksTest(CommandTest):
     def compared(self, *words: str, **more: Any) -> Answer:
         answer = self.call(TOOL, *words, **more)
-        self.holds(words, is_compared(answer), answer)
+        self.holds(str(words), is_compared(answer), answer)
         return answer
 
     def with_memory(self, size: int, tool: str, *words: str) -> Answer:

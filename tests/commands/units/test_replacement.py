@@ -171,14 +171,14 @@ class ReplacementTest(PlacesTest):
                 os.remove(path + "/" + min(left))
                 os.symlink("nothing", path + "/" + min(left))
             later = time.time() + seconds
-            with mock.patch.object(replacement.time, "time", lambda: later):
+            with mock.patch.object(time, "time", lambda: later):
                 text, *_, names = replaced(path + "/state", b"three")
             self.expect(path + ", then", (text, len(names)), (b"three", 1 + kept))
 
     def test_nameless(self) -> None:
         self.check_new_files("new/nameless", True)
         # As on a file system that does not know files without a name.
-        with mock.patch.object(files.os, "O_TMPFILE", os.O_DIRECTORY):
+        with mock.patch.object(os, "O_TMPFILE", os.O_DIRECTORY):
             self.check_new_files("new/named", False)
         self.fails(18, "TMPDIR", files.nameless, self.path("none"))
 

@@ -2,6 +2,7 @@
 configuration names, by what the program says of it."""
 from __future__ import annotations
 
+import os
 from unittest import mock
 
 from tests.commands.units.calls import ModuleTest
@@ -55,7 +56,7 @@ class SetupDatabasesTest(ModuleTest):
             (asking, "find_installed", lambda name: program),
             (setup_databases, "PATHS", paths),
             (setup_options, "PATHS", paths),
-            (setup_databases.os, "uname", lambda: mock.Mock(nodename="w\nww@-1")),
+            (os, "uname", lambda: mock.Mock(nodename="w\nww@-1")),
         ):
             patch = mock.patch.object(module, name, value)
             patch.start()

@@ -16,7 +16,7 @@ from aide_compare import VERSION
 from aide_compare.base import ending, escapes, kinds, options, words
 from aide_compare.base.parser import read as read_options
 from aide_compare.compare import state
-from aide_compare.lines import attributes, reader
+from aide_compare.lines import attributes
 from aide_compare.lines.change import Change, Counts, Values, change_of
 from aide_compare.show import entry
 
@@ -201,7 +201,7 @@ class TextsTest(ModuleTest):
 
     def test_statuses(self) -> None:
         counts = ((0, 0, 0), (9, 0, 0), (0, 9, 0), (0, 0, 9), (1, 1, 1))
-        self.assertEqual([reader.status_of_counts(each) for each in counts], [0, 1, 2, 4, 7])
+        self.assertEqual([words.status_of_counts(each) for each in counts], [0, 1, 2, 4, 7])
 
     def test_ends(self) -> None:
         """How a command ends by what its main does. Without a text it ends with a message of its

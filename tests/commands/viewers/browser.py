@@ -60,7 +60,7 @@ class Browser:
         while b"\0" not in self.rest:
             self.rest += os.read(self.read, 1 << 20)
         text, self.rest = self.rest.split(b"\0", 1)
-        message = json.loads(text)
+        message: dict[str, Any] = json.loads(text)
         if message.get("method") in FAULTS:
             self.faults.append(json.dumps(message["params"])[:400])
         return message
@@ -77,7 +77,8 @@ class Browser:
             if answer.get("id") == self.count:
                 if "error" in answer:
                     raise SystemExit("%s: %s" % (method, answer["error"]))
-                return answer["result"]
+                result: dict[str, Any] = answer["result"]
+                return result
 
     def open(self, path: str) -> float:
         """Opens a page. Returns the seconds until it is loaded and its script has run."""
@@ -100,7 +101,7 @@ class Browser:
     def worked(self) -> float:
         """Seconds of the processor that the page's thread has worked."""
         metrics = self.ask("Performance.getMetrics")["metrics"]
-        return next(each["value"] for each in metrics if each["name"] == "TaskDuration")
+        return float(next(each["value"] for each in metrics if each["name"] == "TaskDuration"))
 
     def count_of(self, selector: str) -> int:
         """How many elements there are; this asks no script of the page."""
@@ -131,7 +132,7 @@ class Browser:
         session, self.session = self.session, None
         name = self.ask("Browser.getVersion")["product"]
         self.session = session
-        return name
+        return str(name)
 
     def close(self) -> None:
         self.session = None

@@ -5,7 +5,6 @@ from __future__ import annotations
 import unittest
 from collections.abc import Callable
 
-from tests.commands.viewers.hostile import Database
 from tests.commands.viewers.work import (
     MeasuredOf,
     additions_to,
@@ -14,6 +13,7 @@ from tests.commands.viewers.work import (
     lines_run,
 )
 from tests.oracle.configuration import DEFAULTS
+from tests.oracle.database import Database
 from tests.oracle.lines import lines_of as proved_lines_of
 
 LONG = 100000

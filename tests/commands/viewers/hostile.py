@@ -1,11 +1,14 @@
 """Entries with names and values that could be taken for something else: for markup, or for text
 that is escaped already."""
-from collections import namedtuple
+from __future__ import annotations
+
+import random
+from typing import Any
 
 from tests.oracle.attributes import ATTRIBUTES
+from tests.oracle.database import Database, Entries, Entry
 from tests.program.random_texts.databases import LINKS, MODES, NUMBERS, OPAQUE, random_digest
 
-Database = namedtuple("Database", "entries skipped", defaults=((),))
 NAMES = [
     b"a",
     b"b",
@@ -49,7 +52,7 @@ VALUES = OPAQUE + [b"<script>", b"</script>", b'"', b"\xff" * 33, b"\xe2\x80\xae
 TYPES = [mode & 0o170000 for mode in MODES if mode & 0o170000]
 
 
-def random_value(pick, form):
+def random_value(pick: random.Random, form: str | tuple[int, int]) -> Any:
     if form == "type":
         return pick.choice(TYPES)
     if form == "perm":
@@ -66,7 +69,7 @@ def random_value(pick, form):
             return digest
 
 
-def random_entry(pick, most):
+def random_entry(pick: random.Random, most: int) -> Entry:
     attributes = pick.sample(ATTRIBUTES, pick.randint(0, most))
     return {
         attribute.name: random_value(pick, attribute.form)
@@ -75,7 +78,7 @@ def random_entry(pick, most):
     }
 
 
-def edited(pick, entry):
+def edited(pick: random.Random, entry: Entry) -> Entry:
     """An entry with some attributes changed, added or removed; sometimes with all of them added or
     removed."""
     if pick.random() < 0.15:
@@ -90,9 +93,10 @@ def edited(pick, entry):
     return entry
 
 
-def random_databases(pick):
+def random_databases(pick: random.Random) -> tuple[list[Database], list[bytes]]:
     """Two maps of entries, and texts to take the digests of."""
-    old, new = {}, {}
+    old: Entries = {}
+    new: Entries = {}
     most = pick.choice([0, 3, 12, 33])
     for _ in range(pick.choice([0, 1, 3, 8, 20])):
         path = b"".join(b"/" + pick.choice(NAMES) for _ in range(pick.randint(1, 4)))

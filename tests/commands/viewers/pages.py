@@ -2,13 +2,16 @@
 from __future__ import annotations
 
 import json
+import math
 import os
 import re
 import shutil
 import subprocess
 import tempfile
-from typing import Any
+from typing import Any, Tuple
 
+# The names in the path of a directory.
+Folder = Tuple[str, ...]
 KINDS = ["added", "removed", "changed"]
 HERE = os.path.dirname(os.path.abspath(__file__))
 CASES = os.path.join(HERE, "views.json")
@@ -38,7 +41,7 @@ def heads_in(page: bytes | str) -> list[Any]:
     return [row[0] for row in data_in(page)["rows"]]
 
 
-def bytes_shown(text):
+def bytes_shown(text: str) -> bytes:
     """The bytes that a page shows as a text."""
     parts = ESCAPE.split(text)
     return b"".join(
@@ -46,45 +49,48 @@ def bytes_shown(text):
     )
 
 
-def wanted_folders(entries):
+def wanted_folders(entries: list[tuple[int, str]]) -> list[list[Any]]:
     """The directories of entries in the order of paths, each with the counts of what is in and
     below it, and of itself.
 
     A directory that has nothing but one directory in it is shown with that one.
     """
-    counts, own, below = {}, {}, {}
+    counts: dict[Folder, list[int]] = {}
+    own: set[Folder] = set()
+    below: dict[Folder, list[Folder]] = {}
     for kind, path in entries:
-        pieces = path.split("/")
-        for end in range(2, len(pieces)):
-            counts.setdefault(tuple(pieces[1:end]), [0, 0, 0])[kind] += 1
+        names = path.split("/")
+        for end in range(2, len(names)):
+            counts.setdefault(tuple(names[1:end]), [0, 0, 0])[kind] += 1
     for kind, path in entries:
         pieces = tuple(path.split("/")[1:])
         if pieces in counts:
             counts[pieces][kind] += 1
-        own[pieces if pieces in counts else pieces[:-1]] = True
+        own.add(pieces if pieces in counts else pieces[:-1])
     for folder in counts:
         below.setdefault(folder[:-1], []).append(folder)
-    names, wanted = {}, []
+    parts: dict[Folder, str] = {}
+    wanted: list[list[Any]] = []
     for folder in sorted(counts):
-        name = names.get(folder[:-1], "") + folder[-1]
+        name = parts.get(folder[:-1], "") + folder[-1]
         if folder not in own and len(below.get(folder, ())) == 1:
-            names[folder] = name + "/"
+            parts[folder] = name + "/"
         else:
             wanted.append([name, counts[folder]])
     return wanted
 
 
-def luminance(colour):
+def luminance(colour: str) -> float:
     """How light a colour such as #57606a is, from 0 to 1, as the guidelines for contrast have
     it."""
-    parts = [int(colour[start : start + 2], 16) / 255 for start in (1, 3, 5)]
-    red, green, blue = (
-        part / 12.92 if part <= 0.03928 else ((part + 0.055) / 1.055) ** 2.4 for part in parts
-    )
-    return 0.2126 * red + 0.7152 * green + 0.0722 * blue
+    light = 0.0
+    for start, share in ((1, 0.2126), (3, 0.7152), (5, 0.0722)):
+        part = int(colour[start : start + 2], 16) / 255
+        light += share * (part / 12.92 if part <= 0.03928 else math.pow((part + 0.055) / 1.055, 2.4))
+    return light
 
 
-def contrast_faults(style):
+def contrast_faults(style: str) -> list[str]:
     """The texts of a style that are hard to read on what is behind them, and the borders and bars
     that are hard to see, in light and in dark (WCAG 2.1, 1.4.3 and 1.4.11)."""
     faults = []

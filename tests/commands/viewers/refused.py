@@ -7,9 +7,9 @@ from collections.abc import Callable
 from typing import Any
 
 from tests.oracle.configuration import DEFAULTS
+from tests.oracle.database import Database
 from tests.oracle.lines import lines_of
 
-from .hostile import Database
 
 Edit = Callable[[bytes], bytes]
 FILE, DIRECTORY, LINK, FIFO = 0o100000, 0o040000, 0o120000, 0o010000

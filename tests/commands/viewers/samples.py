@@ -9,6 +9,7 @@ from typing import Any
 from tests.commands.viewers import hostile, lines
 from tests.commands.viewers.lines import changes_of, stand, with_counts
 from tests.oracle.configuration import DEFAULTS
+from tests.oracle.database import Database
 from tests.oracle.lines import lines_of as proved_lines_of
 
 Entries = dict[bytes, dict[str, Any]]
@@ -39,7 +40,7 @@ DEMO: list[tuple[str, Any, Any, str]] = [
 
 def lines_over(old: Entries, new: Entries) -> bytes:
     names = {"database_in": b"/var/lib/aide/aide.db", "database_new": b"/var/lib/aide/aide.db.new"}
-    databases = hostile.Database(old), hostile.Database(new)
+    databases = Database(old), Database(new)
     return proved_lines_of(*databases, [b"old", b"new"], {**DEFAULTS, **names})[0]
 
 
