@@ -15,6 +15,8 @@ tables of files.
 
 Prints what fails and, at the end, `N passed, M failed`.
 """
+from __future__ import annotations
+
 import glob
 import os
 import re
@@ -22,13 +24,13 @@ import shutil
 import subprocess
 import sys
 
-from tools.lib.arguments import parser_of
-from tests.lib.scratch import read
+from tests.lib.scratch import TOP, read
 from tests.lib.tally import Tally
 from tests.pages.blocks import blocks_of
+from tools.lib.arguments import parser_of
 from tools.source import headline_page, public_specs
+from tools.source.definitions import crates
 
-TOP = public_specs.TOP
 DIAGRAMS = ("flowchart ", "sequenceDiagram\n")
 ENDINGS = r"(?:rt|antt|py|md|sh|c|txt|conf|edit|[15])"
 NAMED = re.compile(r"`((?:[\w.-]+/)*[\w.-]+\.%s)`" % ENDINGS)
@@ -40,22 +42,22 @@ BELOW = re.compile(
 class Kinds(Tally):
     """What was checked, by kind: a kind of which nothing is found has failed."""
 
-    def __init__(self):
+    def __init__(self) -> None:
         super().__init__()
-        self.kinds = {}
+        self.kinds: dict[str, int] = {}
 
-    def is_so(self, kind, name, good):
+    def is_so(self, kind: str, name: str, good: object) -> None:
         self.kinds[kind] = self.kinds.get(kind, 0) + 1
-        self.holds("%s: %s" % (kind, name), good)
+        self.holds(f"{kind}: {name}", good)
 
-    def status_of(self, kinds):
+    def status_of(self, kinds: list[str]) -> int:
         for kind in kinds:
             if not self.kinds.get(kind):
                 self.is_so(kind, "nothing was found to check", False)
         return self.status()
 
 
-def tracked():
+def tracked() -> list[str]:
     """The files of the repository, by git if it is installed and reads this one."""
     if shutil.which("git"):
         done = subprocess.run(
@@ -69,7 +71,7 @@ def tracked():
     ]
 
 
-def is_there(name, page):
+def is_there(name: str, page: str) -> bool:
     """Whether a page may name a file so: from the top, beside the page, from a crate, from a
     crate's src/."""
     folders = [
@@ -108,62 +110,54 @@ def is_there(name, page):
     )
 
 
-def check_names(page, text, tally):
+def check_names(page: str, text: str, tally: Kinds) -> None:
     for target in re.findall(r"\]\(([^)#]+?)(?:#[^)]*)?\)", text):
         if "://" not in target:
-            tally.is_so(
-                "link",
-                page + ": " + target,
-                os.path.exists(os.path.join(TOP, os.path.dirname(page), target)),
-            )
+            path = os.path.join(TOP, os.path.dirname(page), target)
+            tally.is_so("link", f"{page}: {target}", os.path.exists(path))
     plain = re.sub(r"```.*?```", "", text, flags=re.S)
     for name in sorted(set(NAMED.findall(plain)) | set(BELOW.findall(plain))):
         if "NAME" in name or "/out/" in name:
             continue
-        tally.is_so("file", page + ": " + name, is_there(name.rstrip("/"), page))
+        tally.is_so("file", f"{page}: {name}", is_there(name.rstrip("/"), page))
 
 
-def check_copies(page, text, tally):
+def check_copies(page: str, text: str, tally: Kinds) -> None:
     for name, block in re.findall(r"<!-- from: (\S+) -->\n```\w*\n(.*?)```\n", text, re.S):
-        tally.is_so("copied code", page + ": " + name, block == read(name))
+        tally.is_so("copied code", f"{page}: {name}", block == read(name))
 
 
-def check_blocks(page, tally):
+def check_blocks(page: str, tally: Kinds) -> None:
     """Each block has a mark that says how it is tried, but for the pages that a tool writes."""
     for block in [] if page in headline_page.pages() else blocks_of(page):
         if not block.text.startswith(DIAGRAMS):
             tally.is_so("block", f"{page}:{block.line}", block.marks)
 
 
-def check_promised(tally):
+def check_promised(tally: Kinds) -> None:
     """A folder `specs/` has just the files that public contracts reach or laws cite, and
     `specs/code/` has the others.
 
     What one crate takes from the inside of another one may cite `specs/code/`.
     """
-    found = public_specs.met(public_specs.crates())
+    found = public_specs.met(crates())
     needed = public_specs.met(public_specs.crates_of_programs(), public_specs.names_for_programs)
-    for crate in public_specs.crates():
-        folder, proofs = os.path.join(TOP, "crates", crate, "specs"), os.path.join(
-            TOP, "crates", crate, "proofs"
-        )
-        cited = "\n".join(map(read, sorted(glob.glob(os.path.join(proofs, "*Laws.antt")))))
-        reached = found.get(crate, [])
-        promised = set(reached) | set(
-            re.findall(r"^use Rattle\.%s\.specs\.(\w+)\." % crate, cited, re.M)
-        )
+    for crate in crates():
+        folder = os.path.join(TOP, "crates", crate, "specs")
+        laws = glob.glob(os.path.join(TOP, "crates", crate, "proofs", "*Laws.antt"))
+        promised = set(found.get(crate, []))
+        for path in laws:
+            promised.update(re.findall(rf"^use Rattle\.{crate}\.specs\.(\w+)\.", read(path), re.M))
         for path in sorted(glob.glob(os.path.join(folder, "**", "*.antt"), recursive=True)):
             name = os.path.relpath(path, folder)[: -len(".antt")].replace(os.sep, ".")
             if name not in ("Lib", "code.Lib", "code"):
-                holds = (
-                    name not in needed.get(crate, [])
-                    if name.startswith("code.")
-                    else name in promised
-                )
-                tally.is_so("place of a definition", "%s: %s" % (crate, name), holds)
+                is_right = name in promised
+                if name.startswith("code."):
+                    is_right = name not in needed.get(crate, [])
+                tally.is_so("place of a definition", f"{crate}: {name}", is_right)
 
 
-def check_changes(tally):
+def check_changes(tally: Kinds) -> None:
     """Each kind of change in CONTRACTS has texts that files of the repository have."""
     page = read("docs/CONTRACTS.md")
     part = page.partition("\n## What a change touches\n")[2].partition("\n## ")[0]
@@ -174,7 +168,7 @@ def check_changes(tally):
             tally.is_so("kind of change", f"{kind}: a file has {text}", is_found)
 
 
-def read_text(name):
+def read_text(name: str) -> str:
     """The text of a file, and nothing for one that is no text."""
     try:
         return read(name)
@@ -207,7 +201,7 @@ def promised_by(call: str, source: str) -> set[str]:
     return names
 
 
-def check_clauses(tally):
+def check_clauses(tally: Kinds) -> None:
     sources = {
         "run": "crates/aide_report/src/comparison.rt",
         "run_lines": "crates/aide_report/src/lines_run.rt",
@@ -218,10 +212,10 @@ def check_clauses(tally):
         promised = promised_by(call, sources[call])
         for row in re.findall(r"^\| .* \| ((?:`\w+`(?:, )?)+) \|$", part, re.M):
             for clause in re.findall(r"`(\w+)`", row):
-                tally.is_so("clause", "%s of %s" % (clause, call), clause in promised)
+                tally.is_so("clause", f"{clause} of {call}", clause in promised)
 
 
-def main():
+def main() -> int:
     parser_of("tests.source.check_docs", __doc__).parse_args()
     tally = Kinds()
     for page in tracked():

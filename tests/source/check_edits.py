@@ -18,15 +18,18 @@ Prints each public function that has no edit and needs one, each edit that chang
 or whose text does not stand exactly once in its file, and each that is only named after what it
 changes. The last line is `N passed, M failed`.
 """
+from __future__ import annotations
+
 import os
 import pathlib
 import re
 import sys
+from collections.abc import Iterator
 
+from tests.lib.scratch import TOP
 from tools.lib.arguments import parser_of
 
-HERE = os.path.dirname(os.path.dirname(os.path.dirname(os.path.abspath(__file__))))
-CRATES = os.path.join(HERE, "crates")
+CRATES = os.path.join(TOP, "crates")
 # Where fewer are found, the search itself is broken.
 FEWEST_FUNCTIONS = 160
 FEWEST_EDITS = 150
@@ -42,7 +45,7 @@ FIELD = rf"(&?self(\.\w+)+(\(\))?|{PARTS}\w+(\.\w+\(\))?)"
 PASSED = rf"({PARTS})?(self\.\w+\.\w+\(\w+\);?|let _ = \w+;)"
 
 
-def read_lines(*path):
+def read_lines(*path: str) -> list[str]:
     with open(os.path.join(CRATES, *path), encoding="utf-8") as file:
         return file.read().split("\n")
 
@@ -50,7 +53,17 @@ def read_lines(*path):
 class Item:
     """A function or a constant, and the lines of its code."""
 
-    def __init__(self, name, owner, trait, is_pub, begin, first, last, text):
+    def __init__(
+        self,
+        name: str,
+        owner: str | None,
+        trait: str | None,
+        is_pub: bool,
+        begin: int,
+        first: int,
+        last: int,
+        text: list[str],
+    ) -> None:
         self.name, self.owner, self.trait, self.is_pub = name, owner, trait, is_pub
         self.begin, self.first, self.last = begin, first, last
         head = text[begin:first]
@@ -58,16 +71,16 @@ class Item:
         self.takes_self = re.search(r"\(\s*&?(mut )?self\b", " ".join(head)) is not None
         self.body = " ".join(" ".join(line.split("//")[0] for line in text[first:last]).split())
 
-    def title(self):
+    def title(self) -> str:
         return f"{self.owner}::{self.name}" if self.owner else self.name
 
-    def words(self):
+    def words(self) -> set[str]:
         """The words of its name and of its type's name."""
         return set(
             re.findall(r"[a-z0-9]+", re.sub(r"(?<=[a-z0-9])(?=[A-Z])", "_", self.title()).lower())
         )
 
-    def kind(self):
+    def kind(self) -> str:
         """The kind of function that needs no edit, if it is of one."""
         if not self.is_promised:
             return "no contract"
@@ -78,10 +91,10 @@ class Item:
         literal = rf"({self.owner}|Self) \{{[^{{}}]*\}}"
         if self.owner and not self.takes_self and re.fullmatch(literal, self.body):
             return "maker"
-        return None
+        return ""
 
 
-def code_of(text, begin, indent):
+def code_of(text: list[str], begin: int, indent: str) -> tuple[int, int] | None:
     """The lines between the braces of the function that begins at a line, or None if it has no
     body."""
     depth = 0
@@ -97,7 +110,7 @@ def code_of(text, begin, indent):
     return None
 
 
-def items_of(text):
+def items_of(text: list[str]) -> Iterator[Item]:
     """The functions and constants of a file."""
     owner = trait = None
     for at, line in enumerate(text):
@@ -116,7 +129,7 @@ def items_of(text):
             yield Item(constant.group(1), owner, trait, False, at, at, last + 1, text)
 
 
-def sources_of(folder):
+def sources_of(folder: str) -> list[str]:
     """The files of a crate's code, as paths below this folder. Tests in a folder of their own are
     left out."""
     files = (path.relative_to(folder).as_posix() for path in pathlib.Path(folder).rglob("*.rt"))
@@ -126,7 +139,7 @@ def sources_of(folder):
 class Crate:
     """The code of a crate, its public functions, and which edits belong to what."""
 
-    def __init__(self, name):
+    def __init__(self, name: str) -> None:
         self.name = name
         self.files = sources_of(os.path.join(CRATES, name, "src"))
         self.texts = {"src/" + file: read_lines(name, "src", file) for file in self.files}
@@ -138,26 +151,28 @@ class Crate:
             }
         self.types = {kept for _, kept in self.exports}
 
-    def traits(self):
+    def traits(self) -> set[str]:
         return {name for text in self.texts.values() for name in TRAIT.findall("\n".join(text))}
 
-    def is_public(self, file, item, traits):
+    def is_public(self, file: str, item: Item, traits: set[str]) -> bool:
         if item.owner is None:
             return item.is_pub and (file, item.name) in self.exports
         return item.owner in self.types and (
             item.is_pub if item.trait is None else item.trait in traits
         )
 
-    def text_of(self, file):
+    def text_of(self, file: str) -> list[str]:
         """The lines of a file of the crate, which an edit may name beside those of `src/`."""
         return self.texts[file] if file in self.texts else read_lines(self.name, *file.split("/"))
 
-    def edits(self):
+    def edits(self) -> Iterator[tuple[str, list[tuple[str, int]], list[int]]]:
         """Each edit: its name, the lines, as file and number, that it changes, and how often each
         old text is there."""
         folder = os.path.join(CRATES, self.name, "must-fail")
         for name in sorted(os.listdir(folder)) if os.path.isdir(folder) else []:
-            lines, file, counts = [], None, []
+            lines: list[tuple[str, int]] = []
+            counts: list[int] = []
+            file = ""
             for line in read_lines(self.name, "must-fail", name):
                 word, _, rest = line.partition(": ")
                 if word == "file":
@@ -170,9 +185,10 @@ class Crate:
                     lines += found
             yield name[: -len(".edit")], lines, counts
 
-    def edits_of_items(self):
+    def edits_of_items(self) -> tuple[dict[int, list[str]], dict[str, str]]:
         """The names of the edits of each item, and why other edits are wrong."""
-        of_item, wrong = {}, {}
+        of_item: dict[int, list[str]] = {}
+        wrong = {}
         for name, lines, counts in self.edits():
             changed = [
                 item
@@ -186,15 +202,13 @@ class Crate:
             elif not changed and self.items:
                 wrong[name] = "changes no line of code"
             elif set(name.split("_")) <= set().union(*(item.words() for item in changed)):
-                wrong[
-                    name
-                ] = "is named after what it changes, and not after what the edited code does"
+                wrong[name] = "is named after what it changes, not after what the edited code does"
         return of_item, wrong
 
-    def own_code(self, public):
+    def own_code(self, public: list[tuple[str, Item]]) -> Iterator[tuple[str, Item, list[Item]]]:
         """Of each public function the items that are its code: itself, and what it alone names."""
         ids = {id(item) for _, item in public}
-        private = {}
+        private: dict[str, list[Item]] = {}
         for _, item in self.items:
             if id(item) not in ids:
                 private.setdefault(item.name, []).append(item)
@@ -207,7 +221,7 @@ class Crate:
             yield file, item, [item] + own
 
 
-def judge(crate, traits, lists):
+def judge(crate: Crate, traits: set[str], lists: bool) -> tuple[int, int, int]:
     """How many public functions and edits are right, and how many are not, each of which is
     printed."""
     of_item, wrong = crate.edits_of_items()
@@ -230,7 +244,7 @@ def judge(crate, traits, lists):
     return passed, failed + len(wrong), sum(1 for _ in crate.edits())
 
 
-def main():
+def main() -> int:
     parser = parser_of("tests.source.check_edits", __doc__)
     parser.add_argument(
         "--list", action="store_true", help="print every public function with its edits or its kind"

@@ -2,17 +2,18 @@
 
 commands/lib/aide_compare has a folder for each layer, from base to commands. A module imports only
 from its own folder and from the folders before it, no two modules import each other in a circle,
-and each folder says in a sentence what it has. --graph prints which folder imports from which, with
-the number of imports. Prints what fails and, at the end, `N passed, M failed`.
+and each folder says in a sentence what it has. Prints what fails and, at the end, `N passed, M failed`.
 """
-import ast
-import collections
-import sys
+from __future__ import annotations
 
-from tools.lib.arguments import parser_of
+import ast
+import sys
+from collections.abc import Iterator
+
 from tests.lib.scratch import read
 from tests.lib.tally import Tally
 from tests.source.check_docs import tracked
+from tools.lib.arguments import parser_of
 
 PACKAGE = "aide_compare"
 ROOT = "commands/lib/" + PACKAGE + "/"
@@ -20,7 +21,7 @@ ROOT = "commands/lib/" + PACKAGE + "/"
 LAYERS = ("base", "lines", "compare", "changes", "show", "mail", "hosts", "commands")
 
 
-def modules():
+def modules() -> dict[str, str]:
     """The path of each module that is in a layer, by its name below the package."""
     found = {}
     for path in tracked():
@@ -30,36 +31,36 @@ def modules():
     return found
 
 
-def imports(tree, names):
+def imports(tree: ast.Module, names: dict[str, str]) -> Iterator[str]:
     """The modules of the package that a module imports, here and in its functions."""
     for node in ast.walk(tree):
         if isinstance(node, ast.Import):
-            parts = [(alias.name, ()) for alias in node.names]
-        elif isinstance(node, ast.ImportFrom) and not node.level:
-            parts = [(node.module, [alias.name for alias in node.names])]
+            imported = [alias.name for alias in node.names]
+        elif isinstance(node, ast.ImportFrom) and node.module and not node.level:
+            imported = [f"{node.module}.{alias.name}" for alias in node.names]
+            imported.append(node.module)
         else:
             continue
-        for module, members in parts:
-            if module == PACKAGE or module.startswith(PACKAGE + "."):
-                inner = module[len(PACKAGE) + 1 :]
-                whole = [".".join(filter(None, (inner, member))) for member in members]
-                yield from [name for name in whole if name in names] or [inner] * (inner in names)
+        for name in imported:
+            inner = name[len(PACKAGE) + 1 :]
+            if name.startswith(PACKAGE + ".") and inner in names:
+                yield inner
 
 
-def layer_of(name):
+def layer_of(name: str) -> str:
     return name.partition(".")[0]
 
 
-def upward(name, others):
+def upward(name: str, others: list[str]) -> list[str]:
     place = LAYERS.index(layer_of(name))
     return [
-        "imports %s, which is above it" % other
+        f"imports {other}, which is above it"
         for other in others
         if LAYERS.index(layer_of(other)) > place
     ]
 
 
-def circle(graph):
+def circle(graph: dict[str, list[str]]) -> list[str]:
     """The names of modules that import each other in a circle, or nothing."""
     left = {name: set(others) - {name} for name, others in graph.items()}
     while left:
@@ -71,44 +72,24 @@ def circle(graph):
     return []
 
 
-def draw(graph):
-    counts = collections.Counter(
-        (layer_of(name), layer_of(other)) for name, others in graph.items() for other in others
-    )
-    for layer in LAYERS:
-        row = ["%s %d" % (other, counts[layer, other]) for other in LAYERS if counts[layer, other]]
-        print("%-8s -> %s" % (layer, ", ".join(row) or "nothing"))
-
-
-def main():
-    parser = parser_of("tests.source.check_layers", __doc__)
-    parser.add_argument(
-        "--graph", action="store_true", help="print which folder imports from which"
-    )
-    given = parser.parse_args()
+def main() -> int:
+    parser_of("tests.source.check_layers", __doc__).parse_args()
     found = modules()
-    trees = {}
-    for name, path in found.items():
-        trees[name] = ast.parse(read(path), path)
+    trees = {name: ast.parse(read(path), path) for name, path in found.items()}
     unknown = sorted(name for name in found if layer_of(name) not in LAYERS)
     graph = {
         name: sorted(set(imports(tree, found)) - {name})
         for name, tree in trees.items()
         if name not in unknown
     }
-    if given.graph:
-        draw(graph)
-        return 0
     tally = Tally()
-    tally.add("modules outside the layers", ["%s is in no layer" % found[name] for name in unknown])
+    tally.add("modules outside the layers", [f"{found[name]} is in no layer" for name in unknown])
     for layer in LAYERS:
         has_sentence = layer in trees and ast.get_docstring(trees[layer])
         tally.add("the folder " + layer, [] if has_sentence else ["no sentence in its __init__.py"])
     for name, others in sorted(graph.items()):
         tally.add("imports of " + name, upward(name, others))
-    tally.add(
-        "circles", ["they import each other: " + ", ".join(circle(graph))] if circle(graph) else []
-    )
+    tally.holds("no module imports itself through others", not circle(graph), circle(graph))
     tally.holds("the graph has the imports of the package", sum(map(len, graph.values())) > 300)
     return tally.status()
 

@@ -1,30 +1,36 @@
-#!/usr/bin/env python3
 """Checks the layout of every crate: cycles of modules, wide contracts, long argument lists, long
 lines and long files.
 
 Each finding fails unless docs/DECISIONS.md has a row for it in the table under the heading
-"Exceptions from the layout". A row that matches no finding fails too, so the table stays as short
-as it can be. A row about lines or files may name a folder. The rules:
+"Exceptions from the layout". A row that matches no finding fails too. A row about lines or files may
+name a folder. The rules:
 
   cycle      the modules of a crate form no cycle (by their `use crate::` and `use super::` lines)
   ensures    a function has at most 8 `ensures`
   arguments  a function has at most 6 arguments, `self` included
-  column     a line of src/ or specs/ has at most 100 characters, a line of comment at most 120, and a line of proofs/
-             at most 140
+  column     a line of src/ or specs/ has at most 100 characters, a line of comment at most 120,
+             and a line of proofs/ at most 140
   length     a file of src/ or specs/ has at most 350 lines
 
-The last line is 'N passed, M failed': each crate counts once for each rule. The status is 1 if
-something failed or if no crate was found.
+The last line is 'N passed, M failed': each crate counts once for each rule.
 """
-import collections
+from __future__ import annotations
+
 import pathlib
 import re
 import sys
+from collections.abc import Iterator
+from typing import Dict, Set, Tuple
 
+from tests.lib.scratch import TOP, read
+from tests.lib.tally import Tally
 from tools.lib.arguments import parser_of
+from tools.source.definitions import crates
 
-HEADING = "Exceptions from the layout"
-RULES = ("cycle", "ensures", "arguments", "column", "length")
+# The path of a module within its crate, none for the root, and which modules each one uses.
+Module = Tuple[str, ...]
+Graph = Dict[Module, Set[Module]]
+PAGE = "docs/DECISIONS.md"
 MOST_ENSURES = 8
 MOST_ARGUMENTS = 6
 MOST_COLUMNS = 100
@@ -36,13 +42,13 @@ SKIPPED = re.compile(r"""//[^\n]*|/\*.*?\*/|b?"(?:\\.|[^"\\])*"|b?'(?:\\.[^']*|[
 OPENING, CLOSING = "([{", ")]}"
 
 
-def blanked(text):
+def blanked(text: str) -> str:
     """The text with comments and literals replaced by blanks, so that their brackets do not
     count."""
     return SKIPPED.sub(lambda found: re.sub(r"[^\n]", " ", found.group()), text)
 
 
-def end_of(text, start):
+def end_of(text: str, start: int) -> int:
     """The index after the bracket that closes the one at `start`."""
     depth = 0
     for index in range(start, len(text)):
@@ -55,7 +61,7 @@ def end_of(text, start):
     raise ValueError("a bracket is not closed")
 
 
-def count_arguments(inside):
+def count_arguments(inside: str) -> int:
     """How many arguments stand between the brackets of a function."""
     depth, count, filled = 0, 0, False
     for index, letter in enumerate(inside):
@@ -70,7 +76,7 @@ def count_arguments(inside):
     return count + filled
 
 
-def functions_of(text):
+def functions_of(text: str) -> Iterator[tuple[str, int, int]]:
     """Each function of a file: its name, its number of arguments and its number of `ensures`."""
     text = blanked(text)
     for found in re.finditer(r"\bfn\s+(\w+)", text):
@@ -89,7 +95,7 @@ def functions_of(text):
         yield found.group(1), arguments, ensures
 
 
-def split_uses(text):
+def split_uses(text: str) -> Iterator[list[str]]:
     """Each path that a `use` line of code names, as a list of words. A ghost import names no
     code."""
     for found in re.finditer(
@@ -100,7 +106,7 @@ def split_uses(text):
         yield from expand(found.group(2).strip())
 
 
-def expand(path):
+def expand(path: str) -> Iterator[list[str]]:
     """The paths of `a::{b, c::d}`, one after another."""
     opened = path.find("{")
     if opened < 0:
@@ -119,15 +125,14 @@ def expand(path):
             part += letter
 
 
-def module_of(source, file):
-    """The path of a file's module within its crate: none for the root."""
-    parts = list(file.relative_to(source).with_suffix("").parts)
-    return (
-        () if parts in (["lib"], ["main"]) else tuple(parts[:-1] if parts[-1] == "mod" else parts)
-    )
+def module_of(source: pathlib.Path, file: pathlib.Path) -> Module:
+    parts = file.relative_to(source).with_suffix("").parts
+    if parts in (("lib",), ("main",)):
+        return ()
+    return parts[:-1] if parts[-1] == "mod" else parts
 
 
-def imports_of(modules):
+def imports_of(modules: dict[Module, str]) -> Graph:
     """For each module the modules that it uses. A name that the root passes on counts for the
     module it comes from."""
     passed_on = {}
@@ -153,7 +158,7 @@ def imports_of(modules):
     return graph
 
 
-def longest(modules, path):
+def longest(modules: dict[Module, str], path: Module) -> Module:
     """The longest beginning of a path that is a module."""
     for length in range(len(path), 0, -1):
         if path[:length] in modules:
@@ -161,11 +166,12 @@ def longest(modules, path):
     return ()
 
 
-def cycles_of(graph):
+def cycles_of(graph: Graph) -> list[tuple[Module, ...]]:
     """The sets of modules that reach one another, each sorted."""
 
-    def reached(start):
-        seen, waiting = set(), [start]
+    def reached(start: Module) -> set[Module]:
+        seen: set[Module] = set()
+        waiting = [start]
         while waiting:
             for target in graph.get(waiting.pop(), ()):
                 if target not in seen:
@@ -181,14 +187,15 @@ def cycles_of(graph):
     return sorted(knots)
 
 
-def named(module):
+def named(module: Module) -> str:
     return "::".join(module)
 
 
-def findings_of(crate):
+def findings_of(crate: pathlib.Path) -> dict[str, dict[str, str]]:
     """What breaks a rule in a crate: for each rule where it is broken, with what was found
     there."""
-    found = collections.defaultdict(dict)
+    rules = ("cycle", "ensures", "arguments", "column", "length")
+    found: dict[str, dict[str, str]] = {rule: {} for rule in rules}
     source = crate / "src"
     texts = {file: file.read_text(encoding="utf-8") for file in sorted(source.rglob("*.rt"))}
     modules = {module_of(source, file): text for file, text in texts.items()}
@@ -196,117 +203,62 @@ def findings_of(crate):
         where = crate.name + ": " + ", ".join(named(module) for module in knot)
         found["cycle"][where] = f"{len(knot)} modules"
     for file, text in texts.items():
-        module = named((crate.name,) + module_of(source, file))
+        module = named((crate.name, *module_of(source, file)))
         for name, arguments, ensures in functions_of(text):
             where = f"{module}::{name}"
             if ensures > MOST_ENSURES:
                 found["ensures"][where] = f"{ensures} ensures"
             if arguments > MOST_ARGUMENTS:
                 found["arguments"][where] = f"{arguments} arguments"
-    for file in list(texts) + sorted((crate / "specs").rglob("*.antt")):
-        lines = file.read_text(encoding="utf-8").splitlines()
+    for file in [*texts, *sorted(crate.rglob("*.antt"))]:
         where = str(file.relative_to(crate.parent))
-        wide = [str(number) for number, line in enumerate(lines, 1) if len(line) > width_of(line)]
-        if wide:
-            found["column"][where] = "lines " + ", ".join(wide)
-        if len(lines) > MOST_LINES:
-            found["length"][where] = f"{len(lines)} lines"
-    for file in sorted((crate / "proofs").rglob("*.antt")):
+        is_proof = file.is_relative_to(crate / "proofs")
         lines = file.read_text(encoding="utf-8").splitlines()
         wide = [
-            str(number) for number, line in enumerate(lines, 1) if len(line) > MOST_PROOF_COLUMNS
+            str(number)
+            for number, line in enumerate(lines, 1)
+            if len(line) > (MOST_PROOF_COLUMNS if is_proof else width_of(line))
         ]
         if wide:
-            found["column"][str(file.relative_to(crate.parent))] = "lines " + ", ".join(wide)
+            found["column"][where] = "lines " + ", ".join(wide)
+        if len(lines) > MOST_LINES and not is_proof:
+            found["length"][where] = f"{len(lines)} lines"
     return found
 
 
-def width_of(line):
-    """How many characters a line may have."""
+def width_of(line: str) -> int:
+    """How many characters a line may have that is not of a proof."""
     is_comment = line.lstrip().startswith(("//", "--"))
     return MOST_COMMENT_COLUMNS if is_comment else MOST_COLUMNS
 
 
-def exceptions_of(page):
-    """The rows of the table: the reason for each rule and where it is broken."""
-    rows, inside = {}, False
-    for number, line in enumerate(page.read_text(encoding="utf-8").splitlines(), 1):
-        if line.startswith("## "):
-            inside = line[3:].strip() == HEADING
-        cells = [cell.strip().replace("`", "") for cell in line.strip().strip("|").split("|")]
-        if (
-            not inside
-            or not line.startswith("|")
-            or cells[0] in ("Rule", "")
-            or set(cells[0]) == {"-"}
-        ):
-            continue
-        if len(cells) != 3 or cells[0] not in RULES or not cells[2]:
-            sys.exit(
-                f"check_layout.py: {page}:{number}: a row says the rule, where it is broken, and the reason"
-            )
-        rows[(cells[0], cells[1])] = cells[2]
-    return rows
+def exceptions() -> list[tuple[str, str]]:
+    """The rules of the rows of the table, each with where it is broken."""
+    part = read(PAGE).partition("\n## Exceptions from the layout\n")[2].partition("\n## ")[0]
+    return re.findall(r"^\| (\w+) \| `([^`]+)` \| .+ \|$", part, re.M)
 
 
-def crate_of(where):
-    """The crate that a row is about."""
-    return re.split(r"[:/]", where, maxsplit=1)[0]
-
-
-def covers(row, where):
+def covers(row: str, where: str) -> bool:
     """Whether a row is about this finding, or about a folder that it is in."""
     return where == row or where.startswith(row + "/")
 
 
-def main():
-    parser = parser_of("tests.source.check_layout", __doc__)
-    parser.add_argument(
-        "--root",
-        type=pathlib.Path,
-        default=pathlib.Path(__file__).resolve().parents[2],
-        help="the repository (default: the one that this script is in)",
-    )
-    parser.add_argument(
-        "--rows", action="store_true", help="print every finding as a row of the table, and stop"
-    )
-    options = parser.parse_args()
-    crates = sorted(
-        crate for crate in (options.root / "crates").glob("*") if (crate / "src").is_dir()
-    )
-    if not crates:
-        print(f"check_layout.py: no crate in {options.root / 'crates'}", file=sys.stderr)
-        return 1
-    found = {crate.name: findings_of(crate) for crate in crates}
-    if options.rows:
-        for rules in found.values():
-            for rule in RULES:
-                for where, what in rules[rule].items():
-                    print(f"| {rule} | `{where}` | {what} |")
-        return 0
-    page = options.root / "docs" / "DECISIONS.md"
-    if not page.is_file():
-        print(f"check_layout.py: no page {page}", file=sys.stderr)
-        return 1
-    excused = exceptions_of(page)
-    passed = failed = 0
-    for rule, where in excused:
-        if crate_of(where) not in found:
-            print(f"{rule}: {where}: {page.name} has a row for it, but there is no such crate")
-            failed += 1
-    for crate, rules in found.items():
-        for rule in RULES:
-            rows = [row for kind, row in excused if kind == rule and crate_of(row) == crate]
-            new = [where for where in rules[rule] if not any(covers(row, where) for row in rows)]
-            idle = [row for row in rows if not any(covers(row, where) for where in rules[rule])]
-            for where in new:
-                print(f"{rule}: {where}: {rules[rule][where]}")
-            for where in idle:
-                print(f"{rule}: {where}: {page.name} has a row for it, but nothing was found there")
-            passed += not (new or idle)
-            failed += bool(new or idle)
-    print(f"{passed} passed, {failed} failed")
-    return 1 if failed else 0
+def main() -> int:
+    parser_of("tests.source.check_layout", __doc__).parse_args()
+    tally = Tally()
+    rows = exceptions()
+    idle = set(rows)
+    for crate in crates():
+        for rule, found in findings_of(pathlib.Path(TOP, "crates", crate)).items():
+            faults = []
+            for where, what in found.items():
+                excuses = {row for row in rows if row[0] == rule and covers(row[1], where)}
+                idle -= excuses
+                if not excuses:
+                    faults.append(f"{where}: {what}")
+            tally.add(f"{rule} in {crate}", faults)
+    tally.add(f"rows of {PAGE} without a finding", [" ".join(row) for row in sorted(idle)])
+    return tally.status()
 
 
 if __name__ == "__main__":

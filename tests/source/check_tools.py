@@ -2,22 +2,26 @@
 nothing before it has read its arguments.
 
 - Each file is Python 3.9: the grammar of that version reads it.
-- Each tool that is run prints by `--help` how it is called, as argparse says it, and all of its own text, and ends with 0.
-  The repository is the same afterwards.
-- Each tool refuses an option that it does not have, with a status that is not 0, and changes nothing.
+- Each tool that is run prints by `--help` how it is called, as argparse says it, and all of its own
+  text, and ends with 0. The repository is the same afterwards.
+- Each tool refuses an option that it does not have, with a status that is not 0, and changes
+  nothing.
 
 The commands in commands/ are tried by their own trials. Prints what fails and, at the end, `N
 passed, M failed`.
 """
+from __future__ import annotations
+
 import ast
 import os
 import subprocess
 import sys
+from collections.abc import Iterator
 
-from tools.lib.arguments import parser_of
-from tests.lib.scratch import read
+from tests.lib.scratch import TOP, read
 from tests.lib.tally import Tally
-from tests.source.check_docs import TOP, tracked
+from tests.source.check_docs import tracked
+from tools.lib.arguments import parser_of
 
 OLDEST = (3, 9)
 # Only for a script that hangs: on a machine with much other work one may take a minute.
@@ -25,7 +29,7 @@ SECONDS = 300
 MAIN = 'if __name__ == "__main__":'
 
 
-def is_python(name, text):
+def is_python(name: str, text: str) -> bool:
     return (
         name.endswith(".py")
         or text.startswith("#!/usr/bin/python3")
@@ -33,7 +37,7 @@ def is_python(name, text):
     )
 
 
-def scripts():
+def scripts() -> Iterator[tuple[str, str]]:
     """The files of Python, each with its text."""
     for name in sorted(tracked()):
         try:
@@ -44,16 +48,16 @@ def scripts():
             yield name, text
 
 
-def faults_of_text(name, text):
+def faults_of_text(name: str, text: str) -> list[str]:
     """Where a file is of another language."""
     try:
         ast.parse(text, name, feature_version=OLDEST)
     except SyntaxError as error:
-        return ["line %s: %s" % (error.lineno, error.msg)]
+        return [f"line {error.lineno}: {error.msg}"]
     return []
 
 
-def tree():
+def tree() -> dict[str, tuple[int, int]]:
     """What would show that a file of the repository was written: the time and the size of each."""
     found = {}
     for name in tracked():
@@ -65,14 +69,14 @@ def tree():
     return found
 
 
-def command_of(name):
+def command_of(name: str) -> list[str]:
     """How a tool is run: as a module below tools/ or tests/, otherwise as a file."""
     if name.startswith(("tools/", "tests/")):
         return [sys.executable, "-m", name[: -len(".py")].replace("/", ".")]
     return [sys.executable, os.path.join(TOP, name)]
 
 
-def run(command):
+def run(command: list[str]) -> tuple[int, str]:
     environment = dict(os.environ, PYTHONDONTWRITEBYTECODE="1")
     done = subprocess.run(
         command,
@@ -86,45 +90,33 @@ def run(command):
     return done.returncode, done.stdout.decode("utf-8", "replace")
 
 
-def lacks(name, text, output):
+def lacks(name: str, text: str, output: str) -> list[str]:
     """What the help of a tool lacks: the command itself, and the paragraphs of the tool's text."""
     paragraphs = (ast.get_docstring(ast.parse(text)) or "no text").split("\n\n")
-    head = (
-        ["usage: python3 -m " + name[: -len(".py")].replace("/", ".")]
-        if name.startswith(("tools/", "tests/"))
-        else []
-    )
+    parts = [" ".join(each.split()) for each in paragraphs]
+    if name.startswith(("tools/", "tests/")):
+        parts.insert(0, f"usage: python3 -m {command_of(name)[-1]}")
     words = " ".join(output.split())
-    return [
-        part for part in head + [" ".join(each.split()) for each in paragraphs] if part not in words
-    ]
+    return [part for part in parts if part not in words]
 
 
-def main():
+def main() -> int:
     parser_of("tests.source.check_tools", __doc__).parse_args()
-    tally, tools = Tally(), []
+    tally = Tally()
+    tools = []
     for name, text in scripts():
-        tally.add(
-            "%s is Python %d.%d" % ((name,) + OLDEST),
-            faults_of_text(name, text),
-        )
+        tally.add(f"{name} is Python 3.9", faults_of_text(name, text))
         if MAIN in text.replace("'", '"') and not name.startswith("commands/"):
             tools.append((name, text))
     before = tree()
     for name, text in tools:
         status, output = run(command_of(name) + ["--help"])
-        tally.holds(
-            "%s --help" % name, status == 0 and output.startswith("usage:"), (status, output[-400:])
-        )
-        tally.holds(
-            "%s --help has its text" % name,
-            not lacks(name, text, output),
-            lacks(name, text, output)[:2],
-        )
+        is_help = status == 0 and output.startswith("usage:")
+        tally.holds(f"{name} --help", is_help, (status, output[-400:]))
+        tally.add(f"{name} --help lacks", lacks(name, text, output)[:2])
         status, output = run(command_of(name) + ["--no-such-option"])
-        tally.holds(
-            "%s refuses another option" % name, status not in (0, 1), (status, output[-400:])
-        )
+        is_refused = status not in (0, 1)
+        tally.holds(f"{name} refuses another option", is_refused, (status, output[-400:]))
     tally.holds("no file is written before the arguments are read", tree() == before)
     tally.holds("a tool is found", len(tools) > 20, len(tools))
     return tally.status()

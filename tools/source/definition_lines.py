@@ -1,6 +1,14 @@
 """The lines of definitions as a page shows them: short ones share a line, and users come first."""
+from __future__ import annotations
+
 import re
 import textwrap
+from collections.abc import Mapping
+from typing import TypeVar
+
+from tools.source.definitions import Definition
+
+Item = TypeVar("Item")
 
 # Columns of definitions, which are those of the crates, and of prose.
 WIDTH = 138
@@ -9,7 +17,7 @@ PROSE = 80
 SHORT = 48
 
 
-def users_first(items, users):
+def users_first(items: list[Item], users: Mapping[Item, set[Item]]) -> list[Item]:
     """Items in an order in which each comes after those that use it; of several the one that was
     met first."""
     left, order = list(items), []
@@ -20,10 +28,10 @@ def users_first(items, users):
     return order
 
 
-def equations(definition):
+def equations(definition: Definition) -> list[list[str]]:
     """The lines of a definition in groups: each begins a line of its own, a field or a constructor,
     and the others go on."""
-    groups = []
+    groups: list[list[str]] = []
     for line in definition.lines:
         begins = definition.is_group() and re.match(r"  (?:pub )?[A-Za-z_][\w']* :|  --", line)
         if groups and line.startswith((" ", "}")) and not begins:
@@ -33,9 +41,9 @@ def equations(definition):
     return groups
 
 
-def filled(pieces, indent):
+def filled(pieces: list[str], indent: str) -> list[str]:
     """Lines with these pieces, as many in a line as fit, with a `;` between two."""
-    lines = []
+    lines: list[str] = []
     for piece in pieces:
         if lines and len(lines[-1]) + 2 + len(piece) <= WIDTH:
             lines[-1] += "; " + piece
@@ -44,7 +52,7 @@ def filled(pieces, indent):
     return lines
 
 
-def laid_out(group):
+def laid_out(group: list[str]) -> list[str]:
     """A part of a definition: in one line if it fits; the parts of a record as many in a line as
     fit; otherwise as it is."""
     joined = " ".join([group[0]] + [line.strip() for line in group[1:]])
@@ -56,7 +64,7 @@ def laid_out(group):
     return group
 
 
-def shown(definition):
+def shown(definition: Definition) -> list[str]:
     """The lines of a definition; a short sentence is in its first line."""
     groups = equations(definition)
     lines = [line for group in groups for line in laid_out(group)]
@@ -76,7 +84,7 @@ def shown(definition):
     return wrapped(definition.sentence, "-- ") + lines
 
 
-def wrapped(text, front, width=WIDTH):
+def wrapped(text: str, front: str, width: int = WIDTH) -> list[str]:
     return [
         front + line for line in textwrap.wrap(text, width - len(front), break_on_hyphens=False)
     ]

@@ -9,14 +9,18 @@ the definitions that it uses, as tools/source/public_specs.py does for all publi
 definition stands before those that it uses. With --write the pages are written;
 tests/source/check_docs.py compares them with the definitions.
 """
+from __future__ import annotations
+
 import os
 import re
 import sys
+from collections.abc import Sequence
 
+from tests.lib.scratch import TOP, read
 from tools.lib.arguments import parser_of
 from tools.source.definition_lines import PROSE, shown, users_first, wrapped
-from tools.source.definitions import TOP, WORD, Definitions, crates, imports_of
-from tools.source.headline_tables import library_words, members_of, read, types_of
+from tools.source.definitions import WORD, Definitions, Place, Places, crates, imports_of
+from tools.source.headline_tables import library_words, members_of, types_of
 
 PAGE, THEOREM_PAGE = "docs/HEADLINE.md", "docs/HEADLINE_LINES.md"
 LISTS_PAGE, LINES_PAGE = "docs/HEADLINE_LISTS.md", "docs/HEADLINE_JSON.md"
@@ -166,7 +170,7 @@ of them. Two fields of the record that `run` promises do. In them `a` and `b`
 are the sources before and after the call, and `o` and `p` the output:"""
 
 
-def contract_of(text, name):
+def contract_of(text: str, name: str) -> str:
     """A public function without its body: the line that names it, its arguments and its clauses."""
     begin = text.index("pub fn %s<" % name)
     return text[begin : text.index("\n{\n", begin)]
@@ -189,18 +193,27 @@ def fields_of(text: str, names: list[str]) -> list[str]:
 class Page:
     """The page, part by part: each definition is printed once."""
 
-    def __init__(self, definitions, intro, printed=()):
+    def __init__(self, definitions: Definitions, intro: str, printed: Sequence[Place] = ()) -> None:
         self.definitions = definitions
-        self.lines, self.printed, self.outside = intro.split("\n")[:-1], list(printed), []
+        self.lines = intro.split("\n")[:-1]
+        self.printed = list(printed)
         self.known = list(printed)
+        self.outside: Places = []
 
-    def add(self, *lines):
+    def add(self, *lines: str) -> None:
         self.lines += lines
 
-    def block(self, kind, text):
+    def block(self, kind: str, text: str) -> None:
         self.add("```" + kind, *(text.split("\n") + ["```"]))
 
-    def part(self, title, text, contract, imports, stops=()):
+    def part(
+        self,
+        title: str,
+        text: list[str],
+        contract: str,
+        imports: dict[str, Place],
+        stops: Sequence[Place] = (),
+    ) -> None:
         """A heading with a text, and the definitions that a contract needs and that are not on the
         page yet."""
         first, named = self.definitions.named_by(WORD.findall(contract), imports)
@@ -213,7 +226,7 @@ class Page:
         self.add("", "## " + title, "", *text)
         self.block("text", "\n".join(self.shown(new))[1:])
 
-    def shown(self, places):
+    def shown(self, places: Places) -> list[str]:
         """Lines with these definitions by file, users first."""
         files = list(dict.fromkeys(place[:2] for place in places))
         users = {
@@ -234,11 +247,11 @@ class Page:
                 lines += shown(self.definitions.definition(place))
         return lines
 
-    def uses_file(self, place, file):
+    def uses_file(self, place: Place, file: tuple[str, str]) -> bool:
         return any(used[:2] == file for used in self.definitions.used_by(place)[0])
 
 
-def premises(definitions, places):
+def premises(definitions: Definitions, places: Places) -> list[str]:
     """What the premises of a call over arguments are, in lines of a list."""
     lines = [ASKED, ""]
     for place in places:
@@ -252,7 +265,9 @@ def premises(definitions, places):
     return lines + [""]
 
 
-def begun(intro, definitions, calls, printed=()):
+def begun(
+    intro: str, definitions: Definitions, calls: Places, printed: Sequence[Place] = ()
+) -> tuple[Page, list[str]]:
     """A page with its introduction and the clauses of these calls, each with what it is about, its
     file and its name; and their contracts."""
     made, contracts = Page(definitions, intro, printed), []
@@ -264,7 +279,7 @@ def begun(intro, definitions, calls, printed=()):
     return made, contracts
 
 
-def theorem(definitions):
+def theorem(definitions: Definitions) -> Page:
     """The page of what lines say of the databases, and each definition that its laws rest on."""
     text = read(LAWS)
     laws = [law_of(text, name) for name in ("a_run_says_all", "a_trusted_run_says_all")]
@@ -281,24 +296,26 @@ def theorem(definitions):
     return made
 
 
-def lists(definitions, printed):
+def lists(definitions: Definitions, printed: Places) -> Page:
     """The page of what a list leaves out, with the definitions that are not printed yet."""
     text = read(LIST_LAWS)
     made = Page(definitions, INTRO_OF_LISTS, printed)
     made.add("", "## The laws", "", *OF_LIST_LAWS.split("\n"), "")
     made.block("text", "\n\n".join(law_of(text, name) for name in OF_LISTS))
-    for title, place, stops in (
-        ("When a line leaves a change out", LEFT_OUT, [NAMES]),
-        ("What gives somebody a right", RIGHTS, []),
-        ("Which databases say that a program has no capabilities", MEASURES, []),
-        ("Which paths a line names", NAMES, []),
-        ("What a text says as a list", READING, []),
+    for title, place in (
+        ("When a line leaves a change out", LEFT_OUT),
+        ("What gives somebody a right", RIGHTS),
+        ("Which databases say that a program has no capabilities", MEASURES),
+        ("Which paths a line names", NAMES),
+        ("What a text says as a list", READING),
     ):
+        # When a line names a path has a part of its own.
+        stops = [NAMES] if place == LEFT_OUT else []
         made.part(title, [], place[2], {place[2]: place}, stops)
     return made
 
 
-def pages():
+def pages() -> dict[str, str]:
     """The texts of all pages, by their names."""
     definitions, record = Definitions(crates()), read(RUN_RECORD)
     calls = [(OF_TWO, COMPARE, "compare_databases"), (OF_PROGRAM, PROGRAM, "run_program")]
@@ -350,7 +367,7 @@ def pages():
     return {name: "\n".join(page.lines) + "\n" for name, page in named.items()}
 
 
-def main():
+def main() -> int:
     parser = parser_of("tools.source.headline_page", __doc__)
     parser.add_argument("--write", action="store_true", help="write the pages")
     arguments = parser.parse_args()

@@ -2,13 +2,14 @@
 the words of the library."""
 from __future__ import annotations
 
-import os
 import re
 import sys
+from collections.abc import Sequence
 from typing import TYPE_CHECKING
 
+from tests.lib.scratch import read
 from tools.source.definition_lines import PROSE, wrapped
-from tools.source.definitions import TOP, crates
+from tools.source.definitions import Place, Places, crates
 
 if TYPE_CHECKING:
     from tools.source.headline_page import Page
@@ -49,15 +50,16 @@ WORDS = "All words of other crates, and those of the library that say more than 
 PLAIN = "The other words of the library mean what their names say: "
 
 
-def read(name):
-    with open(os.path.join(TOP, name), encoding="utf-8") as file:
-        return file.read()
+def comment_over(path: str, item: str) -> str:
+    """The comment over an item of the code, in one line and without its last full stop."""
+    found = re.search(rf"((?: */// .*\n)+)(?:#\[.*\]\n)* *{item}", read(path))
+    return " ".join(found[1].replace("/// ", "").split()).rstrip(".") if found else ""
 
 
-def members_of(contracts):
+def members_of(contracts: list[str]) -> list[str]:
     """A table of what contracts see of devices: the ghost members that these name, as `S.failures`,
     by their traits."""
-    found = []
+    found: list[tuple[str, str]] = []
     for contract in contracts:
         bounds = dict(re.findall(r"\b([A-Z]): (\w+)", contract.split("(")[0]))
         for letter, name in re.findall(r"\b([A-Z])\.(\w+)", contract):
@@ -65,11 +67,7 @@ def members_of(contracts):
             found += [row] if row not in found else []
     lines = ["| Member | Is | File |", "|---|---|---|"]
     for file, name in found:
-        above = re.search(r"((?: +/// .*\n)+) +ghost %s:" % name, read(file)).group(1)
-        lines.append(
-            "| `%s` | %s | `%s` |"
-            % (name, " ".join(above.replace("/// ", "").split()).rstrip("."), file)
-        )
+        lines.append(f"| `{name}` | {comment_over(file, f'ghost {name}:')} | `{file}` |")
     return lines
 
 
@@ -82,7 +80,7 @@ def parts_of(text: str, name: str) -> list[str]:
     return re.findall(r"^    (?:pub )?(\w+)(?=[:,( {])", "\n".join(lines), re.M)
 
 
-def aliases_of(page: Page) -> dict[tuple[str, str, str], list[str]]:
+def aliases_of(page: Page) -> dict[Place, list[str]]:
     """The names under which the files of a page import variants, by crate, type and variant."""
     found: dict[tuple[str, str, str], list[str]] = {}
     for file in {place[:2] for place in page.printed if place not in page.known}:
@@ -94,22 +92,20 @@ def aliases_of(page: Page) -> dict[tuple[str, str, str], list[str]]:
     return found
 
 
-def constants_of(outside: list[tuple[str, str, str]]) -> list[str]:
+def constants_of(outside: Places) -> list[str]:
     """Lines about the constants of the code that definitions name."""
     lines = []
     for crate, file, name in sorted(set(outside)):
         if ".TheConstants." in file:
             _, module, owner = type_of((crate, file, name))
             path = f"crates/{crate}/src/{module}.rt"
-            above = re.search(rf"((?: +/// .*\n)+) +pub const {name}: \[{owner};", read(path))
-            assert above, name
-            words = " ".join(above.group(1).replace("/// ", "").split()).rstrip(".")
+            words = comment_over(path, rf"pub const {name}: \[{owner};")
             text = f"`{name}` is `{owner}::{name}` of `{path}`: {words}."
             lines += wrapped(text, "", PROSE)
     return lines
 
 
-def type_of(target):
+def type_of(target: Place) -> Place:
     """The type of the code that a name is of: its crate, the path of its module, its name."""
     parts = [
         part for part in target[1].split(".")[1:] if part not in ("TheConstants", "TheVariants")
@@ -118,7 +114,7 @@ def type_of(target):
     return target[0], "/".join(modules), [part for part in parts if not part[0].islower()][0]
 
 
-def types_of(page: Page, known: list[tuple[str, str, str]]) -> list[str]:
+def types_of(page: Page, known: Places) -> list[str]:
     """The types of the code that a page names, with the variants or fields of each, and the
     constants; those that are `known` from another page are left out."""
     own, aliases = crates(), aliases_of(page)
@@ -134,22 +130,19 @@ def types_of(page: Page, known: list[tuple[str, str, str]]) -> list[str]:
     lines = ["| Type | Is | Has | File |", "|---|---|---|---|"]
     for crate, module, name in found:
         file = f"crates/{crate}/src/{module}.rt"
-        above = re.search(
-            rf"((?:/// .*\n)+)(?:#\[.*\]\n)*pub (?:struct|enum|trait) {name}\b", read(file)
-        )
-        words = " ".join(above.group(1).replace("/// ", "").split()) if above else ""
+        words = comment_over(file, rf"pub (?:struct|enum|trait) {name}\b")
         parts = []
         for part in parts_of(read(file), name):
             others = [each for each in aliases.get((crate, name, part), []) if each != part]
             shown = f" (above {listed(others)})" if others else ""
             parts.append(f"`{part}`{shown}")
-        sentence = words.split(". ")[0].rstrip(".")
+        sentence = words.split(". ")[0]
         lines.append(f"| `{name}` | {sentence} | {', '.join(parts)} | `{file}` |")
     constants = constants_of(declared)
     return ["", "## Types of the code", "", *lines, *([""] if constants else []), *constants]
 
 
-def library_words(outside, known=()):
+def library_words(outside: Places, known: Sequence[Place] = ()) -> list[str]:
     """The words of the library that are not `known` from another page: a table of those that need
     trust, and a list of the others. Another crate's word without a meaning in the table ends the
     program."""
@@ -175,5 +168,5 @@ def library_words(outside, known=()):
     ]
 
 
-def listed(names):
+def listed(names: list[str]) -> str:
     return ", ".join("`%s`" % name for name in names)

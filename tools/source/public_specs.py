@@ -4,10 +4,13 @@ From the contracts of all public functions and traits this follows each name to 
 from there to the definitions that it uses. Prints a line for each crate: its name and the files of
 its specs/ that were met.
 """
+from __future__ import annotations
+
 import glob
 import os
 import re
 import sys
+from collections.abc import Callable
 
 from tools.lib.arguments import parser_of
 from tools.source.checker import TOP, below, libraries
@@ -20,7 +23,7 @@ PROGRAMS = ("aide", "aide_lines", "aide_headline")
 INSIDE = {"aide_trusted": "aide_report"}
 
 
-def public_names(crate):
+def public_names(crate: str) -> set[str]:
     """The names that the root of a crate hands on."""
     root = os.path.join(TOP, "crates", crate, "src", "lib.rt")
     if not os.path.exists(root):
@@ -32,13 +35,13 @@ def public_names(crate):
     }
 
 
-def crates_of_programs():
+def crates_of_programs() -> list[str]:
     """The crates that the programs and the headline are built of, by crates.txt."""
     uses = libraries()
     return sorted(set(PROGRAMS).union(*(below(name, uses) for name in PROGRAMS)))
 
 
-def names_used(crate, users):
+def names_used(crate: str, users: list[str]) -> set[str]:
     """The names of a crate that other crates import."""
     used = set()
     for user in users:
@@ -51,7 +54,7 @@ def names_used(crate, users):
     return used
 
 
-def names_for_programs(crate):
+def names_for_programs(crate: str) -> set[str]:
     """The names that the root of a crate hands on and that a program's crate imports."""
     if crate in PROGRAMS:
         return public_names(crate)
@@ -59,20 +62,16 @@ def names_for_programs(crate):
     return public_names(crate) & names_used(crate, users)
 
 
-def owner_of(head):
+def owner_of(head: str) -> str:
     """The name of the item that a line begins; of an impl, the type that it is for."""
     plain = re.sub(r"<[^<>]*(<[^<>]*>[^<>]*)*>", "", head.split("{")[0])
     if plain.startswith("impl"):
         plain = plain[len("impl") :].split(" for ")[-1]
-        return WORD.search(plain).group(0)
-    return (
-        WORD.findall(plain.split("(")[0])[-1]
-        if ":" not in plain.split("(")[0]
-        else WORD.findall(plain.split(":")[0])[-1]
-    )
+        return str(WORD.findall(plain)[0])
+    return str(WORD.findall(re.split("[(:]", plain, maxsplit=1)[0])[-1])
 
 
-def public_contracts(text, public):
+def public_contracts(text: str, public: set[str]) -> str:
     """The texts of the contracts of public functions and traits in a source file."""
     owner, kept, taking, inside = False, [], False, False
     for line in text.split("\n"):
@@ -90,7 +89,9 @@ def public_contracts(text, public):
     return "\n".join(kept)
 
 
-def met(names, handed_on=public_names):
+def met(
+    names: list[str], handed_on: Callable[[str], set[str]] = public_names
+) -> dict[str, list[str]]:
     """The files of specs/ that the contracts of what the crates hand on reach, by crate."""
     definitions, first = Definitions(names), []
     for crate in names:
@@ -110,7 +111,7 @@ def met(names, handed_on=public_names):
     return {crate: sorted({file for other, file, _ in seen if other == crate}) for crate in names}
 
 
-def main():
+def main() -> int:
     parser_of("tools.source.public_specs", __doc__).parse_args()
     found = met(crates())
     for crate, files in found.items():
