@@ -61,9 +61,10 @@ class PreloadTest(ScratchTest, ProgramTest):
     def setUp(self) -> None:
         super().setUp()
         self.directory = os.fsencode(self.root)
-        self.library, faults = built(self.source, self.directory)
-        if self.library is None:
+        library, faults = built(self.source, self.directory)
+        if library is None:
             self.fail("\n".join(faults))
+        self.library = library
 
 
 def run_with(

@@ -31,11 +31,11 @@ def file_at(path: bytes) -> File:
 
 
 def run(program: str | bytes, words: Sequence[str | bytes], **streams: Any) -> Answer:
-    """What a program answers."""
+    """What a program answers. An output that goes elsewhere is empty."""
     pipes = {"stdout": subprocess.PIPE, "stderr": subprocess.PIPE}
     places: dict[str, Any] = {"stdin": subprocess.DEVNULL, **pipes, **streams}
     done = subprocess.run([program, *words], timeout=TIME_LIMIT, **places)
-    return Answer(done.stdout, done.stderr, done.returncode)
+    return Answer(done.stdout or b"", done.stderr or b"", done.returncode)
 
 
 def wanted(words: list[bytes], files: Files = file_at) -> Answer:

@@ -10,11 +10,14 @@ trusted pair if there is one. Without a `conf` there is one that names both data
 the lines of a section `options`. `/@DIR@` is replaced by the folder. A section `NAME (escaped)` is
 read as one line, with backslashes as in C. So is each argument.
 """
+from __future__ import annotations
+
 import glob
 import os
 import re
 import tempfile
-from collections import namedtuple
+from collections.abc import Iterator
+from typing import NamedTuple
 
 from tools.lib.arguments import parser_of
 from tests.lib.answer import Answer
@@ -31,22 +34,25 @@ WORDS = "-E -c /@DIR@/conf"
 TRUSTED = " --trusted-old /@DIR@/trusted_old --trusted-new /@DIR@/trusted_new"
 DATABASES = b"database_in=file:/@DIR@/old\ndatabase_new=file:/@DIR@/new\n"
 
-Case = namedtuple("Case", "title sections")
+
+class Case(NamedTuple):
+    title: str
+    sections: dict[str, bytes]
 
 
-def lines_of(text):
+def lines_of(text: str) -> list[str]:
     return re.findall(r"[^\n]*\n|[^\n]+", text)
 
 
-def unescaped(text):
+def unescaped(text: str) -> bytes:
     return text.encode("ascii").decode("unicode_escape").encode("latin-1")
 
 
-def escaped(text):
+def escaped(text: bytes) -> str:
     return text.decode("latin-1").encode("unicode_escape").decode()
 
 
-def parse(text):
+def parse(text: str) -> Case:
     """The title of a case and its sections as bytes."""
     title, sections, name = [], {}, None
     for line in lines_of(text):
@@ -62,7 +68,7 @@ def parse(text):
     return Case("".join(title), sections)
 
 
-def is_plain(text):
+def is_plain(text: bytes) -> bool:
     """Whether a text stands in a case as it is."""
     try:
         lines = text.decode("utf-8").split("\n")
@@ -73,7 +79,7 @@ def is_plain(text):
     )
 
 
-def printed(case):
+def printed(case: Case) -> str:
     parts = [case.title]
     for name, text in case.sections.items():
         if name == "status":
@@ -88,20 +94,20 @@ def printed(case):
     return "".join(parts)
 
 
-def words_of(case):
+def words_of(case: Case) -> str:
     if "words" in case.sections:
         return case.sections["words"].decode()
     return WORDS + TRUSTED if "trusted_old" in case.sections else WORDS
 
 
-def files_of(case):
+def files_of(case: Case) -> dict[str, bytes]:
     """The files of a case by their names."""
     others = [*ANSWERS, "words", "options", "list"]
     files = {name: text for name, text in case.sections.items() if name not in others}
     return {"conf": DATABASES + case.sections.get("options", b""), **files}
 
 
-def put(case, folder):
+def put(case: Case, folder: bytes) -> list[bytes]:
     """Writes the files of a case into a folder, and gives its words."""
     for name, text in files_of(case).items():
         with open(os.path.join(folder, name.encode()), "wb") as file:
@@ -112,21 +118,21 @@ def put(case, folder):
     return words
 
 
-def stored(case, folder):
+def stored(case: Case, folder: bytes) -> Answer:
     output, errors, status = (case.sections.get(name, b"").replace(DIR, folder) for name in ANSWERS)
     return Answer(output, errors, int(status))
 
 
-def read(path):
+def read(path: str) -> Case:
     with open(path, encoding="utf-8") as file:
         return parse(file.read())
 
 
-def write(path):
+def write(path: str) -> None:
     """Writes what the definitions answer into a case, those of lines if it is one of these."""
     case = read(path)
-    with tempfile.TemporaryDirectory() as folder:
-        folder = folder.encode()
+    with tempfile.TemporaryDirectory() as name:
+        folder = name.encode()
         is_of_lines = os.path.basename(os.path.dirname(os.path.abspath(path))) == LINES
         words = put(case, folder)
         answer = wanted_lines(words) if is_of_lines else wanted(words)
@@ -140,11 +146,11 @@ def write(path):
         file.write(printed(case))
 
 
-def all_cases():
+def all_cases() -> list[str]:
     return sorted(glob.glob(os.path.join(FOLDER, "*", "*.case")))
 
 
-def in_turn(paths):
+def in_turn(paths: list[str]) -> Iterator[tuple[str, list[bytes], Answer]]:
     """The label, the words and the answer of each case, with its files in a folder for so long."""
     if not paths:
         raise ValueError("there is no case in " + FOLDER)
@@ -156,7 +162,7 @@ def in_turn(paths):
             yield os.path.relpath(path, FOLDER), words, stored(case, folder)
 
 
-def main():
+def main() -> None:
     parser = parser_of("tests.program.cases", __doc__)
     parser.add_argument(
         "cases", nargs="+", metavar="CASE", help="a stored case, into which the answers are written"

@@ -1,4 +1,6 @@
 """Two entries of one path, and what a report makes of their differences."""
+from __future__ import annotations
+
 import base64
 from collections import namedtuple
 
@@ -11,21 +13,21 @@ MD5, SHA256 = base64.b64encode(bytes(16)), base64.b64encode(bytes(32))
 SHA3 = SHA256, base64.b64encode(b"\1" * 32)
 
 
-def of_size(old, new, *more):
+def of_size(old: bytes, new: bytes, *more: bytes | list[str] | str) -> Change:
     return Change(b"perm size", old, new, *more)
 
 
-def of_bits(old, new, *more):
+def of_bits(old: bytes, new: bytes, *more: bytes | list[str] | str) -> Change:
     """Whether each entry has a size is what its bits say."""
     return Change(b"attr size", old, new, *more)
 
 
-def of_digests(*more):
+def of_digests(*more: bytes | list[str] | str) -> Change:
     """The digest of the old entry is MD5, and that of the new one SHA-256."""
     return Change(b"md5 sha256", MD5 + b" 0", b"0 " + SHA256, *more)
 
 
-def of_sha3(*more):
+def of_sha3(*more: bytes | list[str] | str) -> Change:
     return Change(b"sha3_256", *SHA3, *more)
 
 

@@ -1,16 +1,19 @@
 """Ways to damage a text in one step."""
+from __future__ import annotations
+
+from collections.abc import Iterator
 
 BYTES = b"\n\0 \t@#/%0=\x7f\xffA"
 
 
-def changed_bytes(text):
+def changed_bytes(text: bytes) -> Iterator[bytes]:
     for index in range(len(text)):
         for byte in BYTES:
             if text[index] != byte:
                 yield text[:index] + bytes([byte]) + text[index + 1 :]
 
 
-def inserted_bytes(text):
+def inserted_bytes(text: bytes) -> Iterator[bytes]:
     return (
         text[:index] + bytes([byte]) + text[index:]
         for index in range(len(text) + 1)
@@ -18,29 +21,29 @@ def inserted_bytes(text):
     )
 
 
-def cuts(text):
+def cuts(text: bytes) -> Iterator[bytes]:
     return (text[:index] for index in range(len(text) + 1))
 
 
-def taken_out(text):
+def taken_out(text: bytes) -> Iterator[bytes]:
     return (text[:index] + text[index + 1 :] for index in range(len(text)))
 
 
-def joined(lines):
+def joined(lines: list[bytes]) -> bytes:
     return b"\n".join(lines)
 
 
-def doubled_lines(text):
+def doubled_lines(text: bytes) -> Iterator[bytes]:
     lines = text.split(b"\n")
     return (joined(lines[:index] + [lines[index]] + lines[index:]) for index in range(len(lines)))
 
 
-def dropped_lines(text):
+def dropped_lines(text: bytes) -> Iterator[bytes]:
     lines = text.split(b"\n")
     return (joined(lines[:index] + lines[index + 1 :]) for index in range(len(lines)))
 
 
-def exchanged_lines(text):
+def exchanged_lines(text: bytes) -> Iterator[bytes]:
     lines = text.split(b"\n")
     for one in range(len(lines)):
         for two in range(one + 1, len(lines)):

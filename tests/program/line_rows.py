@@ -1,11 +1,13 @@
 """Fields of an entry and the members that the lines have for them, and whole answers, all written
 by hand."""
+from __future__ import annotations
+
 import base64
 
 ZEROS = {size: base64.b64encode(bytes(size)) for size in (1, 16, 20, 32, 64)}
 
 
-def digest(column, name, size):
+def digest(column: bytes, name: str, size: int) -> tuple[bytes, bytes, str]:
     return (column, ZEROS[size], '"%s":"%s"' % (name, "00" * size))
 
 

@@ -9,6 +9,8 @@ For each folder of examples/ with an `aide.conf` that begins with the line of MA
 `old.db` and `new.db` by that configuration. `aide-counts.txt` gets what AIDE counts between the
 two.
 """
+from __future__ import annotations
+
 import glob
 import gzip
 import os
@@ -31,11 +33,11 @@ LABELS = {
 }
 
 
-def path(name):
+def path(name: str | bytes) -> bytes:
     return os.path.join(os.fsencode(TREE), name.encode() if isinstance(name, str) else name)
 
 
-def write(name, text, mode=0o644, when=1700000000):
+def write(name: str | bytes, text: str, mode: int = 0o644, when: int = 1700000000) -> None:
     os.makedirs(os.path.dirname(path(name)), exist_ok=True)
     with open(path(name), "w") as file:
         file.write(text)
@@ -43,7 +45,7 @@ def write(name, text, mode=0o644, when=1700000000):
     os.utime(path(name), (when, when))
 
 
-def make_tree():
+def make_tree() -> None:
     """The tree as it is at first."""
     os.mkdir(path(""))
     write("a/b", "below a\n")
@@ -73,7 +75,7 @@ def make_tree():
     os.mkdir(path("empty folder"))
 
 
-def change_tree():
+def change_tree() -> None:
     """What happens to it."""
     write("a/b", "below a, and longer\n")
     write("at@host", "TWO\n")
@@ -94,17 +96,17 @@ def change_tree():
     os.mkdir(path("fifo"))
 
 
-def aide(folder, command, *lines):
+def aide(folder: str, command: str, *lines: str) -> subprocess.CompletedProcess[bytes]:
     """What AIDE answers under the configuration of a folder."""
-    lines = ["@@define DIR " + folder] + list(lines)
+    before = "\n".join(["@@define DIR " + folder, *lines])
     return subprocess.run(
-        ["aide", command, "-c", os.path.join(folder, "aide.conf"), "-B", "\n".join(lines)],
+        ["aide", command, "-c", os.path.join(folder, "aide.conf"), "-B", before],
         stdout=subprocess.PIPE,
         check=False,
     )
 
 
-def write_database(folder, name):
+def write_database(folder: str, name: str) -> None:
     """A database as AIDE writes it now, unpacked."""
     packed = os.path.join(folder, "packed")
     done = aide(folder, "--init", "database_out=file:" + packed, "gzip_dbout=yes")
@@ -115,7 +117,7 @@ def write_database(folder, name):
     os.unlink(packed)
 
 
-def write_counts(folder):
+def write_counts(folder: str) -> None:
     """What AIDE counts between the two databases, and its status."""
     done = aide(folder, "--compare")
     counts = dict(
@@ -130,7 +132,7 @@ def write_counts(folder):
         out.write("\n".join(["status %d" % done.returncode] + lines) + "\n")
 
 
-def main():
+def main() -> None:
     parser_of("tests.program.make_examples", __doc__).parse_args()
     folders = [
         os.path.dirname(found)

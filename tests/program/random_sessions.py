@@ -1,23 +1,33 @@
 """Random sessions: a configuration, a command line and two databases. Session NUMBER of a seed is
 always the same one."""
+from __future__ import annotations
+
 import collections
 import os
 import random
 import shutil
 import tempfile
+from collections.abc import Callable
+from typing import List, Tuple
 
 from tests.program.random_texts.configurations import random_configuration, random_words
 from tests.program.random_texts.databases import random_pair
 from tests.program.random_texts.trusted import random_four, random_words_beside
+from tests.lib.program_test import AnswerTest
 from tests.lib.tally import difference, run, side_by_side, wanted
 
+# What writes the files of a session, by a seed, its number and a folder, and gives its words; and
+# what gives the status that is wanted of words, and what is not as wanted.
+Make = Callable[[int, int, bytes], List[bytes]]
+Check = Callable[[List[bytes]], Tuple[int, List[str]]]
 
-def write(path, text):
+
+def write(path: bytes, text: bytes) -> None:
     with open(path, "wb") as file:
         file.write(text)
 
 
-def make_session(seed, number, folder):
+def make_session(seed: int, number: int, folder: bytes) -> list[bytes]:
     """Writes the files of a session and gives its words."""
     pick = random.Random("%d %d" % (seed, number))
     bad = pick.choice([0, 0, 0, 0.1, 0.5])
@@ -29,7 +39,7 @@ def make_session(seed, number, folder):
     return random_words(pick, config if pick.random() < 0.99 else config + b"x", bad)
 
 
-def make_session_beside(seed, number, folder):
+def make_session_beside(seed: int, number: int, folder: bytes) -> list[bytes]:
     """Writes the files of a session of four databases, of which two are trusted, and gives its
     words."""
     pick = random.Random("%d %d beside" % (seed, number))
@@ -42,13 +52,15 @@ def make_session_beside(seed, number, folder):
     return random_words_beside(pick, folder, config, bad)
 
 
-def beside_definitions(program, words):
+def beside_definitions(program: bytes, words: list[bytes]) -> tuple[int, list[str]]:
     """The status that is wanted, and what is not as wanted."""
     want = wanted(words)
     return want.status, difference(run(program, words), want)
 
 
-def try_session(check, seed, number, top, make):
+def try_session(
+    check: Check, seed: int, number: int, top: bytes, make: Make
+) -> tuple[int, list[str]]:
     """The status that is wanted of a session, and what is not as wanted; `check` gives both for
     words."""
     folder = os.path.join(top, b"%d" % number)
@@ -62,11 +74,18 @@ def try_session(check, seed, number, top, make):
     return status, faults
 
 
-def try_sessions(check, seed, numbers, jobs, tally, make=make_session):
+def try_sessions(
+    check: Check,
+    seed: int,
+    numbers: range,
+    jobs: int,
+    tally: AnswerTest,
+    make: Make = make_session,
+) -> collections.Counter[int]:
     """Tries so many sessions, which `make` writes; the files of those that went wrong are kept.
     Gives how many wanted which status."""
     top = tempfile.mkdtemp(prefix="sessions-").encode()
-    statuses = collections.Counter()
+    statuses: collections.Counter[int] = collections.Counter()
     results = side_by_side(
         jobs, lambda number: try_session(check, seed, number, top, make), numbers
     )

@@ -63,15 +63,15 @@ EXPECTED = {
 }
 
 
-def refusal(said):
+def refusal(said: str) -> Answer:
     return Answer(b"", b"aide: %s\n" % said.encode(), 17)
 
 
-def with_all(**more):
+def with_all(**more: bytes) -> bytes:
     """A database of one entry with all attributes, and these other fields."""
     fields = {
         each.column: VALUES[each.form]
-        if each.form in VALUES
+        if isinstance(each.form, str)
         else base64.b64encode(bytes(each.form[0]))
         for each in ATTRIBUTES
     }
@@ -89,11 +89,13 @@ def with_all(**more):
 class ConfigurationTest(FolderTest):
     """One configuration after another, each in the place of the last."""
 
-    def words(self, flag, text, before=b"", after=b""):
+    def words(
+        self, flag: bytes, text: bytes, before: bytes = b"", after: bytes = b""
+    ) -> list[bytes]:
         self.folder.write("conf", text)
         return [flag, b"-c", self.folder.at("conf"), b"-B", before, b"-A", after]
 
-    def compared(self, text, before=b"", after=b""):
+    def compared(self, text: bytes, before: bytes = b"", after: bytes = b"") -> list[bytes]:
         """The words that compare the databases of the folder."""
         named = b"database_in=file:%s/old\ndatabase_new=file:%s/new\n" % (
             self.folder.path,
@@ -101,11 +103,13 @@ class ConfigurationTest(FolderTest):
         )
         return self.words(b"-E", text, named + before, after)
 
-    def pair(self, old, new):
+    def pair(self, old: bytes, new: bytes) -> None:
         self.folder.write("old", old)
         self.folder.write("new", new)
 
-    def sets(self, label, texts, different, same):
+    def sets(
+        self, label: str, texts: tuple[bytes, bytes, bytes], different: Answer, same: Answer
+    ) -> None:
         """What three texts answer to two different databases, and to the same one twice."""
         before, text, after = texts
         self.pair(OLD, NEW)
@@ -114,7 +118,7 @@ class ConfigurationTest(FolderTest):
         self.check_words(label + ", the same database", self.compared(text, before, after), same)
 
 
-def quiet_texts():
+def quiet_texts() -> list[tuple[bytes, bytes, bytes]]:
     """All that set `report_quiet`, as three texts."""
     alone = accepted.QUIET + [
         front + line + back for front, back in accepted.AROUND for line in accepted.PASSED_OVER
@@ -122,7 +126,7 @@ def quiet_texts():
     return [(b"", text, b"") for text in alone] + accepted.QUIET_TEXTS
 
 
-def detail_names(answer):
+def detail_names(answer: Answer) -> set[str]:
     """The names in the details of a report."""
     details = answer.output.partition(b"Detailed information")[2].partition(
         b"The attributes of the databases"

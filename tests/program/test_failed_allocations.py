@@ -22,19 +22,24 @@ beside it; with all later ones refused too it has to end with status 22 behind a
 The library is built by a C compiler of the machine or by that of the toolchain; with neither the
 test fails.
 """
+from __future__ import annotations
+
 import os
 import struct
-from collections import Counter, namedtuple
+from collections import Counter
+from collections.abc import Callable, Iterator
+from typing import List, NamedTuple, Tuple
 
 from tests.lib.answer import Answer
-from tests.lib.program_test import new_seed, slow
+from tests.lib.program_test import AnswerTest, new_seed, slow
 from tests.lib.scratch import TOP
 from tests.program import cases, refusal_rows
 from tests.program.configurations import refused as refused_configurations
+from tests.oracle.configuration import LEVELS
 from tests.oracle.session import NO_MEMORY, USAGE, refused
 from tests.lib.preload import PreloadTest, run_with
-from tests.program.random_sessions import make_session, make_session_beside
-from tests.program.real_files.test_examples import LEVELS, folders_of_aide, words_at
+from tests.program.random_sessions import Make, make_session, make_session_beside
+from tests.program.real_files.test_examples import folders_of_aide, words_at
 from tests.program.real_files.folder import NEW, OLD, SKIPPING, names
 from tests.lib.tally import difference, side_by_side, wanted, wanted_lines
 
@@ -54,25 +59,37 @@ IN_MEMORY = {
 }
 # What comes before the one call whose command line is not understood: it may feel no refusal.
 NOT_UNDERSTOOD = b"a trusted pair in part:\njob: no trusted pair\n"
-WAYS = {
+WAYS: dict[str, Callable[[int], int]] = {
     "only one allocation fails": lambda first: first,
     "one allocation and all later ones fail": lambda first: 2**31 - 1,
 }
 SHOWN = 3
+# The label of a session and its words.
+Known = Tuple[str, List[bytes]]
 NAME_LIMIT, PATH_LIMIT, FOLDER_NAME = 64, 4095, b"f" * 200
 
-Refusal = namedtuple("Refusal", "answer calls own others")
+
+class Refusal(NamedTuple):
+    """The answer of a run, how often it asked for memory, and how often that was refused: to the
+    code of the repository, and to others."""
+
+    answer: Answer
+    calls: int
+    own: int
+    others: int
 
 
-class Refuser:
-    """A program, the library that refuses it memory, what is wanted of it over real files, and an
-    option that one of its parsers does not know."""
+class Refuser(NamedTuple):
+    """A program, and the library that refuses it memory."""
 
-    def __init__(self, program, library, wanted=None, unknown=None):
-        self.program, self.library, self.wanted = program, library, wanted
-        self.unknown = unknown
+    program: bytes
+    library: bytes
+    # What is wanted of words over real files.
+    wanted: Callable[[list[bytes]], Answer] = wanted
+    # An option that one of its parsers does not know.
+    unknown: bytes = b""
 
-    def run(self, words, first=0, last=0):
+    def run(self, words: list[bytes], first: int = 0, last: int = 0) -> Refusal:
         """What the program answers where the calls for memory with these numbers are refused, and
         what was counted."""
         answer, notes = run_with(
@@ -87,7 +104,7 @@ class Refuser:
         return Refusal(answer, *(notes[0] if notes else (0, 0, 0)))
 
 
-def faults_of(refusal, whole, is_understood):
+def faults_of(refusal: Refusal, whole: Answer, is_understood: bool) -> list[str]:
     """What is not as wanted of a run in which memory was refused."""
     if not refusal.own + refusal.others:
         return ["no memory was refused"] + difference(refusal.answer, whole)
@@ -95,35 +112,31 @@ def faults_of(refusal, whole, is_understood):
     return difference(refusal.answer, whole if may_go_on and refusal.answer == whole else STARVED)
 
 
-def faults_of_whole(free, whole):
+def faults_of_whole(free: Refusal, whole: Answer) -> list[str]:
     """What is not as wanted of a run in which all memory was there."""
     faults = ["memory was refused"] if free.own + free.others else []
     faults += [] if free.calls else ["no memory was asked for"]
     return faults + difference(free.answer, whole)
 
 
-def try_session(refuser, words):
-    """How often what became of a refusal, and the faults of a session by what was refused."""
+def try_session(refuser: Refuser, words: list[bytes]) -> dict[str, list[str]]:
+    """The faults of a session by what was refused."""
     whole = refuser.wanted(words)
     free = refuser.run(words)
     is_understood = whole.status != USAGE and refuser.unknown not in words
-    counts, found = Counter(), {"nothing refused": faults_of_whole(free, whole)}
+    found = {"nothing refused": faults_of_whole(free, whole)}
     for way, last_of in WAYS.items():
         found[way] = []
         for first in range(1, free.calls + 1):
             refusal = refuser.run(words, first, last_of(first))
-            counts.update(
-                refused=1, not_felt=refusal.answer == whole != STARVED, of_others=not refusal.own
-            )
             faults = faults_of(refusal, whole, is_understood)
             found[way] += [f"growth {first}: {fault}" for fault in faults]
-        found[way] += faults_of_whole(
-            refuser.run(words, free.calls + 1, last_of(free.calls + 1)), whole
-        )
-    return counts, found
+        later = refuser.run(words, free.calls + 1, last_of(free.calls + 1))
+        found[way] += faults_of_whole(later, whole)
+    return found
 
 
-def made(folder, **files):
+def made(folder: bytes, **files: bytes) -> bytes:
     """Writes files into a new folder; a word `/@DIR@` of theirs stands for it."""
     os.makedirs(folder)
     for name, text in files.items():
@@ -132,14 +145,14 @@ def made(folder, **files):
     return os.path.join(folder, b"conf")
 
 
-def stored_sessions(top):
+def stored_sessions(top: bytes) -> Iterator[Known]:
     for number, path in enumerate(cases.all_cases()):
         folder = os.path.join(top, b"case-%d" % number)
         os.mkdir(folder)
         yield os.path.relpath(path, cases.FOLDER), cases.put(cases.read(path), folder)
 
 
-def refused_sessions(top):
+def refused_sessions(top: bytes) -> Iterator[Known]:
     """Databases and configurations that are refused."""
     for number, (said, text) in enumerate(refusal_rows.DATABASES):
         folder = os.path.join(top, b"database-%d" % number)
@@ -149,7 +162,7 @@ def refused_sessions(top):
         yield said, [b"-D", b"-c", made(folder, conf=text)]
 
 
-def example_sessions(levels):
+def example_sessions(levels: list[str]) -> Iterator[Known]:
     """What AIDE has written, with every attribute too, at these report levels."""
     for folder in folders_of_aide():
         for level in levels:
@@ -158,7 +171,7 @@ def example_sessions(levels):
             )
 
 
-def definitions_of_each_length():
+def definitions_of_each_length() -> bytes:
     """A configuration with variables, blocks and groups whose names have each length up to the
     longest."""
     lines = [b"Base = p", b"@@define FIRST s"]
@@ -177,7 +190,7 @@ def definitions_of_each_length():
     return b"\n".join(lines) + b"\n"
 
 
-def long_sessions(top):
+def long_sessions(top: bytes) -> Iterator[Known]:
     """Many definitions, and long words, configurations and paths."""
     pair = cases.DATABASES
     conf = made(
@@ -215,14 +228,20 @@ def long_sessions(top):
     yield "a database that is not there, on a long path", [b"-E", b"-c", conf, b"-A", after]
 
 
-def random_sessions(top, seed, count, name=b"random", make=make_session):
+def random_sessions(
+    top: bytes,
+    seed: int,
+    count: int,
+    name: bytes = b"random",
+    make: Make = make_session,
+) -> Iterator[Known]:
     for number in range(count):
         folder = os.path.join(top, b"%s-%d" % (name, number))
         os.mkdir(folder)
         yield "seed %d, %s session %d" % (seed, name.decode(), number), make(seed, number, folder)
 
 
-def long_sessions_beside(top):
+def long_sessions_beside(top: bytes) -> Iterator[Known]:
     """Trusted databases on long paths, and of many names."""
     folder = os.path.join(top, b"beside", FOLDER_NAME, FOLDER_NAME)
     files = {"old": OLD, "new": NEW, "trusted_old": names(3000), "trusted_new": SKIPPING}
@@ -240,7 +259,7 @@ def long_sessions_beside(top):
     yield "a trusted pair in part", [b"-E", b"-c", conf] + trusted[:2]
 
 
-def sessions(top, seed, count):
+def sessions(top: bytes, seed: int, count: int) -> Iterator[Known]:
     """The labels and words of all sessions, with their files below a folder."""
     yield from stored_sessions(top)
     yield from refused_sessions(top)
@@ -249,7 +268,7 @@ def sessions(top, seed, count):
     yield from random_sessions(top, seed, count)
 
 
-def sessions_of_lines(top, seed, count):
+def sessions_of_lines(top: bytes, seed: int, count: int) -> Iterator[Known]:
     """Those for the program of lines, which knows no levels."""
     os.mkdir(top)
     yield from example_sessions(LEVELS[-1:])
@@ -259,9 +278,9 @@ def sessions_of_lines(top, seed, count):
     yield from random_sessions(top, seed, count, b"beside", make_session_beside)
 
 
-def try_sessions(refuser, known, jobs, tally):
+def try_sessions(refuser: Refuser, known: list[Known], jobs: int, tally: AnswerTest) -> None:
     """Tries sessions."""
-    for (label, _), (_, found) in zip(
+    for (label, _), found in zip(
         known, side_by_side(jobs, lambda one: try_session(refuser, one[1]), known)
     ):
         for way, faults in found.items():
@@ -269,14 +288,14 @@ def try_sessions(refuser, known, jobs, tally):
             tally.add("%s, %s" % (label, way), faults[:SHOWN] + rest)
 
 
-def refused_call(refusal):
+def refused_call(refusal: Refusal) -> bytes | None:
     """The name of the call that was refused memory, if the one line on standard error tells it."""
     told = refusal.answer.errors.partition(b"refused: ")[2]
     name = told.partition(b"\n")[0]
     return name if refusal.answer.errors == b"refused: %s\n" % name and name in IN_MEMORY else None
 
 
-def faults_in_memory(alone, onwards, free):
+def faults_in_memory(alone: Refusal, onwards: Refusal, free: Refusal) -> list[str]:
     """What is not as wanted where a growth of the sessions in memory is refused: only this one, and
     all later ones too."""
     is_felt = alone.answer.errors != b"" or not onwards.answer.output.endswith(NOT_UNDERSTOOD)
@@ -296,15 +315,15 @@ def faults_in_memory(alone, onwards, free):
     return faults
 
 
-def try_in_memory(refuser, stored, jobs, tally):
+def try_in_memory(refuser: Refuser, stored: str, jobs: int, tally: AnswerTest) -> None:
     """Refuses each growth of the sessions over files in memory, alone and with all later ones."""
     with open(stored, "rb") as file:
         whole = Answer(file.read(), b"", 0)
     free = refuser.run([])
     tally.add("sessions in memory", faults_of_whole(free, whole))
-    counts = Counter()
+    counts: Counter[bytes | None] = Counter()
 
-    def both(first):
+    def both(first: int) -> tuple[Refusal, Refusal]:
         return refuser.run([], first, first), refuser.run([], first, 2**31 - 1)
 
     numbers = range(1, free.calls + 1)

@@ -11,12 +11,16 @@ that writes lines of JSON is tried over a trusted pair too.
 The library is built by a C compiler of the machine or by that of the toolchain; with neither the
 test fails.
 """
+from __future__ import annotations
+
 import os
 import struct
-from collections import Counter, namedtuple
+from collections import Counter
+from collections.abc import Callable, Iterator
+from typing import List, NamedTuple, Tuple
 
 from tests.lib.answer import Answer
-from tests.lib.program_test import slow
+from tests.lib.program_test import AnswerTest, slow
 from tests.oracle.session import BAD_CONFIGURATION, BAD_DATABASE, BAD_DEVICE, USAGE, refused
 from tests.lib.preload import PreloadTest, run_with
 from tests.program.real_files.folder import NEW, OLD, SKIPPING, Folder, names
@@ -37,10 +41,23 @@ OUTPUT, ERRORS = 1, 2
 NOT_WRITTEN = refused(b"cannot write the report", BAD_DEVICE).errors
 LONG, SHOWN = 6000, 3
 
-# Of a session: its words, its whole answer, the calls that it makes undisturbed, and the texts of
-# its files.
-Session = namedtuple("Session", "words whole calls files")
-Call = namedtuple("Call", "kind descriptor result")
+
+class Call(NamedTuple):
+    kind: int
+    descriptor: int
+    result: int
+
+
+class Session(NamedTuple):
+    words: list[bytes]
+    whole: Answer
+    # The calls that it makes undisturbed, and the texts of its files.
+    calls: list[Call]
+    files: tuple[bytes, ...]
+
+
+# The label of a session, its words and the texts of its files.
+Told = Tuple[str, List[bytes], Tuple[bytes, ...]]
 # How often a report opens each side where the words ask for a comparison, and both texts are sound.
 # Lines open it once.
 OPENINGS = {
@@ -54,19 +71,19 @@ FILES = ["old", "new", "trusted_old", "trusted_new"]
 NAMES = [b"old", b"new", b"trusted old", b"trusted new"]
 
 
-def openings_of_report(label, words, answer):
+def openings_of_report(label: str, words: list[bytes], answer: Answer) -> int | None:
     """How often a report opens each database; None if nothing is known of it."""
     return OPENINGS.get(label)
 
 
-def openings_of_lines(label, words, answer):
+def openings_of_lines(label: str, words: list[bytes], answer: Answer) -> int | None:
     """How often lines open each database: once where the words ask for a comparison."""
     if answer.status == USAGE:
         return None
     return int(b"-E" in words and answer.status != BAD_CONFIGURATION)
 
 
-def sessions(folder):
+def sessions(folder: bytes) -> Iterator[Told]:
     """The labels of the sessions, their words, and the texts of the configuration and of both
     databases."""
     texts = {
@@ -89,7 +106,7 @@ def sessions(folder):
     yield "a usage error", [b"-E"], (b"", b"", b"")
 
 
-def sessions_of_lines(folder):
+def sessions_of_lines(folder: bytes) -> Iterator[Told]:
     """Those of the program of lines, some of which have a trusted pair, so that the texts are those
     of four databases."""
     yield from sessions(folder)
@@ -110,12 +127,12 @@ def sessions_of_lines(folder):
             yield label, files.words_beside(), (file.read(), *four)
 
 
-def opened_as(session, number):
+def opened_as(session: Session, number: int) -> int:
     """Which of the files an opening opens: the configuration, and then all databases by turns."""
     return 0 if number == 1 else 1 + (number - 2) % (len(session.files) - 1)
 
 
-def file_of(session, index):
+def file_of(session: Session, index: int) -> tuple[int, int]:
     """Which file the call at an index reads, and how many of its bytes were read since it was
     opened."""
     opened, taken, calls = 0, 0, session.calls
@@ -127,7 +144,7 @@ def file_of(session, index):
     return opened_as(session, opened), taken
 
 
-def written_before(calls, index, descriptor):
+def written_before(calls: list[Call], index: int, descriptor: int) -> int:
     return sum(
         call.result
         for call in calls[:index]
@@ -135,25 +152,25 @@ def written_before(calls, index, descriptor):
     )
 
 
-def config_of(session):
+def config_of(session: Session) -> bytes:
     return session.words[session.words.index(b"-c") + 1]
 
 
-def unopened(session, file):
+def unopened(session: Session, file: int) -> Answer:
     if file == 0:
         return refused(b"cannot read the configuration " + config_of(session), BAD_DEVICE)
     path = os.path.join(os.path.dirname(config_of(session)), FILES[file - 1].encode())
     return refused(b"cannot open the %s database %s" % (NAMES[file - 1], path), BAD_DEVICE)
 
 
-def unread(session, file, taken):
+def unread(session: Session, file: int, taken: int) -> Answer:
     if file == 0:
         return unopened(session, 0)
     line = session.files[file][:taken].count(b"\n") + 1
     return refused(b"%s database:%d: read failed" % (NAMES[file - 1], line), BAD_DEVICE)
 
 
-def first_fault(session, file, answer):
+def first_fault(session: Session, file: int, answer: Answer) -> Answer:
     """The answer where a call on a file fails: the fault of a database before it comes first."""
     whole = session.whole
     for name in NAMES[: max(file - 1, 0)]:
@@ -162,7 +179,7 @@ def first_fault(session, file, answer):
     return answer
 
 
-def answer_where(session, kind, number, way):
+def answer_where(session: Session, kind: int, number: int, way: int) -> Answer:
     """What is wanted where the call of a kind with a number goes wrong in a way."""
     calls, whole = session.calls, session.whole
     index = [index for index, call in enumerate(calls) if call.kind == kind][number - 1]
@@ -181,7 +198,7 @@ def answer_where(session, kind, number, way):
     return whole._replace(errors=whole.errors[:lost])
 
 
-def openings_of(calls):
+def openings_of(calls: list[Call]) -> tuple[int, int, int]:
     """How often a file was opened, how many were open at most at a time, and how many were left
     open."""
     at_once, most = 0, 0
@@ -191,15 +208,18 @@ def openings_of(calls):
     return sum(1 for call in calls if call.kind == OPEN), most, at_once
 
 
-class Stumbler:
-    """A program, its sessions, what is wanted of them, and how often they open each database; and
-    the library that lets its calls go wrong."""
+class Stumbler(NamedTuple):
+    """A program, and the library that lets its calls go wrong."""
 
-    def __init__(self, program, library, tried):
-        self.program, self.library = program, library
-        self.wanted, self.openings, self.sessions = tried
+    program: bytes
+    library: bytes
+    # What is wanted of words, and how often they open each database if that is known.
+    wanted: Callable[[list[bytes]], Answer]
+    openings: Callable[[str, list[bytes], Answer], int | None]
 
-    def run(self, words, kind=0, number=0, way=0):
+    def run(
+        self, words: list[bytes], kind: int = 0, number: int = 0, way: int = 0
+    ) -> tuple[Answer, list[Call]]:
         answer, notes = run_with(
             self.library,
             self.program,
@@ -213,13 +233,20 @@ class Stumbler:
         return answer, [Call(*note) for note in notes]
 
 
-def try_one(stumbler, session, kind, number, way):
+def try_one(stumbler: Stumbler, session: Session, kind: int, number: int, way: int) -> list[str]:
     answer, _ = stumbler.run(session.words, kind, number, way)
     faults = difference(answer, answer_where(session, kind, number, way))
     return ["%s %d that %s: %s" % (KINDS[kind], number, WORDS[way], fault) for fault in faults]
 
 
-def try_session(stumbler, label, words, files, jobs, tally):
+def try_session(
+    stumbler: Stumbler,
+    label: str,
+    words: list[bytes],
+    files: tuple[bytes, ...],
+    jobs: int,
+    tally: AnswerTest,
+) -> Counter[int]:
     """Lets each call of a session go wrong in each way. How many calls of which kind there are."""
     whole, calls = stumbler.run(words)
     tally.check(label, whole, stumbler.wanted(words))
@@ -243,10 +270,9 @@ def try_session(stumbler, label, words, files, jobs, tally):
     return counts
 
 
-def try_calls(stumbler, top, jobs, tally):
-    """Tries all sessions, with their files in a folder."""
-    counts = Counter()
-    for label, words, files in stumbler.sessions(top):
+def try_calls(stumbler: Stumbler, tried: Iterator[Told], jobs: int, tally: AnswerTest) -> None:
+    counts: Counter[int] = Counter()
+    for label, words, files in tried:
         counts.update(try_session(stumbler, label, words, files, jobs, tally))
     tally.holds("calls of each kind", all(counts[kind] > 1 for kind in KINDS), counts)
 
@@ -256,13 +282,9 @@ class FailedCallsTest(PreloadTest):
     source = "fail_call.c"
 
     def test_report(self) -> None:
-        try_calls(
-            Stumbler(self.program, self.library, (wanted, openings_of_report, sessions)),
-            self.directory,
-            2,
-            self,
-        )
+        stumbler = Stumbler(self.program, self.library, wanted, openings_of_report)
+        try_calls(stumbler, sessions(self.directory), 2, self)
 
     def test_lines(self) -> None:
-        how = (wanted_lines, openings_of_lines, sessions_of_lines)
-        try_calls(Stumbler(self.lines_program, self.library, how), self.directory, 2, self)
+        stumbler = Stumbler(self.lines_program, self.library, wanted_lines, openings_of_lines)
+        try_calls(stumbler, sessions_of_lines(self.directory), 2, self)

@@ -4,13 +4,17 @@ The tables in field_rows.py and change_rows.py say what a field means, whether t
 and what a report makes of that. The table of attributes in oracle/attributes.py is tried row by
 row. The definitions have to say the same.
 """
+from __future__ import annotations
+
 import base64
 import re
 
+from tests.lib.answer import Answer
 from tests.program import change_rows, field_rows
 from tests.oracle.attributes import ATTRIBUTES
 from tests.oracle.comparison import SLOTS
 from tests.oracle.texts import printed
+from tests.program.random_texts.databases import Form
 from tests.program.real_files.folder import EMPTY, FolderTest, database
 from tests.lib.tally import shown
 
@@ -32,17 +36,18 @@ FIELDS = {
 }
 
 
-def details(output):
+def details(output: bytes) -> dict[str, tuple[bytes, bytes]]:
     """The old and the new value of each attribute in the details of a report, by its name."""
-    found, name = {}, None
+    found: dict[str, tuple[bytes, bytes]] = {}
+    name = ""
     for label, old, new in LINE.findall(output):
         name = label.decode().strip() or name
-        values = found.get(name, (b"", b""))
-        found[name] = tuple(value + more.rstrip(b" ") for value, more in zip(values, (old, new)))
+        before, after = found.get(name, (b"", b""))
+        found[name] = (before + old.rstrip(b" "), after + new.rstrip(b" "))
     return found
 
 
-def summaries(output):
+def summaries(output: bytes) -> list[str]:
     """The summary strings in the lists of a report."""
     return [letters.decode() for letters in re.findall(rb"^(.{18}): /a$", output, re.MULTILINE)]
 
@@ -50,28 +55,28 @@ def summaries(output):
 class FieldTest(FolderTest):
     """One pair of databases after another, each in the place of the last."""
 
-    def answer(self, label, old, new, options=ALL_DETAILS):
+    def answer(self, label: str, old: bytes, new: bytes, options: bytes = ALL_DETAILS) -> Answer:
         """The program's answer to two databases, which the definitions have to give too."""
         self.folder.pair(old, new, options)
         answer = self.folder.run(self.program)
         self.agree(label, self.folder.words(), answer)
         return answer
 
-    def added(self, column, field):
+    def added(self, column: bytes, field: bytes) -> dict[str, bytes]:
         """The values in the details of an added entry."""
         answer = self.answer(shown(field), EMPTY, database(column, field))
         self.add(shown(field), [] if answer.status == 1 else ["status %d" % answer.status])
         return {name: new for name, (_, new) in details(answer.output).items()}
 
-    def is_value(self, field, given, want):
+    def is_value(self, field: bytes, given: object, want: object) -> None:
         with self.subTest(shown(field)):
             self.assertEqual(given, want)
 
 
-def fields_of(form):
+def fields_of(form: Form) -> list[list[tuple[bytes, bytes]]]:
     """Pairs of an old and a new field of a form, each with its value. Digests are as short and as
     long as they may be."""
-    if form in FIELDS:
+    if isinstance(form, str):
         return [FIELDS[form]]
     digests = [[bytes(length), b"\xa5" * length] for length in sorted(set(form))]
     return [
@@ -135,7 +140,9 @@ class FieldsTest(FieldTest):
                     self.is_value(
                         name, each.detail in details(self.answer(shown(name), *sides).output), False
                     )
-            for length in () if each.form in FIELDS else (each.form[0] - 1, each.form[1] + 1):
+            if isinstance(each.form, str):
+                continue
+            for length in (each.form[0] - 1, each.form[1] + 1):
                 if length:
                     other = database(each.column.encode(), base64.b64encode(bytes(length)))
                     self.is_value(name, self.answer(shown(name), EMPTY, other).status, 24)

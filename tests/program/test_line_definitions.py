@@ -7,24 +7,28 @@ Over random pairs of databases the lines have to say what the databases say, and
 the counts, the paths and the attributes of the report of the same pair. The last line is 'N passed,
 M failed'.
 """
+from __future__ import annotations
+
 import itertools
 import json
 import random
 import re
 import subprocess
 import unicodedata
+from collections.abc import Callable
+from typing import Any, Dict, List
 
 from tests.lib.answer import Answer
 from tests.lib.program_test import AnswerTest, new_seed
 from tests.lib.tally import shown
 from tests.oracle import configuration
-from tests.oracle.attributes import ATTRIBUTES
+from tests.oracle.attributes import ATTRIBUTES, Attribute
 from tests.oracle.configuration import BOOL_OPTIONS, LEVELS
-from tests.oracle.database import database_of
+from tests.oracle.database import Database, Entry, database_of
 from tests.oracle.fields import FILE_TYPES
 from tests.oracle.lines import lines_answer_of, string, text_member
 from tests.oracle.report import report_of
-from tests.oracle.session import answer_of
+from tests.oracle.session import Files, answer_of
 from tests.oracle.texts import printed
 from tests.program import line_rows
 from tests.program.random_texts.configurations import random_configuration
@@ -56,19 +60,30 @@ LISTED = re.compile(rb"^(.{18}): (/.*)$", re.MULTILINE)
 DETAIL = re.compile(rb"^(?:[A-Z][A-Za-z ]*: (?P<path>/.*)|  (?P<name>\S.{9}): .*)$", re.MULTILINE)
 PAIRS = 300
 
+# The members of an object, each name once.
+Members = Dict[str, Any]
+# What answers a command line over files.
+Asked = Callable[[List[bytes], Files], Answer]
 
-def answer_to(words, options=b"", old=EMPTY, new=EMPTY, asked=lines_answer_of):
+
+def answer_to(
+    words: list[bytes],
+    options: bytes = b"",
+    old: bytes = EMPTY,
+    new: bytes = EMPTY,
+    asked: Asked = lines_answer_of,
+) -> Answer:
     return asked(words, {b"/conf": options, b"/old": old, b"/new": new}.get)
 
 
-def pairs(members):
+def pairs(members: list[tuple[str, Any]]) -> Members:
     names = [name for name, _ in members]
     if len(set(names)) < len(names):
         raise ValueError("a name stands twice")
     return dict(members)
 
 
-def read(output):
+def read(output: bytes) -> list[Members]:
     """The objects of the lines."""
     return [
         json.loads(line.decode("utf-8"), object_pairs_hook=pairs)
@@ -76,7 +91,7 @@ def read(output):
     ]
 
 
-def needs_escape(character):
+def needs_escape(character: str) -> bool:
     return (
         character in '"\\'
         or unicodedata.category(character) in ("Cc", "Zl", "Zp")
@@ -85,19 +100,19 @@ def needs_escape(character):
     )
 
 
-def bytes_of(members, name):
+def bytes_of(members: Members, name: str) -> bytes:
     """The bytes of a text; those in base 16 may not be UTF-8."""
     if name + "_hex" not in members:
-        return members[name].encode("utf-8")
+        return str(members[name]).encode("utf-8")
     text = bytes.fromhex(members[name + "_hex"])
     if name in members or UTF8.fullmatch(text):
         raise ValueError("base 16 of what is UTF-8: %r" % text)
     return text
 
 
-def value_of(attribute, members):
+def value_of(attribute: Attribute, members: Members) -> Any:
     """The value of an attribute, back from its member."""
-    value = members.get(attribute.detail)
+    value: Any = members.get(attribute.detail)
     if attribute.form in ("number", "time"):
         if isinstance(value, int) != (abs(int(value)) < 2**53):
             raise ValueError("not as a number of its size: %r" % value)
@@ -110,12 +125,12 @@ def value_of(attribute, members):
     return value if attribute.form == "type" else bytes.fromhex(value)
 
 
-def is_without_end(output):
+def is_without_end(output: bytes) -> bool:
     """Whether no output that is allowed has a last line."""
     return not any("end" in line for line in read(output))
 
 
-def side_of(members):
+def side_of(members: Members) -> Entry:
     """What an object says of one side, by the names of the attributes; each member has to be of an
     attribute."""
     known = [one for one in ATTRIBUTES if one.detail in members or one.detail + "_hex" in members]
@@ -124,11 +139,11 @@ def side_of(members):
     return {attribute.name: value_of(attribute, members) for attribute in known}
 
 
-def title_of(kind):
+def title_of(kind: int) -> str:
     return FILE_TYPES.get(kind >> 12, ("?", "Other"))[1]
 
 
-def side_of_database(entry, names):
+def side_of_database(entry: Entry, names: list[str]) -> Entry:
     """The same from the entry of a database: the attributes that the report shows."""
     shows = [
         attribute.name
@@ -139,9 +154,9 @@ def side_of_database(entry, names):
     return {**side, "ftype": title_of(side["ftype"])} if "ftype" in side else side
 
 
-def details_of(report):
+def details_of(report: bytes) -> dict[bytes, list[str]]:
     """The names of the attributes in the details of each entry."""
-    found = {}
+    found: dict[bytes, list[str]] = {}
     details = report.partition(b"\nDetailed information about changes:\n")[2]
     for match in DETAIL.finditer(details.partition(b"\nThe attributes of the databases:\n")[0]):
         if match.group("path"):
@@ -151,7 +166,7 @@ def details_of(report):
     return found
 
 
-def faults_beside(output, report, old, new):
+def faults_beside(output: bytes, report: bytes, old: Database, new: Database) -> list[str]:
     """What the lines say otherwise than the report at the widest level and the two databases."""
     first, *entries, last = read(output)
     faults, details = [], details_of(report)
@@ -174,9 +189,9 @@ def faults_beside(output, report, old, new):
         path = bytes_of(entry, "path")
         names = details.pop(printed(path), [])
         kinds = [whole.entries.get(path, {}).get("ftype") for whole in (new, old)]
-        titles = [title_of(kind) for kind in kinds if kind is not None] or [None]
-        if entry.get("type") != titles[0]:
-            faults.append("type of %r: wanted %r, given %r" % (path, titles[0], entry))
+        title = next((title_of(kind) for kind in kinds if kind is not None), None)
+        if entry.get("type") != title:
+            faults.append("type of %r: wanted %r, given %r" % (path, title, entry))
         for side, whole, lacks in (("old", old, "added"), ("new", new, "removed")):
             entry_there = whole.entries.get(path)
             want = None if entry_there is None else side_of_database(entry_there, names)
@@ -208,10 +223,10 @@ class LineDefinitionsTest(AnswerTest):
             pool, faults = (range(256) if length < 3 else EDGES), []
             for text in map(bytes, itertools.product(pool, repeat=length)):
                 name, value = text_member("x", text)
-                value, is_utf8 = json.loads(value.decode("utf-8")), UTF8.fullmatch(text)
-                if (name, value) != (
-                    ("x", text.decode("utf-8", "replace")) if is_utf8 else ("x_hex", text.hex())
-                ):
+                want = ("x_hex", text.hex())
+                if UTF8.fullmatch(text):
+                    want = ("x", text.decode("utf-8", "replace"))
+                if (name, json.loads(value.decode("utf-8"))) != want:
                     faults.append("%r is written %r" % (text, (name, value)))
             self.add("lists of %d bytes" % length, faults)
 
@@ -245,7 +260,7 @@ class LineDefinitionsTest(AnswerTest):
         for columns, old, new, accounts in line_rows.ACCOUNTS:
             sides = [database(columns, b" ".join(fields)) for fields in (old, new)]
             for turned in (sides, sides[::-1]):
-                _, *entries, last = read(answer_to(COMPARE, NAMES, *turned).output)
+                _, *entries, last = read(answer_to(COMPARE, NAMES, turned[0], turned[1]).output)
                 given = [entry.get("same_as") for entry in entries]
                 numbers = (last["same_as_old"], last["others"])
                 good = given == ["old" if accounts else None] and numbers == (
@@ -306,7 +321,9 @@ class LineDefinitionsTest(AnswerTest):
             if answer.status > 7:
                 self.holds("no last line", is_without_end(answer.output), answer)
                 continue
-            settings = {**configuration.read(b"", options, b"", True), **WIDEST}
+            read_settings = configuration.read(b"", options, b"", True)
+            assert isinstance(read_settings, dict)
+            settings = {**read_settings, **WIDEST}
             texts = [
                 {b"/old": old, b"/new": new}[settings[name][-4:]]
                 for name in ("database_in", "database_new")

@@ -14,9 +14,11 @@ import json
 import os
 import unittest
 
+
+from tests.lib.answer import Answer
 from tests.lib.program_test import SESSIONS, ProgramTest, new_seed, slow
 from tests.lib.tally import difference, run, shown, wanted_lines
-from tests.oracle.attributes import ATTRIBUTES
+from tests.oracle.attributes import ATTRIBUTES, Attribute
 from tests.oracle.database import LINE_LIMIT
 from tests.program import cases
 from tests.program.configurations import accepted, limits, names, refused
@@ -33,13 +35,14 @@ OTHER_VALUES = {
     "number": b"18446744073709551615",
     "time": b"LTk=",
     "link": b"%ffz",
+    "opaque": b"a%00%ff",
 }
 # Of names with each byte: alone, behind a letter, and behind the first byte of a character of two,
 # three or four.
 FRONTS = [b"", b"x", b"\xc3", b"\xe2\x80", b"\xf0\x9f\x98"]
 
 
-def faults_of_lines(answer):
+def faults_of_lines(answer: Answer) -> list[str]:
     """What Python's `json` has against an answer: each line is one object, in which no name stands
     twice. Only a complete answer has a last line: after a fault the output may end anywhere."""
     faults, ends = [], 0
@@ -59,30 +62,31 @@ def faults_of_lines(answer):
     return faults + ["the last line is not there, or has no end"]
 
 
-def coded(text):
+def coded(text: bytes) -> bytes:
     return b"".join(b"%%%02x" % byte for byte in text)
 
 
-def other_value(each):
+def other_value(each: Attribute) -> bytes:
     """A field of an attribute with another value than in `with_all`."""
-    if each.form in OTHER_VALUES:
+    if isinstance(each.form, str):
         return OTHER_VALUES[each.form]
-    return b"a%00%ff" if each.form == "opaque" else base64.b64encode(b"\xff" * each.form[0])
+    return base64.b64encode(b"\xff" * each.form[0])
 
 
-def both_jobs(folder):
+def both_jobs(folder: Folder) -> list[tuple[str, list[bytes]]]:
     return [("-E", folder.words()), ("-D", [b"-D", b"-c", folder.at("conf")])]
 
 
-def text_of(path):
-    with (gzip.open if path.endswith(".gz") else open)(path, "rb") as file:
-        return file.read()
+def text_of(path: str) -> bytes:
+    with open(path, "rb") as file:
+        text = file.read()
+    return gzip.decompress(text) if path.endswith(".gz") else text
 
 
 class LinesProgramTest(ProgramTest):
     """The program of lines, beside the definitions and the program of the report."""
 
-    def beside(self, words):
+    def beside(self, words: list[bytes]) -> tuple[int, list[str]]:
         """The status that is wanted, and what is not as wanted."""
         want, answer = wanted_lines(words), run(self.lines_program, words)
         faults = difference(answer, want) + faults_of_lines(answer)
@@ -91,19 +95,21 @@ class LinesProgramTest(ProgramTest):
             faults.append(f"the report: {shown(report.errors)}, {report.status}")
         return want.status, faults
 
-    def ends(self, label, words, *statuses):
+    def ends(self, label: str, words: list[bytes], *statuses: int) -> None:
         """A session, which has to end with one of these statuses if there are any."""
         status, faults = self.beside(words)
         if statuses and status not in statuses:
             faults = [*faults, f"status {status} is wanted"]
         self.add(label, faults)
 
-    def compared(self, label, old, new, *statuses, options=b""):
+    def compared(
+        self, label: str, old: bytes, new: bytes, *statuses: int, options: bytes = b""
+    ) -> None:
         with Folder() as folder:
             folder.pair(old, new, options)
             self.ends(label, folder.words(), *statuses)
 
-    def checked(self, text, *statuses, before=b"", after=b""):
+    def checked(self, text: bytes, *statuses: int, before: bytes = b"", after: bytes = b"") -> None:
         with Folder() as folder:
             folder.write("conf", text)
             words = [b"-D", b"-c", folder.at("conf"), b"-B", before, b"-A", after]

@@ -8,6 +8,7 @@ import os
 import pathlib
 import unittest
 
+
 from tests.lib.tally import run, wanted_lines
 from tests.program.real_files.folder import Folder
 from tests.program.test_lines import LinesProgramTest, text_of
@@ -22,7 +23,7 @@ IN_TURN = (
 ).split()
 
 
-def left_in(output):
+def left_in(output: bytes) -> list[str]:
     """The lines that nothing accounts for, each as its kind and its path."""
     lines = [json.loads(line) for line in output.splitlines()]
     return [
@@ -32,9 +33,10 @@ def left_in(output):
     ]
 
 
-def listed_nights():
+def listed_nights() -> dict[str, list[str]]:
     """What is to be left of each night, by its name."""
-    nights, lines = {}, []
+    nights: dict[str, list[str]] = {}
+    lines: list[str] = []
     with open(NIGHTS, encoding="utf-8") as file:
         for line in file.read().splitlines():
             if line.startswith("@@ "):

@@ -5,11 +5,14 @@ After a fault the output is a beginning of the lines, and has no last line.
 """
 from __future__ import annotations
 
+import functools
 import os
 import random
 import subprocess
 import threading
 import time
+from collections.abc import Callable, Iterator, Sequence
+from typing import List
 
 from tests.lib.answer import Answer
 from tests.lib.program_test import new_seed, slow
@@ -31,7 +34,7 @@ ENTRIES = 3000
 PIPE = 1 << 16
 
 
-def text_of(pick, later):
+def text_of(pick: random.Random, later: int) -> list[bytes]:
     """The lines of a database of links: some came, some went, and of some the target changed."""
     lines = [HEAD[:-1]]
     for number in range(COUNT):
@@ -41,34 +44,35 @@ def text_of(pick, later):
     return [*lines, END, b""]
 
 
-def cut_line(lines, at):
+def cut_line(lines: list[bytes], at: int) -> None:
     lines[at] = lines[at][: len(lines[at]) // 2]
 
 
-def make_nonsense(lines, at):
+def make_nonsense(lines: list[bytes], at: int) -> None:
     lines[at] = b"x y z"
 
 
-def exchange(lines, at):
+def exchange(lines: list[bytes], at: int) -> None:
     lines[at - 1 : at + 1] = reversed(lines[at - 1 : at + 1])
 
 
-def cut(lines, at):
+def cut(lines: list[bytes], at: int) -> None:
     del lines[at:]
 
 
-def end_early(lines, at):
+def end_early(lines: list[bytes], at: int) -> None:
     lines[at] = END
 
 
-def add_field(lines, at):
+def add_field(lines: list[bytes], at: int) -> None:
     lines[at] += b" more"
 
 
-WAYS = [cut_line, make_nonsense, exchange, cut, end_early, add_field]
+Way = Callable[[List[bytes], int], None]
+WAYS: list[Way] = [cut_line, make_nonsense, exchange, cut, end_early, add_field]
 
 
-def broken(pick, lines, way):
+def broken(pick: random.Random, lines: list[bytes], way: Way | None) -> bytes:
     """A text whose lines were broken in a way, if there is one."""
     lines = list(lines)
     if way is not None:
@@ -76,7 +80,7 @@ def broken(pick, lines, way):
     return b"\n".join(lines)
 
 
-def put(folder, texts):
+def put(folder: Folder, texts: Sequence[bytes | None]) -> list[bytes]:
     """Writes the databases of a comparison, with a trusted pair if there are four. None of a
     database leaves it out. Gives the words."""
     folder.pair()
@@ -89,7 +93,7 @@ def put(folder, texts):
     return folder.words_beside() if len(texts) > 2 else folder.words()
 
 
-def ways_of_pairs():
+def ways_of_pairs() -> Iterator[tuple[int, tuple[Way | None, Way | None]]]:
     """Each two ways to break both sides, some times, and each way to leave out a side."""
     for old_way in [None, *WAYS]:
         for new_way in [None, *WAYS]:
@@ -97,7 +101,7 @@ def ways_of_pairs():
                 yield number, (old_way, new_way)
 
 
-def read_slowly(program, words, at_first):
+def read_slowly(program: bytes, words: list[bytes], at_first: Callable[[], None]) -> Answer:
     """The answer of a program whose output is read slowly, and whose files change when its first
     bytes have come."""
     process = subprocess.Popen(
@@ -122,30 +126,30 @@ def read_slowly(program, words, at_first):
 class Turning:
     """Something that is done again and again beside the runs."""
 
-    def __init__(self, steps):
+    def __init__(self, steps: list[Callable[[], None]]) -> None:
         self.steps, self.is_over = steps, threading.Event()
         self.thread = threading.Thread(target=self.turn, daemon=True)
 
-    def turn(self):
+    def turn(self) -> None:
         while not self.is_over.is_set():
             for step in self.steps:
                 step()
                 time.sleep(0.004)
 
-    def __enter__(self):
+    def __enter__(self) -> None:
         self.thread.start()
 
-    def __exit__(self, *_):
+    def __exit__(self, *_: object) -> None:
         self.is_over.set()
         self.thread.join()
 
 
-def replace(folder, name, text):
+def replace(folder: Folder, name: str, text: bytes) -> None:
     folder.write("next", text)
     os.replace(folder.at("next"), folder.at(name))
 
 
-def resize(folder, name, text):
+def resize(folder: Folder, name: str, text: bytes) -> None:
     """Makes a file that holds the front of a text, or more than it, hold just this text, in one
     step."""
     size = os.path.getsize(folder.at(name))
@@ -157,7 +161,7 @@ def resize(folder, name, text):
 
 
 class OneReadingTest(LinesProgramTest):
-    def faults_of(self, texts):
+    def faults_of(self, texts: Sequence[bytes | None]) -> tuple[Answer, list[str]]:
         """The answer over these texts, and what is not as wanted of it: the report of two databases
         ends alike."""
         with Folder() as folder:
@@ -169,9 +173,9 @@ class OneReadingTest(LinesProgramTest):
                 faults += difference(answer._replace(output=b""), report._replace(output=b""))
         return answer, faults
 
-    def tried(self, label, texts):
+    def tried(self, label: str, texts: Sequence[Sequence[bytes | None]]) -> list[Answer]:
         """The answers over many databases."""
-        answers = []
+        answers: list[Answer] = []
         for answer, faults in side_by_side(2, self.faults_of, texts):
             self.add(f"{label}, trial {len(answers)}", faults)
             answers.append(answer)
@@ -180,7 +184,8 @@ class OneReadingTest(LinesProgramTest):
     @slow
     def test_broken_pairs(self) -> None:
         """Pairs of which either or both sides are broken in one of six ways, or are missing."""
-        seed, texts = new_seed(), []
+        seed = new_seed()
+        texts: list[list[bytes | None]] = []
         for number, ways in ways_of_pairs():
             pick = random.Random(f"{seed} {number} {ways}")
             lines = [text_of(pick, later) for later in range(2)]
@@ -196,10 +201,11 @@ class OneReadingTest(LinesProgramTest):
     @slow
     def test_broken_fours(self) -> None:
         """The same with a trusted pair: any of four databases may be broken or missing."""
-        seed, texts = new_seed(), []
+        seed = new_seed()
+        texts = []
         for number in range(FOURS):
             pick = random.Random(f"{seed} {number}")
-            four = []
+            four: list[bytes | None] = []
             for at in range(4):
                 way = pick.choice(WAYS) if pick.random() < 0.3 else None
                 four.append(broken(pick, text_of(pick, at % 2), way))
@@ -241,7 +247,7 @@ class OneReadingTest(LinesProgramTest):
                 words = put(folder, texts)
                 want = wanted_lines(words)
 
-                def replace_all():
+                def replace_all() -> None:
                     for name in FILES[: len(texts)]:
                         replace(folder, name, EMPTY)
 
@@ -249,7 +255,9 @@ class OneReadingTest(LinesProgramTest):
                 self.check(f"{len(texts)} databases", answer, want)
                 self.holds("a full pipe", len(answer.output) > 3 * PIPE, len(answer.output))
 
-    def check_turning(self, way, name, texts):
+    def check_turning(
+        self, way: Callable[[Folder, str, bytes], None], name: str, texts: tuple[bytes, bytes]
+    ) -> None:
         """Runs while a database turns from one text into another: each gives the lines of a whole
         one, with its digest."""
         label = f"{way.__name__}, {name}"
@@ -260,7 +268,7 @@ class OneReadingTest(LinesProgramTest):
             for text in texts:
                 folder.write(name, text)
                 answers.append(wanted_lines(words))
-            with Turning([lambda text=text: way(folder, name, text) for text in texts]):
+            with Turning([functools.partial(way, folder, name, text) for text in texts]):
                 for _ in range(RUNS):
                     answer = run(self.lines_program, words)
                     self.holds(label, answer in answers, answer)

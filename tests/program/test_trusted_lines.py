@@ -11,6 +11,7 @@ import glob
 import json
 import os
 
+
 from tests.commands.viewers.schema import Validator, schema_of_lines
 from tests.lib.answer import Answer
 from tests.lib.program_test import SESSIONS, new_seed, slow
@@ -41,7 +42,7 @@ REFUSED = Answer(b"", USAGE_LINE + b"\n", 15)
 VALIDATOR = Validator(schema_of_lines())
 
 
-def folder_of(folder, four):
+def folder_of(folder: Folder, four: list[bytes]) -> None:
     folder.pair(*four[:2])
     folder.trusted(*four[2:])
 
@@ -53,7 +54,7 @@ class TrustedTest(LinesProgramTest):
         super().setUp()
         self.accounts: collections.Counter[bytes] = collections.Counter()
 
-    def beside(self, words):
+    def beside(self, words: list[bytes]) -> tuple[int, list[str]]:
         """The status that is wanted, and what is not as wanted."""
         want, answer = wanted_lines(words), run(self.lines_program, words)
         for account in (b'"same_as":"old"', b'"same_as":"trusted"', b'","left_out":', b'"kind":'):
@@ -158,7 +159,7 @@ class TrustedTest(LinesProgramTest):
             ):
                 self.check("a report beside a pair", run(self.program, words), REFUSED)
 
-    def four(self, four):
+    def four(self, four: list[bytes]) -> list[str]:
         with Folder() as folder:
             folder_of(folder, four)
             _, faults = self.beside(folder.words_beside())

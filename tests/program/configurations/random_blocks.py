@@ -1,4 +1,6 @@
 """Random configurations of few names, with many blocks and variables."""
+from __future__ import annotations
+
 import random
 import re
 
@@ -60,7 +62,7 @@ HOSTILE = [re.sub(rb"\bA\b", b"$", line) for line in refused.LINES] + [
 ]
 
 
-def block_line(pick, depth):
+def block_line(pick: random.Random, depth: int) -> tuple[bytes, int]:
     """A line of a block, and how many blocks are open after it."""
     way = pick.randrange(4)
     if way == 0 and depth:
@@ -70,12 +72,12 @@ def block_line(pick, depth):
     return (b"@@ifdef $" if way == 2 else b"@@ifndef $ "), depth + 1
 
 
-def random_line(pick, depth):
+def random_line(pick: random.Random, depth: int) -> tuple[bytes, int]:
     """A line of a text, and how many blocks are open after it."""
     return block_line(pick, depth) if pick.randrange(32) < 12 else (pick.choice(LINES), depth)
 
 
-def named(pick, line):
+def named(pick: random.Random, line: bytes) -> bytes:
     """A line with a name in place of each `$`."""
     return b"".join(
         pick.choice([b"A", b"B", b"C"]) if piece == b"$" else piece
@@ -83,7 +85,7 @@ def named(pick, line):
     )
 
 
-def random_text(pick):
+def random_text(pick: random.Random) -> list[bytes]:
     """A few lines, whose blocks are mostly closed."""
     lines, depth = [], 0
     for _ in range(pick.randrange(9)):
@@ -92,7 +94,7 @@ def random_text(pick):
     return lines + [b"@@endif"] * (depth if pick.randrange(12) else 0)
 
 
-def random_texts(seed, number):
+def random_texts(seed: int, number: int) -> list[bytes]:
     """Three texts: always the same for a seed and a number. One line of half of them is hostile,
     each in its turn."""
     pick = random.Random("%d %d" % (seed, number))

@@ -1,4 +1,8 @@
 """Random configurations and command lines over three texts: before, the file and after."""
+from __future__ import annotations
+
+import random
+
 from tests.oracle.attributes import EMPTY_NAMES, GROUPS, NAMES
 from tests.oracle.configuration import BOOL_OPTIONS, LEVELS, SET_OPTIONS, WITHOUT_EFFECT
 from tests.program.configurations import refused
@@ -14,7 +18,7 @@ BAD_LINES = refused.LINES + [
 ]
 
 
-def random_expression(pick):
+def random_expression(pick: random.Random) -> bytes:
     names = NAMES + list(GROUPS) + EMPTY_NAMES + (["mine", "times"] if pick.random() < 0.05 else [])
     text = pick.choice(names)
     for _ in range(pick.choice([0, 0, 1, 2, 5])):
@@ -22,7 +26,7 @@ def random_expression(pick):
     return text.encode()
 
 
-def random_option(pick):
+def random_option(pick: random.Random) -> tuple[bytes, bytes]:
     name = pick.choice(
         ["report_level", "report_level"] + BOOL_OPTIONS + SET_OPTIONS + SET_OPTIONS + ["other"]
     )
@@ -42,7 +46,7 @@ def random_option(pick):
     )
 
 
-def random_line(pick):
+def random_line(pick: random.Random) -> bytes:
     """A line that mostly is good."""
     way = pick.random()
     if way < 0.5:
@@ -101,7 +105,7 @@ def random_line(pick):
     )
 
 
-def random_block(pick, depth=0):
+def random_block(pick: random.Random, depth: int = 0) -> list[bytes]:
     """Lines with blocks among them."""
     lines = []
     for _ in range(pick.choice([0, 1, 2, 4])):
@@ -125,7 +129,7 @@ def random_block(pick, depth=0):
     return lines
 
 
-def random_text(pick, bad):
+def random_text(pick: random.Random, bad: float) -> bytes:
     lines = random_block(pick)
     if pick.random() < bad:
         lines.insert(pick.randint(0, len(lines)), pick.choice(BAD_LINES))
@@ -138,7 +142,7 @@ def random_text(pick, bad):
     return b"\n".join(lines) + pick.choice([b"\n", b"\n", b""])
 
 
-def random_configuration(pick, folder, bad):
+def random_configuration(pick: random.Random, folder: bytes, bad: float) -> bytes:
     """The text of a configuration file that names two databases of a folder."""
     named = [b"database_in=file:" + folder + b"/old", b"database_new = file://" + folder + b"/new"]
     if pick.random() < 0.1:
@@ -150,11 +154,11 @@ def random_configuration(pick, folder, bad):
     if pick.random() < 0.03:
         del named[pick.randrange(len(named))]
     text = random_text(pick, bad)
-    named = b"\n".join(named) + b"\n"
-    return named + text if pick.random() < 0.7 else text + b"\n" + named
+    names = b"\n".join(named) + b"\n"
+    return names + text if pick.random() < 0.7 else text + b"\n" + names
 
 
-def random_words(pick, path, bad):
+def random_words(pick: random.Random, path: bytes, bad: float) -> list[bytes]:
     """A command line that reads the configuration at a path."""
     compares = pick.random() < 0.93
     flag = pick.choice([[b"-E"], [b"--compare"]] if compares else [[b"-D"], [b"--config-check"]])

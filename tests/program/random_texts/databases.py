@@ -1,10 +1,21 @@
 """Random pairs of databases: all columns, all forms of fields, edits between the two, and faults of
 every kind."""
+from __future__ import annotations
+
 import base64
+import random
+from typing import Any, Dict, List, Tuple, Union
 
 from tests.oracle.attributes import ATTRIBUTES
 from tests.oracle.database import order_of
 from tests.program.field_rows import REFUSED
+
+# The form of a column's fields, and the columns of a database.
+Form = Union[str, Tuple[int, int]]
+Columns = List[Tuple[bytes, Form]]
+# The values of an entry by its columns, and the entries by their paths.
+Row = Dict[bytes, Any]
+Rows = Dict[bytes, Row]
 
 PIECES = [
     b"",
@@ -132,11 +143,11 @@ STRAYS = [
 ]
 
 
-def random_path(pick):
+def random_path(pick: random.Random) -> bytes:
     return b"/" + b"/".join(pick.choice(PIECES) for _ in range(pick.randint(1, 3)))
 
 
-def random_digest(pick, least, most):
+def random_digest(pick: random.Random, least: int, most: int) -> bytes | None:
     if pick.random() < 0.3:
         return None
     size = pick.randint(least, most)
@@ -145,7 +156,7 @@ def random_digest(pick, least, most):
     )
 
 
-def random_value(pick, form):
+def random_value(pick: random.Random, form: Form) -> Any:
     """A value of a form, and None where an entry has none."""
     if form in ("type", "perm"):
         return pick.choice(MODES)
@@ -154,11 +165,11 @@ def random_value(pick, form):
     if form == "link":
         return pick.choice(LINKS)
     if form == "opaque":
-        return pick.choice([None] + OPAQUE)
+        return pick.choice([None, *OPAQUE])
     return random_digest(pick, *form)
 
 
-def escaped(pick, name):
+def escaped(pick: random.Random, name: bytes) -> bytes:
     """One of the spellings of a name."""
     often = pick.choice([0, 0, 0.3])
     must = b" \t\n%"
@@ -168,13 +179,13 @@ def escaped(pick, name):
     )
 
 
-def spelled_number(pick, number):
+def spelled_number(pick: random.Random, number: int) -> bytes:
     digits = b"%d" % abs(number)
     noughts = b"0" * (5000 if pick.random() < 0.002 else pick.choice([0, 0, 0, 1, 2, 25]))
     return (b"-" if number < 0 or number == 0 and pick.random() < 0.1 else b"") + noughts + digits
 
 
-def spelled(pick, form, value):
+def spelled(pick: random.Random, form: Form, value: Any) -> bytes:
     """One of the spellings of a value."""
     if form in ("type", "perm"):
         return b"0" * pick.choice([0, 0, 1, 20]) + b"%o" % value
@@ -193,7 +204,7 @@ def spelled(pick, form, value):
     return base64.b64encode(value)
 
 
-def random_row(pick, columns):
+def random_row(pick: random.Random, columns: Columns) -> Row:
     """Values for the columns that have a form."""
     return {
         column: random_value(pick, form)
@@ -202,7 +213,7 @@ def random_row(pick, columns):
     }
 
 
-def random_columns(pick):
+def random_columns(pick: random.Random) -> Columns:
     """The columns of a database as (column, form) pairs, the name's form being 'name'."""
     known = {attribute.column.encode(): attribute.form for attribute in ATTRIBUTES}
     count = pick.choice([0, 1, 2, 4, 8, len(known)])
@@ -216,7 +227,7 @@ def random_columns(pick):
     return columns
 
 
-def random_entries(pick, columns):
+def random_entries(pick: random.Random, columns: Columns) -> Rows:
     """A map from paths to rows of values."""
     bits = pick.choice(BITS)
     entries = {}
@@ -227,7 +238,7 @@ def random_entries(pick, columns):
     return entries
 
 
-def edited(pick, columns, entries):
+def edited(pick: random.Random, columns: Columns, entries: Rows) -> Rows:
     """The same entries, some of them changed, gone or new."""
     few = pick.choice([0, 0.1, 0.4])
     kept = {path: dict(row) for path, row in entries.items() if pick.random() >= few}
@@ -243,7 +254,7 @@ def edited(pick, columns, entries):
     return kept
 
 
-def line_of(pick, columns, path, row):
+def line_of(pick: random.Random, columns: Columns, path: bytes, row: Row) -> bytes:
     fields = []
     for column, form in columns:
         if form == "name":
@@ -264,7 +275,7 @@ def line_of(pick, columns, path, row):
     )
 
 
-def lines_of_database(pick, columns, entries):
+def lines_of_database(pick: random.Random, columns: Columns, entries: Rows) -> list[bytes]:
     lines = [b"@@begin_db" + pick.choice([b"", b"", b" now"])]
     lines.append(b"@@db_spec " + b" ".join(column for column, _ in columns))
     lines += [line_of(pick, columns, path, entries[path]) for path in sorted(entries, key=order_of)]
@@ -276,7 +287,7 @@ def lines_of_database(pick, columns, entries):
     return lines
 
 
-def bad_field(pick, columns, lines):
+def bad_field(pick: random.Random, columns: Columns, lines: list[bytes]) -> None:
     """The lines with a field that has not its column's form."""
     whole = [
         place
@@ -297,7 +308,9 @@ def bad_field(pick, columns, lines):
         lines[place] = b" ".join(fields)
 
 
-def broken(pick, columns, lines, text, way):
+def broken(
+    pick: random.Random, columns: Columns, lines: list[bytes], text: bytes, way: str
+) -> bytes:
     """A text with something done to it that mostly makes it faulty."""
     place, other = pick.randrange(len(lines)), pick.randrange(len(lines))
     if way == "cut":
@@ -338,7 +351,7 @@ def broken(pick, columns, lines, text, way):
     return b"\n".join(lines) + b"\n"
 
 
-def random_pair(pick):
+def random_pair(pick: random.Random) -> list[bytes]:
     """The texts of an old and a new database."""
     columns = random_columns(pick)
     entries = random_entries(pick, columns)

@@ -1,12 +1,17 @@
 """Random databases of a trusted machine beside a random pair: its entries are often those of the
 pair, in its own state."""
+from __future__ import annotations
+
 import os
+import random
 
 from tests.oracle.attributes import ATTRIBUTES
 
 from .configurations import random_words
 from .databases import (
     BREAKS,
+    Columns,
+    Rows,
     broken,
     edited,
     lines_of_database,
@@ -30,7 +35,7 @@ FAULTY = [b"a", b"/a**", b"/a\\", b"/[a", b"/[b-a]", b"programs() /a", b"program
 CONTENTS = [bytes([number] * 32) for number in range(3)]
 
 
-def usual_columns(pick):
+def usual_columns(pick: random.Random) -> Columns:
     """Columns of which most have a type, a strong digest and a time."""
     columns = random_columns(pick)
     known = [column for column, _ in columns]
@@ -40,7 +45,7 @@ def usual_columns(pick):
     return columns
 
 
-def usual_entries(pick, columns):
+def usual_entries(pick: random.Random, columns: Columns) -> Rows:
     """Entries with modes that machines have, and with contents of which there are few."""
     entries = random_entries(pick, columns)
     for row in entries.values():
@@ -52,7 +57,7 @@ def usual_entries(pick, columns):
     return entries
 
 
-def in_own_state(pick, columns, entries):
+def in_own_state(pick: random.Random, columns: Columns, entries: Rows) -> Rows:
     """The same entries as another machine has them: with its own times, inodes and sizes of
     directories."""
     restated = {}
@@ -69,7 +74,7 @@ def in_own_state(pick, columns, entries):
     return restated
 
 
-def text_of(pick, columns, entries, often):
+def text_of(pick: random.Random, columns: Columns, entries: Rows, often: float) -> bytes:
     """The text of a database, which has a fault that often."""
     rows = {path: {**random_row(pick, columns), **row} for path, row in entries.items()}
     lines = lines_of_database(pick, columns, rows)
@@ -79,7 +84,7 @@ def text_of(pick, columns, entries, often):
     )
 
 
-def random_four(pick):
+def random_four(pick: random.Random) -> list[bytes]:
     """The texts of an old and a new database, and of those of a trusted machine."""
     columns = usual_columns(pick)
     old = usual_entries(pick, columns)
@@ -94,7 +99,7 @@ def random_four(pick):
     return texts + [text_of(pick, other, side, often) for side in trusted]
 
 
-def random_list(pick):
+def random_list(pick: random.Random) -> bytes:
     """The text of a list, some of whose lines have a fault."""
     lines = []
     for _ in range(pick.choice([0, 1, 1, 2, 4])):
@@ -109,7 +114,9 @@ def random_list(pick):
     return b"\n".join(lines)
 
 
-def random_words_beside(pick, folder, config, bad):
+def random_words_beside(
+    pick: random.Random, folder: bytes, config: bytes, bad: float
+) -> list[bytes]:
     """A command line that mostly names a trusted pair in a folder too, and often gives a list."""
     trusted = []
     for name in (b"old", b"new"):

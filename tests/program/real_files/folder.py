@@ -1,8 +1,12 @@
 """A folder with a configuration and two databases, and the program run in it."""
+from __future__ import annotations
+
 import os
 import shutil
 import tempfile
+from typing import Any
 
+from tests.lib.answer import Answer
 from tests.lib.program_test import ProgramTest
 from tests.lib.tally import difference, run, wanted
 
@@ -12,12 +16,12 @@ EMPTY = b"@@begin_db\n@@db_spec name\n@@end_db\n"
 SKIPPING = b"@@begin_db\n@@db_spec name size foo\n/a 1 x\n@@end_db\n"
 
 
-def database(columns, fields):
+def database(columns: bytes, fields: bytes) -> bytes:
     """A database of one entry with a path and other fields."""
     return b"@@begin_db\n@@db_spec name %s\n/a %s\n@@end_db\n" % (columns, fields)
 
 
-def names(count):
+def names(count: int) -> bytes:
     """A database of so many names."""
     return (
         b"@@begin_db\n@@db_spec name\n"
@@ -29,21 +33,21 @@ def names(count):
 class Folder:
     """Files for one trial after another; taken away at the end."""
 
-    def __enter__(self):
+    def __enter__(self) -> Folder:
         self.path = tempfile.mkdtemp(prefix="aide-").encode()
         return self
 
-    def __exit__(self, *_):
+    def __exit__(self, *_: object) -> None:
         shutil.rmtree(self.path, ignore_errors=True)
 
-    def at(self, name):
+    def at(self, name: str) -> bytes:
         return os.path.join(self.path, name.encode())
 
-    def write(self, name, text):
+    def write(self, name: str, text: bytes) -> None:
         with open(self.at(name), "wb") as file:
             file.write(text)
 
-    def pair(self, old=OLD, new=NEW, options=b""):
+    def pair(self, old: bytes = OLD, new: bytes = NEW, options: bytes = b"") -> None:
         """Writes two databases and a configuration that names them."""
         self.write(
             "conf",
@@ -53,12 +57,12 @@ class Folder:
         self.write("old", old)
         self.write("new", new)
 
-    def trusted(self, old=OLD, new=NEW):
+    def trusted(self, old: bytes = OLD, new: bytes = NEW) -> None:
         """Writes the two databases of a trusted pair."""
         self.write("trusted_old", old)
         self.write("trusted_new", new)
 
-    def words_beside(self, *more):
+    def words_beside(self, *more: bytes) -> list[bytes]:
         """The words of a comparison beside the trusted pair."""
         return self.words(
             b"--trusted-old",
@@ -68,13 +72,13 @@ class Folder:
             *more,
         )
 
-    def words(self, *more):
+    def words(self, *more: bytes) -> list[bytes]:
         return [b"-E", b"-c", self.at("conf")] + list(more)
 
-    def wanted(self, *more):
+    def wanted(self, *more: bytes) -> Answer:
         return wanted(self.words(*more))
 
-    def run(self, program, *more, **streams):
+    def run(self, program: bytes, *more: bytes, **streams: Any) -> Answer:
         return run(program, self.words(*more), **streams)
 
 
@@ -86,16 +90,16 @@ class FolderTest(ProgramTest):
         self.folder = Folder().__enter__()
         self.addCleanup(self.folder.__exit__)
 
-    def agree(self, label, words, answer):
+    def agree(self, label: str, words: list[bytes], answer: Answer) -> None:
         """The definitions give this answer."""
         self.add("the definitions at " + label, difference(wanted(words), answer))
 
-    def check_words(self, label, words, want):
+    def check_words(self, label: str, words: list[bytes], want: Answer) -> None:
         """The program and the definitions answer what is wanted."""
         self.check(label, run(self.program, words), want)
         self.agree(label, words, want)
 
-    def check_status(self, label, words, status):
+    def check_status(self, label: str, words: list[bytes], status: int) -> None:
         """The program answers as the definitions do, which end with this status."""
         want = wanted(words)
         self.holds("the definitions at " + label, want.status == status, want)

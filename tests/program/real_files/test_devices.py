@@ -1,15 +1,19 @@
 """Standard output and standard error that fail, and files that are not what they should be."""
+from __future__ import annotations
+
 import os
 import shutil
 import socket
 import subprocess
 import threading
 from collections.abc import Callable
+from typing import Any
 
-from tests.lib.program_test import slow
+from tests.lib.answer import Answer
+from tests.lib.program_test import ProgramTest, slow
 from tests.lib.tally import run
 
-from .folder import NEW, OLD, SKIPPING, FolderTest, names
+from .folder import NEW, OLD, SKIPPING, Folder, FolderTest, names
 
 NOT_WRITTEN = b"aide: cannot write the report\n"
 NOBODY = 65534
@@ -27,31 +31,31 @@ IN_PLACE_OF_A_FILE: tuple[tuple[str, Step, Step], ...] = (
 )
 
 
-def closed_pipe():
+def closed_pipe() -> int:
     """The end to write to of a pipe that nobody reads."""
     reading, writing = os.pipe()
     os.close(reading)
     return writing
 
 
-def check_outputs(test, label, program, words):
+def check_outputs(test: ProgramTest, label: str, program: bytes, words: list[bytes]) -> None:
     """An output that fails ends with 18, however it fails."""
-    lost = (None, NOT_WRITTEN, 18)
+    lost = Answer(b"", NOT_WRITTEN, 18)
     with open("/dev/full", "wb") as full:
         test.check(label + " to a full device", run(program, words, stdout=full), lost)
     writing = closed_pipe()
     test.check(label + " to a closed pipe", run(program, words, stdout=writing), lost)
     os.close(writing)
     answer = run(program, words, preexec_fn=lambda: os.close(1))
-    test.check(label + " without standard output", answer, (b"", NOT_WRITTEN, 18))
+    test.check(label + " without standard output", answer, lost)
 
 
-def written(folder, program, stream):
+def written(folder: Folder, program: bytes, stream: str) -> list[bytes]:
     """What each write to a stream writes, which a socket of datagrams keeps apart."""
     ours, theirs = socket.socketpair(socket.AF_UNIX, socket.SOCK_DGRAM)
-    parts = []
+    parts: list[bytes] = []
 
-    def receive():
+    def receive() -> None:
         while not parts or parts[-1] != b"":
             parts.append(ours.recv(2**20))
 
@@ -64,7 +68,7 @@ def written(folder, program, stream):
     return parts[:-1]
 
 
-def become_nobody():
+def become_nobody() -> None:
     if os.getuid() == 0:
         os.setgid(NOBODY)
         os.setuid(NOBODY)
@@ -72,7 +76,7 @@ def become_nobody():
 
 @slow
 class DevicesTest(FolderTest):
-    def answered(self, label, want, *more, **streams):
+    def answered(self, label: str, want: Answer, *more: bytes, **streams: Any) -> None:
         """The program answers so over the files of the folder."""
         self.check(label, self.folder.run(self.program, *more, **streams), want)
 
@@ -80,7 +84,7 @@ class DevicesTest(FolderTest):
         """A report that is not written; a quiet run without differences writes nothing."""
         self.folder.pair(SKIPPING, SKIPPING)
         check_outputs(self, "a report", self.program, self.folder.words())
-        quiet = (None, self.folder.wanted().errors, 0)
+        quiet = Answer(b"", self.folder.wanted().errors, 0)
         with open("/dev/full", "wb") as full:
             for stream in (subprocess.DEVNULL, full):
                 self.answered("quiet", quiet, b"-B", b"report_quiet=yes", stdout=stream)
@@ -94,14 +98,14 @@ class DevicesTest(FolderTest):
         """What becomes of standard error changes neither the output nor the status."""
         for label, old, new in FAULTS:
             self.folder.pair(old, new)
-            want = self.folder.wanted()._replace(errors=None)
+            want = self.folder.wanted()._replace(errors=b"")
             with open("/dev/full", "wb") as full:
                 self.answered("a full standard error, " + label, want, stderr=full)
             writing = closed_pipe()
             self.answered("a closed standard error, " + label, want, stderr=writing)
             os.close(writing)
             gone = {"preexec_fn": lambda: os.close(2)}
-            self.answered("no standard error, " + label, want._replace(errors=b""), **gone)
+            self.answered("no standard error, " + label, want, **gone)
 
     def test_writes(self) -> None:
         """A line on standard error is never cut between two writes, and a long report goes out in
@@ -151,5 +155,5 @@ class DevicesTest(FolderTest):
             os.chmod(path, 0)
             answer = self.folder.run(program, preexec_fn=become_nobody)
             line = b"aide: cannot %s %s\n" % (words, path)
-            self.check("an unreadable " + name, answer, (b"", line, 18))
+            self.check("an unreadable " + name, answer, Answer(b"", line, 18))
             os.chmod(path, 0o644)

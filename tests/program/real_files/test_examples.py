@@ -1,8 +1,11 @@
 """The databases in examples/, and what is known of them from outside."""
+from __future__ import annotations
+
 import glob
 import os
 import re
 
+from tests.lib.answer import Answer
 from tests.lib.program_test import ProgramTest
 from tests.oracle.configuration import LEVELS
 from tests.lib.tally import run, wanted
@@ -20,7 +23,7 @@ BOOLS = ["yes", "no"]
 HEAD = b"AIDE found differences between the two databases.\n"
 
 
-def words_for(folder, *more):
+def words_for(folder: str, *more: bytes) -> list[bytes]:
     return [
         b"-E",
         b"-c",
@@ -30,14 +33,14 @@ def words_for(folder, *more):
     ] + list(more)
 
 
-def words_at(folder, options):
+def words_at(folder: str, options: str) -> list[bytes]:
     """The words that compare the databases of a folder under these options, which leave out those
     of its configuration."""
     before = "@@define DIR %s\n%s\nreport_url=stdout" % (folder, options)
     return words_for(folder)[:-1] + [os.fsencode(before)]
 
 
-def folders_of_aide():
+def folders_of_aide() -> list[str]:
     """The folders with databases that AIDE has written."""
     return sorted(
         os.path.dirname(found)
@@ -45,14 +48,14 @@ def folders_of_aide():
     )
 
 
-def told_by_aide(folder):
+def told_by_aide(folder: str) -> tuple[int, dict[str, int]]:
     """What AIDE itself counts between the databases of a folder, by label, and its status."""
     with open(os.path.join(folder, "aide-counts.txt")) as file:
         counts = {label: int(number) for label, number in (line.split() for line in file)}
     return counts.pop("status"), counts
 
 
-def counted(output):
+def counted(output: bytes) -> dict[str, int | None]:
     """The counts of a report's summary, by label."""
     text = output.decode("utf-8", "replace")
     found = {
@@ -65,9 +68,9 @@ def counted(output):
 class ExamplesTest(ProgramTest):
     def test_made_by_hand(self) -> None:
         answer = run(self.program, words_for(EXAMPLES))
-        self.check("examples", answer, (HEAD, b"", 7))
+        self.check("examples", answer, Answer(HEAD, b"", 7))
         answer = run(self.program, [b"-D"] + words_for(EXAMPLES)[1:])
-        self.check("examples, checked", answer, (b"", b"", 0))
+        self.check("examples, checked", answer, Answer(b"", b"", 0))
 
     def test_written_by_aide(self) -> None:
         """Databases that AIDE has written: its counts and status, nothing skipped, and the

@@ -1,5 +1,7 @@
 """Databases that come through FIFOs: each opening can be given a text of its own, and the openings
 are counted."""
+from __future__ import annotations
+
 import contextlib
 import os
 import threading
@@ -41,16 +43,17 @@ class Feeder:
     Each reader has a FIFO of its own, so that no reader is given two texts.
     """
 
-    def __init__(self, path, texts):
+    def __init__(self, path: bytes, texts: list[bytes]) -> None:
         self.path, self.texts, self.is_over = path, texts, False
         self.openings = self.given = 0
         self.thread = threading.Thread(target=self.feed, daemon=True)
 
-    def feed(self):
+    def feed(self) -> None:
         while True:
             file = os.open(self.path, os.O_WRONLY)
             if self.is_over:
-                return os.close(file)
+                os.close(file)
+                return
             self.openings += 1
             self.put_fifo()
             try:
@@ -59,16 +62,16 @@ class Feeder:
                 pass
             os.close(file)
 
-    def put_fifo(self):
+    def put_fifo(self) -> None:
         os.mkfifo(self.path + b".next")
         os.replace(self.path + b".next", self.path)
 
-    def __enter__(self):
+    def __enter__(self) -> Feeder:
         self.put_fifo()
         self.thread.start()
         return self
 
-    def __exit__(self, *_):
+    def __exit__(self, *_: object) -> None:
         self.is_over = True
         while self.thread.is_alive():
             reading = os.open(self.path, os.O_RDONLY | os.O_NONBLOCK)
@@ -77,32 +80,36 @@ class Feeder:
         os.unlink(self.path)
 
 
-def fed(program, words, texts):
+def fed(
+    program: bytes, words: list[bytes], texts: dict[bytes, list[bytes]]
+) -> tuple[Answer, list[int]]:
     """The answer of the program, and how often it opened each database; `texts` has the texts of
     each by its path."""
     with contextlib.ExitStack() as stack:
         feeders = [stack.enter_context(Feeder(path, each)) for path, each in texts.items()]
-        answer = run("timeout", [WAIT, program] + words)
-        return answer, [feeder.openings for feeder in feeders]
+        answer = run("timeout", [WAIT, program, *words])
+    return answer, [feeder.openings for feeder in feeders]
 
 
-def fed_pair(program, folder, old_texts, new_texts):
+def fed_pair(
+    program: bytes, folder: Folder, old_texts: list[bytes], new_texts: list[bytes]
+) -> tuple[Answer, list[int]]:
     texts = {folder.at("old"): old_texts, folder.at("new"): new_texts}
     return fed(program, folder.words(), texts)
 
 
-def beginning(report):
+def beginning(report: bytes) -> bytes:
     """The head and the summary of a report."""
     return report[: report.index(b"\n\n---") + 1]
 
 
-def change_faults(answer, side, number, report):
+def change_faults(answer: Answer, side: bytes, number: int, report: bytes) -> list[str]:
     """What is wrong with the answer where a side is another one from so many openings on."""
     line = b"aide: the %s database changed while it was read\n" % side
     if (answer.errors, answer.status) != (line, 18):
-        return ["%s from opening %d on gave %r" % (side, number, answer)]
+        return [f"{side!r} from opening {number} on gave {answer}"]
     is_right = answer.output == b"" or number > 2 and answer.output.startswith(beginning(report))
-    return [] if is_right else ["%s from opening %d on wrote %r" % (side, number, answer.output)]
+    return [] if is_right else [f"{side!r} from opening {number} on wrote {answer.output!r}"]
 
 
 class FifosTest(ProgramTest):

@@ -1,4 +1,7 @@
 """Databases cut at each byte, and lines of just the greatest length."""
+from __future__ import annotations
+
+from tests.lib.answer import Answer
 from tests.lib.program_test import slow
 from tests.oracle.database import LINE_LIMIT
 
@@ -25,7 +28,7 @@ SIZES = [(41, 54), (55, 56), (63, 64), (65, 119), (120, 128), (4095, 4096), (409
 SIZES += [(8192, 8193), (12288, 12289), (100000, 1000000)]
 
 
-def database(line, tail=b"@@end_db\n"):
+def database(line: bytes, tail: bytes = b"@@end_db\n") -> bytes:
     return b"@@begin_db\n@@db_spec name size\n" + line + b"\n" + tail
 
 
@@ -38,7 +41,7 @@ class LimitsTest(FolderTest):
             want = self.folder.wanted()
             told = [(line, words) for last, line, words in CUTS if length <= last][:1]
             if told:
-                want = (b"", b"aide: old database:%d: %s\n" % told[0], 24)
+                want = Answer(b"", b"aide: old database:%d: %s\n" % told[0], 24)
             self.check_words("a cut after %d bytes" % length, self.folder.words(), want)
 
     def test_long_lines(self) -> None:

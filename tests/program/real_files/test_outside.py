@@ -1,6 +1,9 @@
 """Limits from outside: memory, descriptors, sizes of files, pipes, devices, files of 2 GB."""
+from __future__ import annotations
+
 import os
 import resource
+from collections.abc import Callable
 
 from tests.lib.answer import Answer
 from tests.lib.program_test import ProgramTest, slow
@@ -30,11 +33,11 @@ COARSE, MOST_MEMORY, PAGE = 64, 16 * 1024, 4
 LIMITED = b'ulimit -v $0; exec "$@"'
 
 
-def limited(what, most):
+def limited(what: int, most: int) -> Callable[[], None]:
     return lambda: resource.setrlimit(what, (most, most))
 
 
-def is_unborn(answer, has_opened):
+def is_unborn(answer: Answer, has_opened: bool) -> bool:
     """Whether the system could not start the program: it ended before it opened a file, and not by
     its own words."""
     is_ended = answer.status < 0 or answer.status in (126, 127)
@@ -46,7 +49,7 @@ def is_unborn(answer, has_opened):
     )
 
 
-def kind_of(answer, want, has_opened):
+def kind_of(answer: Answer, want: Answer, has_opened: bool) -> str:
     """What less memory has led to: the right answer, want of memory, no start, or else what it
     was."""
     if answer == want:
@@ -56,7 +59,7 @@ def kind_of(answer, want, has_opened):
     return UNBORN if is_unborn(answer, has_opened) else repr(answer)
 
 
-def kinds_in_turn(program, limits):
+def kinds_in_turn(program: bytes, limits: range) -> dict[int, str]:
     """What becomes of the program under limits of its memory, in kB."""
     with Folder() as folder:
         folder.pair()
@@ -68,7 +71,7 @@ def kinds_in_turn(program, limits):
         return kinds
 
 
-def kinds_by_limit(program, limits):
+def kinds_by_limit(program: bytes, limits: range) -> dict[int, str]:
     """The same, several at a time."""
     parts = side_by_side(
         JOBS, lambda part: kinds_in_turn(program, part), [limits[job::JOBS] for job in range(JOBS)]
@@ -76,7 +79,14 @@ def kinds_by_limit(program, limits):
     return {most: kind for part in parts for most, kind in part.items()}
 
 
-def check_file_sizes(test, label, program, words, want, step):
+def check_file_sizes(
+    test: ProgramTest,
+    label: str,
+    program: bytes,
+    words: list[bytes],
+    want: Answer,
+    step: int,
+) -> None:
     """An output that goes to a file which may not grow over so many bytes: the last write before is
     cut short."""
     size = len(want.output)
@@ -92,7 +102,7 @@ def check_file_sizes(test, label, program, words, want, step):
             test.check("%s to a file of %d bytes" % (label, most), given, want if fits else cut)
 
 
-def sparse(folder, name, front, size):
+def sparse(folder: Folder, name: str, front: bytes, size: int) -> None:
     """A file that begins with some bytes and goes on with NUL bytes that take no room."""
     folder.write(name, front)
     os.truncate(folder.at(name), size)
@@ -138,11 +148,13 @@ class OutsideTest(ProgramTest):
                 os.unlink(folder.at(name))
                 os.symlink(device, folder.at(name))
                 line = b"aide: %s database:1: %s\n" % (name.encode(), words)
-                self.check("a device as a database", folder.run(self.program), (b"", line, 24))
+                self.check(
+                    "a device as a database", folder.run(self.program), Answer(b"", line, 24)
+                )
                 os.unlink(folder.at(name))
             folder.pair()
             answer = run(self.program, [b"-E", b"-c", b"/dev/zero"])
-            self.check("a device as a configuration", answer, (b"", TOO_LARGE, 17))
+            self.check("a device as a configuration", answer, Answer(b"", TOO_LARGE, 17))
 
     def test_long_lines(self) -> None:
         """Sparse files of 2 GB that have one line, and FIFOs with a line of 32 MB: no more is read
@@ -180,8 +192,8 @@ class OutsideTest(ProgramTest):
         with Folder() as folder:
             folder.pair(NEW, NEW, MINIMAL)
             for name, front, want in (
-                ("old", NEW, (same, b"", 0)),
-                ("conf", b"", (b"", TOO_LARGE, 17)),
+                ("old", NEW, Answer(same, b"", 0)),
+                ("conf", b"", Answer(b"", TOO_LARGE, 17)),
             ):
                 sparse(folder, name, front, 128 * MEGABYTE)
                 few = limited(resource.RLIMIT_AS, 64 * MEGABYTE)

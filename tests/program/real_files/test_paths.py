@@ -1,10 +1,13 @@
 """Folders whose names and arguments whose forms are unusual: blanks, newlines, bytes above 127,
 great lengths; and files that are almost the ones that were named."""
+from __future__ import annotations
+
 import gzip
 import os
+from collections.abc import Callable
 
 from tests.lib.answer import Answer
-from tests.oracle.session import answer_of
+from tests.oracle.session import File, answer_of
 from tests.lib.tally import file_at, run, wanted
 
 from .folder import NEW, OLD, Folder, FolderTest
@@ -32,20 +35,22 @@ SHAPES = [
 FULL = [b"-B", b"report_level=summary", b"-A", b"#"]
 
 
-def named(folder, old, new):
+def named(folder: bytes, old: bytes, new: bytes) -> bytes:
     return b"database_in=file:%s%s\ndatabase_new=file:%s%s\n" % (folder, old, folder, new)
 
 
-def answer_in(folder, words):
+def answer_in(folder: bytes, words: list[bytes]) -> Answer:
     """What the definitions answer to words that are given in a folder."""
 
-    def here(path):
+    def here(path: bytes) -> File:
         return file_at(os.path.join(folder, path[len(HERE) :] if path.startswith(HERE) else path))
 
     return answer_of(words, here)
 
 
-def check_folder(program, test, label, folder, is_nameable):
+def check_folder(
+    program: bytes, test: FolderTest, label: str, folder: bytes, is_nameable: bool
+) -> None:
     """Relative and absolute paths of a configuration and of databases, files that are missing among
     them."""
     os.makedirs(folder)
@@ -88,7 +93,7 @@ def check_folder(program, test, label, folder, is_nameable):
             test.add("the status with %s, %r" % (label, rest), fault)
 
 
-def almost_named(at):
+def almost_named(at: Callable[[str], bytes]) -> list[tuple[str, list[bytes]]]:
     """Command lines that name no file, beside one that a helpful program would take: it is packed,
     or it has no `/` at the end of its path. `at` gives the path of a file of the folder."""
     lines = []
@@ -107,12 +112,12 @@ def almost_named(at):
     return lines
 
 
-def command_lines(conf):
+def command_lines(conf: bytes) -> list[tuple[str, list[bytes], int]]:
     """Command lines of many, long, empty and blank arguments, with the status that each is to
     have."""
     full = [b"-E", b"-c", conf] + FULL
     long = 130000
-    lines = [
+    lines: list[tuple[str, list[bytes], int]] = [
         ("all options", full, 7),
         ("a last `--`", full + [b"--"], 7),
         ("a first `--`", [b"--"] + full, 15),

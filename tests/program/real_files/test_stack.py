@@ -4,12 +4,13 @@ import resource
 
 from tests.lib.answer import Answer
 from tests.lib.program_test import ProgramTest, slow
+from tests.oracle.configuration import LEVELS
 from tests.program import cases
 from tests.program.configurations import limits
 from tests.lib.tally import run
 
 from .folder import Folder
-from .test_examples import EXAMPLES, LEVELS, folders_of_aide, words_at
+from .test_examples import EXAMPLES, folders_of_aide, words_at
 from .test_outside import limited
 
 STACK = 64 * 1024
