@@ -1,13 +1,11 @@
-"""The stored cases: what the program answers to them, and what the definitions do."""
+"""The stored cases: what both programs answer to them, and what the definitions do."""
 from __future__ import annotations
 
-from tests.lib.program_test import ProgramTest
-from tests.lib.tally import difference, run, wanted
 from tests.program import cases
+from tests.program.real_files.folder import FolderTest
 
 
-class CasesTest(ProgramTest):
+class CasesTest(FolderTest):
     def test_cases(self) -> None:
         for label, words, want in cases.in_turn(cases.all_cases()):
-            self.check(label, run(self.program, words), want)
-            self.add("the definitions at " + label, difference(wanted(words), want))
+            self.check_words(label, words, want)

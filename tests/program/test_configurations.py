@@ -103,6 +103,12 @@ class ConfigurationTest(FolderTest):
         )
         return self.words(b"-E", text, named + before, after)
 
+    def accepted(self, text: bytes, before: bytes = b"", after: bytes = b"") -> list[bytes]:
+        """The words of a comparison under a configuration, which a check accepts."""
+        words = self.words(b"-D", text, before, after)
+        self.check_words(f"checked: {shown(text)}", words, ACCEPTED)
+        return self.compared(text, before, after)
+
     def pair(self, old: bytes, new: bytes) -> None:
         self.folder.write("old", old)
         self.folder.write("new", new)
@@ -112,10 +118,11 @@ class ConfigurationTest(FolderTest):
     ) -> None:
         """What three texts answer to two different databases, and to the same one twice."""
         before, text, after = texts
+        words = self.accepted(text, before, after)
         self.pair(OLD, NEW)
-        self.check_words(label, self.compared(text, before, after), different)
+        self.check_words(label, words, different)
         self.pair(OLD, OLD)
-        self.check_words(label + ", the same database", self.compared(text, before, after), same)
+        self.check_words(label + ", the same database", words, same)
 
 
 def quiet_texts() -> list[tuple[bytes, bytes, bytes]]:
@@ -167,7 +174,7 @@ class ConfigurationsTest(ConfigurationTest):
     def test_forced(self) -> None:
         self.pair(OWNED % 0, OWNED % 1)
         for name, text in accepted.FORCED:
-            words = self.compared(text)
+            words = self.accepted(text)
             answer = run(self.program, words)
             forced = [other for other, line in FORCED_LINES.items() if line in answer.output]
             self.add(shown(text), [] if forced == [name] else ["forced are %r" % forced])
@@ -198,7 +205,7 @@ class ConfigurationsTest(ConfigurationTest):
         tables = ((b"", accepted.NAMES), (accepted.OWN_GROUPS, accepted.EXPRESSIONS))
         for before, table in tables:
             for text, names_shown in table:
-                words = self.compared(before + b"report_force_attrs=" + text)
+                words = self.accepted(before + b"report_force_attrs=" + text)
                 shown_of = []
                 for changed in ("uid", "gid"):
                     self.pair(with_all(), with_all(**{changed: b"1"}))
@@ -212,7 +219,7 @@ class ConfigurationsTest(ConfigurationTest):
         """Whether a report of each level has lists and details."""
         self.pair(OLD, NEW)
         for level, has_lists, has_details in accepted.LEVELS:
-            words = self.compared(b"report_level=" + level)
+            words = self.accepted(b"report_level=" + level)
             answer = run(self.program, words)
             got = (
                 b"\nf < p             : /c\n" in answer.output,
@@ -226,7 +233,7 @@ class ConfigurationsTest(ConfigurationTest):
         self.pair(OLD, NEW)
         for before, text, side, path in accepted.PATHS:
             said = b"aide: cannot open the %s database %s\n" % (side, path)
-            self.check_words(shown(text), self.compared(text, before), Answer(b"", said, 18))
+            self.check_words(shown(text), self.accepted(text, before), Answer(b"", said, 18))
 
     def test_random(self) -> None:
         """Random texts, checked and compared."""

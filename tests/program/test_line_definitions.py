@@ -16,7 +16,7 @@ import re
 import subprocess
 import unicodedata
 from collections.abc import Callable
-from typing import Any, Dict, List
+from typing import Any, List
 
 from tests.lib.answer import Answer
 from tests.lib.program_test import AnswerTest, new_seed
@@ -31,6 +31,7 @@ from tests.oracle.report import report_of
 from tests.oracle.session import Files, answer_of
 from tests.oracle.texts import printed
 from tests.program import line_rows
+from tests.program.lines_program import Members, pairs
 from tests.program.random_texts.configurations import random_configuration
 from tests.program.random_texts.databases import random_pair
 from tests.program.real_files.folder import EMPTY, database
@@ -60,8 +61,6 @@ LISTED = re.compile(rb"^(.{18}): (/.*)$", re.MULTILINE)
 DETAIL = re.compile(rb"^(?:[A-Z][A-Za-z ]*: (?P<path>/.*)|  (?P<name>\S.{9}): .*)$", re.MULTILINE)
 PAIRS = 300
 
-# The members of an object, each name once.
-Members = Dict[str, Any]
 # What answers a command line over files.
 Asked = Callable[[List[bytes], Files], Answer]
 
@@ -74,13 +73,6 @@ def answer_to(
     asked: Asked = lines_answer_of,
 ) -> Answer:
     return asked(words, {b"/conf": options, b"/old": old, b"/new": new}.get)
-
-
-def pairs(members: list[tuple[str, Any]]) -> Members:
-    names = [name for name, _ in members]
-    if len(set(names)) < len(names):
-        raise ValueError("a name stands twice")
-    return dict(members)
 
 
 def read(output: bytes) -> list[Members]:

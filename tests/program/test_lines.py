@@ -10,24 +10,20 @@ from __future__ import annotations
 
 import base64
 import gzip
-import json
 import os
 import unittest
 
 
-from tests.lib.answer import Answer
-from tests.lib.program_test import SESSIONS, ProgramTest, new_seed, slow
-from tests.lib.tally import difference, run, shown, wanted_lines
+from tests.lib.program_test import SESSIONS, new_seed, slow
+from tests.lib.tally import shown, wanted_lines
 from tests.oracle.attributes import ATTRIBUTES, Attribute
 from tests.oracle.database import LINE_LIMIT
-from tests.program import cases
-from tests.program.configurations import accepted, limits, names, refused
+from tests.program.lines_program import LinesProgramTest
 from tests.program.random_sessions import try_sessions
 from tests.program.real_files.test_devices import check_outputs
 from tests.program.real_files.folder import EMPTY, NEW, OLD, SKIPPING, Folder
 from tests.program.real_files.test_outside import check_file_sizes
 from tests.program.test_configurations import with_all
-from tests.program.test_line_definitions import pairs
 
 OTHER_VALUES = {
     "type": b"100600",
@@ -40,26 +36,6 @@ OTHER_VALUES = {
 # Of names with each byte: alone, behind a letter, and behind the first byte of a character of two,
 # three or four.
 FRONTS = [b"", b"x", b"\xc3", b"\xe2\x80", b"\xf0\x9f\x98"]
-
-
-def faults_of_lines(answer: Answer) -> list[str]:
-    """What Python's `json` has against an answer: each line is one object, in which no name stands
-    twice. Only a complete answer has a last line: after a fault the output may end anywhere."""
-    faults, ends = [], 0
-    for number, line in enumerate(answer.output.split(b"\n")[:-1], 1):
-        try:
-            fields = json.loads(line.decode("utf-8"), object_pairs_hook=pairs)
-            if not isinstance(fields, dict):
-                faults.append("line %d is no object" % number)
-            ends += "end" in fields
-        except ValueError as error:
-            faults.append("line %d: %s" % (number, error))
-    if answer.status > 7:
-        return faults + (["a last line behind a fault"] if b'"end"' in answer.output else [])
-    is_whole = ends == (b'"format":4' in answer.output)
-    if answer.output.endswith(b"\n") and is_whole:
-        return faults
-    return faults + ["the last line is not there, or has no end"]
 
 
 def coded(text: bytes) -> bytes:
@@ -83,25 +59,7 @@ def text_of(path: str) -> bytes:
     return gzip.decompress(text) if path.endswith(".gz") else text
 
 
-class LinesProgramTest(ProgramTest):
-    """The program of lines, beside the definitions and the program of the report."""
-
-    def beside(self, words: list[bytes]) -> tuple[int, list[str]]:
-        """The status that is wanted, and what is not as wanted."""
-        want, answer = wanted_lines(words), run(self.lines_program, words)
-        faults = difference(answer, want) + faults_of_lines(answer)
-        report = run(self.program, words)
-        if (answer.errors, answer.status) != (report.errors, report.status):
-            faults.append(f"the report: {shown(report.errors)}, {report.status}")
-        return want.status, faults
-
-    def ends(self, label: str, words: list[bytes], *statuses: int) -> None:
-        """A session, which has to end with one of these statuses if there are any."""
-        status, faults = self.beside(words)
-        if statuses and status not in statuses:
-            faults = [*faults, f"status {status} is wanted"]
-        self.add(label, faults)
-
+class LinesTest(LinesProgramTest):
     def compared(
         self, label: str, old: bytes, new: bytes, *statuses: int, options: bytes = b""
     ) -> None:
@@ -109,64 +67,17 @@ class LinesProgramTest(ProgramTest):
             folder.pair(old, new, options)
             self.ends(label, folder.words(), *statuses)
 
-    def checked(self, text: bytes, *statuses: int, before: bytes = b"", after: bytes = b"") -> None:
+    def checked(self, text: bytes) -> None:
+        """What -D says of a configuration, which may be refused."""
         with Folder() as folder:
             folder.write("conf", text)
-            words = [b"-D", b"-c", folder.at("conf"), b"-B", before, b"-A", after]
-            self.ends("checked: " + shown(text), words, *statuses)
+            self.ends(f"checked: {shown(text)}", [b"-D", b"-c", folder.at("conf")], 0, 17)
 
-
-class LinesTest(LinesProgramTest):
-    def test_cases(self) -> None:
-        """The stored cases: the program of lines ends as the report does, with the same lines on
-        standard error."""
-        for label, words, stored in cases.in_turn(cases.all_cases()):
-            answer = run(self.lines_program, words)
-            self.check(label, answer, wanted_lines(words))
-            ends = stored._replace(output=answer.output)
-            faults = difference(answer, ends) + faults_of_lines(answer)
-            self.add(label + ", its end", faults)
-
-    def test_refused(self) -> None:
-        for _, _, text in refused.ALL + limits.REFUSED:
-            self.checked(text, 17)
-        for _, before, text, after in refused.CHECKED_TEXTS:
-            self.checked(text, 17, before=before, after=after)
-
-    def test_accepted(self) -> None:
-        """Configurations that are accepted: the line of -D says what each sets."""
-        around = [
-            front + line + back for front, back in accepted.AROUND for line in accepted.PASSED_OVER
-        ]
-        levels = [b"report_level=" + level for level, _, _ in accepted.LEVELS]
-        forced = [b"report_force_attrs=" + text for text, _ in accepted.NAMES]
-        own = [
-            accepted.OWN_GROUPS + b"report_force_attrs=" + text for text, _ in accepted.EXPRESSIONS
-        ]
-        for text in (
-            accepted.QUIET + accepted.MINIMAL + around + levels + forced + own + limits.ACCEPTED
-        ):
-            self.checked(text, 0)
-        for _, text in accepted.FORCED:
-            self.checked(text, 0)
-        for before, text, after in accepted.QUIET_TEXTS + [
-            (before, text, b"") for before, text, _, _ in accepted.PATHS
-        ]:
-            self.checked(text, 0, before=before, after=after)
+    def test_options(self) -> None:
+        """Each attribute that an option leaves out, which the line of -D names."""
         for each in ATTRIBUTES:
-            for option in (
-                b"report_ignore_added_attrs",
-                b"report_ignore_removed_attrs",
-                b"report_ignore_changed_attrs",
-            ):
-                self.checked(b"%s=%s" % (option, each.name.encode()), 0, 17)
-
-    def test_forms(self) -> None:
-        """Which names a variable and a group may have: what is refused and what is not, the report
-        knows."""
-        for name, _, _, _ in names.NAMES:
-            for text in (b"@@undef " + name, name + b" = p", b"my = " + name):
-                self.checked(text, 0, 17)
+            for kind in (b"added", b"removed", b"changed"):
+                self.checked(b"report_ignore_%s_attrs=%s" % (kind, each.name.encode()))
 
     def test_paths(self) -> None:
         """Paths of the databases with each byte, which the line of -D names, and which are missing if
@@ -174,7 +85,7 @@ class LinesTest(LinesProgramTest):
         for byte in range(1, 256):
             if byte != ord("\n"):
                 text = b"database_in=file:/none/%c|\ndatabase_new=file:/none/new\n" % byte
-                self.checked(text, 0, 17)
+                self.checked(text)
         with Folder() as folder:
             for name in (
                 b"plain",

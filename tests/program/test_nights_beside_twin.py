@@ -11,7 +11,8 @@ import unittest
 
 from tests.lib.tally import run, wanted_lines
 from tests.program.real_files.folder import Folder
-from tests.program.test_lines import LinesProgramTest, text_of
+from tests.program.lines_program import LinesProgramTest
+from tests.program.test_lines import text_of
 
 TOP = pathlib.Path(__file__).resolve().parent.parent.parent
 SHIPPED = (TOP / "contrib/aide/debian.without").read_bytes()

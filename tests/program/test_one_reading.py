@@ -20,7 +20,7 @@ from tests.lib.tally import difference, run, side_by_side, wanted_lines
 from tests.program.real_files.folder import EMPTY, NEW, OLD, SKIPPING, Folder, names
 from tests.program.real_files.test_fifos import fed
 from tests.program.test_failed_calls import FILES
-from tests.program.test_lines import LinesProgramTest, faults_of_lines
+from tests.program.lines_program import LinesProgramTest, faults_of_lines
 
 HEAD = b"@@begin_db\n@@db_spec name perm lname mtime\n"
 END = b"@@end_db"

@@ -6,18 +6,12 @@ from __future__ import annotations
 import os
 
 from tests.lib.answer import Answer
-from tests.lib.tally import difference, run, shown, wanted_lines
+from tests.lib.tally import shown
 from tests.program import cases, field_rows, refusal_rows
 from tests.program.real_files.folder import FolderTest, database
 
 
 class RefusalsTest(FolderTest):
-    def both(self, label: str, words: list[bytes], want: Answer) -> None:
-        """Both programs and the definitions of both give this answer."""
-        self.check_words(label, words, want)
-        self.check(label + ", by lines", run(self.lines_program, words), want)
-        self.add("the definitions of lines at " + label, difference(wanted_lines(words), want))
-
     def refused(self, old: bytes | None, new: bytes | None, said: str) -> None:
         """What is said of two databases, with a report and without one."""
         status = 18 if said.startswith("cannot open") else 24
@@ -28,7 +22,7 @@ class RefusalsTest(FolderTest):
                 if text is None:
                     os.unlink(self.folder.at(name))
             label = f"{shown(old)} and {shown(new)}"
-            self.both(label, self.folder.words(), Answer(b"", line, status))
+            self.check_words(label, self.folder.words(), Answer(b"", line, status))
 
     def words_of(self, text: bytes) -> list[bytes]:
         return [word.replace(cases.DIR, self.folder.path) for word in text.split(b" ") if word]
@@ -36,7 +30,7 @@ class RefusalsTest(FolderTest):
     def test_words(self) -> None:
         self.folder.pair()
         for text in refusal_rows.NOT_UNDERSTOOD:
-            self.both(shown(text), self.words_of(text), Answer(b"", refusal_rows.USAGE, 15))
+            self.check_words(shown(text), self.words_of(text), Answer(b"", refusal_rows.USAGE, 15))
         for text in refusal_rows.UNDERSTOOD:
             self.check_words(shown(text), self.words_of(text), Answer(b"", b"", 0))
 

@@ -24,7 +24,7 @@ from tests.program.test_failed_calls import FILES, NAMES
 from tests.program.random_sessions import make_session_beside, try_sessions
 from tests.program.real_files.test_devices import check_outputs
 from tests.program.real_files.folder import EMPTY, Folder, database
-from tests.program.test_lines import LinesProgramTest, faults_of_lines
+from tests.program.lines_program import LinesProgramTest, faults_of_lines
 
 CASES = os.path.join(os.path.dirname(cases.FOLDER), cases.LINES, "*.case")
 DIGESTS = (

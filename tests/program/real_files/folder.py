@@ -7,8 +7,8 @@ import tempfile
 from typing import Any
 
 from tests.lib.answer import Answer
-from tests.lib.program_test import ProgramTest
-from tests.lib.tally import difference, run, wanted
+from tests.lib.tally import difference, run, wanted, wanted_lines
+from tests.program.lines_program import LinesProgramTest
 
 OLD = b"@@begin_db\n@@db_spec name attr perm size\n/b 36 40755 4096\n/c 36 100644 10\n@@end_db\n"
 NEW = b"@@begin_db\n@@db_spec name attr perm size\n/a 36 100644 5\n/c 36 100600 7\n@@end_db\n"
@@ -82,7 +82,7 @@ class Folder:
         return run(program, self.words(*more), **streams)
 
 
-class FolderTest(ProgramTest):
+class FolderTest(LinesProgramTest):
     """A test over one folder, in which each trial takes the place of the last."""
 
     def setUp(self) -> None:
@@ -95,9 +95,11 @@ class FolderTest(ProgramTest):
         self.add("the definitions at " + label, difference(wanted(words), answer))
 
     def check_words(self, label: str, words: list[bytes], want: Answer) -> None:
-        """The program and the definitions answer what is wanted."""
-        self.check(label, run(self.program, words), want)
+        """The program and the definitions answer what is wanted, and lines end as a report does."""
+        answer = run(self.program, words)
+        self.check(label, answer, want)
         self.agree(label, words, want)
+        self.add(f"{label}, by lines", self.lines_faults(words, wanted_lines(words), answer))
 
     def check_status(self, label: str, words: list[bytes], status: int) -> None:
         """The program answers as the definitions do, which end with this status."""
