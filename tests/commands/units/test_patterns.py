@@ -1,4 +1,4 @@
-"""Which paths a pattern of --exclude means: rows, a plain definition beside it, and its cost."""
+"""Which paths a pattern means: rows, and what a hostile path costs."""
 from __future__ import annotations
 
 import os
@@ -67,58 +67,10 @@ PATTERNS = [
 NO_PATTERNS = [b"", b"a", b"*", b"/a**", b"/a/**b", b"/[a", b"/a\\", b"/[b-a]", b"/[!]", b"/[]"]
 
 
-def means(pattern: bytes, path: bytes) -> bool:
-    """Whether a pattern means a path, plainly: every way to share the pieces out is tried."""
-    return pieces_fit(pattern[1:].split(b"/"), path[1:].split(b"/"), True)
-
-
-def pieces_fit(pattern: list[bytes], path: list[bytes], is_whole: bool) -> bool:
-    if not pattern:
-        return not path
-    if pattern[0] == b"**":
-        counts = range(1 if len(pattern) == 1 else 0, len(path) + 1)
-        return any(pieces_fit(pattern[1:], path[count:], False) for count in counts)
-    if not path or not piece_fits(pattern[0], path[0]):
-        return False
-    return pieces_fit(pattern[1:], path[1:], False)
-
-
-def piece_fits(pattern: bytes, name: bytes) -> bool:
-    if not pattern:
-        return not name
-    if pattern[:1] == b"*":
-        return any(piece_fits(pattern[1:], name[count:]) for count in range(len(name) + 1))
-    if not name:
-        return False
-    if pattern[:1] == b"?":
-        return piece_fits(pattern[1:], name[1:])
-    if pattern[:1] == b"\\":
-        return pattern[1:2] == name[:1] and piece_fits(pattern[2:], name[1:])
-    if pattern[:1] == b"[":
-        end = pattern.index(b"]", 3 if pattern[1:2] in (b"!", b"^") else 2)
-        return class_has(pattern[1:end], name[0]) and piece_fits(pattern[end + 1 :], name[1:])
-    return pattern[:1] == name[:1] and piece_fits(pattern[1:], name[1:])
-
-
-def class_has(text: bytes, byte: int) -> bool:
-    """Whether a class without its brackets has a byte."""
-    turned = text[:1] in (b"!", b"^")
-    letters, found = list(text[1:] if turned else text), False
-    while letters:
-        if len(letters) > 2 and letters[1] == 0x2D:
-            found = found or letters[0] <= byte <= letters[2]
-            letters = letters[3:]
-        else:
-            found = found or letters[0] == byte
-            letters = letters[1:]
-    return found != turned
-
-
 class PatternsTest(unittest.TestCase):
     def test_patterns(self) -> None:
         for text, path, want in PATTERNS:
             self.assertEqual(Pattern(text).matches(path[1:].split(b"/")), want, (text, path))
-            self.assertEqual(means(text, path), want, ("the plain definition", text, path))
         for text in NO_PATTERNS:
             with self.assertRaises(ValueError, msg=repr(text)):
                 Pattern(text)
