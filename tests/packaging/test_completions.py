@@ -19,6 +19,28 @@ HOSTS = [
     "hosts " + word for word in ("add", "list", "remove", "fetch", "compare", "accept", "report")
 ]
 
+# What bash offers for the last word of a line.
+COMPLETED: dict[str, list[str]] = {
+    "-E -A report_": [name + "=" for name in REPORT_OPTIONS],
+    "-E -A report_level =": LEVELS,
+    "-E -A report_level = su": ["summary"],
+    "-E -A report_l": ["report_level="],
+    "-E --after = report_l": ["report_level="],
+    "-D -B report_quiet = y": ["yes"],
+    "hosts ": [words[6:] for words in HOSTS],
+    "status --format ": ["json", "nagios", "prometheus", "text"],
+    "-c VERS": ["VERSION"],
+    "--config = VERS": ["VERSION"],
+    "--exclude-from VERS": ["VERSION"],
+    "--exclude VERS": [],
+    "hosts report --store VERS": [],
+    "mail -A report_l": ["report_level="],
+    "sort VERS": ["VERSION"],
+    "hosts report --format j": ["json"],
+    "hosts report --store pack": ["packaging"],
+    "hosts compare VERS": ["VERSION"],
+}
+
 # bash-completion reads the file inside of a function of its own.
 ASK_BASH = r"""
 load() { . "$1"; }
@@ -118,47 +140,15 @@ class CompletionsTest(InstallTest):
     def test_bash(self) -> None:
         self.needs("bash")
         for words in SUBCOMMANDS + HOSTS:
-            wanted, given = options(self, words), ask_bash(
-                self, "aide-compare", *words.split(), "-"
-            )
-            for option in wanted:
-                self.assertIn(option, given, "bash offers %s %s" % (words, option))
-            for option in given:
-                self.assertIn(
-                    option, wanted, "%s has the option %s that bash offers" % (words, option)
-                )
-        given = sorted(ask_bash(self, "aide-compare", "-E", "-"))
-        self.assertEqual(
-            given, sorted(options_of_program()), "bash offers the options of the program"
-        )
-        given = ask_bash(self, "aide-compare", "s")
-        self.assertLessEqual(
-            {"status", "sort", "setup"}, set(given), ("bash offers subcommands", given)
-        )
-        for words, wanted in (
-            (["aide-compare", "-E", "-A", "report_"], [name + "=" for name in REPORT_OPTIONS]),
-            (["aide-compare", "-E", "-A", "report_level", "="], LEVELS),
-            (["aide-compare", "-E", "-A", "report_level", "=", "su"], ["summary"]),
-            (["aide-compare", "-E", "-A", "report_l"], ["report_level="]),
-            (["aide-compare", "-E", "--after", "=", "report_l"], ["report_level="]),
-            (["aide-compare", "-D", "-B", "report_quiet", "=", "y"], ["yes"]),
-            (["aide-compare", "hosts", ""], [words[6:] for words in HOSTS]),
-            (["aide-compare", "status", "--format", ""], ["json", "nagios", "prometheus", "text"]),
-            (["aide-compare", "-c", "VERS"], ["VERSION"]),
-            (["aide-compare", "--config", "=", "VERS"], ["VERSION"]),
-            (["aide-compare", "--exclude-from", "VERS"], ["VERSION"]),
-            (["aide-compare", "--exclude", "VERS"], []),
-            (["aide-compare", "hosts", "report", "--store", "VERS"], []),
-            (["aide-compare", "mail", "-A", "report_l"], ["report_level="]),
-            (["aide-compare", "sort", "VERS"], ["VERSION"]),
-            (["aide-compare", "hosts", "report", "--format", "j"], ["json"]),
-            (["aide-compare", "hosts", "report", "--store", "pack"], ["packaging"]),
-            (["aide-compare", "hosts", "compare", "VERS"], ["VERSION"]),
-        ):
-            given = ask_bash(self, *words)
-            self.assertEqual(
-                sorted(given), sorted(wanted), ("bash completes " + " ".join(words), given)
-            )
+            offered = ask_bash(self, "aide-compare", *words.split(), "-")
+            self.assertEqual(set(offered), set(options(self, words)), f"options of {words}")
+        offered = ask_bash(self, "aide-compare", "-E", "-")
+        self.assertEqual(sorted(offered), sorted(options_of_program()), "those of the program")
+        offered = ask_bash(self, "aide-compare", "s")
+        self.assertLessEqual({"status", "sort", "setup"}, set(offered), "subcommands")
+        for line, wanted in COMPLETED.items():
+            offered = ask_bash(self, "aide-compare", *line.split(" "))
+            self.assertEqual(sorted(offered), sorted(wanted), f"bash completes {line}")
 
     def test_zsh(self) -> None:
         self.needs("zsh")
