@@ -14,6 +14,7 @@ import subprocess
 import tempfile
 
 from tests.lib import apart
+from tests.lib.answer import Answer
 from tests.lib.program_test import ScratchTest
 from tests.lib.programs import find_program, lines_program_of
 from tests.lib.scratch import TOP
@@ -161,7 +162,7 @@ class MachineTest(ScratchTest):
         own = {"PATH": path, "TMPDIR": self.path("/var/tmp"), "HOME": self.path("/tmp")}
         return {**os.environ, **own}
 
-    def run_words(self, words: list[str], rights: int | None = None) -> tuple[int, str, str]:
+    def run_words(self, words: list[str], rights: int | None = None) -> Answer:
         """Runs a command: its status, output and errors, with the root taken out. `rights`: a
         user's number to run as, if this is root."""
         if rights is not None and os.geteuid() == 0:
@@ -176,12 +177,11 @@ class MachineTest(ScratchTest):
             timeout=SECONDS,
             check=False,
         )
-        texts = [
-            self.above(one.decode(errors="surrogateescape")) for one in (done.stdout, done.stderr)
-        ]
-        return done.returncode, texts[0], texts[1]
+        root = os.fsencode(self.root)
+        output = done.stdout.replace(root, b"")
+        return Answer(output, done.stderr.replace(root, b""), done.returncode)
 
-    def shell(self, text: str, rights: int | None = None) -> tuple[int, str, str]:
+    def shell(self, text: str, rights: int | None = None) -> Answer:
         """Runs the text of a block as it stands, with its directories below the root."""
         return self.run_words(["bash", "-c", self.below(text)], rights)
 
@@ -205,7 +205,7 @@ class MachineTest(ScratchTest):
         """The mail of a job, which has to end well and to print nothing; None if it sent none."""
         self.taken("mailed")
         for command in commands:
-            self.assertEqual(self.shell(command), (0, "", ""), command)
+            self.assertEqual(self.shell(command), Answer(b"", b"", 0), command)
         return self.taken("mailed")
 
     def digest_of_state(self, name: str = STATE) -> str:

@@ -5,6 +5,7 @@ import gzip
 import json
 import os
 
+from tests.lib.answer import Answer
 from tests.pages.blocks import RECIPES, Block, blocks_of
 from tests.pages.machine import BASELINE, HEAD, HOSTS, NEWEST, NOBODY, STATE, MachineTest, example
 
@@ -74,7 +75,7 @@ class RecipesTest(MachineTest):
     def text(self, name: str) -> str:
         return self.recipes["try: " + name].text
 
-    def recipe(self, name: str, rights: int | None = None) -> tuple[int, str, str]:
+    def recipe(self, name: str, rights: int | None = None) -> Answer:
         """What a recipe answers."""
         return self.shell(self.text(name), rights)
 
@@ -113,16 +114,17 @@ class RecipesTest(MachineTest):
         if baseline is not None:
             self.write(f"/var/lib/aide-compare/hosts/{name}/aide.db", baseline, 0o600)
 
-    def set_up(self) -> tuple[int, str, str]:
+    def set_up(self) -> Answer:
         """The first recipe, on a machine whose baseline is put back by aideinit."""
         made = self.path(BASELINE)
         os.rename(made, made + ".made")
         move = f'#!/bin/sh\nmv "{made}.made" "{made}"\n'
         self.write("/usr/local/sbin/aideinit", move, 0o755)
         self.write("/etc/aide-compare/without", "")  # The package brings this file.
-        status, output, errors = self.recipe("first")
-        self.assertEqual((status, errors), (0, ""), output)
-        return status, output.replace("a directory of root's", "a directory of _aide's"), errors
+        done = self.recipe("first")
+        self.assertEqual((done.status, done.errors), (0, b""), done)
+        said = done.output.replace(b"a directory of root's", b"a directory of _aide's")
+        return done._replace(output=said)
 
 
 class Day:
@@ -142,15 +144,14 @@ class Day:
                 ask()
 
     def command(self) -> None:
-        status, output, errors = self.test.recipe("compare")
-        self.test.assertEqual(status, self.status, errors)
+        done = self.test.recipe("compare")
+        self.test.assertEqual(done.status, self.status, done)
         if self.counts is None:
-            self.test.assertTrue(output.startswith("no differences in "), output)
-            self.test.assertEqual(output.count("\n"), 1, output)
-            self.test.assertIn("both databases are equal, byte for byte", errors)
+            self.test.assertRegex(done.output, rb"\Ano differences in .*\n\Z")
+            self.test.assertIn(b"both databases are equal, byte for byte", done.errors)
         else:
-            self.test.assertTrue(output.startswith("18 open (4 high) of 22 changes\n"), output)
-            self.test.assertEqual(errors.count(", SHA-256 "), 2, errors)
+            self.test.assertRegex(done.output, rb"\A18 open \(4 high\) of 22 changes\n")
+            self.test.assertEqual(done.errors.count(b", SHA-256 "), 2, done)
 
     def jobs(self) -> None:
         for name, commands in self.test.jobs():
@@ -167,28 +168,28 @@ class Day:
             self.test.assertEqual(self.test.state()["status"], str(self.status), name)
 
     def check(self) -> None:
-        status, output, _ = self.test.recipe("check", NOBODY)
+        done = self.test.recipe("check", NOBODY)
+        output = done.output_text
         word = "OK" if self.counts is None else "CRITICAL"
-        self.test.assertEqual(status, 0 if self.counts is None else 2, output)
-        self.test.assertTrue(output.startswith(f"AIDE {word}: "), output)
-        self.test.assertEqual(output.count("\n"), 1)
+        self.test.assertEqual(done.status, 0 if self.counts is None else 2, done)
+        self.test.assertRegex(output, rf"\AAIDE {word}: .*\n\Z")
         added, removed, changed = self.counts or (0, 0, 0)
         numbers = f"|added={added} removed={removed} changed={changed} "
         self.test.assertIn(numbers, output.replace("'", ""))
         limits = self.test.recipe("check limits", NOBODY)
-        self.test.assertEqual(limits[0], status, limits)
+        self.test.assertEqual(limits.status, done.status, limits)
         if self.counts:
             self.test.prints("check", output)
 
     def metrics(self) -> None:
-        self.test.assertEqual(self.test.recipe("metrics"), (0, "", ""))
-        text = self.test.run_words(["cat", self.test.path(METRICS)], NOBODY)[1]
+        self.test.assertEqual(self.test.recipe("metrics"), Answer(b"", b"", 0))
+        text = self.test.run_words(["cat", self.test.path(METRICS)], NOBODY).output_text
         for word, count in zip(("added", "removed", "changed"), self.counts or (0, 0, 0)):
             self.test.assertIn(f"\naide_compare_{word}_entries {count}\n", text)
 
     def log(self) -> None:
         self.test.taken("logged")
-        status = self.test.recipe("log")[0]
+        status = self.test.recipe("log").status
         text = (self.test.taken("logged") or "").partition("\n")[2]
         self.test.assertEqual(status, 0)
         state = json.loads(text)
@@ -196,51 +197,51 @@ class Day:
         self.test.assertEqual(counts, self.counts or (0, 0, 0))
 
     def hosts(self) -> None:
-        status, output, _ = self.test.recipe("hosts")
-        self.test.assertEqual(status, self.status, output)
+        done = self.test.recipe("hosts")
+        self.test.assertEqual(done.status, self.status, done)
         if self.counts is None:
-            self.test.assertIn("www 0 no differences", output)
+            self.test.assertIn("www 0 no differences", done.output_text)
         else:
-            self.test.prints("hosts", output)
+            self.test.prints("hosts", done.output_text)
 
 
 def no_comparison(test: RecipesTest, status: int, reason: str) -> None:
     """Every way says that nothing was compared, and why."""
     done = test.recipe("compare")
     if "--max-age" not in reason:
-        test.assertEqual(done[:2], (status, ""), done)
-        test.assertRegex(done[2], reason)
+        test.assertEqual((done.status, done.output), (status, b""), done)
+        test.assertRegex(done.error_text, reason)
     for name, commands in test.jobs():
         mail = " ".join((test.mail_of(commands) or "").split(" "))
         test.assertRegex(mail, rf"(?m)^Subject: .*: no comparison \(status {status}\)$", name)
         test.assertRegex(" ".join(mail.split()), reason)
         test.assertEqual(test.state()["status"], str(status))
         test.assertRegex(test.state()["error"], reason)
-    status_of_check, output, _ = test.recipe("check", NOBODY)
-    test.assertEqual(status_of_check, 3, output)
-    test.assertRegex(output, r"\AAIDE UNKNOWN: .*\n\Z")
-    test.assertEqual(test.recipe("metrics")[0], 0)
+    done = test.recipe("check", NOBODY)
+    test.assertEqual(done.status, 3, done)
+    test.assertRegex(done.output, rb"\AAIDE UNKNOWN: .*\n\Z")
+    test.assertEqual(test.recipe("metrics").status, 0)
     test.assertIn(f"\naide_compare_status {status}\n", test.text_at(METRICS))
     test.assertNotIn("_entries", test.text_at(METRICS))
     test.taken("logged")
-    test.assertEqual(test.recipe("log")[0], 0)
+    test.assertEqual(test.recipe("log").status, 0)
     test.assertIn(f'"status": {status},', test.taken("logged") or "")
 
 
 def begin(test: RecipesTest) -> None:
     """Day 0: what was AIDE's first database is the baseline here and on the collector."""
     test.put_databases(example("old.db"), example("old.db"))
-    output = test.set_up()[1]
+    output = test.set_up().output_text
     test.assertTrue(test.taken("mailed"), "the test mail")
     test.prints("first", output)
     # The days that follow have only what the units need.
     os.remove(test.path("/etc/aide-compare/without"))
     test.write("/etc/aide-compare/defaults", test.below(DEFAULTS))
-    test.prints("at once", test.recipe("at once")[1])
-    test.assertEqual(test.recipe("cron daily"), (0, "", ""))
+    test.prints("at once", test.recipe("at once").output_text)
+    test.assertEqual(test.recipe("cron daily"), Answer(b"", b"", 0))
     test.write(HOSTS, "www\n")
     os.makedirs(test.path("/remote"))
     os.symlink(test.path("/var/lib/aide"), test.path("/remote/www"))
-    status, output, _ = test.recipe("first host")
-    test.assertEqual(status, 0)
-    test.assertIn("SHA-256 ", output)
+    done = test.recipe("first host")
+    test.assertEqual(done.status, 0)
+    test.assertIn(b"SHA-256 ", done.output)

@@ -105,15 +105,15 @@ class PagesTest(MachineTest):
         lines = [*block.values("before"), block.text]
         begin = f"EXAMPLES='{TOP}/examples'\nset -u\n"
         done = self.shell(begin + "\n".join(lines))
-        self.assertEqual(done[0], int(status), done)
+        self.assertEqual(done.status, int(status), done)
         for text in block.values("prints"):
-            self.assertIn(text, done[1] + done[2])
+            self.assertIn(text, done.output_text + done.error_text)
 
     def compare_shown(self, block: Block) -> None:
         """A block that is the output of a command."""
         self.fill()
         done = self.shell("\n".join([*block.values("before"), *block.values("is output of")]))
-        self.assertEqual(like(done[1]), like(block.text), done)
+        self.assertEqual(like(done.output_text), like(block.text), done)
 
     def try_page(self, page: str) -> None:
         for block in blocks_of(page):
@@ -147,7 +147,7 @@ class BlocksTest(PagesTest):
         command, *lines = blocks_of("README.md")[0].text.splitlines()
         self.assertEqual(command, "$ aide-compare old.db new.db")
         done = self.shell(f"cd '{TOP}/examples/small_tree' && {command[2:]}")
-        printed = iter([line.rstrip() for line in done[1].splitlines()])
+        printed = iter([line.rstrip() for line in done.output_text.splitlines()])
         shown = [line.rstrip() for line in lines if line.strip() != "..."]
         self.assertEqual([line for line in shown if line not in printed], [], done)
 
@@ -172,7 +172,7 @@ class BlocksTest(PagesTest):
         seen = set()
         for words, old, new, command in STATUSES:
             self.fill(old, new)
-            status = str(self.shell(command)[0])
+            status = str(self.shell(command).status)
             with self.subTest(words):
                 numbers, row = next(row for row in rows if words.split("%d")[0] in row[1])
                 parts = row.split("; ")

@@ -13,8 +13,10 @@ import subprocess
 import unittest
 from typing import Any
 
+from tests.lib.answer import Answer
 from tests.lib.program_test import ProgramTest, ScratchTest
 from tests.lib.scratch import TOP, read
+from tests.lib.tally import run
 from tests.oracle import configuration
 from tests.oracle.attributes import ATTRIBUTES, EMPTY_NAMES, GROUPS
 from tests.oracle.configuration import LEVELS, OLDER_OPTIONS, WITHOUT_EFFECT
@@ -217,11 +219,6 @@ class NamesTest(unittest.TestCase):
 class ShownTest(ScratchTest, ProgramTest):
     """What the pages show is what the program writes."""
 
-    def answer(self, program: bytes, *words: str | bytes, **streams: Any) -> tuple[int, str, str]:
-        streams = {"stdin": subprocess.DEVNULL, "stdout": subprocess.PIPE, **streams}
-        done = subprocess.run([program, *words], stderr=subprocess.PIPE, check=False, **streams)
-        return done.returncode, (done.stdout or b"").decode(), done.stderr.decode()
-
     def configuration(self, old: str, new: str, options: str = "") -> str:
         """The path of a configuration that names two databases."""
         return self.write("conf", f"database_in=file:{old}\ndatabase_new=file:{new}\n{options}")
@@ -234,7 +231,7 @@ class ShownTest(ScratchTest, ProgramTest):
         parts = dict(re.findall(r'^\.\\" try: (\w+)\n\.Bd -literal\n(.*?)\.Ed$', PAGE, re.M | re.S))
         self.assertEqual(list(parts), [*LEVELS, "lines"], "levels of the page")
         pair = self.put_pair()
-        output = self.answer(self.lines_program, "-E", "-c", self.configuration(*pair))[1]
+        output = run(self.lines_program, ["-E", "-c", self.configuration(*pair)]).output_text
         lines = output.replace(self.root, "/var/lib/aide").splitlines(keepends=True)
         self.assertEqual(parts["lines"], lines[0] + lines[1])
         order = ["minimal", "summary", "list_entries", "details", "database_attributes"]
@@ -243,10 +240,10 @@ class ShownTest(ScratchTest, ProgramTest):
             shown[level if level in order else "details"] = parts[level]
             wanted = "".join(shown.get(part, "") for part in order)
             conf = self.configuration(*pair, f"report_level={level}\n")
-            status, output, errors = self.answer(self.program, "-E", "-c", conf)
-            output = output.replace(self.root, "/var/lib/aide")
+            done = run(self.program, ["-E", "-c", conf])
+            output = done.output_text.replace(self.root, "/var/lib/aide")
             got = "".join(line.rstrip() + "\n" for line in output.splitlines())
-            self.assertEqual((status, got, errors), (7, wanted, ""), level)
+            self.assertEqual((done.status, got, done.errors), (7, wanted, b""), level)
 
     def test_examples(self) -> None:
         """The configurations of the page have no fault."""
@@ -254,8 +251,8 @@ class ShownTest(ScratchTest, ProgramTest):
         examples = re.findall(form, CONF_PAGE, re.M | re.S)
         self.assertEqual(len(examples), 3, "examples of the page")
         for text in examples:
-            words = ("-D", "-c", self.write("conf", text))
-            self.assertEqual(self.answer(self.program, *words), (0, "", ""), text)
+            words = ["-D", "-c", self.write("conf", text)]
+            self.assertEqual(run(self.program, words), Answer(b"", b"", 0), text)
 
     def test_lines(self) -> None:
         """Each line of the program that the page lists is made to happen, with its status."""
@@ -280,9 +277,10 @@ class ShownTest(ScratchTest, ProgramTest):
         lines = listed("Lines of the program")
         self.assertEqual(len(lines), len(trials), lines)
         for (words, arguments, streams), (line, below) in zip(trials, lines):
-            status, _, errors = self.answer(self.program, *arguments, **streams)
+            done = run(self.program, arguments, **streams)
             form = re.sub(r"\\?\b(FILE|SIDE|PATH|N)\b", ".+", re.escape(line))
             wanted = line if words == "usage" else None
-            self.assertRegex(errors, rf"\Aaide: {re.escape(wanted) if wanted else form}\n\Z")
-            self.assertEqual(below, f"Status {status}." if status > 7 else below, line)
+            said = rf"\Aaide: {re.escape(wanted) if wanted else form}\n\Z"
+            self.assertRegex(done.error_text, said)
+            self.assertEqual(below, f"Status {done.status}." if done.status > 7 else below, line)
             self.assertIn(words, line)

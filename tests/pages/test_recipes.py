@@ -8,6 +8,7 @@ import os
 import re
 import unittest
 
+from tests.lib.answer import Answer
 from tests.lib.scratch import read
 from tests.pages.machine import HEAD, example
 from tests.pages.recipes import BEFORE, INTRUDER, NEW, OLD, RecipesTest, of_sizes, recipes
@@ -22,17 +23,17 @@ class HandsTest(RecipesTest):
     def test_pair(self) -> None:
         self.put_files(example("old.db"), example("new.db"))
         done = self.recipe("pair")
-        self.assertEqual((done[0], done[2].count(", SHA-256 ")), (7, 2))
-        self.prints("pair", done[1])
+        self.assertEqual((done.status, done.error_text.count(", SHA-256 ")), (7, 2))
+        self.prints("pair", done.output_text)
         self.write("/etc/aide/compare.conf", "report_level=summary\n")
         done = self.recipe("options")
-        self.assertEqual((done[0], done[1].count("Summary:")), (7, 2))
-        entries = re.findall(r"^\S.{17}: /.*$", done[1], re.M)
+        self.assertEqual((done.status, done.output_text.count("Summary:")), (7, 2))
+        entries = re.findall(rb"^\S.{17}: /.*$", done.output, re.M)
         self.assertEqual(len(entries), 22)
-        grouped = self.recipe("grouped")
-        self.assertEqual(sorted(re.findall(r"^\S.{17}: /.*$", grouped[1], re.M)), sorted(entries))
+        grouped = re.findall(rb"^\S.{17}: /.*$", self.recipe("grouped").output, re.M)
+        self.assertEqual(sorted(grouped), sorted(entries))
         self.put_files(OLD, OLD)
-        self.assertEqual(self.recipe("pair")[0], 0)
+        self.assertEqual(self.recipe("pair").status, 0)
 
     def test_measured(self) -> None:
         """The group of the recipe has all attributes."""
@@ -42,39 +43,41 @@ class HandsTest(RecipesTest):
         head = f"@@begin_db\n@@db_spec name attr {columns}\n"
         new = f"{head}/a 4094 {fields}\n@@end_db\n"
         self.put_files(f"{head}/a 0{' 0' * 17}\n@@end_db\n", new)
-        self.assertEqual(self.recipe("pair")[0], 4)
-        self.assertEqual(self.recipe("measured")[0], 0)
+        self.assertEqual(self.recipe("pair").status, 4)
+        self.assertEqual(self.recipe("measured").status, 0)
 
     def test_flags(self) -> None:
         """What the page says of two options about flags of the file system."""
         text = "@@begin_db\n@@db_spec name attr e2fsattrs\n/a %d %%s\n@@end_db\n" % (1 << 36)
         self.put_files(text % "1", text % "17")
         words = ["aide-compare", "old.db.gz", "new.db.gz", "-A"]
-        self.assertEqual(self.run_words([*words, "report_ignore_e2fsattrs=VNIE"])[0], 4)
-        self.assertEqual(self.run_words([*words, "report_ignore_changed_attrs=e2fsattrs"])[0], 0)
+        self.assertEqual(self.run_words([*words, "report_ignore_e2fsattrs=VNIE"]).status, 4)
+        self.assertEqual(
+            self.run_words([*words, "report_ignore_changed_attrs=e2fsattrs"]).status, 0
+        )
 
     def test_without(self) -> None:
         self.put_files(
             of_sizes({"/a": 1, "/var/log/x": 1}),
             of_sizes({"/a": 1, "/var/cache/y": 1, "/var/log/x": 2}),
         )
-        self.assertEqual(self.recipe("pair")[0], 5)
+        self.assertEqual(self.recipe("pair").status, 5)
         done = self.recipe("without")
-        self.assertEqual(done[0], 0)
-        self.prints("without", done[1])
+        self.assertEqual(done.status, 0)
+        self.prints("without", done.output_text)
 
     def test_page(self) -> None:
         self.put_files(OLD, NEW)
-        self.assertEqual(self.recipe("page"), (7, "", ""))
+        self.assertEqual(self.recipe("page"), Answer(b"", b"", 7))
         self.assertIn("/a é", self.text_at("/tmp/page.html"))
         self.assertIn("</html>", self.text_at("/tmp/page.html"))
 
     def test_lines(self) -> None:
         self.put_files(of_sizes(BEFORE), of_sizes(INTRUDER))
-        self.assertEqual(self.recipe("lines")[0], 0)
+        self.assertEqual(self.recipe("lines").status, 0)
         self.assertIn('"standing":"left out"', self.text_at("/tmp/lines"))
         self.needs("jq")
-        self.assertEqual(self.recipe("one object"), (0, "", ""))
+        self.assertEqual(self.recipe("one object"), Answer(b"", b"", 0))
         one, kinds = json.loads(self.text_at("/tmp/object.json")), ("added", "removed", "changed")
         counts = {kind: one["number_of_entries"][kind] for kind in kinds}
         self.assertEqual({kind: len(one[kind]) for kind in kinds}, counts)
@@ -85,16 +88,16 @@ class HandsTest(RecipesTest):
         lines = [f"{name} 36 100644 1\n" for name in names]
         mixed = HEAD + "".join(lines[at] for at in (3, 0, 5, 2, 4, 1)) + "@@end_db\n"
         self.write("/tmp/mixed.db", mixed)
-        self.assertEqual(self.recipe("order")[0], 0)
+        self.assertEqual(self.recipe("order").status, 0)
         self.assertEqual(self.text_at("/tmp/sorted.db"), HEAD + "".join(lines) + "@@end_db\n")
         self.write("/tmp/mixed.db", mixed.replace("/a-b", "/%61"))
         done = self.recipe("order")
-        self.assertEqual(done[0], 24)
-        self.assertIn("appears twice: /a\n", done[2])
+        self.assertEqual(done.status, 24)
+        self.assertIn("appears twice: /a\n", done.error_text)
 
     def test_mail(self) -> None:
         self.put_pair(OLD, NEW)
-        self.assertEqual(self.recipe("mail"), (7, "", ""))
+        self.assertEqual(self.recipe("mail"), Answer(b"", b"", 7))
         mail = self.taken("mailed") or ""
         for text in ("To: root\n", " open", "multipart", "text/html"):
             self.assertIn(text, mail)

@@ -10,6 +10,7 @@ import os
 import re
 import time
 
+from tests.lib.answer import Answer
 from tests.lib.program_test import slow
 from tests.lib.scratch import Scratch
 from tests.pages.machine import BASELINE, NEWEST, NOBODY, STATE, STORE, example
@@ -58,20 +59,20 @@ class DaysTest(RecipesTest):
         """Neither a wrong digest nor yesterday's is taken; that of today's mail is."""
         before = self.contents(BASELINE)
         for digest in ("0" * 64, yesterday):
-            self.assertEqual(self.shell(self.text("accept").replace("DIGEST", digest))[0], 24)
+            self.assertEqual(self.shell(self.text("accept").replace("DIGEST", digest)).status, 24)
         done = self.shell(self.text("accept partly").replace("DIGEST", today))
-        self.assertEqual(done[0], 24)
-        self.assertIn("nothing that differs is kept open", done[2])
+        self.assertEqual(done.status, 24)
+        self.assertIn("nothing that differs is kept open", done.error_text)
         self.assertEqual(self.contents(BASELINE), before)
         done = self.shell(self.text("accept").replace("DIGEST", today[:16]))
-        self.assertEqual(done[0], 0, done)
-        self.assertIn(": added %d, removed %d, changed %d\n" % STORED, done[1])
+        self.assertEqual(done.status, 0, done)
+        self.assertIn(": added %d, removed %d, changed %d\n" % STORED, done.output_text)
         self.assertEqual(self.contents(BASELINE), self.contents(NEWEST))
         self.assertEqual(self.contents(BASELINE + ".previous"), before)
         wrong = self.shell(f"aide-compare hosts accept --sha256 {'0' * 64} www")
-        self.assertEqual(wrong[0], 24, wrong)
+        self.assertEqual(wrong.status, 24, wrong)
         digest = self.digest_of_state(STORE + "/states/www")
-        self.assertEqual(self.shell(f"DIGEST={digest}; {self.text('accept host')}")[0], 0)
+        self.assertEqual(self.shell(f"DIGEST={digest}; {self.text('accept host')}").status, 0)
 
     def is_private(self) -> None:
         """Nobody else can read a database or what was compared; everyone may read the state."""
@@ -80,10 +81,10 @@ class DaysTest(RecipesTest):
                 for name in names:
                     done = self.run_words(["cat", os.path.join(directory, name)], NOBODY)
                     if os.geteuid() == 0:
-                        self.assertEqual((done[0], done[1]), (1, ""), name)
+                        self.assertEqual((done.status, done.output_text), (1, ""), name)
         self.assertEqual(os.listdir(self.path("/var/tmp")), [])
         self.assertTrue(
-            self.run_words(["cat", self.path(STATE)], NOBODY)[1].startswith('{"format": ')
+            self.run_words(["cat", self.path(STATE)], NOBODY).output_text.startswith('{"format": ')
         )
 
     def test_aide_stops(self) -> None:
@@ -97,8 +98,8 @@ class DaysTest(RecipesTest):
                 continue
             no_comparison(self, 18, f"aide.db.new is {age} old, more than --max-age allows")
             done = self.recipe("age")
-            self.assertEqual(done[:2], (18, ""))
-        self.prints("age", done[2])
+            self.assertEqual((done.status, done.output), (18, b""))
+        self.prints("age", done.error_text)
 
     def test_faults(self) -> None:
         """No fault of a database is taken for a quiet day, by any way of asking."""
@@ -124,7 +125,7 @@ class QuietTest(RecipesTest):
         out."""
         self.put_night(NIGHT)
         self.assertIn(": 7 open of 7 changes", self.mail_of(self.unit_commands()) or "")
-        self.assertEqual(self.recipe("quiet timer"), (0, "", ""))
+        self.assertEqual(self.recipe("quiet timer"), Answer(b"", b"", 0))
         for name, commands in self.jobs():
             with self.subTest(name):
                 self.put_night(NIGHT)
@@ -139,25 +140,25 @@ class QuietTest(RecipesTest):
 
     def test_command(self) -> None:
         self.put_night(NIGHT)
-        self.assertEqual(self.recipe("compare")[0], 7)
+        self.assertEqual(self.recipe("compare").status, 7)
         done = self.recipe("quiet")
-        self.assertEqual(done[0], 0)
-        self.prints("quiet", done[1])
+        self.assertEqual(done.status, 0)
+        self.prints("quiet", done.output_text)
         self.put_night(INTRUDER)
         done = self.recipe("quiet")
-        self.assertEqual(done[0], 5, done)
-        self.assertIn("/etc/ld.so.preload: ", done[1])
-        self.assertNotIn("/var/", done[1])
+        self.assertEqual(done.status, 5, done)
+        self.assertIn("/etc/ld.so.preload: ", done.output_text)
+        self.assertNotIn("/var/", done.output_text)
         place = "/usr/local/share/doc/aide-compare/examples/aide/debian.without"
         os.chmod(self.path(place), 0o666)
         done = self.recipe("quiet")
-        self.assertEqual(done[:2], (18, ""))
-        self.assertIn("other users can write", done[2])
+        self.assertEqual((done.status, done.output), (18, b""))
+        self.assertIn("other users can write", done.error_text)
 
     def test_own_files(self) -> None:
         """AIDE's rules have each file that the commands write, and no other one there."""
         os.makedirs(self.path("/etc/aide/aide.conf.d"))
-        self.assertEqual(self.recipe("own files"), (0, "", ""))
+        self.assertEqual(self.recipe("own files"), Answer(b"", b"", 0))
         lines = self.text_at("/etc/aide/aide.conf.d/31_aide_aide-compare").splitlines()
         rules = []
         for line in lines:
@@ -181,16 +182,16 @@ class QuietTest(RecipesTest):
         """What Debian's own job reads after the recipe."""
         defaults = "#MAILTO=root\n#QUIETREPORTS=no\n#SILENTREPORTS=no\nCOMMAND=update\n"
         self.write("/etc/default/aide", defaults)
-        self.assertEqual(self.recipe("one mail"), (0, "", ""))
+        self.assertEqual(self.recipe("one mail"), Answer(b"", b"", 0))
         done = self.shell('. /etc/default/aide; echo "$QUIETREPORTS $SILENTREPORTS $COMMAND"')
-        self.assertEqual(done[1], "yes  update\n")
+        self.assertEqual(done.output_text, "yes  update\n")
 
     def test_owner(self) -> None:
         """The first comparison was root's, and the databases belong to another user: the job of
         cron can still write."""
         self.needs_root()
         self.put_night(INTRUDER)
-        self.assertEqual(self.run_words(["aide-compare", "--state", self.path(STATE)])[0], 7)
+        self.assertEqual(self.run_words(["aide-compare", "--state", self.path(STATE)]).status, 7)
         for owner in (NOBODY, 0):
             for name in (os.path.dirname(BASELINE), BASELINE, NEWEST):
                 os.chown(self.path(name), NOBODY, NOBODY)
@@ -217,5 +218,5 @@ class QuietTest(RecipesTest):
         self.assertIn(": 1 open (1 high), 2 recorded (1 high) of 3 changes\n", mail)
         self.prints("first mail", mail.partition("\n\n")[2])
         done = self.recipe("standings")
-        self.assertEqual(done[0], 4, done)
-        self.prints("standings", done[1])
+        self.assertEqual(done.status, 4, done)
+        self.prints("standings", done.output_text)

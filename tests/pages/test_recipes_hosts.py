@@ -6,6 +6,7 @@ import json
 import os
 import subprocess
 
+from tests.lib.answer import Answer
 from tests.lib.terminal import Terminal
 from tests.pages.machine import HOSTS, STORE
 from tests.pages.recipes import NEW, OLD, RecipesTest
@@ -32,21 +33,20 @@ class HostsTest(RecipesTest):
         """A new host as on the page: what is shown, no, and yes."""
         self.put_host("www", OLD, None)
         self.write(HOSTS, "")
-        status, shown = self.on_terminal("no\n")
-        self.assertEqual(status, 24, shown)
+        done = self.on_terminal("no\n")
+        self.assertEqual(done.status, 24, done)
         self.assertFalse(os.path.exists(self.path(STORE, "hosts/www/aide.db")))
-        self.prints("add host", shown)
-        self.assertEqual(self.on_terminal("yes\n")[0], 0)
+        self.prints("add host", done.output_text)
+        self.assertEqual(self.on_terminal("yes\n").status, 0)
         self.assertEqual(self.text_at(HOSTS), "www\n")
         self.assertEqual(self.text_at(STORE + "/hosts/www/aide.db"), OLD)
 
-    def on_terminal(self, answer: str) -> tuple[int, str]:
-        """The status of the recipe on a terminal, and what that shows; its question gets an
-        answer."""
+    def on_terminal(self, answer: str) -> Answer:
+        """What the recipe answers on a terminal, on which its question gets an answer."""
         words = ["sh", "-c", self.below(self.text("add host"))]
         terminal = Terminal(words, cwd=self.path("/tmp"), env=self.environment())
         status, shown = terminal.answered(b"yes or no: ", answer.encode())
-        return status, self.above(shown.decode())
+        return Answer(self.above(shown.decode()).encode(), b"", status)
 
     def put_hosts(self) -> int:
         for name, (text, _, _) in SENT.items():
@@ -57,9 +57,9 @@ class HostsTest(RecipesTest):
     def test_all_hosts(self) -> None:
         """A line for each host; no host that was not compared counts as quiet."""
         count = self.put_hosts()
-        status, output, errors = self.recipe("hosts")
-        self.assertEqual(status, 24, errors)
-        *lines, summary = output.splitlines()
+        done = self.recipe("hosts")
+        self.assertEqual(done.status, 24, done)
+        *lines, summary = done.output_text.splitlines()
         told = {line.split(" ", 2)[0]: line.split(" ", 2)[1:] for line in lines}
         self.assertEqual(set(told), {name.replace(" ", "\\040") for name in (*SENT, *REFUSED)})
         for name, (_, wanted, text) in SENT.items():
@@ -80,9 +80,10 @@ class HostsTest(RecipesTest):
 
     def report(self, count: int) -> None:
         """What differs on all hosts at once: each change once, and one mail."""
-        status, output, _ = self.recipe("report hosts")
+        done = self.recipe("report hosts")
+        output = done.output_text
         head = f"aide on {count} hosts: 2 differ, {count - 4} not compared"
-        self.assertEqual(status, 24)
+        self.assertEqual(done.status, 24)
         self.assertTrue(output.startswith(head + ", 2 without differences\n"), output)
         both = f"on 2 of {count} hosts: other, user@other.example-1\n"
         for text in (
@@ -93,7 +94,7 @@ class HostsTest(RecipesTest):
             "\n  a b: the name of a host",
         ):
             self.assertIn(text, output)
-        self.assertEqual(self.recipe("mail hosts")[0], 24)
+        self.assertEqual(self.recipe("mail hosts").status, 24)
         mail = self.taken("mailed") or ""
         self.assertIn(f"\nSubject: {head}\n", mail)
         self.assertRegex(mail, r"(?m)^  (?:other \+1)? +added +/a é: -rw-r--r-- 5 bytes$")
