@@ -25,9 +25,12 @@ import pathlib
 import re
 import sys
 from collections.abc import Iterator
+from typing import Optional, Tuple
 
 from tests.lib.scratch import TOP
+from tests.lib.tally import Tally
 from tools.lib.arguments import parser_of
+from tools.source.definitions import crates
 
 CRATES = os.path.join(TOP, "crates")
 # Where fewer are found, the search itself is broken.
@@ -44,6 +47,11 @@ PARTS = r"let \w+ \{ [^}]* \} = \w+; "
 FIELD = rf"(&?self(\.\w+)+(\(\))?|{PARTS}\w+(\.\w+\(\))?)"
 PASSED = rf"({PARTS})?(self\.\w+\.\w+\(\w+\);?|let _ = \w+;)"
 
+# The type that an item is of and the trait that it implements, if it is of any; and the numbers of
+# its first line, of the first line of its code, and of the line after it.
+Owner = Tuple[Optional[str], Optional[str]]
+Lines = Tuple[int, int, int]
+
 
 def read_lines(*path: str) -> list[str]:
     with open(os.path.join(CRATES, *path), encoding="utf-8") as file:
@@ -54,31 +62,25 @@ class Item:
     """A function or a constant, and the lines of its code."""
 
     def __init__(
-        self,
-        name: str,
-        owner: str | None,
-        trait: str | None,
-        is_pub: bool,
-        begin: int,
-        first: int,
-        last: int,
-        text: list[str],
+        self, name: str, owner: Owner, is_pub: bool, lines: Lines, text: list[str]
     ) -> None:
-        self.name, self.owner, self.trait, self.is_pub = name, owner, trait, is_pub
-        self.begin, self.first, self.last = begin, first, last
-        head = text[begin:first]
-        self.is_promised = trait is not None or any(CLAUSE.match(line) for line in head)
+        self.name = name
+        self.owner, self.trait = owner
+        self.is_pub = is_pub
+        self.begin, self.first, self.last = lines
+        head = text[self.begin : self.first]
+        self.is_promised = self.trait is not None or any(CLAUSE.match(line) for line in head)
         self.takes_self = re.search(r"\(\s*&?(mut )?self\b", " ".join(head)) is not None
-        self.body = " ".join(" ".join(line.split("//")[0] for line in text[first:last]).split())
+        code = [line.split("//")[0] for line in text[self.first : self.last]]
+        self.body = " ".join(" ".join(code).split())
 
     def title(self) -> str:
         return f"{self.owner}::{self.name}" if self.owner else self.name
 
     def words(self) -> set[str]:
         """The words of its name and of its type's name."""
-        return set(
-            re.findall(r"[a-z0-9]+", re.sub(r"(?<=[a-z0-9])(?=[A-Z])", "_", self.title()).lower())
-        )
+        title = re.sub(r"(?<=[a-z0-9])(?=[A-Z])", "_", self.title())
+        return set(re.findall(r"[a-z0-9]+", title.lower()))
 
     def kind(self) -> str:
         """The kind of function that needs no edit, if it is of one."""
@@ -112,21 +114,21 @@ def code_of(text: list[str], begin: int, indent: str) -> tuple[int, int] | None:
 
 def items_of(text: list[str]) -> Iterator[Item]:
     """The functions and constants of a file."""
-    owner = trait = None
+    owner: Owner = (None, None)
     for at, line in enumerate(text):
         if line.startswith("}"):
-            owner = trait = None
+            owner = (None, None)
         head, function, constant = IMPL.match(line), FUNCTION.match(line), CONSTANT.match(line)
         if head:
-            trait, owner = head.groups()
+            owner = (head[2], head[1])
         elif function:
             indent, is_pub, name = function.groups()
             code = code_of(text, at, indent)
             if code:
-                yield Item(name, owner, trait, is_pub is not None, at, *code, text)
+                yield Item(name, owner, is_pub is not None, (at, *code), text)
         elif constant:
             last = next(to for to in range(at, len(text)) if text[to].endswith(";"))
-            yield Item(constant.group(1), owner, trait, False, at, at, last + 1, text)
+            yield Item(constant[1], owner, False, (at, at, last + 1), text)
 
 
 def sources_of(folder: str) -> list[str]:
@@ -221,27 +223,20 @@ class Crate:
             yield file, item, [item] + own
 
 
-def judge(crate: Crate, traits: set[str], lists: bool) -> tuple[int, int, int]:
-    """How many public functions and edits are right, and how many are not, each of which is
-    printed."""
+def judge(crate: Crate, traits: set[str], lists: bool, tally: Tally) -> int:
+    """Each public function and each wrong edit of a crate. How many edits it has."""
     of_item, wrong = crate.edits_of_items()
     public = [(file, item) for file, item in crate.items if crate.is_public(file, item, traits)]
-    passed = failed = 0
     for file, item, code in crate.own_code(public):
         edits = sorted({name for part in code for name in of_item.get(id(part), [])})
-        good = bool(edits or item.kind())
-        passed, failed = passed + good, failed + (not good)
+        why = ", ".join(edits) or item.kind()
         if lists:
-            print(
-                f"{crate.name}/{file}: {item.title()}: {', '.join(edits) or item.kind() or 'no edit'}"
-            )
-        if not good:
-            print(
-                f"FAILED: crates/{crate.name}/{file}:{item.begin + 1}: {item.title()} has no must-fail edit"
-            )
-    for name, why in wrong.items():
-        print(f"FAILED: crates/{crate.name}/must-fail/{name}.edit {why}")
-    return passed, failed + len(wrong), sum(1 for _ in crate.edits())
+            print(f"{crate.name}/{file}: {item.title()}: {why or 'no edit'}")
+        place = f"crates/{crate.name}/{file}:{item.begin + 1}: {item.title()}"
+        tally.add(place, [] if why else ["it has no must-fail edit"])
+    for name, fault in wrong.items():
+        tally.add(f"crates/{crate.name}/must-fail/{name}.edit", [fault])
+    return sum(1 for _ in crate.edits())
 
 
 def main() -> int:
@@ -250,20 +245,13 @@ def main() -> int:
         "--list", action="store_true", help="print every public function with its edits or its kind"
     )
     given = parser.parse_args()
-    names = sorted(
-        name for name in os.listdir(CRATES) if os.path.isdir(os.path.join(CRATES, name, "src"))
-    )
-    crates = [Crate(name) for name in names]
-    traits = set().union(*(crate.traits() for crate in crates))
-    passed = failed = edits = 0
-    for crate in crates:
-        good, bad, tried = judge(crate, traits, given.list)
-        passed, failed, edits = passed + good, failed + bad, edits + tried
-    if passed + failed < FEWEST_FUNCTIONS or edits < FEWEST_EDITS:
-        print(f"FAILED: only {passed + failed} functions and {edits} edits were found")
-        failed += 1
-    print(f"{passed} passed, {failed} failed")
-    return 0 if failed == 0 else 1
+    found = [Crate(name) for name in crates()]
+    traits = set().union(*(crate.traits() for crate in found))
+    tally = Tally()
+    edits = sum(judge(crate, traits, given.list, tally) for crate in found)
+    tally.holds("functions are found", tally.passed + tally.failed >= FEWEST_FUNCTIONS)
+    tally.holds("edits are found", edits >= FEWEST_EDITS, edits)
+    return tally.status()
 
 
 if __name__ == "__main__":
