@@ -9,8 +9,10 @@ from __future__ import annotations
 
 import os
 import platform
+import sys
 import tempfile
 
+from tests.lib.tally import Tally
 from tools.lib.arguments import parser_of
 from tests.commands.viewers.browser import Browser
 from tests.commands.viewers.in_browser import Trial
@@ -22,7 +24,6 @@ from tests.commands.viewers.samples import (
     lines_of,
     page_of,
 )
-from tests.lib.tally import Tally
 
 
 def write_pages(folder: str) -> dict[str, str]:
@@ -72,7 +73,7 @@ def main() -> None:
         if given.large:
             try_large(browser, given.large, folder, tally)
     browser.close()
-    tally.end()
+    sys.exit(tally.status())
 
 
 if __name__ == "__main__":

@@ -9,9 +9,8 @@ import struct
 import threading
 from typing import Any
 
-from tests.lib.answer import Answer
+from tests.lib.answer import Answer, run
 from tests.lib.program_test import ProgramTest, ScratchTest
-from tests.lib.tally import run
 
 FOLDER = os.path.join(os.path.dirname(os.path.abspath(__file__)), "..", "program")
 NAMES = ["cc", "gcc", "clang"]

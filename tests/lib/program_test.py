@@ -7,10 +7,9 @@ import shutil
 import unittest
 from collections.abc import Sequence
 
-from tests.lib.answer import Answer
+from tests.lib.answer import Answer, difference
 from tests.lib.programs import find_program, lines_program_of
 from tests.lib.scratch import Scratch
-from tests.lib.tally import difference
 
 QUICK = "AIDE_QUICK"
 # For tests that take long: `tools/quick` leaves them out.

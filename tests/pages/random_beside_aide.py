@@ -20,8 +20,8 @@ import sys
 import tempfile
 from typing import Dict, List, NamedTuple
 
-from tools.lib.arguments import add_program, parser_of
 from tests.lib.tally import Tally
+from tools.lib.arguments import add_program, parser_of
 
 # The names of the details of an entry, by its path.
 Details = Dict[str, List[str]]

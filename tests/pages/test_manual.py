@@ -13,10 +13,9 @@ import subprocess
 import unittest
 from typing import Any
 
-from tests.lib.answer import Answer
+from tests.lib.answer import Answer, run
 from tests.lib.program_test import ProgramTest, ScratchTest
 from tests.lib.scratch import TOP, read
-from tests.lib.tally import run
 from tests.oracle import configuration
 from tests.oracle.attributes import ATTRIBUTES, EMPTY_NAMES, GROUPS
 from tests.oracle.configuration import LEVELS, OLDER_OPTIONS, WITHOUT_EFFECT

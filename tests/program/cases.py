@@ -19,9 +19,9 @@ import tempfile
 from collections.abc import Iterator
 from typing import NamedTuple
 
+from tests.oracle.files import wanted, wanted_lines
 from tools.lib.arguments import parser_of
 from tests.lib.answer import Answer
-from tests.lib.tally import wanted, wanted_lines
 
 HEADER = re.compile(r"^-- (\w+)( \(escaped\)| \d+)? --$")
 ANSWERS = ["stdout", "stderr", "status"]

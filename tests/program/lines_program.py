@@ -5,9 +5,9 @@ from __future__ import annotations
 import json
 from typing import Any, Dict
 
-from tests.lib.answer import Answer
+from tests.lib.answer import Answer, difference, run, shown
 from tests.lib.program_test import ProgramTest
-from tests.lib.tally import difference, run, shown, wanted_lines
+from tests.oracle.files import wanted_lines
 
 # The members of an object, each name once.
 Members = Dict[str, Any]

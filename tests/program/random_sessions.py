@@ -10,11 +10,13 @@ import tempfile
 from collections.abc import Callable
 from typing import List, Tuple
 
+from tests.lib.answer import difference, run
+from tests.lib.tally import side_by_side
+from tests.oracle.files import wanted
 from tests.program.random_texts.configurations import random_configuration, random_words
 from tests.program.random_texts.databases import random_pair
 from tests.program.random_texts.trusted import random_four, random_words_beside
 from tests.lib.program_test import AnswerTest
-from tests.lib.tally import difference, run, side_by_side, wanted
 
 # What writes the files of a session, by a seed, its number and a folder, and gives its words; and
 # what gives the status that is wanted of words, and what is not as wanted.

@@ -12,14 +12,14 @@ import collections
 import re
 from typing import Any
 
-from tests.lib.answer import Answer
+from tests.lib.answer import Answer, run, shown
 from tests.lib.program_test import new_seed
+from tests.oracle.files import wanted
 from tests.program.configurations import accepted, limits, names, refused
 from tests.program.configurations.random_blocks import random_texts
 from tests.oracle.attributes import ATTRIBUTES
 from tests.oracle.session import CONFIGURATION_WORDS
 from tests.program.real_files.folder import NEW, OLD, FolderTest
-from tests.lib.tally import run, shown, wanted
 
 DIFFERENT = b"AIDE found differences between the two databases.\n"
 SAME = b"AIDE found NO differences between the two databases.\n"

@@ -30,9 +30,11 @@ from collections import Counter
 from collections.abc import Callable, Iterator
 from typing import List, NamedTuple, Tuple
 
-from tests.lib.answer import Answer
+from tests.lib.answer import Answer, difference
 from tests.lib.program_test import AnswerTest, new_seed, slow
 from tests.lib.scratch import TOP
+from tests.lib.tally import side_by_side
+from tests.oracle.files import wanted, wanted_lines
 from tests.program import cases, refusal_rows
 from tests.program.configurations import refused as refused_configurations
 from tests.oracle.configuration import LEVELS
@@ -41,7 +43,6 @@ from tests.lib.preload import PreloadTest, run_with
 from tests.program.random_sessions import Make, make_session, make_session_beside
 from tests.program.real_files.test_examples import folders_of_aide, words_at
 from tests.program.real_files.folder import NEW, OLD, SKIPPING, names
-from tests.lib.tally import difference, side_by_side, wanted, wanted_lines
 
 SESSIONS = 20  # Random ones.
 NOTES = struct.Struct("3l")

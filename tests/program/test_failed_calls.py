@@ -19,12 +19,13 @@ from collections import Counter
 from collections.abc import Callable, Iterator
 from typing import List, NamedTuple, Tuple
 
-from tests.lib.answer import Answer
+from tests.lib.answer import Answer, difference
 from tests.lib.program_test import AnswerTest, slow
+from tests.lib.tally import side_by_side
+from tests.oracle.files import wanted, wanted_lines
 from tests.oracle.session import BAD_CONFIGURATION, BAD_DATABASE, BAD_DEVICE, USAGE, refused
 from tests.lib.preload import PreloadTest, run_with
 from tests.program.real_files.folder import NEW, OLD, SKIPPING, Folder, names
-from tests.lib.tally import difference, side_by_side, wanted, wanted_lines
 
 NOTE = struct.Struct("3l")
 OPEN, CLOSE, READ, WRITE = range(1, 5)

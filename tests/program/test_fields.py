@@ -9,14 +9,13 @@ from __future__ import annotations
 import base64
 import re
 
-from tests.lib.answer import Answer
+from tests.lib.answer import Answer, shown
 from tests.program import change_rows, field_rows
 from tests.oracle.attributes import ATTRIBUTES
 from tests.oracle.comparison import SLOTS
 from tests.oracle.texts import printed
 from tests.program.random_texts.databases import Form
 from tests.program.real_files.folder import EMPTY, FolderTest, database
-from tests.lib.tally import shown
 
 ALL_DETAILS = b"report_level=added_removed_entries\nreport_base16=yes\n"
 CHANGED_DETAILS = b"report_level=changed_attributes\n"

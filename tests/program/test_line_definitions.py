@@ -18,9 +18,8 @@ import unicodedata
 from collections.abc import Callable
 from typing import Any, List
 
-from tests.lib.answer import Answer
+from tests.lib.answer import Answer, shown
 from tests.lib.program_test import AnswerTest, new_seed
-from tests.lib.tally import shown
 from tests.oracle import configuration
 from tests.oracle.attributes import ATTRIBUTES, Attribute
 from tests.oracle.configuration import BOOL_OPTIONS, LEVELS

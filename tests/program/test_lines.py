@@ -14,10 +14,11 @@ import os
 import unittest
 
 
+from tests.lib.answer import shown
 from tests.lib.program_test import SESSIONS, new_seed, slow
-from tests.lib.tally import shown, wanted_lines
 from tests.oracle.attributes import ATTRIBUTES, Attribute
 from tests.oracle.database import LINE_LIMIT
+from tests.oracle.files import wanted_lines
 from tests.program.lines_program import LinesProgramTest
 from tests.program.random_sessions import try_sessions
 from tests.program.real_files.test_devices import check_outputs

@@ -9,7 +9,8 @@ import pathlib
 import unittest
 
 
-from tests.lib.tally import run, wanted_lines
+from tests.lib.answer import run
+from tests.oracle.files import wanted_lines
 from tests.program.real_files.folder import Folder
 from tests.program.lines_program import LinesProgramTest
 from tests.program.test_lines import text_of

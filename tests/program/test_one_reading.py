@@ -14,9 +14,10 @@ import time
 from collections.abc import Callable, Iterator, Sequence
 from typing import List
 
-from tests.lib.answer import Answer
+from tests.lib.answer import Answer, difference, run
 from tests.lib.program_test import new_seed, slow
-from tests.lib.tally import difference, run, side_by_side, wanted_lines
+from tests.lib.tally import side_by_side
+from tests.oracle.files import wanted_lines
 from tests.program.real_files.folder import EMPTY, NEW, OLD, SKIPPING, Folder, names
 from tests.program.real_files.test_fifos import fed
 from tests.program.test_failed_calls import FILES

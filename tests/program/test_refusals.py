@@ -5,8 +5,7 @@ from __future__ import annotations
 
 import os
 
-from tests.lib.answer import Answer
-from tests.lib.tally import shown
+from tests.lib.answer import Answer, shown
 from tests.program import cases, field_rows, refusal_rows
 from tests.program.real_files.folder import FolderTest, database
 

@@ -13,10 +13,11 @@ import os
 
 
 from tests.commands.viewers.schema import Validator, schema_of_lines
-from tests.lib.answer import Answer
+from tests.lib.answer import Answer, difference, run, shown
 from tests.lib.program_test import SESSIONS, new_seed, slow
-from tests.lib.tally import difference, run, shown, side_by_side, wanted_lines
+from tests.lib.tally import side_by_side
 from tests.oracle.database import LINE_LIMIT
+from tests.oracle.files import wanted_lines
 from tests.oracle.session import USAGE_LINE
 from tests.program import cases, line_rows
 from tests.program.damages import WAYS

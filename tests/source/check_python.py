@@ -10,6 +10,7 @@ from __future__ import annotations
 
 import shutil
 import subprocess
+import sys
 from typing import NamedTuple
 
 from tests.lib.scratch import TOP
@@ -61,7 +62,7 @@ def main() -> None:
     tally = Tally()
     for checker in CHECKERS:
         check_by(checker, tally)
-    tally.end()
+    sys.exit(tally.status())
 
 
 if __name__ == "__main__":

@@ -86,7 +86,9 @@ def luminance(colour: str) -> float:
     light = 0.0
     for start, share in ((1, 0.2126), (3, 0.7152), (5, 0.0722)):
         part = int(colour[start : start + 2], 16) / 255
-        light += share * (part / 12.92 if part <= 0.03928 else math.pow((part + 0.055) / 1.055, 2.4))
+        light += share * (
+            part / 12.92 if part <= 0.03928 else math.pow((part + 0.055) / 1.055, 2.4)
+        )
     return light
 
 

@@ -6,8 +6,8 @@ import shutil
 import tempfile
 from typing import Any
 
-from tests.lib.answer import Answer
-from tests.lib.tally import difference, run, wanted, wanted_lines
+from tests.lib.answer import Answer, difference, run
+from tests.oracle.files import wanted, wanted_lines
 from tests.program.lines_program import LinesProgramTest
 
 OLD = b"@@begin_db\n@@db_spec name attr perm size\n/b 36 40755 4096\n/c 36 100644 10\n@@end_db\n"

@@ -9,9 +9,8 @@ import threading
 from collections.abc import Callable
 from typing import Any
 
-from tests.lib.answer import Answer
+from tests.lib.answer import Answer, run
 from tests.lib.program_test import ProgramTest, slow
-from tests.lib.tally import run
 
 from .folder import NEW, OLD, SKIPPING, Folder, FolderTest, names
 

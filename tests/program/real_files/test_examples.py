@@ -5,10 +5,10 @@ import glob
 import os
 import re
 
-from tests.lib.answer import Answer
+from tests.lib.answer import Answer, run
 from tests.lib.program_test import ProgramTest
 from tests.oracle.configuration import LEVELS
-from tests.lib.tally import run, wanted
+from tests.oracle.files import wanted
 
 EXAMPLES = os.path.realpath(
     os.path.join(os.path.dirname(os.path.abspath(__file__)), "..", "..", "..", "examples")

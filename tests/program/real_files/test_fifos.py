@@ -6,9 +6,8 @@ import contextlib
 import os
 import threading
 
-from tests.lib.answer import Answer
+from tests.lib.answer import Answer, run
 from tests.lib.program_test import ProgramTest
-from tests.lib.tally import run
 
 from .folder import EMPTY, NEW, OLD, Folder, names
 

@@ -5,9 +5,9 @@ import os
 import resource
 from collections.abc import Callable
 
-from tests.lib.answer import Answer
+from tests.lib.answer import Answer, difference, run
 from tests.lib.program_test import ProgramTest, slow
-from tests.lib.tally import difference, run, side_by_side
+from tests.lib.tally import side_by_side
 
 from .test_fifos import Feeder
 from .folder import NEW, OLD, Folder

@@ -6,9 +6,9 @@ import gzip
 import os
 from collections.abc import Callable
 
-from tests.lib.answer import Answer
+from tests.lib.answer import Answer, run
+from tests.oracle.files import file_at, wanted
 from tests.oracle.session import File, answer_of
-from tests.lib.tally import file_at, run, wanted
 
 from .folder import NEW, OLD, Folder, FolderTest
 

@@ -2,12 +2,11 @@
 import os
 import resource
 
-from tests.lib.answer import Answer
+from tests.lib.answer import Answer, run
 from tests.lib.program_test import ProgramTest, slow
 from tests.oracle.configuration import LEVELS
 from tests.program import cases
 from tests.program.configurations import limits
-from tests.lib.tally import run
 
 from .folder import Folder
 from .test_examples import EXAMPLES, folders_of_aide, words_at
