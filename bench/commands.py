@@ -4,9 +4,10 @@
 Some of the entries of 165 bytes are changed. PROGRAM and the commands are installed below a
 directory of this run, as packaging/install does it. The commands run in turn, several times, and
 print nothing to a terminal. Prints a table in Markdown: the least processor seconds (user and
-system) of a command with all programs that it starts, how many times that of the program alone,
-and the peak memory of the largest of its processes. The first table is the fixed cost, for the two
-small databases of examples/small_tree, beside Python itself, which does nothing.
+system) of a command with all programs that it starts, how many times that of the first row, and the
+peak memory of the largest of its processes. The first row is the program of lines, which all of
+these commands run. The rows of few entries are the fixed cost, for the two small databases of
+examples/small_tree; their first row is Python that does nothing.
 """
 from __future__ import annotations
 
@@ -77,35 +78,29 @@ class Bench:
 
 def rows_of(bench: Bench, entries: int, pair: str) -> None:
     """The rows of one pair: the program, the comparison, and what is made of its lines."""
-    old, new, lines = bench.path("old"), bench.path("new"), bench.path("lines")
+    old, new = bench.path("old"), bench.path("new")
     write_pair(old, new, 165, PAIRS[pair], entries)
-    level = ["-A", "report_level=changed_attributes"]
-    program = bench.path("installed/libexec/aide-compare/aide")
-    settings = f"database_in=file:{old}\ndatabase_new=file:{new}\n{level[1]}"
+    program = bench.path("installed/libexec/aide-compare/aide_lines")
+    settings = f"database_in=file:{old}\ndatabase_new=file:{new}"
     compare = bench.path("installed/bin/aide-compare")
     state = ["--state", bench.path("state")]
     without = ["--exclude-from", os.path.join(TOP, "contrib", "aide", "debian.without")]
     queue = ["--queue", bench.path("queue")]
     os.makedirs(bench.path("queue"), exist_ok=True)
-    with open(lines, "wb") as file:
-        subprocess.run([compare, "json", old, new], stdout=file, check=False)
     bench.rows(
         str(entries),
         pair,
         bench.runs,
-        Command("the program alone", [program, "-E", "-c", "/dev/null", "-A", settings]),
-        Command("`aide-compare OLD NEW`", [compare, old, new, *level]),
-        Command("`aide-compare --state FILE OLD NEW`", [compare, *state, old, new, *level]),
-        Command(
-            "`aide-compare -q --state FILE OLD NEW`", [compare, "-q", *state, old, new, *level]
-        ),
+        Command("`aide_lines` alone", [program, "-E", "-c", "/dev/null", "-A", settings]),
+        Command("`aide-compare OLD NEW`", [compare, old, new]),
+        Command("`aide-compare --state FILE OLD NEW`", [compare, *state, old, new]),
+        Command("`aide-compare -q --state FILE OLD NEW`", [compare, "-q", *state, old, new]),
         Command(
             "`aide-compare mail`, as the unit calls it",
-            [compare, "mail", *queue, *state, *without, old, new, *level],
+            [compare, "mail", *queue, *state, *without, old, new],
         ),
         Command("`aide-compare json OLD NEW`", [compare, "json", old, new]),
         Command("`aide-compare page OLD NEW`", [compare, "page", old, new]),
-        Command("`aide-compare page`, of lines", [compare, "page", lines]),
         Command("`aide-compare sort`, of a database in order", [compare, "sort", old]),
         Command("`sha256sum` of both databases", ["/usr/bin/sha256sum", old, new]),
     )
