@@ -87,7 +87,7 @@ class File:
             line = line[depth:]
             if line.startswith("--"):
                 sentence.append(line[2:].strip())
-            elif not line.startswith(("use ", " ", "}")):
+            elif not line.startswith(("use ", " ", "}", "]")):
                 defined = DEFINED.match(line)
                 name = defined[1] if defined else ""
                 self.take(name, line, module, sentence)

@@ -37,8 +37,8 @@ MEANINGS = {
     "object": "an object with these members, as a value of JSON",
     "Members": "the members of an object in their order, each a name and a value",
     "no_members": "no member",
-    "member": "a member, and others behind it",
-    "document": "that a text is this value of JSON, with nothing behind it but space",
+    "member": "a member, and the members that follow it",
+    "document": "the value of JSON that a text is, if it is one and nothing but space follows it",
     "decode_of": "the bytes of which a text has the hexadecimal digits, or a fault",
     "encode_lower": "bytes in hexadecimal, in small letters",
     "sha256": "the SHA-256 of bytes, by FIPS 180-4",
@@ -46,8 +46,9 @@ MEANINGS = {
     "is_utf8": "whether bytes are UTF-8 (RFC 3629), so that no character is longer than it has to be and none is a surrogate",
     "Text": "a list of bytes",
 }
-WORDS = "All words of other crates, and those of the library that say more than their names do:"
+WORDS = "The words of other crates, and those of the library whose names do not say enough:"
 PLAIN = "The other words of the library mean what their names say: "
+ALL_PLAIN = "The words of the library mean what their names say: "
 
 
 def comment_over(path: str, item: str) -> str:
@@ -156,15 +157,13 @@ def library_words(outside: Places, known: Sequence[Place] = ()) -> list[str]:
         for crate, file in [each[:2] for each in of_library if each[2] == name][:1]:
             lines.append("| `%s` | `%s`, `%s` | %s |" % (name, crate, file, means))
     plain = sorted({name for _, _, name in of_library if name not in MEANINGS})
+    table = [*wrapped(WORDS, "", PROSE), "", *lines, ""] if len(lines) > 2 else []
     return [
         "",
         "## Words of the toolchain's library",
         "",
-        *wrapped(WORDS, "", PROSE),
-        "",
-        *lines,
-        "",
-        *wrapped(PLAIN + listed(plain) + ".", "", PROSE),
+        *table,
+        *wrapped((PLAIN if table else ALL_PLAIN) + listed(plain) + ".", "", PROSE),
     ]
 
 

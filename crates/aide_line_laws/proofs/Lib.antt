@@ -21,3 +21,5 @@ pub mod AccountLaws
 pub mod ListLaws
 pub mod MapLaws
 pub mod RunMapLaws
+pub mod Examples
+pub mod ListExamples
