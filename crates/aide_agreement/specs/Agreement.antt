@@ -33,7 +33,7 @@ has_target value = elim (link_in value) [
 ]
 
 -- What entries of a type need to have the same content: regular files a common digest of at least 256 bits, links a
--- target. No entry tells which device a device is, so devices never have the same content. Others have no content.
+-- target. No entry says which device a device is, so devices never have the same content. Others have no content.
 abbrev pub shares_content : FileType → Sides → (first_link second_link : Option Value) → Bool
 shares_content File s first_link second_link = list_any (is_shared s) all_attrs
 shares_content Link s first_link second_link = has_target first_link && has_target second_link

@@ -50,7 +50,7 @@ fn has_target(view: &View<'_>) -> bool
     }
 }
 
-/// Returns whether two entries of this type have the same content: files a digest, links a target. No entry tells which
+/// Returns whether two entries of this type have the same content: files a digest, links a target. No entry says which
 /// device a device is.
 fn share_content(kind: FileType, delta: &Delta, first: &View<'_>, second: &View<'_>) -> bool
     ensures { result ≡ shares_content kind (sides_of delta.now)

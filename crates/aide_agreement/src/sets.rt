@@ -17,7 +17,7 @@ const OWN: [Attr; 5] = [
     Attr::Bcount,
 ];
 
-/// What each machine has of its own in a directory besides.
+/// What each machine has of its own in a directory too.
 const OF_DIRECTORIES: [Attr; 1] = [Attr::Size];
 
 /// The digests of at least 256 bits.
@@ -32,7 +32,7 @@ const STRONG: [Attr; 8] = [
     Attr::Sha3Of512,
 ];
 
-/// The digests of fewer bits, and those whose length the column does not tell.
+/// The digests of fewer bits, and those whose length the column does not say.
 const WEAK: [Attr; 8] = [
     Attr::Md5,
     Attr::Sha1,

@@ -4,7 +4,7 @@ use Rattle.aide_db.specs.Count.{one_more}
 use Rattle.aide_db.specs.Side.{other_side}
 use Rattle.aide_db.specs.declared.side.Side.{Side}
 
--- What the sources tell of their sides and files is what it was.
+-- The sources show the same of their sides and files as before.
 pub record TellsTheSame {S : Type 0} (bytes_of : S → Side → Option (List ℕ))
     (file_at : S → List ℕ → Option (Option (List ℕ))) (is_missing : S → Side → Bool)
     (is_reliable : S → Bool) (a b : S) : Type 0 where

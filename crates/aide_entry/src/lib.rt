@@ -1,4 +1,4 @@
-//! What is said of a line of a database and of its fields: the kinds of lines, columns, values, paths, and entries.
+//! What is said about a line of a database and of its fields: the kinds of lines, columns, values, paths, and entries.
 #![tactic(auto)]
 
 mod base64_tables;

@@ -212,7 +212,7 @@ impl<'a> View<'a> {
         }
     }
 
-    /// Returns the bytes of an attribute whose bytes have no further meaning here, such as `acl`, as they are written,
+    /// Returns the bytes of an attribute whose bytes have no other meaning here, such as `acl`, as they are written,
     /// if the entry has it.
     pub fn field(&self, attr: Attr) -> Option<&'a [u8]>
         ensures { option_copied result ≡ opaque_in ((entry_in self.now).1 attr) }

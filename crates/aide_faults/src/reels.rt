@@ -85,7 +85,7 @@ impl<'a> Reel for PlannedReel<'a> {
     }
 }
 
-/// Gives the bytes of a slice, and then one byte for ever. This reel tells none of its bytes, and never fails.
+/// Gives the bytes of a slice, and then one byte for ever. This reel shows none of its bytes, and never fails.
 #[derive(Drop)]
 pub struct EndlessReel<'a> {
     bytes: &'a [u8],

@@ -21,14 +21,14 @@ is_hidden c =
     || ((nat_le 0x200e c && nat_le c 0x200f) || ((nat_le 0x2028 c && nat_le c 0x202e)
     || (nat_le 0x2066 c && nat_le c 0x2069)))))
 
--- How a character stands in a string: a quote and a backslash behind a backslash, a hidden character by its number,
+-- How a character is written in a string: a quote and a backslash after a backslash, a hidden character by its number,
 -- and any other as it is.
 abbrev pub json_char : ℕ → List ℕ
 json_char c =
     if c == 34 || c == 92 then 92 ∷ c ∷ []
     else (if is_hidden c then u_escape c else encode_utf8 c)
 
--- the characters of a text, each as it stands in a string
+-- the characters of a text, each as it is written in a string
 abbrev pub json_text : List ℕ → List ℕ
 json_text bytes = flat_map json_char (chars bytes)
 

@@ -6,7 +6,7 @@ use Rattle.std.specs.List.{flat_map}
 abbrev pub comma : Bool → List ℕ
 comma first = if first then [] else 44 ∷ []
 
--- texts, each behind a comma
+-- texts, each after a comma
 abbrev pub behind : List (List ℕ) → List ℕ
 behind texts = flat_map (λ text. 44 ∷ text) texts
 

@@ -1,4 +1,4 @@
-//! How the characters stand in a string that a byte alone, or the last byte after known ones, makes out.
+//! How the characters are written in a string that a byte alone, or the last byte after known ones, makes out.
 ghost use Rattle.std.specs.Prelude.{◌≡◌, ◌<◌, ◌∷◌, []};
 ghost use Rattle.aide_json.specs.Json.{u_escape, hex_digit};
 ghost use Rattle.aide_json.specs.code.Escaping.{one_byte, after_c2, after_d8, after_e2_80};
@@ -60,7 +60,7 @@ fn three(c: u8, d: u8, e: u8) -> Spelling
     }
 }
 
-/// Returns what stands for a character of one byte, and for any byte of a character that cannot be hidden.
+/// Returns what is written for a character of one byte, and for any byte of a character that cannot be hidden.
 pub(crate) fn one_byte(c: u8) -> Spelling
     ensures { spelled result ≡ one_byte c }
 {
@@ -73,7 +73,7 @@ pub(crate) fn one_byte(c: u8) -> Spelling
     }
 }
 
-/// Returns what stands for a character from U+0080 to U+00BF, by its second byte.
+/// Returns what is written for a character from U+0080 to U+00BF, by its second byte.
 pub(crate) fn after_c2(c: u8) -> Spelling
     ensures { spelled result ≡ after_c2 c }
 {
@@ -84,7 +84,7 @@ pub(crate) fn after_c2(c: u8) -> Spelling
     }
 }
 
-/// Returns what stands for a character from U+0600 to U+063F, by its second byte.
+/// Returns what is written for a character from U+0600 to U+063F, by its second byte.
 pub(crate) fn after_d8(c: u8) -> Spelling
     ensures { spelled result ≡ after_d8 c }
 {
@@ -95,7 +95,7 @@ pub(crate) fn after_d8(c: u8) -> Spelling
     }
 }
 
-/// Returns what stands for a character from U+2000 to U+203F, by its last byte.
+/// Returns what is written for a character from U+2000 to U+203F, by its last byte.
 pub(crate) fn after_e2_80(c: u8) -> Spelling
     ensures { spelled result ≡ after_e2_80 c }
 {
@@ -106,7 +106,7 @@ pub(crate) fn after_e2_80(c: u8) -> Spelling
     }
 }
 
-/// Returns what stands for a character from U+2040 to U+207F, by its last byte.
+/// Returns what is written for a character from U+2040 to U+207F, by its last byte.
 pub(crate) fn after_e2_81(c: u8) -> Spelling
     ensures { spelled result ≡ after_e2_81 c }
 {

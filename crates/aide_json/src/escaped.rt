@@ -1,4 +1,4 @@
-//! Hands out the bytes of a text as they stand in a string. At most three bytes of the text are looked at together.
+//! Hands out the bytes of a text as they are written in a string. It looks at most at three bytes of the text together.
 ghost use Rattle.std.specs.Prelude.{◌≡◌, ◌<◌, ◌++◌, ◌∷◌, [], ℕ, List, drop};
 ghost use Rattle.aide_json.specs.code.Escaping.{Begun, text_after};
 ghost use Rattle.aide_json.specs.code.Spelled.{spelled};
@@ -7,7 +7,7 @@ use crate::characters::{after_c2, after_d8, after_e2_80, after_e2_81, one, one_b
 use crate::spelling::Spelling;
 use aide_text::Feed;
 
-/// Returns what stands for C2 and the bytes behind it that belong to its character, if it may be hidden.
+/// Returns what is written for C2 and the bytes after it that belong to its character, if it may be hidden.
 fn from_c2<B: Feed>(bytes: &mut B) -> Spelling
     ensures { spelled result ++ text_after Begun.Nothing (B.rest bytes.new)
         ≡ text_after Begun.C2 (B.rest bytes.old) }
@@ -18,7 +18,7 @@ fn from_c2<B: Feed>(bytes: &mut B) -> Spelling
     }
 }
 
-/// Returns what stands for D8 and the bytes behind it that belong to its character, if it may be hidden.
+/// Returns what is written for D8 and the bytes after it that belong to its character, if it may be hidden.
 fn from_d8<B: Feed>(bytes: &mut B) -> Spelling
     ensures { spelled result ++ text_after Begun.Nothing (B.rest bytes.new)
         ≡ text_after Begun.D8 (B.rest bytes.old) }
@@ -29,7 +29,7 @@ fn from_d8<B: Feed>(bytes: &mut B) -> Spelling
     }
 }
 
-/// Returns what stands for E2 80 and the bytes behind it that belong to its character, if it may be hidden.
+/// Returns what is written for E2 80 and the bytes after it that belong to its character, if it may be hidden.
 fn from_e2_80<B: Feed>(bytes: &mut B) -> Spelling
     ensures { spelled result ++ text_after Begun.Nothing (B.rest bytes.new)
         ≡ text_after Begun.E2_80 (B.rest bytes.old) }
@@ -40,7 +40,7 @@ fn from_e2_80<B: Feed>(bytes: &mut B) -> Spelling
     }
 }
 
-/// Returns what stands for E2 81 and the bytes behind it that belong to its character, if it may be hidden.
+/// Returns what is written for E2 81 and the bytes after it that belong to its character, if it may be hidden.
 fn from_e2_81<B: Feed>(bytes: &mut B) -> Spelling
     ensures { spelled result ++ text_after Begun.Nothing (B.rest bytes.new)
         ≡ text_after Begun.E2_81 (B.rest bytes.old) }
@@ -51,7 +51,7 @@ fn from_e2_81<B: Feed>(bytes: &mut B) -> Spelling
     }
 }
 
-/// Returns what stands for E2 and the bytes behind it that belong to its character, if it may be hidden.
+/// Returns what is written for E2 and the bytes after it that belong to its character, if it may be hidden.
 fn from_e2<B: Feed>(bytes: &mut B) -> Spelling
     ensures { spelled result ++ text_after Begun.Nothing (B.rest bytes.new)
         ≡ text_after Begun.E2 (B.rest bytes.old) }
@@ -64,7 +64,7 @@ fn from_e2<B: Feed>(bytes: &mut B) -> Spelling
     }
 }
 
-/// Returns what stands for a byte. If a hidden character can begin with it, the bytes that decide are taken as well.
+/// Returns what is written for a byte. If a hidden character can begin with it, it also takes the bytes that decide.
 fn next_spelling<B: Feed>(c: u8, bytes: &mut B) -> Spelling
     ensures { spelled result ++ text_after Begun.Nothing (B.rest bytes.new)
         ≡ text_after Begun.Nothing (c ∷ B.rest bytes.old) }
@@ -77,7 +77,7 @@ fn next_spelling<B: Feed>(c: u8, bytes: &mut B) -> Spelling
     }
 }
 
-/// Hands out the bytes of another feed as they stand in a string.
+/// Hands out the bytes of another feed as they are written in a string.
 #[derive(Debug, Drop)]
 pub struct Escaped<B> {
     bytes: B,
@@ -88,7 +88,7 @@ pub struct Escaped<B> {
 impl<B: Feed> Escaped<B> {
     ghost use Rattle.aide_json.specs.code.EscapedRest.{escaped_rest};
 
-    /// Returns the bytes of a feed as they stand in a string.
+    /// Returns the bytes of a feed as they are written in a string.
     pub fn of(bytes: B) -> Escaped<B>
         ensures { escaped_rest B.rest result ≡ text_after Begun.Nothing (B.rest bytes) }
     {

@@ -1,4 +1,4 @@
-//! How one character stands in a string.
+//! How one character is written in a string.
 ghost use Rattle.std.specs.Prelude.{◌<◌};
 
 /// One to six bytes, at the end of six places.

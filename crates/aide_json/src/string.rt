@@ -8,7 +8,7 @@ use crate::base16::Base16;
 use crate::escaped::Escaped;
 use aide_text::{Feed, Pen, Sink, put, put_feed};
 
-/// Writes the characters of a text, which is UTF-8, as they stand in a string.
+/// Writes the characters of a text, which is UTF-8, as they are written in a string.
 fn put_text<W: Sink, B: Feed>(out: &mut W, pen: &mut Pen, text: B)
     requires { IsUtf8 (B.rest text) }
     ensures { Wrote (json_text (B.rest text)) (on_sheet W.Sink out.old pen.old)

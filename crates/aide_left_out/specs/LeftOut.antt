@@ -36,7 +36,7 @@ abbrev pub has_entry : Pair → Bool
 has_entry (None, None) = false
 has_entry _ = true
 
--- Whatever a list says, a change may be left out: it is not one of the settings, no entry that is there gives a right,
+-- A list may leave a change out: it is not at the path of the settings, no entry that is there gives a right,
 -- and nobody may write a directory who could not before.
 abbrev pub may_go : Measures → (path : List ℕ) → Pair → Bool
 may_go measures path pair = not (is_setting path)

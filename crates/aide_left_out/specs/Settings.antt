@@ -1,7 +1,7 @@
 -- The directory of the settings.
 use Rattle.std.specs.Prelude.{ℕ, ◌==◌, Bool, true, false, ◌&&◌, codes, List, [], ◌∷◌}
 
--- the directory of the settings, with a slash behind it
+-- the directory of the settings, with a slash after it
 abbrev pub settings : List ℕ
 settings = codes "/etc/aide-compare/"
 

@@ -18,7 +18,7 @@ is_directory_type _ = false
 abbrev pub is_directory : Attributes → Bool
 is_directory entry = is_directory_type (type_in (entry Ftype))
 
--- The group or everybody may write. What an access list gives is within its mask, which stands in the place of the
+-- The group or everybody may write. What an access list gives is within its mask, which takes the place of the
 -- group's permissions.
 abbrev pub others_write_by : Option ℕ → Bool
 others_write_by (Some mode) = has_bit mode 4 || has_bit mode 1

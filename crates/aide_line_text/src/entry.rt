@@ -124,7 +124,7 @@ fn put_sides<W: Sink>(out: &mut W, pen: &mut Pen, sides: Sides<'_>, shown: AttrS
     }
 }
 
-/// What a line says of its path besides what the databases have there.
+/// What a line says about its path apart from what the databases have there.
 #[derive(Clone, Copy)]
 pub struct Remark<'a> {
     /// The summary string.

@@ -13,7 +13,7 @@ use aide_db::View;
 use aide_json::put_comma;
 use aide_text::{Pen, Sink, put};
 
-/// Writes the member of an attribute if it is wanted, behind a comma if it is not the first.
+/// Writes the member of an attribute if it is wanted, after a comma if it is not the first.
 fn put_next<W: Sink>(
     out: &mut W,
     pen: &mut Pen,

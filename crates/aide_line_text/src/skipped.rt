@@ -19,7 +19,7 @@ fn is_skipped(columns: u64, column: u32) -> bool
     (columns >> (column - 1)) % 2 == 1
 }
 
-/// Writes the number of a column if it was skipped, behind a comma if it is not the first.
+/// Writes the number of a column if it was skipped, after a comma if it is not the first.
 fn put_next<W: Sink>(out: &mut W, pen: &mut Pen, column: u32, skipped: bool, first: bool)
     ensures { Wrote (next_item skipped first (json_count column))
         (on_sheet W.Sink out.old pen.old) (on_sheet W.Sink out.new pen.new) }

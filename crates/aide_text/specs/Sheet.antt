@@ -13,12 +13,12 @@ pub record Sheet : Type 0 where
   pub sent : ℕ
   pub failed : Bool
 
--- these bytes have gone out and are counted, up to the last value of 64 bits
+-- these bytes have been written and are counted, up to the last value of 64 bits
 pub record Adds (text : List ℕ) (a b : Sheet) : Type 0 where
   pub bytes : Appends a.bytes b.bytes text
   pub count : b.sent ≡ sum_of a.sent (length text)
 
--- the beginning of the text has gone out, not all of it, and then the sink has failed
+-- the beginning of the text has been written, not all of it, and then the sink has failed
 pub record Breaks (text : List ℕ) (a b : Sheet) : Type 0 where
   pub front : List ℕ
   pub rest : List ℕ
@@ -33,7 +33,7 @@ WroteBy true after text a b = (after ≡ true) × (b ≡ a)
 WroteBy false true text a b = Breaks text a b
 WroteBy false false text a b = Adds text a b × (b.failures ≡ a.failures)
 
--- The text has gone out, or its beginning has and then the sink has failed. A pen that has failed before writes
+-- The text has been written, or its beginning has and then the sink has failed. A pen that has failed before writes
 -- nothing. The sink is not flushed.
 pub record Wrote (text : List ℕ) (a b : Sheet) : Type 0 where
   pub as_flags : WroteBy a.failed b.failed text a b

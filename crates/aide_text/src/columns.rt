@@ -1,4 +1,4 @@
-//! Lines of two texts side by side, laid out in place, so that a line goes out with one call of the sink.
+//! Lines of two texts side by side, laid out in place, so that a line is written with one call of the sink.
 ghost use Rattle.std.specs.Prelude.{◌≡◌, ◌≤◌, ◌++◌, length, take, drop};
 ghost use Rattle.aide_text.specs.Layout.{heading, margin, pair_line};
 ghost use Rattle.aide_text.specs.code.Columns.{blank_pair};

@@ -1,11 +1,11 @@
-//! Writes a whole text to a sink, or returns how many bytes went out before the sink failed.
+//! Writes a whole text to a sink, or returns how many bytes were written before the sink failed.
 ghost use Rattle.std.specs.Prelude.{◌≡◌, ◌<◌, ℕ, length, take, OnOk, IfErr};
 ghost use Rattle.std.specs.Io.KnownBytes.{Appends};
 ghost use Rattle.aide_text.specs.Failures.{CountsFault};
 
 use crate::sink::Sink;
 
-/// Writes all of these bytes. If the sink fails, the error is how many bytes went out: that many first bytes of the
+/// Writes all of these bytes. If the sink fails, the error is how many bytes were written: that many first bytes of the
 /// text, and fewer than all.
 pub fn emit<W: Sink>(out: &mut W, bytes: &[u8]) -> Result<(), u64>
     ensures ok { OnOk result (Appends (W.delivered out.old) (W.delivered out.new) bytes.now) }

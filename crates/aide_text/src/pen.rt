@@ -15,11 +15,11 @@ use crate::sink::Sink;
 use crate::slices::SliceFeed;
 use itoa::Buffer;
 
-/// Counts the bytes of a report that have gone out. Once the sink has failed, the pen writes nothing more. So each
+/// Counts the bytes of a report that have been written. Once the sink has failed, the pen writes nothing more. So each
 /// function that writes with a pen writes its whole text, or only the beginning of it and then nothing.
 #[derive(Clone, Copy, Debug, PartialEq, Eq)]
 pub struct Pen {
-    /// The bytes that have gone out. The count stops at `u64::MAX`.
+    /// The bytes that have been written. The count stops at `u64::MAX`.
     pub sent: u64,
     /// Whether the sink has failed.
     pub failed: bool,
@@ -37,7 +37,7 @@ impl Pen {
     }
 }
 
-/// Writes these bytes, and counts those that go out. A failure of the sink is noted in the pen.
+/// Writes these bytes, and counts those that were written. A failure of the sink is noted in the pen.
 pub fn put<W: Sink>(out: &mut W, pen: &mut Pen, bytes: &[u8])
     ensures { Wrote bytes.now (on_sheet W.Sink out.old pen.old) (on_sheet W.Sink out.new pen.new) }
 {
@@ -69,7 +69,7 @@ pub fn put_path<W: Sink, B: Feed>(out: &mut W, pen: &mut Pen, path: B)
 }
 
 /// Writes these bytes as a path is printed: a control byte or a backslash becomes a backslash and three octal digits.
-/// If the sink fails, the error is how many printed bytes went out, or `u64::MAX` if there were more.
+/// If the sink fails, the error is how many printed bytes were written, or `u64::MAX` if there were more.
 pub fn emit_path<W: Sink>(out: &mut W, bytes: &[u8]) -> Result<(), u64>
     ensures ok { OnOk result (Appends (W.delivered out.old) (W.delivered out.new)
         (printed bytes.now)) }

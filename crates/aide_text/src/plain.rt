@@ -36,7 +36,7 @@ fn are_eight_plain(bytes: &[u8; 8]) -> bool
         & is_plain(h)
 }
 
-/// Returns how many bytes stand before the first eight that are not all plain, or before the last few.
+/// Returns how many bytes come before the first eight that are not all plain, or before the last few.
 fn plain_eights(text: &[u8]) -> usize
     ensures fits { result ≤ length text.now }
     ensures plain { IsPlainUpTo text.now result }
@@ -51,7 +51,7 @@ fn plain_eights(text: &[u8]) -> usize
     text.len() - rest.len()
 }
 
-/// Returns how many bytes stand before the first one that is not plain.
+/// Returns how many bytes come before the first one that is not plain.
 fn few_plain(text: &[u8]) -> usize
     ensures fits { result ≤ length text.now }
     ensures plain { IsPlainUpTo text.now result }
@@ -66,7 +66,7 @@ fn few_plain(text: &[u8]) -> usize
     len
 }
 
-/// Returns how many bytes stand before the first one that is not plain. The bytes are checked eight at a time.
+/// Returns how many bytes come before the first one that is not plain. The bytes are checked eight at a time.
 fn plain_len(text: &[u8]) -> usize
     ensures fits { result ≤ length text.now }
     ensures plain { IsPlainUpTo text.now result }
@@ -86,7 +86,7 @@ fn put_rest<W: Sink>(out: &mut W, pen: &mut Pen, text: &[u8])
     }
 }
 
-/// Writes the path that a text with escapes means. The plain bytes at its beginning go out together.
+/// Writes the path that a text with escapes means. The plain bytes at its beginning are written together.
 fn put_encoded_path<W: Sink>(out: &mut W, pen: &mut Pen, encoded: &[u8])
     ensures { Wrote (printed (percent_decode encoded.now)) (on_sheet W.Sink out.old pen.old)
         (on_sheet W.Sink out.new pen.new) }

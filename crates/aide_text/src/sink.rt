@@ -8,11 +8,11 @@ use aide_db::DeviceFault;
 use std::io::Write;
 use std::marker::Model;
 
-/// A device that takes bytes. Contracts see the bytes delivered, if the device tells them, and how often it has failed.
+/// A device that takes bytes. Contracts see the bytes delivered, if the device shows them, and how often it has failed.
 /// They also see how often it was flushed, and whether all delivered bytes have been flushed. Both counts stop at
 /// `u64::MAX`.
 pub trait Sink {
-    /// The bytes delivered so far, if the device tells them.
+    /// The bytes delivered so far, if the device shows them.
     ghost delivered: { Self → Option (List ℕ) };
 
     /// How often the device has failed.
@@ -43,7 +43,7 @@ pub trait Sink {
 }
 
 /// A sink over any writer. Every error of the writer counts as a failure, and so does a write that takes no byte. What
-/// was delivered is what the writer tells of its contents.
+/// was delivered is what the writer shows of its contents.
 #[derive(Drop)]
 pub struct WriteSink<W> {
     writer: W,

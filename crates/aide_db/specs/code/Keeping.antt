@@ -31,9 +31,9 @@ pub record IsWithinLimit (limits : Limits) (used : ℕ) (ahead : List ℕ) : Typ
   -- the limit is one that a cursor may have
   pub bytes : limits.bytes ≤ 2 ^ 60
 
--- What taking bytes leaves of a reel that tells its bytes.
+-- What taking bytes leaves of a reel that shows its bytes.
 pub record TellsOn {R : Type 0} (r : Reels R) (a b : ChunkReaderView R) : Type 0 where
-  -- the reel still tells them
+  -- the reel still shows them
   pub goes_on : tells (r.to_come a.reel) ≡ true → tells (r.to_come b.reel) ≡ true
   -- some or none of the first ones came, and they were hashed
   pub gives : tells (r.to_come a.reel) ≡ true
@@ -77,7 +77,7 @@ pub record KeepsCursor {R : Type 0} (r : Reels R) (c e : CursorView R) : Type 0 
   -- its side and its limits
   pub side : e.side ≡ c.side
   pub limits : e.limits ≡ c.limits
-  -- a reel that tells its bytes still does, and some or none of the first ones came and were hashed
+  -- a reel that shows its bytes still does, and some or none of the first ones came and were hashed
   pub goes_on : tells (r.to_come c.reel) ≡ true → tells (r.to_come e.reel) ≡ true
   pub gives : tells (r.to_come c.reel) ≡ true
       → Gives (told (r.to_come c.reel)) (told (r.to_come e.reel)) c.hash e.hash
@@ -107,7 +107,7 @@ pub record IsOutcomeOfTaking (limits : Limits) (room used used_now : ℕ) (ahead
   -- if the room takes each line, no allocation fails
   pub memory : limits.line ≤ room → HasMemory result
 
--- What the outcome of one more line says of the cursor and the desk.
+-- What the outcome of one more line says about the cursor and the desk.
 pub record IsOutcomeOfLine {R : Type 0} (c e : CursorView R) (d f : DeskView)
     (result : Judgement) : Type 0 where
   -- at an entry the side has a new entry line, and otherwise its entry is as before
@@ -121,7 +121,7 @@ pub record IsOutcomeOfLine {R : Type 0} (c e : CursorView R) (d f : DeskView)
   -- if the room takes each line, no allocation fails
   pub memory : c.limits.line ≤ d.room → GoesOn result
 
--- What the answer after the end line says of the cursor.
+-- What the answer after the end line says about the cursor.
 pub record IsOutcomeOfEnd {R : Type 0} (c e : CursorView R)
     (result : Result Step DbFault) : Type 0 where
   -- the cursor has come to an end or a fault, which is the answer

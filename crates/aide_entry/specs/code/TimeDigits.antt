@@ -12,7 +12,7 @@ unfoldable pub are_three : ℕ → ℕ → ℕ → ℕ → Bool
 are_three a b c d = nat_le 7 (slice_index FIRST a + slice_index SECOND b + slice_index THIRD c
     + slice_index FOURTH d)
 
--- two symbols weigh enough for one digit, and the padding stands behind them
+-- two symbols weigh enough for one digit, and the padding follows them
 unfoldable pub is_one : ℕ → ℕ → ℕ → ℕ → Bool
 is_one a b c d = nat_le 3 (slice_index FIRST a + slice_index LAST b) && ((c == 61) && (d == 61))
 

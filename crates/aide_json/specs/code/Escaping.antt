@@ -3,27 +3,27 @@ use Rattle.std.specs.Prelude.{ℕ, ◌+◌, ◌==◌, ◌||◌, ◌&&◌, if◌t
 use Rattle.std.specs.Prelude.{nat_lt, nat_le}
 use Rattle.aide_json.specs.Json.{u_escape}
 
--- what stands for a byte with which no hidden character of more bytes begins
+-- what is written for a byte with which no hidden character of more bytes begins
 abbrev pub one_byte : ℕ → List ℕ
 one_byte c =
     if c == 34 || c == 92 then 92 ∷ c ∷ []
     else (if nat_lt c 0x20 || c == 0x7f then u_escape c else (c ∷ []))
 
--- what stands for C2 and a byte after it: U+0080 to U+00BF
+-- what is written for C2 and a byte after it: U+0080 to U+00BF
 abbrev pub after_c2 : ℕ → List ℕ
 after_c2 c = if nat_lt c 0xa0 then u_escape c else (0xc2 ∷ c ∷ [])
 
--- what stands for D8 and a byte after it: U+0600 to U+063F
+-- what is written for D8 and a byte after it: U+0600 to U+063F
 abbrev pub after_d8 : ℕ → List ℕ
 after_d8 c = if c == 0x9c then u_escape 0x61c else (0xd8 ∷ c ∷ [])
 
--- what stands for E2 80 and a byte after them: U+2000 to U+203F
+-- what is written for E2 80 and a byte after them: U+2000 to U+203F
 abbrev pub after_e2_80 : ℕ → List ℕ
 after_e2_80 c =
     if (nat_le 0x8e c && nat_le c 0x8f) || (nat_le 0xa8 c && nat_le c 0xae)
     then u_escape (0x1f80 + c) else (0xe2 ∷ 0x80 ∷ c ∷ [])
 
--- what stands for E2 81 and a byte after them: U+2040 to U+207F
+-- what is written for E2 81 and a byte after them: U+2040 to U+207F
 abbrev pub after_e2_81 : ℕ → List ℕ
 after_e2_81 c =
     if nat_le 0xa6 c && nat_le c 0xa9
@@ -47,7 +47,7 @@ begun_bytes E2 = 0xe2 ∷ []
 begun_bytes E2_80 = 0xe2 ∷ 0x80 ∷ []
 begun_bytes E2_81 = 0xe2 ∷ 0x81 ∷ []
 
--- what stands for these bytes, behind what is begun
+-- what is written for these bytes, after what is begun
 abbrev pub text_after : Begun → List ℕ → List ℕ
 text_after begun [] = begun_bytes begun
 text_after Nothing (c ∷ cs) =

@@ -3,7 +3,7 @@ use Rattle.std.specs.Prelude.{ℕ, Bool, true, false, if◌then◌else◌, List,
 use Rattle.std.specs.List.{filter}
 use Rattle.aide_json.specs.Object.{behind, comma, joined}
 
--- the texts that come next: at the beginning, or behind others
+-- the texts that come next: at the beginning, or after others
 abbrev pub joined_on : Bool → List (List ℕ) → List ℕ
 joined_on true texts = joined texts
 joined_on false texts = behind texts

@@ -15,7 +15,7 @@ entry_head word path letters =
     123 ∷ (member (codes "kind") (quoted word)
     ++ (44 ∷ (text_member (codes "path") path ++ (44 ∷ member (codes "summary") (quoted letters)))))
 
--- the entries of both databases, each behind a comma
+-- the entries of both databases, each after a comma
 abbrev pub entries_behind : (Attr → Bool) → Pair → List ℕ
 entries_behind shows found =
     behind (entry_members (codes "old") shows found.0)
