@@ -19,10 +19,10 @@ use std::alloc::Allocator;
 /// opening of the old and of the new database gives. The first three clauses are about a call in which
 /// no device counts a failure:
 ///
-/// - If both texts are sound, exactly the report goes out. The report and the outcome are those that
+/// - If both texts are sound, exactly the report is written. The report and the outcome are those that
 ///   the definitions assign to the two maps.
-/// - If the old text is not sound, its first fault is returned and nothing goes out.
-/// - If only the new text is not sound, its first fault is returned and nothing goes out.
+/// - If the old text is not sound, its first fault is returned and nothing is written.
+/// - If only the new text is not sound, its first fault is returned and nothing is written.
 /// - At no moment does the desk hold more bytes than the longest line of each text and one more line
 ///   no longer than these, unless it held more before the call.
 ///

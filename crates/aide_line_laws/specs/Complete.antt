@@ -39,7 +39,8 @@ digest_in json =
 abbrev pub digest_under : List ℕ → List Field → Option (List ℕ)
 digest_under name fields = option_and_then digest_in (value_under name fields)
 
--- What has gone out ends with a last line, in which a reader finds the SHA-256 of each of these texts under its name.
+-- What has been written ends with a last line, in which a reader finds the SHA-256 of each of these texts under its
+-- name.
 pub record EndsWithDigests (texts : List (List ℕ × List ℕ))
     (before after : Option (List ℕ)) : Type 0 where
   pub begun : List ℕ

@@ -19,7 +19,7 @@ pub record BeginsWith (text rest : List ℕ) (fields : List Field) : Type 0 wher
   pub is_line : IsJsonLine line fields
   pub parts : text ≡ line ++ rest
 
--- the text is one line for each list of members, one behind another
+-- the text is one line for each list of members, one after another
 abbrev pub AreJsonLines : List ℕ → List (List Field) → Type 0
 AreJsonLines text [] = text ≡ []
 AreJsonLines text (fields ∷ more) =

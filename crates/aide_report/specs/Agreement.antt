@@ -1,4 +1,4 @@
--- What a report says first. The numbers of its outcome determine that, whatever the sources tell of their bytes.
+-- What a report says first. The numbers of its outcome determine that, whatever the sources show of their bytes.
 use Rattle.std.specs.Prelude.{◌≡◌, ℕ, ◌+◌, ◌&&◌, not, Bool, false, if◌then◌else◌, Option, List, []}
 use Rattle.std.specs.Prelude.{◌++◌}
 use Rattle.std.specs.Io.KnownBytes.{Appends}
@@ -33,13 +33,13 @@ beginning_by options counts =
 abbrev pub goes_on_by : Options → Counts → Bool
 goes_on_by options counts = goes_on options counts.added counts.removed counts.changed
 
--- the text has gone out, and bytes follow it only if more is wanted
+-- the text has been written, and bytes follow it only if more is wanted
 pub record BeginsWith (text : List ℕ) (wants_more : Bool) (old new : Option (List ℕ)) : Type 0 where
   pub rest : List ℕ
   pub bytes : Appends old new (text ++ rest)
   pub alone : wants_more ≡ false → rest ≡ []
 
--- the bytes that went out are a report with this outcome, as far as its numbers determine the report
+-- the bytes that were written are a report with this outcome, as far as its numbers determine the report
 abbrev pub IsOfOutcome : Options → Outcome → Option (List ℕ) → Option (List ℕ) → Type 0
 IsOfOutcome options outcome old new =
     BeginsWith (beginning_of options outcome.total outcome.added outcome.removed outcome.changed)

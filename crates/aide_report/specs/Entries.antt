@@ -1,4 +1,4 @@
--- What a report says of one change: its line in a list, and its details.
+-- What a report says about one change: its line in a list, and its details.
 use Rattle.std.specs.Prelude.{ℕ, Bool, true, false, ◌&&◌, if◌then◌else◌, List, [], ◌++◌, Option}
 use Rattle.std.specs.Prelude.{Some, None, is_some, codes}
 use Rattle.std.specs.List.{flat_map, filter, list_any}
@@ -84,7 +84,7 @@ title_word (Some (Other bits)) = codes "Entry"
 abbrev pub title_of : Pair → List ℕ
 title_of pair = title_word (type_at pair)
 
--- an attribute: the old value beside the new one
+-- an attribute: the old value and the new one
 unfoldable pub attribute_text : Bool → Pair → Attr → List ℕ
 attribute_text base16 pair a =
     side_by_side (detail_name_of a) (side_text base16 a pair.0) (side_text base16 a pair.1)

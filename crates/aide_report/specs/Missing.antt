@@ -17,7 +17,7 @@ use Rattle.aide_report.specs.declared.run_fault.RunFault.TheVariants.{Open, Data
 use Rattle.aide_report.specs.declared.run_fault.RunFault.TheVariants.{Write}
 use Rattle.aide_text.specs.Sent.{SendsPart}
 
--- the sources tell what is at a side: its text, or that the side is missing
+-- the sources show what is at a side: its text, or that the side is missing
 abbrev pub TellsSide : (bytes : Option (List ℕ)) → (is_missing : Bool) → Option (List ℕ) → Type 0
 TellsSide bytes is_missing (Some text) = bytes ≡ Some text
 TellsSide bytes is_missing None = is_missing ≡ true
@@ -64,12 +64,12 @@ abbrev pub StopsFor : Result Report RunFault → (RunFault → Type 0) → RunFa
 StopsFor (Ok report) hindered fault = hindered fault
 StopsFor (Err right) hindered fault = (fault ≡ right) ⊎ hindered fault
 
--- the beginning of the answer's report has gone out, and nothing if the answer is a fault
+-- the beginning of the answer's report has been written, and nothing if the answer is a fault
 abbrev pub SendsFront : Result Report RunFault → Option (List ℕ) → Option (List ℕ) → Type 0
 SendsFront (Ok report) before after = SendsPart report.text before after
 SendsFront (Err right) before after = Appends before after []
 
--- the whole of the answer's report has gone out, and its outcome is returned
+-- the whole of the answer's report has been written, and its outcome is returned
 abbrev pub SendsWhole : Result Report RunFault → Outcome → Option (List ℕ) → Option (List ℕ)
     → Type 0
 SendsWhole (Ok report) outcome before after = (report.outcome ≡ outcome)

@@ -27,8 +27,8 @@ use Rattle.aide_text.specs.Failures.{CountsFlush, Rose}
 -- of the sink.
 pub record IsRun (limits : Limits) (asked : Asked) (a b : Seen) (d e : DeskView)
     (o p : SinkSeen) (result : Result Outcome RunFault) : Type 0 where
-  -- If it is told what is at each side, a text or nothing: the run ends with the right answer, and sends its report,
-  -- unless an allocation, a side that is there, or the sink has failed. Then its beginning has gone out.
+  -- If it is known what is at each side, a text or nothing: the run ends with the right answer, and sends its report,
+  -- unless an allocation, a side that is there, or the sink has failed. Then its beginning has been written.
   pub over : (old new : Option (List ℕ)) → TellsSide (a.bytes_of Old) (a.is_missing Old) old
       → TellsSide (a.bytes_of New) (a.is_missing New) new
       → (r : Result Report RunFault) → RunsOver limits asked old new r
@@ -39,18 +39,18 @@ pub record IsRun (limits : Limits) (asked : Asked) (a b : Seen) (d e : DeskView)
   -- After `Ok` both texts are sound.
   pub sound : OnOk result ((side : Side) (text : List ℕ) → a.bytes_of side ≡ Some text
       → IsSound limits text)
-  -- If a text is not sound, nothing goes out.
+  -- If a text is not sound, nothing is written.
   pub nothing : (side : Side) (text : List ℕ) → a.bytes_of side ≡ Some text
       → (IsSound limits text → ⊥) → Appends o.delivered p.delivered []
-  -- A failed write is returned with the number of bytes that went out.
+  -- A failed write is returned with the number of bytes that were written.
   pub written : IfErr result (HasWrittenIfAny o.delivered p.delivered)
-  -- For any sources, also those that tell no bytes: what has gone out is of the very outcome that is returned.
+  -- For any sources, also those that show no bytes: what has been written is of the very outcome that is returned.
   pub consistent : IfOk result (λ outcome.
       IsOfOutcome asked.options outcome o.delivered p.delivered)
   -- It is flushed once, after its last byte, and after a fault not at all.
   pub flushed : OnOk result (p.is_flushed ≡ true)
   pub flushes : CountsFlush o.flushes p.flushes result
-  -- Before both databases have been read and counted, nothing goes out.
+  -- Before both databases have been read and counted, nothing is written.
   pub unsent : IfErr result (HasSentNothing 2 (a.openings Old) (b.openings Old)
       o.delivered p.delivered)
   -- why a fault comes

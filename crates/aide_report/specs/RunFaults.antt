@@ -15,13 +15,12 @@ use Rattle.aide_report.specs.declared.run_fault.RunFault.{RunFault}
 use Rattle.aide_report.specs.declared.run_fault.RunFault.TheVariants.{Open, Database, Changed}
 use Rattle.aide_report.specs.declared.run_fault.RunFault.TheVariants.{Write}
 
--- if a write failed, the fault has the number of bytes that went out
+-- if a write failed, the fault has the number of bytes that were written
 abbrev pub HasWrittenIfAny : Option (List ℕ) → Option (List ℕ) → RunFault → Type 0
 HasWrittenIfAny old new (Write written) = IsCounted old new 0 written
 HasWrittenIfAny old new _ = ⊤
 
--- If no write failed and the old side was opened at most this often, nothing has gone out: what is written is begun
--- later.
+-- If no write failed and the old side was opened at most this often, nothing has been written yet.
 -- This is said only of runs in which the count of openings stays below its last value.
 abbrev pub HasSentNothing : (before_it opened_old opened_new : ℕ) → Option (List ℕ)
     → Option (List ℕ) → RunFault → Type 0
@@ -36,7 +35,7 @@ IsCaused sources sink (Database fault) = fault.kind ≡ Read → sources
 IsCaused sources sink (Changed side) = ⊤
 IsCaused sources sink (Write written) = sink
 
--- A side that tells its text is never called changed, and a fault of its text is the first one.
+-- A side that shows its text is never called changed, and a fault of its text is the first one.
 abbrev pub IsRight : Limits → (Side → Option (List ℕ)) → RunFault → Type 0
 IsRight limits bytes_of (Open side) = ⊤
 IsRight limits bytes_of (Database fault) = (text : List ℕ) → bytes_of fault.side ≡ Some text
@@ -45,7 +44,7 @@ IsRight limits bytes_of (Changed side) = (text : List ℕ) → bytes_of side ≡
 IsRight limits bytes_of (Write written) = ⊤
 
 -- A fault of a later pass. A fault of a database is then of memory or of a device.
--- A side that is called changed is not sound, or tells no text.
+-- A side that is called changed is not sound, or shows no text.
 abbrev pub IsLater : Limits → (Side → Option (List ℕ)) → RunFault → Type 0
 IsLater limits bytes_of (Open side) = ⊤
 IsLater limits bytes_of (Database fault) = is_outside fault.kind ≡ true

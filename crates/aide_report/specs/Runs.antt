@@ -26,7 +26,7 @@ pub record Report : Type 0 where
   pub text : List ℕ
   pub outcome : Outcome
 
--- what a report says of a database itself: its path, and the SHA-256 of its text
+-- what a report says about a database itself: its path, and the SHA-256 of its text
 abbrev pub origin_of : List ℕ → List ℕ → Origin
 origin_of path text = record { path = path; digest = sha256 text }
 
@@ -79,12 +79,12 @@ IsRunFault limits asked bytes_of (Database fault) = (old new : List ℕ) → byt
     → is_outside fault.kind ≡ false → Runs limits asked old new (Err fault)
 IsRunFault limits asked bytes_of _ = ⊤
 
--- the whole of an answer's report has gone out, and its outcome is returned
+-- the whole of an answer's report has been written, and its outcome is returned
 abbrev pub EndsWell : Result Report DbFault → Outcome → Option (List ℕ) → Option (List ℕ) → Type 0
 EndsWell (Ok report) outcome old new = (report.outcome ≡ outcome) × Appends old new report.text
 EndsWell (Err fault) outcome old new = ⊥
 
--- the beginning of an answer's report has gone out, and nothing if the answer is a fault
+-- the beginning of an answer's report has been written, and nothing if the answer is a fault
 abbrev pub EndsEarly : Result Report DbFault → Option (List ℕ) → Option (List ℕ) → Type 0
 EndsEarly (Ok report) old new = SendsPart report.text old new
 EndsEarly (Err fault) old new = Appends old new []

@@ -1,4 +1,4 @@
--- The sections of entries: which there are, what each says of a change, and its text.
+-- The sections of entries: which there are, what each says about a change, and its text.
 use Rattle.std.specs.Prelude.{ℕ, ◌==◌, ◌||◌, ◌&&◌, not, Bool, true, false, if◌then◌else◌, List, []}
 use Rattle.std.specs.Prelude.{◌++◌, Some, None}
 use Rattle.std.specs.List.{flat_map, filter}
@@ -51,7 +51,7 @@ lists (Listed added removed changed) (path, (Some old, None)) = removed
 lists (Listed added removed changed) (path, (Some old, Some new)) = changed
 lists _ _ = false
 
--- what a section with these contents says of a change that it has: a line, or details
+-- what a section with these contents says about a change that it has: a line, or details
 abbrev pub entry_text : Options → Contents → PathChange → List ℕ
 entry_text options (Listed added removed changed) entry = list_line options entry
 entry_text options Detailed entry = entry_details options entry
@@ -61,12 +61,12 @@ unfoldable pub one_text : Options → Contents → PathChange → List ℕ
 one_text options contents entry =
     if is_in options contents entry then entry_text options contents entry else []
 
--- what a section with these contents says of all changes that it has, in their order
+-- what a section with these contents says about all changes that it has, in their order
 unfoldable pub entries_text : Options → Contents → List PathChange → List ℕ
 entries_text options contents entries =
     flat_map (entry_text options contents) (filter (is_in options contents) entries)
 
--- the title lines of a section, and what it says of all changes
+-- the title lines of a section, and what it says about all changes
 unfoldable pub section_text : Options → List PathChange → Section → List ℕ
 section_text options entries section =
     section_head section ++ entries_text options (contents_of section) entries

@@ -7,7 +7,7 @@ use Rattle.aide_db.specs.declared.side.Side.{Side}
 use Rattle.aide_db.specs.declared.sources.Sources.{Ghosts as AnySources}
 use Rattle.aide_text.specs.declared.sink.Sink.{Ghosts as AnySink}
 
--- All that contracts say of the sources at one moment.
+-- All that contracts say about the sources at one moment.
 pub record Seen : Type 0 where
   -- the bytes that each opening of a side gives, if the sources report them
   pub bytes_of : Side → Option (List ℕ)
@@ -24,7 +24,7 @@ pub record Seen : Type 0 where
   -- whether the last opening of a side is known to have succeeded
   pub was_given : Side → Bool
 
--- all that contracts say of sources of any kind
+-- all that contracts say about sources of any kind
 abbrev pub seen : {S R : Type 0} → AnySources S R → S → Seen
 seen s sources = record {
   bytes_of = s.bytes_of sources;
@@ -36,18 +36,18 @@ seen s sources = record {
   was_given = s.was_given sources;
 }
 
--- All that contracts say of a sink at one moment.
+-- All that contracts say about a sink at one moment.
 pub record SinkSeen : Type 0 where
-  -- the bytes that have gone out, if the device tells them
+  -- the bytes that have been written, if the device shows them
   pub delivered : Option (List ℕ)
   -- how often the device has failed
   pub failures : ℕ
   -- how often it was flushed
   pub flushes : ℕ
-  -- whether all bytes that have gone out have been flushed
+  -- whether all bytes that have been written have been flushed
   pub is_flushed : Bool
 
--- all that contracts say of a sink of any kind
+-- all that contracts say about a sink of any kind
 abbrev pub sink_seen : {W : Type 0} → AnySink W → W → SinkSeen
 sink_seen w sink = record {
   delivered = w.delivered sink;

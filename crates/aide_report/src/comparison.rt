@@ -103,13 +103,13 @@ pub(crate) fn compare<S: Sources, A: Allocator + Copy>(
 /// flushed once, even if it is empty. In each pass the old side is opened first. Every reel that was opened is
 /// closed.
 ///
-/// - After `Ok` both texts are sound, and exactly the report has gone out: the one function of the options, the
+/// - After `Ok` both texts are sound, and exactly the report has been written: the one function of the options, the
 ///   configured paths, the digests and the two maps of entries. It was flushed after its last byte, and the outcome
 ///   is its own.
-/// - After a fault the beginning of the report has gone out, and nothing if a text is not sound. [`RunFault::Write`]
-///   has the number of bytes. A run that ends with a fault before the old side is opened a third time has sent
-///   nothing, unless a write failed.
-/// - If the sources say that a side is missing, nothing goes out, and the answer is [`RunFault::Open`]: of the old
+/// - After a fault the beginning of the report has been written, and nothing if a text is not sound.
+///   [`RunFault::Write`] has the number of bytes. A run that ends with a fault before the old side is opened a third
+///   time has sent nothing, unless a write failed.
+/// - If the sources say that a side is missing, nothing is written, and the answer is [`RunFault::Open`]: of the old
 ///   side, or of the new one after a sound old text. The first fault of the old text comes before a missing new side.
 /// - A fault has a cause: a device that failed, an allocation that failed, the first fault of a text (the old one's
 ///   before the new one's), or a side that no longer gives what it first gave. After the first reading of a side, a

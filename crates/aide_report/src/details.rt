@@ -145,7 +145,7 @@ fn bytes_of<'x>(text: &'x ValueText<Ready, DecodedFeed<'_>, SliceFeed<'_>>) -> O
     }
 }
 
-/// An attribute: the old value beside the new one.
+/// An attribute: the old value and the new one.
 fn put_attribute<W: Sink>(out: &mut W, pen: &mut Pen, change: Change<'_>, attr: Attr, base16: bool)
     ensures { Wrote (attribute_text base16 (change_of change.entry).1 attr)
         (on_sheet W.Sink out.old pen.old) (on_sheet W.Sink out.new pen.new) }

@@ -1,4 +1,4 @@
-//! How two entries of one path differ, and what a report says of that.
+//! How two entries of one path differ, and what a report says about that.
 ghost use Rattle.std.specs.Prelude.{◌≡◌, ◌&&◌, is_some, IfSome};
 ghost use Rattle.aide_attr.specs.Difference.{is_shown};
 ghost use Rattle.aide_attr.specs.Set.{has};
@@ -38,7 +38,7 @@ fn alone_in(view: &View<'_>, level: Level) -> AttrSet
     }
 }
 
-/// What a report says of two entries of one path: the attributes that their details show, and whether they differ.
+/// What a report says about two entries of one path: the attributes that their details show, and whether they differ.
 fn said_between(old: &View<'_>, new: &View<'_>, options: &Options) -> (AttrSet, bool)
     ensures shown { (attr : Attr) → has result.0 attr
         ≡ is_shown (sides_between (entry_in old.now).1 (entry_in new.now).1)
@@ -52,7 +52,7 @@ fn said_between(old: &View<'_>, new: &View<'_>, options: &Options) -> (AttrSet, 
     (shown, !reported.is_empty())
 }
 
-/// What a report says of a change: the attributes that its details show, and whether it is a changed entry.
+/// What a report says about a change: the attributes that its details show, and whether it is a changed entry.
 pub(crate) fn said_of(change: Change<'_>, options: &Options) -> (AttrSet, bool)
     ensures shown { (attr : Attr)
         → has result.0 attr ≡ shows_at options.now (change_of change.entry).1 attr }

@@ -77,7 +77,7 @@ fn lists(contents: Contents, change: Change<'_>) -> bool
     }
 }
 
-/// Writes what a section says of a change, and nothing if the section does not have the change.
+/// Writes what a section says about a change, and nothing if the section does not have the change.
 fn put_change<W: Sink>(
     out: &mut W,
     pen: &mut Pen,

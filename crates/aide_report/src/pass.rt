@@ -96,7 +96,7 @@ pub fn later_fault(fault: DbFault) -> RunFault
     }
 }
 
-/// What the end of a pass means, with the number of bytes that have gone out.
+/// What the end of a pass means, with the number of bytes that have been written.
 pub(crate) fn pass_fault(fault: PassFault, sent: u64) -> RunFault
     ensures { result ≡ pass_fault_of fault sent }
 {

@@ -1,4 +1,4 @@
--- What arguments ask for, if the answer is that of a comparison beside a trusted pair.
+-- What arguments ask for, if the answer is that of a comparison with a trusted pair.
 use Rattle.std.specs.Prelude.{ℕ, ◌≡◌, Some, List, Ok, false}
 use Rattle.aide_conf.specs.Settings.{Configured}
 use Rattle.aide_conf.specs.ReadResult.{ReadsAs}

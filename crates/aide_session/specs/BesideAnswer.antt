@@ -1,4 +1,4 @@
--- The answer of a session beside a trusted pair: its output, its error lines and its status. The
+-- The answer of a session with a trusted pair: its output, its error lines and its status. The
 -- job and the files determine it.
 use Rattle.std.specs.Prelude.{◌≡◌, ◌⊎◌, ℕ, Bool, true, false, List, [], Ok, Err, Result, Option}
 use Rattle.std.specs.Prelude.{Some, None}
@@ -36,30 +36,30 @@ trusted_of job = record {
   new_path = job.trusted_new;
 }
 
--- What goes out: all of a text. Or no more than a beginning of the first line and of the lines of some changes, each
+-- What is written: all of a text. Or no more than a beginning of the first line and of the lines of some changes, each
 -- with what accounts for it by those of a trusted pair or by what a list leaves out.
 pub data OutputBeside : Type 0 where
   all_lines : List ℕ → OutputBeside
   start_of_lines : Leaves → (asked trusted : Asked) → (changes beside : List PathChange)
       → OutputBeside
 
--- nothing goes out
+-- nothing is written
 abbrev pub no_line : OutputBeside
 no_line = all_lines []
 
--- this has gone out between two moments
+-- this has been written between two moments
 abbrev pub GoesOutBeside : OutputBeside → (before after : Option (List ℕ)) → Type 0
 GoesOutBeside (all_lines text) before after = Appends before after text
 GoesOutBeside (start_of_lines leaves asked trusted changes beside) before after =
     BeginsBeside leaves asked trusted changes beside before after
 
--- no more than a beginning of it has gone out
+-- no more than a beginning of it has been written
 abbrev pub StartsBeside : OutputBeside → (before after : Option (List ℕ)) → Type 0
 StartsBeside (all_lines text) before after = SendsPart text before after
 StartsBeside (start_of_lines leaves asked trusted changes beside) before after =
     BeginsBeside leaves asked trusted changes beside before after
 
--- what a session beside a trusted pair writes to standard output and to standard error, and its
+-- what a session with a trusted pair writes to standard output and to standard error, and its
 -- status
 pub record AnswerBeside : Type 0 where
   pub output : OutputBeside
@@ -70,7 +70,7 @@ pub record AnswerBeside : Type 0 where
 abbrev pub refused_beside : List ℕ → ℕ → AnswerBeside
 refused_beside lines status = record { output = no_line; errors = lines; status = status }
 
--- What has gone out when a fault is the answer, by what is at the four paths: a beginning of what comes before the
+-- What has been written when a fault is the answer, by what is at the four paths: a beginning of what comes before the
 -- last line, and nothing if a file is not there.
 abbrev pub out_beside : ListRead → (asked trusted : Asked)
     → (old new trusted_old trusted_new : Option (List ℕ)) → OutputBeside
@@ -79,8 +79,8 @@ out_beside list asked trusted (Some old) (Some new) (Some trusted_old) (Some tru
     (changes_between old new) (changes_between trusted_old trusted_new)
 out_beside list asked trusted _ _ _ _ = no_line
 
--- The answer of a comparison beside a trusted pair, by the paths of both: what is written, or the
--- line and the status of the fault. What has gone out at a fault is given.
+-- The answer of a comparison with a trusted pair, by the paths of both: what is written, or the
+-- line and the status of the fault. What has been written at a fault is given.
 abbrev pub answer_beside : (at_fault : OutputBeside) → (named trusted : Named)
     → Result Report PairFault → AnswerBeside
 answer_beside at_fault named trusted (Ok report) = record {
@@ -164,7 +164,7 @@ IsGivenBeside files trusted_files job (Ok rules) named a =
     IsListedBeside files trusted_files job (list_of job.without rules) named a
 IsGivenBeside files trusted_files job (Err fault) named a = a ≡ refused_beside (list_line fault) 17
 
--- The answer to a job beside a trusted pair, over the files of both sites. It is the first fault of
+-- The answer to a job with a trusted pair, over the files of both sites. It is the first fault of
 -- the list, of the configuration or of a database, or else the lines. A named file that is not there
 -- counts as a fault. `named` has the paths that the arguments and the configuration name.
 pub record IsAnswerBeside (files trusted_files : Files) (job : BesideText) (named : Named)

@@ -1,4 +1,4 @@
--- How a session beside a trusted pair ends.
+-- How a session with a trusted pair ends.
 use Rattle.std.specs.Prelude.{◌≡◌, ◌≤◌, ℕ, Bool, true, false, Ok, Err, Result, Option, Some, None}
 use Rattle.std.specs.Prelude.{List, [], IfErr, IfOk, OnOk, ◌⊎◌, max, ⊤}
 use Rattle.std.specs.Io.KnownBytes.{Appends}
@@ -42,7 +42,7 @@ use Rattle.aide_trusted.specs.Pairs.{OfEach}
 use Rattle.aide_trusted.specs.declared.pair_fault.PairFault.{PairFault}
 use Rattle.aide_words.specs.BesideJob.{BesideText}
 
--- All that contracts say of a session beside a trusted pair, but how often its first site had
+-- All that contracts say about a session with a trusted pair, but how often its first site had
 -- failed before.
 pub record BesideView : Type 0 where
   -- what is known of the files of either site
@@ -58,7 +58,7 @@ pub record BesideView : Type 0 where
   -- how often the output has failed
   pub out_before : ℕ
   pub out_after : ℕ
-  -- what went out
+  -- what was written
   pub sinks : Sinks
   -- what was opened and flushed; the output of both courses is the same
   pub course : Course
@@ -203,7 +203,7 @@ pub record MeansOfPair (files : Files) (named : Named) (is_reliable : Bool) (cou
   pub refused : IsRefusedThere course.opened_before course.opened_after fault
   pub not_given : IsNotGiven course.given_after fault
 
--- if one of the files of a pair is not there, nothing has gone out
+-- if one of the files of a pair is not there, nothing has been written
 abbrev pub KeepsMissingFile : Files → Named → Sinks → Type 0
 KeepsMissingFile files named sinks = (side : Side)
     → files (by_side named.old_path named.new_path side) ≡ Some None
@@ -237,14 +237,14 @@ pub record ComparesPairs (list : ListRead) (named trusted : Named) (options : Op
       → EndsBeside r (OfEach (IsHindered old new site (Rose v.out_before v.out_after))
       (IsHindered trusted_old trusted_new (Rose v.trusted_before v.trusted_after) ⊥))
       result v.sinks.out_old v.sinks.out_new
-  -- What has gone out at a fault: never a byte of the last line, unless all four texts are sound
+  -- What has been written at a fault: never a byte of the last line, unless all four texts are sound
   -- and a write has failed.
   pub cut : (old new trusted_old trusted_new : List ℕ) → HasText v.files named Old old
       → HasText v.files named New new → HasText v.trusted_files trusted Old trusted_old
       → HasText v.trusted_files trusted New trusted_new
       → IfErr result (CutsBeside limits list (asked_by options named) (asked_by options trusted)
       old new trusted_old trusted_new v.sinks.out_old v.sinks.out_new)
-  -- Before all four databases are open nothing goes out.
+  -- Before all four databases are open nothing is written.
   pub unopened : IfErr result (OfEach (KeepsUnopened v.sinks.out_old v.sinks.out_new)
       (KeepsUnopened v.sinks.out_old v.sinks.out_new))
   pub missing : KeepsMissingFile v.files named v.sinks
@@ -254,7 +254,7 @@ pub record ComparesPairs (list : ListRead) (named trusted : Named) (options : Op
   pub sound : OnOk result (AreBothSound v.files named)
   pub trusted_sound : OnOk result (AreBothSound v.trusted_files trusted)
   pub behind : IfErr result (OfEach (λ fault. ⊤) (λ fault. AreBothSound v.files named))
-  -- For any sites, also those that tell no files: what has gone out is of the very outcome that is
+  -- For any sites, also those that show no files: what has been written is of the very outcome that is
   -- returned.
   pub consistent : IfOk result (λ outcome. AreLinesBeside list (asked_by options named)
       (asked_by options trusted) outcome v.sinks.out_old v.sinks.out_new)

@@ -8,7 +8,7 @@ pub record Paged (W : Type 0) : Type 0 where
   pub waiting : List ℕ
   pub used : ℕ
 
--- the bytes that went into the sink and onto the page, if the sink tells its own bytes
+-- the bytes that were written into the sink and onto the page, if the sink shows its own bytes
 abbrev pub known_of : {W : Type 0} → (W → Option (List ℕ)) → Paged W → Option (List ℕ)
 known_of delivered s = append_known (delivered s.sink) s.waiting
 

@@ -49,7 +49,7 @@ trusted_fault_line old_path new_path (Database fault) = trusted_kind_line fault 
 trusted_fault_line old_path new_path (Changed side) = trusted_changed_line side
 trusted_fault_line old_path new_path (Write written) = write_line
 
--- the line for the fault that ended a run beside a trusted pair, by the paths of both pairs
+-- the line for the fault that ended a run with a trusted pair, by the paths of both pairs
 abbrev pub pair_fault_line : (old_path new_path trusted_old trusted_new : List ℕ) → PairFault
     → List ℕ
 pair_fault_line old_path new_path trusted_old trusted_new (Compared fault) =

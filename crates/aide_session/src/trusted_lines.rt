@@ -66,7 +66,7 @@ fn put_trusted_fault<E: Sink>(err: &mut E, trusted_task: &Task<'_>, fault: RunFa
     }
 }
 
-/// Puts the line that says why a run beside a trusted pair failed.
+/// Puts the line that says why a run with a trusted pair failed.
 pub(crate) fn put_pair_fault<E: Sink>(
     err: &mut E,
     task: &Task<'_>,

@@ -1,4 +1,4 @@
--- The lines of two databases beside a trusted pair.
+-- The lines of two databases with a trusted pair.
 use Rattle.std.specs.Prelude.{◌≡◌, ℕ, List, [], ◌++◌, Option, true}
 use Rattle.std.specs.FinMap.{get}
 use Rattle.std.specs.FinMap.Entries.{is_sorted}
@@ -21,7 +21,7 @@ use Rattle.aide_text.specs.Sent.{SendsPart}
 use Rattle.aide_trusted.specs.Listed.{Leaves, ListRead, account_by, leaves_between}
 use Rattle.aide_trusted.specs.Sought.{Accounted, accounted_lines, changes_of, sought_by}
 
--- what the last line says of all four databases
+-- what the last line says about all four databases
 pub record PairFacts : Type 0 where
   pub of_old : ReadFacts
   pub of_new : ReadFacts
@@ -52,7 +52,7 @@ all_lines_beside list asked trusted facts account counts changes =
     (opening_beside asked trusted ++ change_lines asked.options account changes)
     ++ closing_beside list facts counts
 
--- what the last line says of four texts
+-- what the last line says about four texts
 abbrev pub facts_of_texts : (old new trusted_old trusted_new : List ℕ) → PairFacts
 facts_of_texts old new trusted_old trusted_new = record {
   of_old = read_of old;
@@ -85,8 +85,8 @@ lines_beside list asked trusted old new trusted_old trusted_new = record {
   outcome = (report_over asked old new).outcome;
 }
 
--- A beginning of the first line and of the lines of these changes has gone out, each with what accounts for it. If the
--- changes are in path order, that is what the changes of the trusted pair have at its path, or what is left out.
+-- A beginning of the first line and of the lines of these changes has been written, each with what accounts for it. If
+-- the changes are in path order, that is what the changes of the trusted pair have at its path, or what is left out.
 pub record BeginsBeside (leaves : Leaves) (asked trusted : Asked) (changes beside : List PathChange)
     (before after : Option (List ℕ)) : Type 0 where
   pub accounted : List Accounted
@@ -97,9 +97,9 @@ pub record BeginsBeside (leaves : Leaves) (asked trusted : Asked) (changes besid
       (opening_beside asked trusted ++ change_lines asked.options (sought_by leaves beside) changes)
       before after
 
--- The first line has gone out with the paths, the last line with some digests, the skipped columns and the counts of
--- this outcome, and bytes between them only if an entry was added, removed or changed. What accounts for the lines are
--- as many as they are. The skipped columns of the trusted pair are no part of the outcome.
+-- The first line has been written with the paths, the last line with some digests, the skipped columns and the counts
+-- of this outcome, and bytes between them only if an entry was added, removed or changed. What accounts for the lines
+-- are as many as they are. The skipped columns of the trusted pair are no part of the outcome.
 pub record AreLinesBeside (list : ListRead) (asked trusted : Asked) (outcome : Outcome)
     (before after : Option (List ℕ)) : Type 0 where
   pub facts : PairFacts

@@ -1,4 +1,4 @@
--- What a run beside a trusted pair returns, and what it leaves.
+-- What a run with a trusted pair returns, and what it leaves.
 use Rattle.std.specs.Prelude.{◌≡◌, ◌≤◌, ◌*◌, ℕ, ◌⊎◌, Option, Some, None, Result, Ok, Err, List}
 use Rattle.std.specs.Prelude.{max, true}
 use Rattle.std.specs.Io.KnownBytes.{Appends}
@@ -68,7 +68,7 @@ abbrev pub StopsForPair : Result Report PairFault → (PairFault → Type 0) →
 StopsForPair (Ok report) hindered fault = hindered fault
 StopsForPair (Err right) hindered fault = (fault ≡ right) ⊎ hindered fault
 
--- the whole of the answer's lines has gone out, and its outcome is returned
+-- the whole of the answer's lines has been written, and its outcome is returned
 abbrev pub SendsWholeOf : Result Report PairFault → Outcome → Option (List ℕ) → Option (List ℕ)
     → Type 0
 SendsWholeOf (Ok report) outcome before after = (report.outcome ≡ outcome)
@@ -81,7 +81,7 @@ abbrev pub EndsBeside : Result Report PairFault → (PairFault → Type 0) → R
 EndsBeside r hindered (Ok outcome) before after = SendsWholeOf r outcome before after
 EndsBeside r hindered (Err fault) before after = StopsForPair r hindered fault
 
--- ---- what has gone out at a fault
+-- ---- what has been written at a fault
 
 -- all four texts are sound
 pub record AreAllSound (limits : Limits) (old new trusted_old trusted_new : List ℕ) : Type 0 where

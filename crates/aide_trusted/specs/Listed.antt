@@ -1,4 +1,4 @@
--- What accounts for a change beside a trusted pair and a list that says what is left out.
+-- What accounts for a change with a trusted pair and a list that says what is left out.
 use Rattle.std.specs.Prelude.{ℕ, List, Option, Some, None, option_map}
 use Rattle.aide_agreement.specs.declared.account.SameAs.{SameAs}
 use Rattle.aide_attr.specs.declared.attr.Attr.TheVariants.{Caps}

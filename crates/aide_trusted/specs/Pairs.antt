@@ -1,4 +1,4 @@
--- Facts about the faults of a run beside a trusted pair.
+-- Facts about the faults of a run with a trusted pair.
 use Rattle.std.specs.Prelude.{◌≡◌, ℕ, Result, Ok, Err, ⊤}
 use Rattle.aide_report.specs.RunFaults.{CountsWriteFault}
 use Rattle.aide_report.specs.declared.run_fault.RunFault.{RunFault}

@@ -1,4 +1,4 @@
--- What a run over two databases beside a trusted pair promises. It reads each of the four once.
+-- What a run over two databases with a trusted pair promises. It reads each of the four once.
 use Rattle.std.specs.Io.KnownBytes.{Appends}
 use Rattle.std.specs.Prelude.{◌≡◌, ℕ, true, [], List, Option, Some, Result, IfErr, IfOk, OnOk, ⊤}
 use Rattle.aide_db.specs.Database.{IsSound}
@@ -25,17 +25,17 @@ abbrev pub AreSoundIn : Limits → PairSeen → Type 0
 AreSoundIn limits p = (side : Side) (text : List ℕ) → p.before.bytes_of side ≡ Some text
     → IsSound limits text
 
--- if one of these sides is missing, nothing has gone out
+-- if one of these sides is missing, nothing has been written
 abbrev pub KeepsMissing : PairSeen → (before after : Option (List ℕ)) → Type 0
 KeepsMissing p before after = (side : Side) → p.before.is_missing side ≡ true
     → Appends before after []
 
--- A run over the compared pair `p` beside the trusted pair `q` and a list, with this result: `o` is seen of the sink
+-- A run over the compared pair `p` with the trusted pair `q` and a list, with this result: `o` is seen of the sink
 -- before it, `s` after it.
 pub record IsRunBeside (limits : Limits) (list : ListRead) (p q : PairSeen)
     (o s : SinkSeen) (result : Result Outcome PairFault) : Type 0 where
-  -- If it is told what is at each of the four sides, a text or nothing: the run ends with the right answer, and all of
-  -- its lines have gone out, unless an allocation, a side that is there, or the sink has failed.
+  -- If it is known what is at each of the four sides, a text or nothing: the run ends with the right answer, and all of
+  -- its lines have been written, unless an allocation, a side that is there, or the sink has failed.
   pub over : (old new trusted_old trusted_new : Option (List ℕ)) → Told p old new
       → Told q trusted_old trusted_new
       → (r : Result Report PairFault)
@@ -44,12 +44,12 @@ pub record IsRunBeside (limits : Limits) (list : ListRead) (p q : PairSeen)
       (IsHindered old new (Rose p.before.failures p.after.failures) (Rose o.failures s.failures))
       (IsHindered trusted_old trusted_new (Rose q.before.failures q.after.failures) ⊥))
       result o.delivered s.delivered
-  -- what has gone out at a fault
+  -- what has been written at a fault
   pub cut : (old new trusted_old trusted_new : List ℕ) → Gives p old new
       → Gives q trusted_old trusted_new
       → IfErr result (CutsBeside limits list p.asked q.asked old new trusted_old trusted_new
       o.delivered s.delivered)
-  -- Before all four sides are open nothing goes out.
+  -- Before all four sides are open nothing is written.
   pub unopened : IfErr result (OfEach (KeepsUnopened o.delivered s.delivered)
       (KeepsUnopened o.delivered s.delivered))
   pub missing : KeepsMissing p o.delivered s.delivered
@@ -58,13 +58,13 @@ pub record IsRunBeside (limits : Limits) (list : ListRead) (p q : PairSeen)
   pub sound : OnOk result (AreSoundIn limits p)
   pub trusted_sound : OnOk result (AreSoundIn limits q)
   pub behind : IfErr result (OfEach (λ fault. ⊤) (λ fault. AreSoundIn limits p))
-  -- For any sources, also those that tell no bytes: what has gone out is of the very outcome that is returned.
+  -- For any sources, also those that show no bytes: what has been written is of the very outcome that is returned.
   pub consistent : IfOk result (λ outcome.
       AreLinesBeside list p.asked q.asked outcome o.delivered s.delivered)
   -- The lines are flushed once, after their last byte, and after a fault not at all.
   pub flushed : OnOk result (s.is_flushed ≡ true)
   pub flushes : CountsFlush o.flushes s.flushes result
-  -- A failed write is returned with the number of bytes that went out, and none is tried again.
+  -- A failed write is returned with the number of bytes that were written, and none is tried again.
   pub written : IfErr result (OfCompared (HasWrittenIfAny o.delivered s.delivered))
   pub sink_fails : CountsPairWrites o.failures s.failures result
   -- why a fault comes

@@ -1,4 +1,4 @@
-//! A trusted pair of databases, read beside the pair that is compared.
+//! A trusted pair of databases, read together with the pair that is compared.
 ghost use Rattle.std.specs.Prelude.{◌≡◌, ℕ, List, IfErr, OnOk};
 ghost use Rattle.aide_report.specs.code.ChangeView.{change_of};
 ghost use Rattle.aide_report.specs.code.MergeCalls.{IsMergeFault, KeepsMerge};

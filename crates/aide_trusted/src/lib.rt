@@ -1,4 +1,4 @@
-//! Two databases compared beside a trusted pair: what accounts for each change.
+//! Two databases, compared with the help of a trusted pair: what accounts for each change.
 #![tactic(auto)]
 
 mod beside;

@@ -1,4 +1,4 @@
-//! A list that says what is left out, beside the pairs of databases.
+//! A list that says what is left out, in addition to the pairs of databases.
 ghost use Rattle.std.specs.Prelude.{◌≡◌};
 ghost use Rattle.aide_report.specs.code.ChangeView.{change_of};
 ghost use Rattle.aide_trusted.specs.Listed.{left_by};

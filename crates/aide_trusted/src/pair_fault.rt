@@ -1,4 +1,4 @@
-//! Why a run beside a trusted pair was given up.
+//! Why a run with a trusted pair was given up.
 use aide_report::RunFault;
 
 /// A fault of a run, and of which pair it is. A failed write is one of the compared pair.

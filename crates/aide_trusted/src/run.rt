@@ -1,4 +1,4 @@
-//! A whole run that writes the changes of two databases beside a trusted pair.
+//! A whole run that writes the changes of two databases with a trusted pair.
 ghost use Rattle.std.specs.Prelude.{◌≤◌, ◌^◌};
 ghost use Rattle.aide_report.specs.Asked.{asked};
 ghost use Rattle.aide_report.specs.Seen.{seen, sink_seen};
@@ -24,12 +24,12 @@ pub struct TrustedPair<'a, S: Sources, A: Allocator + Copy> {
     pub sources: &'a mut S,
 }
 
-/// Compares two databases beside a trusted pair, and writes their changes as lines of JSON, each with what accounts for
+/// Compares two databases, using a trusted pair, and writes their changes as lines of JSON, each with what accounts for
 /// the change. The list is asked where no entry accounts for a change. Each of the four databases is
 /// opened and read once.
 ///
-/// What [`aide_report::run_lines`] says of its lines holds of these, over four databases: the first fault counts, in
-/// the order old, new, trusted old, trusted new. What comes before it is read to its end. Nothing goes out before all
+/// What [`aide_report::run_lines`] says about its lines holds of these, over four databases: the first fault counts, in
+/// the order old, new, trusted old, trusted new. What comes before it is read to its end. Nothing is written before all
 /// four databases are open, and the last line only when all of them were read to their ends and are sound.
 ///
 /// `limits.line` has to be at least 14, and `limits.bytes` at most 2^60. What is promised is the fields of

@@ -62,7 +62,7 @@ fn put_first<W: Sink>(out: &mut W, pen: &mut Pen, tasks: &Tasks<'_>)
     );
 }
 
-/// Returns what the last line says of both databases of a pair.
+/// Returns what the last line says about both databases of a pair.
 fn pair_of(readings: &Readings) -> ReadPair<'_>
     ensures old { facts_read result.old ≡ old_read readings.now }
     ensures new { facts_read result.new ≡ new_read readings.now }
@@ -135,7 +135,7 @@ fn put_changes<R: Reel, W: Sink, A: Allocator + Copy>(
     })
 }
 
-/// The fault that the run returns, with the number of bytes that have gone out.
+/// The fault that the run returns, with the number of bytes that have been written.
 fn pair_fault(stop: PairStop, sent: u64) -> PairFault
     ensures { result ≡ pair_fault_of stop sent }
 {

@@ -9,7 +9,7 @@ use Rattle.aide_report.specs.declared.digests.Digests.{Digests}
 abbrev pub digest_on : Digests → Side → List ℕ
 digest_on digests side = by_side digests.of_old digests.of_new side
 
--- if a side tells its text, its digest is the digest of that text
+-- if a side shows its text, its digest is the digest of that text
 abbrev pub AreDigests : (Side → Option (List ℕ)) → Digests → Type 0
 AreDigests bytes_of digests = (side : Side) (text : List ℕ) → bytes_of side ≡ Some text
     → digest_on digests side ≡ sha256 text

@@ -17,11 +17,11 @@ pub record IsFinding (options : Options) (finding : Finding) (old new : List ℕ
   pub skipped_old : finding.skipped_old ≡ skipped_in (columns_of_text old)
   pub skipped_new : finding.skipped_new ≡ skipped_in (columns_of_text new)
 
--- what the report says of the old database itself
+-- what the report says about the old database itself
 abbrev pub old_origin : Task → Finding → Origin
 old_origin task finding = record { path = task.old_path.now; digest = finding.digests.of_old }
 
--- what the report says of the new database itself
+-- what the report says about the new database itself
 abbrev pub new_origin : Task → Finding → Origin
 new_origin task finding = record { path = task.new_path.now; digest = finding.digests.of_new }
 

@@ -6,7 +6,7 @@ use Rattle.aide_text.specs.declared.sink.Sink.{Ghosts as Sinks}
 use Rattle.aide_report.specs.declared.run_fault.RunFault.{RunFault}
 use Rattle.aide_report.specs.declared.run_fault.RunFault.TheVariants.{Write}
 
--- A flush after all was written, which returns the answer of the writing, or says how many bytes went out.
+-- A flush after all was written, which returns the answer of the writing, or says how many bytes were written.
 pub record Flushes {W T : Type 0} (s : Sinks W) (a b : W) (sent : ℕ) (answer : T)
     (result : Result T RunFault) : Type 0 where
   pub answers : IfOk result (λ done. done ≡ answer)

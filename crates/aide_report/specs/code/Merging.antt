@@ -1,4 +1,4 @@
--- A merge of two cursors: what it stands for, and what it has still to give.
+-- A merge of two cursors: what it represents, and what it has still to give.
 use Rattle.std.specs.Prelude.{◌≡◌, ◌≢◌, ℕ, ◌+◌, Option, List, IsSome}
 use Rattle.aide_entry.specs.Attributes.{Attributes}
 use Rattle.aide_db.specs.CursorView.{CursorView}
@@ -54,7 +54,7 @@ cursor_at m New = m.new_cursor
 abbrev pub limits_at : {R : Type 0} → Merge R → Side → Limits
 limits_at m side = (cursor_at m side).limits
 
--- the cursor of a side stands for a database of this text
+-- the cursor of a side represents a database of this text
 abbrev pub StandsAt : {R : Type 0} → (R → Option (List ℕ)) → Merge R → DeskView → Side → List ℕ
     → Type 0
 StandsAt to_come m desk side text = Stands to_come (cursor_at m side) desk text

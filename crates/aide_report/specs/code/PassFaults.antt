@@ -7,7 +7,7 @@ use Rattle.aide_report.specs.declared.change_writer.PassFault.TheVariants.{Datab
 use Rattle.aide_report.specs.declared.run_fault.RunFault.{RunFault}
 use Rattle.aide_report.specs.declared.run_fault.RunFault.TheVariants.{Write as WriteFault}
 
--- the fault that the run returns, with the number of bytes that have gone out
+-- the fault that the run returns, with the number of bytes that have been written
 abbrev pub pass_fault_of : PassFault → ℕ → RunFault
 pass_fault_of (Database fault) sent = later_of fault
 pass_fault_of Write sent = WriteFault sent

@@ -68,14 +68,14 @@ pub record Passes {T : Type 0} (limits : Limits) (count : ℕ) (a b : Seen) (d e
 -- What a pass leaves of its pen.
 pub record KeepsPen {T : Type 0} (a b : Sheet) (pen : Pen)
     (result : Result T RunFault) : Type 0 where
-  -- some bytes went out after those that were there, whatever the sources give
+  -- some bytes were written after those that were there, whatever the sources give
   pub some : WritesSome a b
   -- after `Ok` no write has failed
   pub writes_on : OnOk result (pen.failed ≡ false)
-  -- a fault of a write has the number of bytes that went out; at any other fault no write has failed
+  -- a fault of a write has the number of bytes that were written; at any other fault no write has failed
   pub written : IfErr result (HasPenWritten pen)
 
--- If both sides give their texts, all of what `text` says of them is written, and its beginning before a fault.
+-- If both sides give their texts, all of what `text` says about them is written, and its beginning before a fault.
 abbrev pub WritesOver : {T E : Type 0} → (Side → Option (List ℕ)) → (List ℕ → List ℕ → List ℕ)
     → Result T E
     → Sheet → Sheet → Type 0
@@ -90,7 +90,7 @@ pub record FlushesOnce {W T : Type 0} (w : Sinks W) (a b : W)
   pub flushed : OnOk result (w.is_flushed b ≡ true)
   -- it was flushed once, and after a fault not at all
   pub flushes : CountsFlush (w.flushes a) (w.flushes b) result
-  -- a fault of a write has the number of bytes that went out
+  -- a fault of a write has the number of bytes that were written
   pub written : IfErr result (HasWrittenIfAny (w.delivered a) (w.delivered b))
   -- the count of failures does not fall
   pub never_falls : w.failures a ≤ w.failures b

@@ -135,8 +135,8 @@ fn growths_of_the_counting_pass(rt: HostRuntime) -> Result<(), Fail> {
     Ok(())
 }
 
-/// Refuses an allocation of the sink, and checks the fault and the bytes that went out. Returns whether there is such
-/// an allocation. Without one all has gone out.
+/// Refuses an allocation of the sink, and checks the fault and the bytes that were written. Returns whether there is
+/// such an allocation. Without one all has been written.
 fn refuse_sink(
     rt: &impl Abort,
     alloc: Global,

@@ -1,6 +1,6 @@
-//! Parts of a report: what is said of the outcome first, and what costs an opening of both sides.
+//! Parts of a report: what is said about the outcome first, and what costs an opening of both sides.
 
-/// How often each side is opened before anything goes out: once to be read whole, and once to be counted.
+/// How often each side is opened before anything is written: once to be read whole, and once to be counted.
 pub(super) const SILENT_OPENINGS: u64 = 2;
 
 /// The last bytes of the title lines of a section of entries. After them both sides are opened.
@@ -32,7 +32,7 @@ pub(super) fn overview_of(report: &[u8]) -> &[u8] {
     report.split_at(bytes.min(report.len())).0
 }
 
-/// After how many bytes of a report the title lines of each section of entries have gone out.
+/// After how many bytes of a report the title lines of each section of entries have been written.
 #[derive(Clone, Copy)]
 pub(super) struct Titles {
     added: usize,
@@ -53,7 +53,7 @@ impl Titles {
         }
     }
 
-    /// How often a run has opened each side when this number of bytes has gone out.
+    /// How often a run has opened each side when this number of bytes has been written.
     pub(super) fn openings_at(self, sent: usize) -> u64 {
         let ends = [self.added, self.removed, self.changed, self.details];
         let begun = ends.iter().filter(|end| **end <= sent).count();

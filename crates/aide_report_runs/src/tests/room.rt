@@ -83,7 +83,7 @@ fn fault_of(row: &Roomy) -> Option<RunFault> {
     }
 }
 
-/// Runs over the databases of a row on a desk. The answer, and the bytes that went out.
+/// Runs over the databases of a row on a desk. The answer, and the bytes that were written.
 fn run_row<A: Allocator + Copy>(
     rt: &impl Abort,
     task: &Task<'_>,

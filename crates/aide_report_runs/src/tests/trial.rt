@@ -61,8 +61,8 @@ impl<'a> Trial<'a> {
         }
     }
 
-    /// Whether these bytes may have gone out before a run ended with this fault. They are a front of the report. If a
-    /// database has changed since something was written, they begin with what is said first.
+    /// Whether these bytes may have been written before a run ended with this fault. They are a beginning of the report.
+    /// If a database has changed since something was written, they begin with what is said first.
     fn may_have_sent(self, bytes: &[u8], fault: RunFault, openings: u64) -> bool {
         match fault {
             RunFault::Changed(_) if openings > SILENT_OPENINGS => {
@@ -103,8 +103,8 @@ fn failures_of(fault: RunFault) -> u64 {
     }
 }
 
-/// Checks the fault, the openings, the failures and the bytes that went out. Before the run writes no bytes go out: the
-/// sink takes none and must not fail.
+/// Checks the fault, the openings, the failures and the bytes that were written. Before the run writes there are no
+/// bytes: the sink takes none and must not fail.
 pub(super) fn assert_stops(rt: &impl Abort, alloc: Global, trial: &Trial<'_>, wrong: &Wrong<'_>) {
     let mut desk = Desk::new(alloc);
     let pace = Pace::new(4096);

@@ -9,8 +9,8 @@ use aide_report::{MemorySink, RunFault};
 use std::alloc::Global;
 use std::process::Abort;
 
-/// Writes the report to a sink that fails after these first bytes of the report, or at the flush behind them. Exactly
-/// these bytes have gone out, the sink has failed once, and the sides were opened this often.
+/// Writes the report to a sink that fails after these first bytes of the report, or at the flush after them. Exactly
+/// these bytes have been written, the sink has failed once, and the sides were opened this often.
 fn assert_cut(
     rt: &impl Abort,
     alloc: Global,

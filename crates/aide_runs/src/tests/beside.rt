@@ -1,4 +1,4 @@
-//! Sessions beside a trusted pair. Their output is that of the plain program in `tests/oracle`.
+//! Sessions with a trusted pair. Their output is that of the plain program in `tests/oracle`.
 use super::lines::{are_cut, ended_on, program_ended};
 use super::session::{CONF, site_of, words_of};
 use aide_db::Desk;

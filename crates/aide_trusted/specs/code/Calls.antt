@@ -1,4 +1,4 @@
--- What the calls do by which a trusted pair is read beside another pair.
+-- What the calls do by which a trusted pair is read together with another pair.
 use Rattle.std.specs.Prelude.{ℕ, ◌≡◌, true, false, List}
 use Rattle.aide_db.specs.DeskView.{DeskView}
 use Rattle.aide_db.specs.declared.reel.Reel.{Ghosts as Reels}

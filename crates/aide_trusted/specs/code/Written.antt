@@ -1,4 +1,4 @@
--- What was written of both pairs, by what has gone out and what was found.
+-- What was written of both pairs, by what has been written and what was found.
 use Rattle.std.specs.Prelude.{◌≡◌, ℕ, List, ◌++◌, Option, Result, Ok, Err, IfErr, OnOk, true, ⊤}
 use Rattle.aide_db.specs.DeskView.{DeskView}
 use Rattle.aide_db.specs.declared.reel.Reel.{Ghosts as Reels}
@@ -26,7 +26,7 @@ use Rattle.aide_trusted.specs.declared.walk.PairStop.{PairStop}
 use Rattle.aide_trusted.specs.declared.walk.PairStop.TheVariants as stop
 use Rattle.aide_trusted.specs.declared.write.PairsFound.{PairsFound}
 
--- what the last line says of all four databases
+-- what the last line says about all four databases
 abbrev pub facts_found : PairsFound → PairFacts
 facts_found found = record {
   of_old = old_read found.compared;
@@ -35,7 +35,7 @@ facts_found found = record {
   of_trusted_new = new_read found.trusted;
 }
 
--- what has gone out, but the last line
+-- what has been written, but the last line
 abbrev pub begun_beside : (asked trusted : Asked) → List Accounted → List ℕ
 begun_beside asked trusted done = opening_beside asked trusted ++ accounted_lines asked.options done
 
@@ -66,7 +66,7 @@ pub record HasToldAll {R : Type 0} (r : Reels R) (list : ListRead)
       found.counts ≡ tally asked.options (sought_by leaves beside) all)
   pub goes : Goes (told_beside list asked trusted done found)
 
--- A beginning of the lines has gone out, and no byte of the last one.
+-- A beginning of the lines has been written, and no byte of the last one.
 pub record CutsChanges {R : Type 0} (r : Reels R) (list : ListRead) (asked trusted : Asked)
     (m : Merges R) (d u : DeskView) (before after : Option (List ℕ))
     (fault : PairFault) : Type 0 where
@@ -98,7 +98,7 @@ IsFirstFault r m n d u sink (Trusted (Database first)) =
     IsFirstOfBoth r m.trusted n.trusted u first × AreReadSound r m.compared d
 IsFirstFault r m n d u sink _ = ⊥
 
--- the fault that the run returns, with the number of bytes that have gone out
+-- the fault that the run returns, with the number of bytes that have been written
 abbrev pub pair_fault_of : PairStop → ℕ → PairFault
 pair_fault_of (stop.Compared fault) sent = Compared (Database fault)
 pair_fault_of (stop.Trusted fault) sent = Trusted (Database fault)
@@ -111,7 +111,7 @@ pub record FlushesPair {W X : Type 0} (w : Sinks W) (a b : W)
   pub flushed : OnOk result (w.is_flushed b ≡ true)
   -- it was flushed once, and after a fault not at all
   pub flushes : CountsFlush (w.flushes a) (w.flushes b) result
-  -- a fault of a write has the number of bytes that went out
+  -- a fault of a write has the number of bytes that were written
   pub written : IfErr result (OfCompared (HasWrittenIfAny (w.delivered a) (w.delivered b)))
   -- a failed write or flush is reported, and none is tried again
   pub fails : CountsPairWrites (w.failures a) (w.failures b) result
