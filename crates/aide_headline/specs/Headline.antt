@@ -8,9 +8,9 @@ use Rattle.aide_report.specs.declared.run_fault.RunFault.{RunFault}
 use Rattle.aide_report.specs.declared.run_fault.RunFault.TheVariants.{Database}
 use Rattle.aide_text.specs.Sent.{SendsPart}
 
--- The run ends with this answer. If it is a report, exactly the report has gone out, and its
--- outcome is returned. If it is a fault of a database, this fault is returned, and nothing has gone
--- out.
+-- The run ends with this answer. If it is a report, exactly the report has been written, and its
+-- outcome is returned. If it is a fault of a database, this fault is returned, and nothing has
+-- been written.
 abbrev pub EndsAs : Result Report DbFault → Result Outcome RunFault
     → (before after : Option (List ℕ)) → Type 0
 EndsAs (Ok report) (Ok outcome) before after = (outcome ≡ report.outcome)
@@ -19,7 +19,7 @@ EndsAs (Ok report) (Err fault) before after = ⊥
 EndsAs (Err right) (Ok outcome) before after = ⊥
 EndsAs (Err right) (Err fault) before after = (fault ≡ Database right) × Appends before after []
 
--- The run ends with this fault of a database, and no more than a beginning of this text has gone out.
+-- The run ends with this fault of a database, and no more than a beginning of this text has been written.
 abbrev pub StopsAt : DbFault → (begun : List ℕ) → Result Outcome RunFault
     → (before after : Option (List ℕ)) → Type 0
 StopsAt right begun (Ok outcome) before after = ⊥

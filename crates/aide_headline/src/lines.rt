@@ -17,11 +17,11 @@ use std::alloc::Allocator;
 
 /// Compares two databases and writes their changes as lines of JSON, by [`run_lines`].
 ///
-/// - If both texts are sound, exactly the lines go out that the definitions assign to the two maps, with
+/// - If both texts are sound, exactly the lines are written that the definitions assign to the two maps, with
 ///   the SHA-256 of both texts in the last line. The outcome is that of the report.
-/// - If a text is not sound, the first fault of the old one or else of the new one is returned. What went
-///   out is a beginning of what comes before the last line. Without its last line a stream is not complete.
-/// - At any fault, also one of a device, no byte of the last line has gone out, unless a write has failed
+/// - If a text is not sound, the first fault of the old one or else of the new one is returned. What was
+///   written is a beginning of what comes before the last line. Without its last line a stream is not complete.
+/// - At any fault, also one of a device, no byte of the last line has been written, unless a write has failed
 ///   when both texts had been read.
 /// - The desk holds no more than the longest line of each text and one more line no longer than these.
 ///

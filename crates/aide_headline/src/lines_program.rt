@@ -27,15 +27,15 @@ use std::alloc::Global;
 ///
 /// If the arguments name no trusted pair, two clauses are those of [`run_program`](crate::run_program), with the
 /// lines in place of the report (`answer`, `bound`). But at the first fault of a text a beginning of what comes
-/// before the last line has gone out.
+/// before the last line has been written.
 ///
 /// If they name one, three clauses begin with a comparison, a list without a fault (the empty text, if the arguments
 /// give none), and a text at each of the four paths:
 ///
 /// - If no device counts a failure, the program ends with the right answer over the four texts or out of memory. If
-///   all four are sound, exactly the lines go out that the definitions assign to the four maps, to the rules of the
-///   list and to the SHA-256 of its text. Otherwise the first fault is named, in the order old, new, trusted old,
-///   trusted new, and a beginning of what comes before the last line has gone out (`trusted_answer`).
+///   all four are sound, exactly the lines are written that the definitions assign to the four maps, to the rules of
+///   the list and to the SHA-256 of its text. Otherwise the first fault is named, in the order old, new, trusted old,
+///   trusted new, and a beginning of what comes before the last line has been written (`trusted_answer`).
 /// - Neither desk holds more than the longest line of each text of its pair and one more line no longer than these
 ///   (`compared_bound`, `trusted_bound`).
 ///

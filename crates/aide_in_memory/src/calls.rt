@@ -174,7 +174,7 @@ impl Ended {
         let _ = println!(rt; "status {}", self.status);
     }
 
-    /// Prints the lines, the error lines and the status. How many lines go out before a fault is not promised, so that
+    /// Prints the lines, the error lines and the status. How many lines are written before a fault is not promised, so
     /// lines without a last one are not printed.
     fn print_lines(&self, rt: &HostRuntime) {
         if self.has_last_line() {

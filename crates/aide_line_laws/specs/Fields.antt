@@ -82,7 +82,7 @@ opening_fields old_path new_path =
     ∷ text_field (codes "old") old_path
     ∷ text_field (codes "new") new_path ∷ []
 
--- the same beside a trusted pair
+-- the same with a trusted pair
 abbrev pub opening_fields_trusted : (old_path new_path trusted_old trusted_new : List ℕ)
     → List Field
 opening_fields_trusted old_path new_path trusted_old trusted_new =
@@ -108,7 +108,7 @@ trusted_fields true counts =
     count_field (codes "same_as_trusted") counts.same_as_trusted
     ∷ count_field (codes "left_out") counts.left_out ∷ []
 
--- the numbers of entries and of what accounts for them, and what is behind these
+-- the numbers of entries and of what accounts for them, and what follows these
 abbrev pub number_fields : (has_trusted : Bool) → LineCounts → (behind : List Field) → List Field
 number_fields has_trusted counts behind =
     count_field (codes "total") counts.total
@@ -137,7 +137,7 @@ abbrev pub list_field : List ℕ → Field
 list_field digest =
     object_field (codes "list") ((codes "sha256", string (encode_lower digest)) ∷ [])
 
--- the same beside a trusted pair, with the list
+-- the same with a trusted pair, with the list
 abbrev pub closing_fields_trusted : (old new trusted_old trusted_new : ReadFacts)
     → (list : List ℕ) → LineCounts → ℕ
     → List Field

@@ -1,4 +1,4 @@
--- What the lines of changes say of four databases, path by path.
+-- What the lines of changes say about four databases, path by path.
 use Rattle.std.specs.Prelude.{◌≡◌, ◌⊎◌, ℕ, Bool, true, false, List, [], ◌∷◌, ◌++◌, Option, Some}
 use Rattle.std.specs.Prelude.{None, ⊤, codes}
 use Rattle.std.specs.FinMap.{get}
@@ -36,8 +36,8 @@ pub record StayedAsOld (pair : Pair) : Type 0 where
   pub agrees : Agrees old new
 
 -- The same happened at the path of a trusted machine: it has an entry that agrees with the new one,
--- and that entry is no old one; or it had an entry that agrees with the one that is gone, and has
--- none any more.
+-- and its own old entry does not agree with that; or it had an entry that agrees with the removed
+-- one, and has none any more.
 abbrev pub HappenedThere : (found trusted : Pair) → Type 0
 HappenedThere (old, Some new) (trusted_old, Some trusted_new) =
     Agrees new trusted_new × (StayedAsOld (trusted_old, Some trusted_new) → ⊥)
@@ -48,11 +48,12 @@ HappenedThere _ _ = ⊥
 abbrev pub LeavesOut : Type 1
 LeavesOut = (path : List ℕ) → Pair → (line : ℕ) → Type 0
 
--- those of no list
+-- no line leaves a change out, because there is no list
 abbrev pub nothing_left_out : LeavesOut
 nothing_left_out path pair line = ⊥
 
--- those of a list, beside two texts, which say whether they have the column of capabilities
+-- the lines of a list that leave a change out; the texts say whether they have the column of
+-- capabilities
 abbrev pub left_out_of : ListRead → (old new : List ℕ) → LeavesOut
 left_out_of list old new path pair line =
     IsLeftOut list.rules (measures_between old new) path pair line
@@ -116,7 +117,7 @@ pub record SayAll (ignore : Ignore) (old new : Database) (there : List ℕ → P
       → (fields : List Field) × IsOneOf fields lines × IsAbout path fields
   pub apart : AreApart lines
 
--- What has gone out since is complete lines of JSON, and those between the first and the last one say all.
+-- What was written between two moments is complete lines of JSON. Those between the first and the last one say all.
 pub record HasSaidAll (ignore : Ignore) (old new : Database) (there : List ℕ → Pair)
     (leaves : LeavesOut) (before after : Option (List ℕ)) : Type 0 where
   pub text : List ℕ

@@ -39,7 +39,7 @@ fields_read asked old new =
     (closing_fields (read_of old) (read_of new) false counts (status_by counts))
     (changes (database_of old) (database_of new))
 
--- those of the lines over two texts beside a trusted pair and a list
+-- those of the lines over two texts with a trusted pair and a list
 abbrev pub fields_beside : ListRead → (asked trusted : Asked)
     → (old new trusted_old trusted_new : List ℕ)
     → List (List Field)

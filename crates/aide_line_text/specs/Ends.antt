@@ -1,4 +1,4 @@
--- What the last line says of both databases at once: numbers, and columns that were skipped.
+-- What the last line says about both databases at once: numbers, and columns that were skipped.
 use Rattle.std.specs.Prelude.{ℕ, zero, suc, ◌+◌, ◌-◌, ◌==◌, Bool, true, false, List, [], ◌∷◌}
 use Rattle.std.specs.Prelude.{◌++◌, map, codes}
 use Rattle.std.specs.Int.{bit_at}

@@ -34,7 +34,7 @@ closing_line old new has_trusted counts status =
     ∷ (count_members counts
     ++ (account_members has_trusted counts ++ count_member (codes "status") status ∷ [])))
 
--- the first line where they are compared beside a trusted pair: the format's number, and all four configured paths
+-- the first line of a comparison that has a trusted pair: the format's number, and all four configured paths
 unfoldable pub opening_line_trusted : (old_path new_path trusted_old trusted_new : List ℕ) → List ℕ
 opening_line_trusted old_path new_path trusted_old trusted_new =
     line (count_member (codes "format") 4

@@ -70,7 +70,7 @@ pub fn put_opening_line<W: Sink>(out: &mut W, pen: &mut Pen, old_path: &[u8], ne
     put(out, pen, b"}\n");
 }
 
-/// Writes a path with this name, behind another member.
+/// Writes a path with this name, after another member.
 fn put_path_behind<W: Sink>(out: &mut W, pen: &mut Pen, name: &[u8], path: &[u8])
     ensures { Wrote (44 ∷ text_member name.now path.now)
         (on_sheet W.Sink out.old pen.old) (on_sheet W.Sink out.new pen.new) }
@@ -79,7 +79,7 @@ fn put_path_behind<W: Sink>(out: &mut W, pen: &mut Pen, name: &[u8], path: &[u8]
     put_text_member(out, pen, name, SliceFeed::of(path));
 }
 
-/// Writes the first line where two databases are compared beside a trusted pair.
+/// Writes the first line of a comparison that has a trusted pair.
 pub fn put_opening_line_trusted<W: Sink>(
     out: &mut W,
     pen: &mut Pen,
@@ -100,7 +100,7 @@ pub fn put_opening_line_trusted<W: Sink>(
     put(out, pen, b"}\n");
 }
 
-/// Writes what is known of a database with this name, behind another member.
+/// Writes what is known of a database with this name, after another member.
 fn put_read_behind<W: Sink>(out: &mut W, pen: &mut Pen, name: &[u8], read: &Read<'_>)
     ensures { Wrote (44 ∷ member name.now (read_object (facts_read read.now)))
         (on_sheet W.Sink out.old pen.old) (on_sheet W.Sink out.new pen.new) }
@@ -147,7 +147,7 @@ fn put_list<W: Sink>(out: &mut W, pen: &mut Pen, digest: &[u8; 32])
     put(out, pen, b"}");
 }
 
-/// Writes the last line where two databases are compared beside a trusted pair.
+/// Writes the last line of a comparison that has a trusted pair.
 pub fn put_closing_line_trusted<W: Sink>(
     out: &mut W,
     pen: &mut Pen,

@@ -1,4 +1,4 @@
--- What a run that reads each database once says of two texts in lines of JSON.
+-- What a run that reads each database once says about two texts in lines of JSON.
 use Rattle.std.specs.Prelude.{ℕ, ◌++◌, false, List}
 use Rattle.sha2.specs.Sha256.{sha256}
 use Rattle.aide_db.specs.Giving.{columns_of_text}
@@ -15,11 +15,11 @@ use Rattle.aide_report.specs.LineCounts.{line_counts, status_by}
 use Rattle.aide_report.specs.Runs.{Report, report_over}
 use Rattle.aide_report.specs.Merged.{merged}
 
--- what the last line says of a database: the SHA-256 of its text, and the columns that were skipped
+-- what the last line says about a database: the SHA-256 of its text, and the columns that were skipped
 abbrev pub read_of : List ℕ → ReadFacts
 read_of text = record { digest = sha256 text; skipped = skipped_in (columns_of_text text) }
 
--- what goes out before the last line
+-- what is written before the last line
 abbrev pub begun_lines : Asked → List PathChange → List ℕ
 begun_lines asked changes =
     opening_line asked.old_path asked.new_path ++ change_lines asked.options by_old changes
@@ -38,7 +38,7 @@ lines_read asked old new = record {
   outcome = (report_over asked old new).outcome;
 }
 
--- what goes out before the last line over any two texts: the first line, and a line for each change of their entries
+-- what is written before the last line over any two texts: the first line, and a line for each change of their entries
 abbrev pub lines_begun : Asked → List ℕ → List ℕ → List ℕ
 lines_begun asked old new =
     begun_lines asked (merged path_cmp (entries_of old) (entries_of new))

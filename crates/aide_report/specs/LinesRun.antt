@@ -36,7 +36,7 @@ abbrev pub EndsBy : Result Report RunFault → (RunFault → Type 0) → Result 
 EndsBy r hindered (Ok outcome) before after = SendsWhole r outcome before after
 EndsBy r hindered (Err fault) before after = StopsFor r hindered fault
 
--- What has gone out at a fault: never a byte of the last line, unless both texts are sound and a write has failed.
+-- What has been written at a fault: never a byte of the last line, unless both texts are sound and a write has failed.
 abbrev pub CutsLines : Limits → Asked → (old new : List ℕ) → (before after : Option (List ℕ))
     → RunFault → Type 0
 CutsLines limits asked old new before after (Write written) =
@@ -46,7 +46,7 @@ CutsLines limits asked old new before after (Write written) =
     → SendsPart (lines_begun asked old new) before after)
 CutsLines limits asked old new before after _ = SendsPart (lines_begun asked old new) before after
 
--- if a side could not be opened, nothing has gone out
+-- if a side could not be opened, nothing has been written
 abbrev pub KeepsUnopened : (before after : Option (List ℕ)) → RunFault → Type 0
 KeepsUnopened before after (Open side) = Appends before after []
 KeepsUnopened before after _ = ⊤
@@ -58,8 +58,8 @@ ComesOf (Database fault) sources sink first = Causes fault.kind sources (first f
 ComesOf (Changed side) sources sink first = ⊥
 ComesOf (Write written) sources sink first = sink
 
--- The first line has gone out with the paths, the last line with some digests, the skipped columns and the counts of
--- this outcome, and bytes between them only if an entry was added, removed or changed.
+-- The first line has been written with the paths, the last line with some digests, the skipped columns and the counts
+-- of this outcome, and bytes between them only if an entry was added, removed or changed.
 pub record AreLinesRead (asked : Asked) (outcome : Outcome)
     (old new : Option (List ℕ)) : Type 0 where
   pub old_digest : List ℕ
@@ -78,17 +78,17 @@ pub record AreLinesRead (asked : Asked) (outcome : Outcome)
 -- of the sink.
 pub record IsLinesRun (limits : Limits) (asked : Asked) (a b : Seen) (d e : DeskView)
     (o p : SinkSeen) (result : Result Outcome RunFault) : Type 0 where
-  -- If it is told what is at each side, a text or nothing: the run ends with the right answer, and all of its lines
-  -- have gone out, unless an allocation, a side that is there, or the sink has failed.
+  -- If it is known what is at each side, a text or nothing: the run ends with the right answer, and all of its lines
+  -- have been written, unless an allocation, a side that is there, or the sink has failed.
   pub over : (old new : Option (List ℕ)) → TellsSide (a.bytes_of Old) (a.is_missing Old) old
       → TellsSide (a.bytes_of New) (a.is_missing New) new
       → (r : Result Report RunFault) → RunsOverBy limits (lines_read asked) old new r
       → EndsBy r (IsHindered old new (Rose a.failures b.failures) (Rose o.failures p.failures))
       result o.delivered p.delivered
-  -- what has gone out at a fault
+  -- what has been written at a fault
   pub cut : (old new : List ℕ) → a.bytes_of Old ≡ Some old → a.bytes_of New ≡ Some new
       → IfErr result (CutsLines limits asked old new o.delivered p.delivered)
-  -- Before both sides are open nothing goes out.
+  -- Before both sides are open nothing is written.
   pub unopened : IfErr result (KeepsUnopened o.delivered p.delivered)
   pub missing : (side : Side) → a.is_missing side ≡ true → Appends o.delivered p.delivered []
   -- Over reliable sources no side that is there fails.
@@ -96,9 +96,9 @@ pub record IsLinesRun (limits : Limits) (asked : Asked) (a b : Seen) (d e : Desk
   -- After `Ok` both texts are sound.
   pub sound : OnOk result ((side : Side) (text : List ℕ) → a.bytes_of side ≡ Some text
       → IsSound limits text)
-  -- A failed write is returned with the number of bytes that went out.
+  -- A failed write is returned with the number of bytes that were written.
   pub written : IfErr result (HasWrittenIfAny o.delivered p.delivered)
-  -- For any sources, also those that tell no bytes: what has gone out is of the very outcome that is returned.
+  -- For any sources, also those that show no bytes: what has been written is of the very outcome that is returned.
   pub consistent : IfOk result (λ outcome. AreLinesRead asked outcome o.delivered p.delivered)
   -- It is flushed once, after its last byte, and after a fault not at all.
   pub flushed : OnOk result (p.is_flushed ≡ true)

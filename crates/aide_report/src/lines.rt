@@ -144,7 +144,7 @@ pub fn readings_of<R: Reel>(merge: &Merge<R>) -> Readings
     }
 }
 
-/// The fault that the run returns, with the number of bytes that have gone out.
+/// The fault that the run returns, with the number of bytes that have been written.
 fn stop_fault(fault: PassFault, sent: u64) -> RunFault
     ensures { result ≡ stop_of fault sent }
 {

@@ -16,14 +16,14 @@ use std::alloc::Allocator;
 
 /// Compares two databases and writes their changes as lines of JSON. Each database is opened and read once.
 ///
-/// The first line goes out when both databases are open, and a line of each change as it is met. The last line, which
-/// has the digests, the skipped columns, the numbers and the status, goes out when both were read to their ends and are
-/// sound. Without it the lines are not complete.
+/// The first line is written when both databases are open, and a line of each change as it is met. The last line
+/// has the digests, the skipped columns, the numbers and the status. It is written when both were read to their ends
+/// and are sound. Without it the lines are not complete.
 ///
-/// - After `Ok` exactly the lines have gone out, and were flushed after their last byte. The outcome is that of the
+/// - After `Ok` exactly the lines have been written, and were flushed after their last byte. The outcome is that of the
 ///   report.
-/// - After a fault other than a failed write the last line has not gone out: at most the beginning of the first line
-///   and the lines of changes. If a side could not be opened or is missing, nothing has gone out.
+/// - After a fault other than a failed write the last line has not been written: at most the beginning of the first
+///   line and the lines of changes. If a side could not be opened or is missing, nothing has been written.
 /// - The first fault of the old text comes before a missing or a faulty new side. For this the old side is read to its
 ///   end at a fault of the new one. No fault is [`RunFault::Changed`].
 ///

@@ -46,11 +46,11 @@ asked_by options named = record {
 abbrev pub refused : List ℕ → ℕ → Answer
 refused lines status = record { output = nothing; errors = lines; status = status }
 
--- the answer for a configuration without a fault that is only checked, if nothing is said of it
+-- the answer for a configuration without a fault that is only checked, if nothing is said about it
 abbrev pub checked : Answer
 checked = record { output = nothing; errors = []; status = 0 }
 
--- the same, by what is said of a configuration: the text is written if anything is
+-- the same, by what is said about a configuration: the text is written if anything is
 abbrev pub checked_by : Option (Configured → List ℕ) → Configured → Answer
 checked_by None s = checked
 checked_by (Some says) s = record { output = all_of (says s); errors = []; status = 0 }
@@ -59,8 +59,8 @@ checked_by (Some says) s = record { output = all_of (says s); errors = []; statu
 abbrev pub limits : Limits
 limits = record { line = 1048576; bytes = 2 ^ 40 }
 
--- The answer of a comparison of two databases: all that is written, or the first fault of a database. What has gone
--- out at a fault is given.
+-- The answer of a comparison of two databases: all that is written, or the first fault of a database. What has
+-- been written at a fault is given.
 abbrev pub answer_with : (at_fault : Output) → Result Report DbFault → Answer
 answer_with at_fault (Ok report) = record {
   output = all_of report.text;
@@ -70,7 +70,7 @@ answer_with at_fault (Ok report) = record {
 answer_with at_fault (Err fault) =
     record { output = at_fault; errors = database_line fault; status = 24 }
 
--- the same if nothing goes out at a fault
+-- the same if nothing is written at a fault
 abbrev pub answer_of_run : Result Report DbFault → Answer
 answer_of_run run = answer_with nothing run
 

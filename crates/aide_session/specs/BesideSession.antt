@@ -44,7 +44,7 @@ beside_view s t desks = record {
   trusted_peak_after = desks.trusted_after;
 }
 
--- A session of a job beside a trusted pair, with this status. `s` is what is seen of the first
+-- A session of a job with a trusted pair, with this status. `s` is what is seen of the first
 -- site, `t` of the site of the trusted pair.
 pub record IsSessionBeside (job : BesideText) (status : ℕ) (s t : SessionView)
     (desks : DeskPeaks) : Type 0 where

@@ -1,4 +1,4 @@
--- How a session ends over any site, even one that does not tell its files: its result, and the
+-- How a session ends over any site, even one that does not show its files: its result, and the
 -- cause of this result.
 use Rattle.std.specs.Prelude.{◌≡◌, ℕ, Bool, true, false, List, [], Ok, Err, Result, Option, Some}
 use Rattle.std.specs.Prelude.{None, ⊤}
@@ -77,7 +77,7 @@ pub record Course : Type 0 where
   pub flushes_after : ℕ
   pub is_flushed : Bool
 
--- the course of a session, by what the devices tell
+-- the course of a session, by what the devices show
 abbrev pub course_between : {S W : Type 0} → (S → Side → ℕ) → (S → Side → Bool) → (W → ℕ)
     → (W → Bool) → S → S → W → W → Course
 course_between openings was_given flushes is_flushed site_old site_new out_old out_new = record {
@@ -89,7 +89,7 @@ course_between openings was_given flushes is_flushed site_old site_new out_old o
   is_flushed = is_flushed out_new;
 }
 
--- What has gone out of an accepted configuration that is only checked: nothing if nothing is said of
+-- What has been written of an accepted configuration that is only checked: nothing if nothing is said about
 -- it, otherwise the text, which was flushed once, after its last byte.
 abbrev pub IsTold : Option (Configured → List ℕ) → Configured → (before after : Option (List ℕ))
     → (is_flushed : Bool) → (flushes_before flushes_after : ℕ) → Type 0
@@ -98,7 +98,7 @@ IsTold None s before after is_flushed flushes_before flushes_after =
 IsTold (Some says) s before after is_flushed flushes_before flushes_after =
     Appends before after (says s) × (is_flushed ≡ true) × (flushes_after ≡ one_more flushes_before)
 
--- Only the beginning of the text has gone out, or it was not flushed. If nothing is said, nothing
+-- Only the beginning of the text has been written, or it was not flushed. If nothing is said, nothing
 -- can be missing.
 abbrev pub IsUntold : Option (Configured → List ℕ) → Configured → (before after : Option (List ℕ))
     → (flushes_before flushes_after : ℕ) → Type 0
@@ -221,7 +221,7 @@ ClosingOpens w files named (bad_run options fault) course =
     (w.openings (asked_by options named) old new))
 ClosingOpens w files named _ course = ⊤
 
--- What has gone out at the fault of a run over two known texts: of lines never a byte of the last one, unless both
+-- What has been written at the fault of a run over two known texts: of lines never a byte of the last one, unless both
 -- texts are sound and a write has failed.
 abbrev pub ClosingCut : Writing → Files → Named → Closing → (before after : Option (List ℕ))
     → Type 0

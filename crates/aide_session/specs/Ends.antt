@@ -11,7 +11,7 @@ use Rattle.aide_session.specs.Lines.{memory_line, unread_line, open_line, databa
 use Rattle.aide_session.specs.Output.{GoesOut, StartsOut}
 use Rattle.aide_session.specs.Put.{Put}
 
--- What went out, by the sinks before and after: the bytes of the output, the bytes of standard
+-- What was written, by the sinks before and after: the bytes of the output, the bytes of standard
 -- error, and the failures that standard error has counted.
 pub record Sinks : Type 0 where
   pub out_old : Option (List ℕ)
@@ -21,7 +21,7 @@ pub record Sinks : Type 0 where
   pub err_before : ℕ
   pub err_after : ℕ
 
--- what went out between two moments, by the bytes and failures that the devices tell
+-- what was written between two moments, by the bytes and failures that the devices show
 abbrev pub sinks_between : {W E : Type 0} → (W → Option (List ℕ)) → (E → Option (List ℕ)) → (E → ℕ)
     → W → W → E → E → Sinks
 sinks_between delivered put failures out_old out_new err_old err_new = record {
@@ -70,7 +70,7 @@ pub record Whole (a : Answer) (status : ℕ) (sinks : Sinks) : Type 0 where
   pub put : Puts a.errors sinks
 
 -- The session ends out of memory, without any output. What a comparison may hold is reserved before
--- anything goes out.
+-- anything is written.
 pub record Starved (a : Answer) (status : ℕ) (sinks : Sinks) : Type 0 where
   pub status_is : status ≡ 22
   pub output : Appends sinks.out_old sinks.out_new []

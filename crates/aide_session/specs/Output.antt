@@ -1,4 +1,4 @@
--- What goes out of a text.
+-- What is written of a text.
 use Rattle.std.specs.Prelude.{ℕ, Option, List, []}
 use Rattle.std.specs.Io.KnownBytes.{Appends}
 use Rattle.aide_text.specs.Sent.{SendsPart}
@@ -8,16 +8,16 @@ pub data Output : Type 0 where
   all_of : List ℕ → Output
   start_of : List ℕ → Output
 
--- nothing goes out
+-- nothing is written
 abbrev pub nothing : Output
 nothing = all_of []
 
--- this has gone out between two moments
+-- this has been written between two moments
 abbrev pub GoesOut : Output → (before after : Option (List ℕ)) → Type 0
 GoesOut (all_of text) before after = Appends before after text
 GoesOut (start_of text) before after = SendsPart text before after
 
--- no more than a beginning of it has gone out
+-- no more than a beginning of it has been written
 abbrev pub StartsOut : Output → (before after : Option (List ℕ)) → Type 0
 StartsOut (all_of text) before after = SendsPart text before after
 StartsOut (start_of text) before after = SendsPart text before after

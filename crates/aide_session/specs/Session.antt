@@ -28,7 +28,7 @@ pub record SessionView : Type 0 where
   -- how often the output has failed
   pub out_before : ℕ
   pub out_after : ℕ
-  -- what went out
+  -- what was written
   pub sinks : Sinks
   -- whether all that was put on standard error is passed on
   pub is_passed_on : Bool
@@ -75,7 +75,7 @@ pub record IsSessionBy (w : Writing) (words : List (List ℕ)) (status : ℕ)
       → Whole a status s.sinks ⊎ Starved a status s.sinks
   -- If standard error counts no failure, the lines have been passed on.
   pub passed_on : HasNoFailure s.sinks.err_before s.sinks.err_after → s.is_passed_on ≡ true
-  -- If the site tells what is at the paths of the named files, there is an answer.
+  -- If the site shows what is at the paths of the named files, there is an answer.
   pub answered : TellsNamed s.files words → HasSessionAnswerBy w s.files words
   -- Over any site: the lines, the status and the output are those of one closing, whose cause holds.
   pub closes : ClosesBy w s.files words status s.sinks s.course

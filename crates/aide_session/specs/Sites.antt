@@ -20,7 +20,7 @@ pub record Shelf : Type 0 where
   pub lookups : ℕ
   pub failures : ℕ
 
--- a site over the files of the machine, by their handle; it does not tell its files
+-- a site over the files of the machine, by their handle; it does not show its files
 pub record Machine (F : Type 0) : Type 0 where
   pub files : F
   pub old_path : Option (List ℕ)
@@ -46,7 +46,7 @@ unfoldable pub bytes_at : List (List ℕ × List ℕ) → List ℕ → Option (L
 bytes_at [] path = None
 bytes_at (file ∷ files) path = either (bytes_at files path) (of_file file path)
 
--- what is at a path, which a site in memory always tells
+-- what is at a path, which a site in memory always shows
 abbrev pub files_at : Shelf → Files
 files_at s path = Some (bytes_at s.files path)
 

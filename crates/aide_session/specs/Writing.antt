@@ -22,14 +22,14 @@ use Rattle.aide_settings_text.specs.Settings.{settings_line}
 pub record Writing : Type 1 where
   -- what is written of two sound texts, and the outcome that goes with it
   pub over : Asked → (old new : List ℕ) → Report
-  -- what has gone out of two texts when the first fault of one of them is returned
+  -- what has been written of two texts when the first fault of one of them is returned
   pub at_fault : Asked → (old new : List ℕ) → Output
-  -- what an outcome determines of the bytes that have gone out
+  -- what an outcome determines of the bytes that have been written
   pub IsOf : Asked → Outcome → (before after : Option (List ℕ)) → Type 0
-  -- what has gone out at a fault, if both texts are known
+  -- what has been written at a fault, if both texts are known
   pub IsCut : Limits → Asked → (old new : List ℕ) → (before after : Option (List ℕ)) → RunFault
       → Type 0
-  -- when nothing has gone out at a fault, by how often the sides were opened
+  -- when nothing has been written at a fault, by how often the sides were opened
   pub KeepsBack : (opened_before opened_after : Side → ℕ) → (before after : Option (List ℕ))
       → RunFault → Type 0
   -- how often each database is opened
@@ -44,8 +44,8 @@ pub record Writing : Type 1 where
   pub says : Option (Configured → List ℕ)
 
 -- The report. It begins with the head and the summary of its outcome, and is only these if nothing more is asked for.
--- Each database is opened once to be read whole, once to count, and once for each section of entries. Nothing goes out
--- before both were read whole and counted. Nothing is written of a configuration.
+-- Each database is opened once to be read whole, once to count, and once for each section of entries. Nothing is
+-- written before both were read whole and counted. Nothing is written of a configuration.
 abbrev pub the_report : Writing
 the_report = record {
   over = report_over;
@@ -67,7 +67,8 @@ settings_told s = settings_line s.options s.old_path s.new_path
 
 -- The lines of JSON. The last line is that of their outcome and of what was read, and nothing is between the first one
 -- and the last one if the databases do not differ. Each database is opened once. At a fault a beginning of what comes
--- before the last line has gone out, and nothing if a side could not be opened. A configuration has a line of its own.
+-- before the last line has been written, and nothing if a side could not be opened. A configuration has a line of its
+-- own.
 abbrev pub the_lines : Writing
 the_lines = record {
   over = lines_read;

@@ -25,7 +25,7 @@ pub(crate) const LIMITS: Limits = Limits {
 pub(crate) trait Comparison: Copy {
     ghost use Rattle.aide_session.specs.Writing.{Writing};
 
-    /// What contracts say of what is written.
+    /// What contracts say about what is written.
     ghost writing: { Writing };
 
     /// Compares two databases and writes what there is to say, as `aide_report::run` or `run_lines` does.
@@ -39,7 +39,7 @@ pub(crate) trait Comparison: Copy {
             (seen S.Sources sources.old) (seen S.Sources sources.new) desk.old desk.new
             (sink_seen W.Sink out.old) (sink_seen W.Sink out.new) result };
 
-    /// Writes what there is to say of an accepted configuration, and flushes it.
+    /// Writes what there is to say about an accepted configuration, and flushes it.
     fn tell<W: Sink>(settings: &Settings, out: &mut W) -> Result<(), Unwritten>
         ensures told { OnOk result (IsTold writing.says settings.now
             (W.delivered out.old) (W.delivered out.new)

@@ -16,7 +16,7 @@ use aide_conf::Settings;
 use aide_db::Sources;
 use aide_report::Sink;
 
-/// Writes what there is to say of an accepted configuration that is only checked.
+/// Writes what there is to say about an accepted configuration that is only checked.
 pub(crate) fn check<C: Comparison, S: Site, W: Sink, E: Sink>(
     settings: &Settings,
     devices: &mut Devices<'_, C, S, W, E>,

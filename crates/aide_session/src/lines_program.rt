@@ -35,7 +35,7 @@ use aide_trusted::{LeftOutList, Tasks};
 use aide_words::{BesideJob, Words, WordsFault, read_beside_words};
 use std::alloc::Global;
 
-/// Reads the settings of a job beside a trusted pair from its three texts.
+/// Reads the settings of a job with a trusted pair from its three texts.
 fn read_settings_beside(alloc: Global, job: &BesideJob, text: &[u8]) -> Result<Settings, ConfFault>
     ensures ok { IfOk result (λ settings. ReadsAs Compare job.now.before text.now job.now.after
         (Ok settings)) }
@@ -48,7 +48,7 @@ fn read_settings_beside(alloc: Global, job: &BesideJob, text: &[u8]) -> Result<S
     Settings::read(alloc, before, text, after, Need::Compare)
 }
 
-/// Compares the databases that the settings name beside the trusted pair of a job, whose list has
+/// Compares the databases that the settings name, using the trusted pair of a job, whose list has
 /// been read.
 fn compare_settings<S: Site, W: Sink, E: Sink>(
     job: &BesideJob,
@@ -86,7 +86,7 @@ fn compare_settings<S: Site, W: Sink, E: Sink>(
     compare_beside(&tasks, devices, trusted_desk, trusted)
 }
 
-/// Runs the session of a job beside a trusted pair, whose list and configuration have been read.
+/// Runs the session of a job with a trusted pair, whose list and configuration have been read.
 fn run_text_beside<S: Site, W: Sink, E: Sink>(
     job: &BesideJob,
     list: LeftOutList<'_>,
@@ -120,7 +120,7 @@ fn run_text_beside<S: Site, W: Sink, E: Sink>(
     }
 }
 
-/// Runs the session of a job beside a trusted pair, whose list has been read.
+/// Runs the session of a job with a trusted pair, whose list has been read.
 fn run_listed<S: Site, W: Sink, E: Sink>(
     job: &BesideJob,
     list: LeftOutList<'_>,
@@ -155,7 +155,7 @@ fn run_listed<S: Site, W: Sink, E: Sink>(
     }
 }
 
-/// Runs the session of a job beside a trusted pair, whose list has these rules.
+/// Runs the session of a job with a trusted pair, whose list has these rules.
 fn run_ruled<S: Site, W: Sink, E: Sink>(
     job: &BesideJob,
     rules: &Exclusions<'_>,
@@ -180,7 +180,7 @@ fn run_ruled<S: Site, W: Sink, E: Sink>(
     run_listed(job, list, devices, trusted_desk, trusted)
 }
 
-/// Runs the session of a job beside a trusted pair.
+/// Runs the session of a job with a trusted pair.
 fn run_job_beside<S: Site, W: Sink, E: Sink>(
     job: &BesideJob,
     devices: &mut Devices<'_, AsLines, S, W, E>,

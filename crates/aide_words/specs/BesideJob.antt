@@ -1,4 +1,4 @@
--- The comparison beside a trusted pair that a list of arguments asks for, by the matches that `clap` states.
+-- The comparison with a trusted pair that a list of arguments asks for, by the matches that `clap` states.
 use Rattle.std.specs.Prelude.{true, List, Option, Some, None, codes, if◌then◌else◌}
 use Rattle.clap.specs.Walk.{Row, Rule, Text, is_empty}
 use Rattle.clap.specs.Simple.{App, matches_of, new_app, new_rule, with_rule}
@@ -30,7 +30,7 @@ with_trusted app = with_rule (with_rule app
 abbrev pub with_list : App → App
 with_list app = with_rule app (long_rule (codes "without"))
 
--- The command of a comparison beside a trusted pair. It has the options of `aide` but the one that
+-- The command of a comparison with a trusted pair. It has the options of `aide` but the one that
 -- only checks the configuration, and may be given a list of what is left out.
 unfoldable pub beside_command : App
 beside_command = with_list
@@ -57,7 +57,7 @@ beside_text rows = record {
   without = text_of (codes "without") rows;
 }
 
--- the comparison beside a trusted pair that the arguments ask for, if there is one
+-- the comparison with a trusted pair that the arguments ask for, if there is one
 abbrev pub beside_job_of : List Text → Option BesideText
 beside_job_of words =
     if is_empty (fault_of beside_command words)

@@ -70,7 +70,7 @@ fn add_list<'a>(alloc: Global, command: Command<'a>) -> Result<Command<'a>, Allo
     command.arg(long_option(alloc, "without"))
 }
 
-/// Makes the command of a comparison beside a trusted pair.
+/// Makes the command of a comparison with a trusted pair.
 fn command<'a>(alloc: Global) -> Result<Command<'a>, AllocError>
     ensures { IfOk result (λ c. app_of c ≡ beside_command) }
 {
@@ -94,7 +94,7 @@ fn beside_job_from(alloc: Global, found: &ArgMatches<'_>) -> Result<BesideJob, M
     })
 }
 
-/// Reads the arguments of a comparison beside a trusted pair. The first one is the program's name:
+/// Reads the arguments of a comparison with a trusted pair. The first one is the program's name:
 /// `aide_lines (-E | --compare) (-c | --config) FILE --trusted-old FILE --trusted-new FILE
 /// [-B | --before TEXT] [-A | --after TEXT] [--without TEXT]`.
 ///

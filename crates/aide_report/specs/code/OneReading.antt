@@ -198,7 +198,7 @@ abbrev pub UnlessOpen : (a b : Sheet) → RunFault → Type 0
 UnlessOpen a b (Open side) = b ≡ a
 UnlessOpen a b _ = ⊤
 
--- All lines have gone out, with these counts and facts.
+-- All lines have been written, with these counts and facts.
 pub record HasSent (asked : Asked) (counts : LineCounts) (readings : Readings)
     (AreAll : List PathChange → Type 0) (before after : Option (List ℕ)) : Type 0 where
   pub done : List PathChange

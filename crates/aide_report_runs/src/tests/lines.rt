@@ -1,4 +1,4 @@
-//! Runs that write lines of JSON, of two databases and of two beside a trusted pair and a list. Each database is opened
+//! Runs that write lines of JSON, of two databases and of two with a trusted pair and a list. Each database is opened
 //! once. The lines are those of the plain program in `tests/oracle`.
 mod faults;
 mod given;

@@ -1,4 +1,4 @@
--- What contracts say of a part of a session beside a trusted pair.
+-- What contracts say about a part of a session with a trusted pair.
 use Rattle.std.specs.Prelude.{◌≡◌, ◌≤◌, ℕ, Bool, false, List, Option, Some, max}
 use Rattle.aide_db.specs.DeskView.{DeskView}
 use Rattle.aide_db.specs.declared.side.Side.{Side}
@@ -47,7 +47,7 @@ abbrev pub beside_between : {C S R W E : Type 0} → AnySources S R → AnySink 
 beside_between s w e m n u v a b = beside_view (part_between s w e m n)
     (trusted_between s w e m n a b) (peaks_between m n u v)
 
--- The sides of a site tell what is at these two paths.
+-- The sides of a site show what is at these two paths.
 pub record IsPointed (files : Files) (asked : Asked) (bytes_of : Side → Option (List ℕ))
     (is_missing : Side → Bool) : Type 0 where
   pub of_old : (file : Option (List ℕ)) → files asked.old_path ≡ Some file

@@ -23,12 +23,12 @@ use Rattle.aide_session.specs.Writing.{Writing}
 use Rattle.aide_text.specs.Failures.{CountsFlush, Rose}
 use Rattle.aide_text.specs.Sent.{SendsPart}
 
--- what has gone out when a fault is the answer, by what is at both sides: nothing if one is missing
+-- what has been written when a fault is the answer, by what is at both sides: nothing if one is missing
 abbrev pub out_at_fault : Writing → Asked → (old new : Option (List ℕ)) → Output
 out_at_fault w asked (Some old) (Some new) = w.at_fault asked old new
 out_at_fault w asked _ _ = nothing
 
--- what has gone out at a fault: a beginning of what is to be written, or this if the answer is a fault
+-- what has been written at a fault: a beginning of what is to be written, or this if the answer is a fault
 abbrev pub SendsFront : Output → Result Report RunFault → (before after : Option (List ℕ)) → Type 0
 SendsFront output (Ok report) before after = SendsPart report.text before after
 SendsFront output (Err right) before after = GoesOut output before after

@@ -1,4 +1,4 @@
--- What contracts say of a part of a session: what it did with the site, the output and standard error.
+-- What contracts say about a part of a session: what it did with the site, the output and standard error.
 use Rattle.std.specs.Prelude.{◌≡◌, ℕ, ◌≤◌, List, max}
 use Rattle.aide_db.specs.declared.sources.Sources.{Ghosts as AnySources}
 use Rattle.aide_report.specs.Failures.{Rose}

@@ -1,5 +1,5 @@
 //! Databases that are not sound, or cannot be opened or read. The first of them in their order is reported, whatever is
-//! wrong with those after it, and the last line never goes out.
+//! wrong with those after it, and the last line is never written.
 use super::super::trial::{database, line_at};
 use super::desks;
 use super::given::{GIVEN, Given, Place};
@@ -41,7 +41,7 @@ fn spoiled(alloc: Global, text: &[u8], line: u64) -> Result<Vec<u8>, AllocError>
     Ok(spoiled)
 }
 
-/// The run stops with this fault. What has gone out comes before the last line, and it is nothing if only this many
+/// The run stops with this fault. What has been written comes before the last line, and it is nothing if only this many
 /// databases can be opened.
 fn assert_stops(
     rt: &impl Abort,

@@ -65,7 +65,7 @@ pub(super) struct Given<'a> {
 }
 
 impl<'a> Given<'a> {
-    /// Two databases beside a trusted pair without entries, and a list.
+    /// Two databases with a trusted pair without entries, and a list.
     pub(super) fn listed(old: &'a [u8], new: &'a [u8], list: &'a [u8]) -> Given<'a> {
         Given {
             places: FOUR,
@@ -112,13 +112,13 @@ impl<'a> Given<'a> {
     }
 }
 
-/// The places of two databases, and of two beside a trusted pair.
+/// The places of two databases, and of two with a trusted pair.
 const TWO: &[Place] = &[Place::Old, Place::New];
 
 const FOUR: &[Place] = &[Place::Old, Place::New, Place::TrustedOld, Place::TrustedNew];
 
 /// Two databases that differ, one of them with a column that is skipped; the same database twice; and two beside a
-/// trusted pair, of which the same changes are known but one. Then two beside a trusted pair and a list: each rule leaves
+/// trusted pair, of which the same changes are known but one. Then two with a trusted pair and a list: each rule leaves
 /// one change out, the trusted pair accounts for another that a rule names, and a program with a set-ID bit stays.
 pub(super) const GIVEN: [Given<'static>; 4] = [
     Given {

@@ -70,8 +70,8 @@ fn refuses_growth(rt: &impl Abort, alloc: Global, given: &Given<'_>, growth: u64
     true
 }
 
-/// Refuses an allocation of the sink, and checks the fault and the bytes that went out. Returns whether there is such
-/// an allocation.
+/// Refuses an allocation of the sink, and checks the fault and the bytes that were written. Returns whether there is
+/// such an allocation.
 fn refuses_sink(rt: &impl Abort, alloc: Global, given: &Given<'_>, growth: u64) -> bool {
     let refusing = Refusing::new(alloc, growth);
     let mut out = MemorySink::new(&refusing);

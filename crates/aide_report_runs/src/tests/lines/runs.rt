@@ -120,7 +120,7 @@ fn run_tasks<S: Sources, W: Sink, A: Allocator + Copy>(
     )
 }
 
-/// The run beside a trusted pair and a list.
+/// The run with a trusted pair and a list.
 fn run_listed<S: Sources, W: Sink, A: Allocator + Copy>(
     list: LeftOutList<'_>,
     desks: &mut Both<Desk<A>>,
@@ -137,7 +137,7 @@ fn run_listed<S: Sources, W: Sink, A: Allocator + Copy>(
     run_tasks(&tasks, desks, sources, out)
 }
 
-/// The run beside a trusted pair and the list that has this text and these rules.
+/// The run with a trusted pair and the list that has this text and these rules.
 fn run_ruled<S: Sources, W: Sink, A: Allocator + Copy>(
     text: &[u8],
     rules: &Exclusions<'_>,

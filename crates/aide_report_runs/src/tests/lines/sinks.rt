@@ -24,7 +24,7 @@ fn assert_unwritten<W: Sink>(
     assert!(rt; openings_of(&sources) == given.openings(4));
 }
 
-/// Writes to this sink, which fails after these first bytes of the lines or at the flush behind them. Nothing is tried
+/// Writes to this sink, which fails after these first bytes of the lines or at the flush after them. Nothing is tried
 /// again.
 fn assert_cut(
     rt: &impl Abort,

@@ -55,7 +55,7 @@ pub(super) fn run_for_its_answer<S: Sources, W: Sink, A: Allocator + Copy>(
     run(task, limits, desk, sources, out)
 }
 
-/// Runs for what has gone out.
+/// Runs for what has been written.
 pub(super) fn run_for_its_bytes<S: Sources, W: Sink, A: Allocator + Copy>(
     task: &Task<'_>,
     limits: Limits,
