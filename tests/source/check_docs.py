@@ -11,7 +11,8 @@ tables of files.
 - Each clause that docs/LIBRARY.md names for a call is a clause of this call.
 - The pages docs/HEADLINE*.md are what tools/source/headline_page.py prints of the definitions.
 - Each block of a page has a mark that says how it is tried (tests/pages/blocks.py).
-- Each text that docs/CONTRACTS.md gives for a kind of change stands in a file.
+- Each text that docs/CONTRACTS.md gives for a kind of change is in a file.
+- README, and the page of what is silent, are not longer than a person reads at once.
 
 Prints what fails and, at the end, `N passed, M failed`.
 """
@@ -31,6 +32,7 @@ from tools.lib.arguments import parser_of
 from tools.source import headline_page, public_specs
 from tools.source.definitions import crates
 
+MOST_LINES = {"README.md": 120, "docs/HEADLINE_LINES.md": 600}
 DIAGRAMS = ("flowchart ", "sequenceDiagram\n")
 ENDINGS = r"(?:rt|antt|py|md|sh|c|txt|conf|edit|[15])"
 NAMED = re.compile(r"`((?:[\w.-]+/)*[\w.-]+\.%s)`" % ENDINGS)
@@ -226,6 +228,8 @@ def main() -> int:
             check_blocks(page, tally)
     for name, text in headline_page.pages().items():
         tally.is_so("written page", name, read_text(name) == text)
+    for name, most in MOST_LINES.items():
+        tally.is_so("length", f"{name}: at most {most} lines", read_text(name).count("\n") <= most)
     check_promised(tally)
     check_clauses(tally)
     check_changes(tally)
@@ -236,6 +240,7 @@ def main() -> int:
             "copied code",
             "block",
             "written page",
+            "length",
             "place of a definition",
             "clause",
             "kind of change",
