@@ -1,6 +1,7 @@
 -- Sets of attributes by lists of them.
+use Rattle.std.proofs.lemmas.Grind.{common_steps}
 use Rattle.std.proofs.Common.{ℕ, ◌<◌, ◌≡◌, Bool, true, false, List, [], ◌∷◌, suc, zero, length, refl, sym, ap, ◌∙◌}
-use Rattle.std.proofs.Common.{arith, get_or, inl, inr}
+use Rattle.std.proofs.Common.{arith, get_or, inl, inr, rules}
 use Rattle.std.specs.Prelude.{◌||◌, ◌&&◌, not, map, IsTrue, ◌↔◌}
 use Rattle.std.proofs.lemmas.Bool.{eqb-true, eq-eqb}
 use Rattle.std.specs.List.{list_any}
@@ -22,11 +23,7 @@ any_has s p (x ∷ xs) h = rw (h x, any_has s p xs h) refl
 none_any : (p : Attr → Bool) (xs : List Attr) (k : ℕ) (d : Attr) → list_any p xs ≡ false → k < length xs
     → p (get_or xs k d) ≡ false
 none_any p [] k d h l = absurd (omega arith)
-none_any p (x ∷ xs) zero d h l = first (p x) (list_any p xs) h
-  where
-    first : (a b : Bool) → (a || b) ≡ false → a ≡ false
-    first false b h = refl
-    first true b h = cc
+none_any p (x ∷ xs) zero d h l = search rules
 none_any p (x ∷ xs) (suc k) d h l = none_any p xs k d (second (p x) (list_any p xs) h) (omega arith)
   where
     second : (a b : Bool) → (a || b) ≡ false → b ≡ false
@@ -79,22 +76,8 @@ all_none p (x ∷ xs) h =
 pub meets : (set here both : AttrSet) (xs : List Attr) (empty : Bool) → ((a : Attr) → has here a ≡ list_any (is_attr a) xs)
     → ((a : Attr) → has both a ≡ (has set a && has here a)) → (IsTrue empty ↔ ((a : Attr) → has both a ≡ false))
     → not empty ≡ list_any (has set) xs
-meets set here both xs true listed common tells = sym (all_none (has set) xs (λ a l.
-    and_true (has set a) ∙ (ap (λ b. has set a && b) (sym (listed a ∙ l)) ∙ (sym (common a) ∙ tells.0 refl a))))
-  where
-    and_true : (b : Bool) → b ≡ (b && true)
-    and_true true = refl
-    and_true false = refl
-meets set here both xs false listed common tells = elim (bool_cases (list_any (has set) xs)) [
-  | inl e ↦ sym e
-  | inr e ↦ let none = tells.1 (λ a. common a ∙ ap (λ b. has set a && b) (listed a)
-      ∙ neither (has set a) (list_any (is_attr a) xs) (none_listed (has set) xs e a)) in cc
-]
-  where
-    neither : (a b : Bool) → (b ≡ true → a ≡ false) → (a && b) ≡ false
-    neither false b h = refl
-    neither true false h = refl
-    neither true true h = h refl
+meets set here both xs true listed common tells = search (rules, all_none)
+meets set here both xs false listed common tells = search (rules, bool_cases, none_listed)
 
 -- what no listed attribute has, none has
 pub any_from : (s : Sides) (i : Ignore) (r : AttrSet) → ((a : Attr) → has r a ≡ is_reported s i a)
@@ -110,8 +93,4 @@ any_from s i r h k = elim (bool_cases (any_reported s i)) [
 pub none_from : (s : Sides) (i : Ignore) (r : AttrSet) → ((a : Attr) → has r a ≡ is_reported s i a)
     → ((a : Attr) → has r a ≡ false)
     → any_reported s i ≡ false
-none_from s i r h k = none all_attrs
-  where
-    none : (xs : List Attr) → list_any (is_reported s i) xs ≡ false
-    none [] = refl
-    none (x ∷ xs) = rw (sym (h x) ∙ k x, none xs) refl
+none_from s i r h k = grind (arith, common_steps)

@@ -1,19 +1,18 @@
 -- Maps from names to values: what the entries of the code's map say of the finite map.
 use Rattle.std.proofs.Common.{ℕ, suc, ◌≡◌, Bool, true, false, List, [], ◌∷◌, Option, Some, None, refl, sym, ap, ◌∙◌}
 use Rattle.std.proofs.Common.{cond, Vec, length, Ordering}
-use Rattle.std.proofs.Common.{Less, Equal, Greater, subst, T, ◌&&◌}
+use Rattle.std.proofs.Common.{Less, subst, T, ◌&&◌, rules}
 use Rattle.std.specs.Prelude.{map, is_some, option_map}
 use Rattle.std.specs.Cmp.{eq_by_cmp_equiv, IsEquivalence}
 use Rattle.std.specs.Cmp.Lexicographic.{slice_cmp, nat_list_cmp_total}
-use Rattle.std.specs.Ordering.{nat_cmp, match_ordering, is_lt, is_eq, eq_by_cmp}
+use Rattle.std.specs.Ordering.{nat_cmp, match_ordering, is_lt, eq_by_cmp}
 use Rattle.std.specs.FinMap.Entries.{below_all, by_order, find-put}
 use Rattle.std.specs.List.{AllByRecursion}
 use Rattle.std.specs.List.Sorted.{IsStrictlySortedBy}
 use Rattle.std.specs.FinMap.{IsAntisymmetric, from_entries, from_sorted, empty, get, find, put}
 use Rattle.std.specs.FinMap.{insert, remove, len, entries, is_sorted, same_map, get-from_entries}
 use Rattle.std.specs.FinMap.{get-from_sorted, get-entries, get-empty, get-insert, get-remove}
-use Rattle.std.specs.FinMap.{entries_sorted, entries-from_sorted, len-entries}
-use Rattle.std.specs.FinMap.{slice_cmp-IsAntisymmetric, nat_cmp-IsAntisymmetric}
+use Rattle.std.specs.FinMap.{entries_sorted, entries-from_sorted, len-entries, slice_cmp-IsAntisymmetric, nat_cmp-IsAntisymmetric}
 use Rattle.std.specs.BTreeMap.{is_at, insert_entry}
 use Rattle.std.specs.Map.{lookup, keys_of, KeepsOthers}
 use Rattle.aide_attr.specs.NameMap.{Names, named, seen}
@@ -78,16 +77,12 @@ module _ {A X : Type 0} where
   plain_match : (o : Ordering) (a b c : List (Vec ℕ A × X))
       → plain (match_ordering o a b c) ≡ by_order o (plain a) (plain b) (plain c)
   plain_match Less a b c = refl
-  plain_match Equal a b c = refl
-  plain_match Greater a b c = refl
+  plain_match _ a b c = refl
 
   plain_insert : (es : List (Vec ℕ A × X)) (k : Vec ℕ A) (v : X)
       → plain (insert_entry (λ (v w : Vec ℕ A). slice_cmp nat_cmp v.items w.items) es k v) ≡ put (slice_cmp nat_cmp) k.items v (plain es)
   plain_insert [] k v = refl
-  plain_insert (e ∷ es) k v = plain_match (slice_cmp nat_cmp k.items e.0.items) _ _ _
-      ∙ ap (λ z. by_order (slice_cmp nat_cmp k.items e.0.items) ((k.items, v) ∷ plain (e ∷ es)) ((e.0.items, v) ∷ plain es)
-      ((e.0.items, e.1) ∷ z))
-      (plain_insert es k v)
+  plain_insert (e ∷ es) k v = search (rules, plain_insert es k v, plain_match, plain)
 
   -- the map after a name is given a value
   pub insert_name : (es fs : List (Vec ℕ A × X)) (k : Vec ℕ A) (v : X)
@@ -100,12 +95,7 @@ module _ {A X : Type 0} where
       ∙ ap (cond (eq_by_cmp (slice_cmp nat_cmp) q k.items) (Some v)) (get-from_entries nat_list_cmp_total (plain es) q)))
 
 pub tied : (q k : List ℕ) → eq_by_cmp (slice_cmp nat_cmp) q k ≡ true → q ≡ k
-tied q k e = exact q k (by (slice_cmp nat_cmp q k) e)
-  where
-    by : (r : Ordering) → is_eq r ≡ true → r ≡ Equal
-    by Less e = let bad : false ≡ true = e in cc
-    by Equal e = refl
-    by Greater e = let bad : false ≡ true = e in cc
+tied q k e = search (rules, exact)
 
 -- the map after a name is taken away
 module _ {A X : Type 0} (es fs : List (Vec ℕ A × X)) (k : List ℕ)

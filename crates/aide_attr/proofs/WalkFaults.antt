@@ -1,15 +1,15 @@
 -- Where an expression fails.
 use Rattle.std.proofs.Common.{ℕ, ◌≡◌, ◌<◌, ◌≤◌, ◌+◌, Bool, true, false, List, [], ◌∷◌, ◌++◌, length, refl, sym, ap, ◌∙◌}
 use Rattle.std.proofs.Common.{subst, inl, inr, arith}
-use Rattle.std.proofs.Common.{append_assoc, cond, Option, Some, None, Result, Ok, Err, length-append}
-use Rattle.std.specs.Prelude.{◌==◌, option_and_then}
+use Rattle.std.proofs.Common.{append_assoc, cond, Option, Some, None, Result, Ok, Err, length-append, rules}
+use Rattle.std.specs.Prelude.{option_and_then}
 use Rattle.std.proofs.lemmas.List.{append-nil}
 use Rattle.aide_attr.specs.declared.attr.Attr.{Attr}
 use Rattle.aide_attr.specs.declared.expression.Stage.{Stage}
 use Rattle.aide_attr.specs.declared.expression.Stage.TheVariants.{BeforeName, InName, AfterName}
 use Rattle.aide_attr.specs.declared.expression.ExprFault.{ExprFault}
 use Rattle.aide_attr.specs.declared.expression.ExprFault.TheVariants.{UnknownName, BadExpression}
-use Rattle.aide_attr.specs.Byte.{is_blank, is_name_byte}
+use Rattle.aide_attr.specs.Byte.{is_name_byte}
 use Rattle.aide_attr.specs.Expression.{Each, starts_named, ends_named, Term, IsExpression, Lookup, IsFront, IsBreak}
 use Rattle.aide_attr.specs.Expression.{IsUnknown, NoneBefore, IsFault}
 use Rattle.aide_attr.specs.code.Walk.{Spot, name_run, after_step, step, begun, apply, taken, after_byte, walk}
@@ -19,31 +19,10 @@ use Rattle.aide_attr.proofs.WalkLemmas.{bool_cases, run_all, front_runs, runs_fr
 -- ---- indices
 
 after_not_within : (s : Bool) (b : ℕ) (q : Spot) → after_step s b ≡ Some q → q.0 ≡ InName → ⊥
-after_not_within s b q e w = elim (bool_cases (is_blank b)) [
-  | inl k ↦ apart AfterName (λ r. cc) (stage_is AfterName s q (rw k at e))
-  | inr k ↦ elim (bool_cases (b == 43)) [
-    | inl m ↦ apart BeforeName (λ r. cc) (stage_is BeforeName true q (rw (k, m) at e))
-    | inr m ↦ elim (bool_cases (b == 45)) [
-      | inl n ↦ apart BeforeName (λ r. cc) (stage_is BeforeName false q (rw (k, m, n) at e))
-      | inr n ↦ none (rw (k, m, n) at e)
-    ]
-  ]
-]
-  where
-    none : None ≡ Some q → ⊥
-    none z = cc
-
-    apart : (p : Stage) → (p ≡ InName → ⊥) → p ≡ q.0 → ⊥
-    apart p k r = k (r ∙ w)
+after_not_within s b q e w = search (rules, bool_cases, stage_is)
 
 step_other : (p : Stage) (s : Bool) (b : ℕ) (q : Spot) → step p s b ≡ Some q → is_name_byte b ≡ false → q.0 ≡ InName → ⊥
-step_other BeforeName s b q e h w = elim (bool_cases (is_blank b)) [
-  | inl k ↦ (let r : BeforeName ≡ InName = stage_is BeforeName s q (rw k at e) ∙ w in cc)
-  | inr k ↦ none (rw (k, h) at e)
-]
-  where
-    none : None ≡ Some q → ⊥
-    none z = cc
+step_other BeforeName s b q e h w = search (rules, bool_cases, stage_is)
 step_other InName s b q e h w = after_not_within s b q (rw h at e) w
 step_other AfterName s b q e h w = after_not_within s b q e w
 
@@ -63,13 +42,7 @@ run_more p s (x ∷ xs) ys = by_step (λ q. run_more q.0 q.1 xs ys) (step p s x)
 -- what runs has fronts that run
 run_front : (p : Stage) (s : Bool) (xs ys : List ℕ) (q : Spot) → run_all p s (xs ++ ys) ≡ Some q
     → (r : Spot) × (run_all p s xs ≡ Some r)
-run_front p s xs ys q e = by_run (run_all p s xs) refl (sym (run_more p s xs ys) ∙ e)
-  where
-    by_run : (o : Option Spot) → run_all p s xs ≡ o → option_and_then (λ (r : Spot). run_all r.0 r.1 ys) o ≡ Some q
-        → (r : Spot)
-        × (run_all p s xs ≡ Some r)
-    by_run None k m = cc
-    by_run (Some r) k m = (r, k)
+run_front p s xs ys q e = search (rules, run_all, run_more)
 
 -- an index that wants a name is behind no name byte
 ends_wanting : (p : Stage) (s : Bool) (xs : List ℕ) (q : Spot) → run_all p s xs ≡ Some q → q.0 ≡ BeforeName
@@ -111,10 +84,8 @@ pub known_before : (look : Lookup) (acc : Attr → Bool) (p : Stage) (s : Bool) 
     → Reaches (walk look acc p s i bs) (i + length d)
     → look name ≡ None → ⊥
 unfolding walk
-known_before look acc p s i [] [] [] rest e w n k o r c u = absurd (omega arith)
 known_before look acc p s i [] [] (x ∷ name) rest e w n k o r c u = cc
 known_before look acc p s i [] (x ∷ d) name rest e w n k o r c u = cc
-known_before look acc p s i (b ∷ bs) [] [] rest e w n k o r c u = absurd (omega arith)
 known_before look acc p s i (b ∷ bs) [] (x ∷ name) rest e w n k o r c u = by_stage p (w refl) (step p s b) refl c
   where
     same : b ≡ x
@@ -163,6 +134,7 @@ known_before look acc p s i (b ∷ bs) (x ∷ d) name rest e w n k o r c u =
         (λ f g. step_other p s b q m (ap is_name_byte same
         ∙ (let h : ends_named (x ∷ []) ≡ false = subst (λ y. ends_named (x ∷ y) ≡ false) f n in h)) g)
         (let h : i + length (x ∷ d) ≡ i + 1 + length d = omega arith in subst (Reaches (walk look known q.0 q.1 (i + 1) bs)) h z)
+known_before look acc p s i _ [] [] rest e w n k o r c u = absurd (omega arith)
 
 -- ---- what the walk passed before its fault
 
@@ -218,8 +190,6 @@ pub stopped : (look : Lookup) (acc : Attr → Bool) (p : Stage) (s : Bool) (i : 
 unfolding walk
 stopped look acc BeforeName s i [] e h =
     subst (Stopped look BeforeName s i []) (let g : BadExpression i ≡ e = cc in g) (here look BeforeName s i [] (BadExpression i) refl refl)
-stopped look acc InName s i [] e h = cc
-stopped look acc AfterName s i [] e h = cc
 stopped look acc p s i (b ∷ bs) e h =
     by_byte (λ q known m. stopped look known q.0 q.1 (i + 1) bs e m) (step p s b) refl (taken look acc (begun p s b bs)) refl h
   where
@@ -250,6 +220,7 @@ stopped look acc p s i (b ∷ bs) e h =
         subst (Stopped look p s i (b ∷ bs)) (let g : BadExpression i ≡ e = cc in g) (here look p s i (b ∷ bs) (BadExpression i) refl m)
     by_byte again (Some q) m None n z = unknown q p m n (let g : UnknownName i ≡ e = cc in g)
     by_byte again (Some q) m (Some known) n z = later look p s i b bs e q m (again q known z)
+stopped look acc _ s i [] e h = cc
 
 -- ---- the fault
 
@@ -271,38 +242,19 @@ drop_run (b ∷ bs) = cond (is_name_byte b) (drop_run bs) (b ∷ bs)
 split : (bs : List ℕ) → bs ≡ name_run bs ++ drop_run bs
 unfolding drop_run
 split [] = refl
-split (b ∷ bs) = by_test (split bs) (is_name_byte b)
-  where
-    by_test : bs ≡ name_run bs ++ drop_run bs → (n : Bool)
-        → b ∷ bs ≡ cond n (b ∷ name_run bs) [] ++ cond n (drop_run bs) (b ∷ bs)
-    by_test h true = ap (λ z. b ∷ z) h
-    by_test h false = refl
+split (b ∷ bs) = search (rules, split bs)
 
 each : (bs : List ℕ) → Each is_name_byte (name_run bs)
 each [] = tt
-each (b ∷ bs) = by_test (each bs) (is_name_byte b) refl
-  where
-    by_test : Each is_name_byte (name_run bs) → (n : Bool) → is_name_byte b ≡ n
-        → Each is_name_byte (cond n (b ∷ name_run bs) [])
-    by_test h true k = (k, h)
-    by_test h false k = tt
+each (b ∷ bs) = search (rules, each bs)
 
 starts : (bs : List ℕ) → starts_named (drop_run bs) ≡ false
 unfolding drop_run
 starts [] = refl
-starts (b ∷ bs) = by_test (starts bs) (is_name_byte b) refl
-  where
-    by_test : starts_named (drop_run bs) ≡ false → (n : Bool) → is_name_byte b ≡ n
-        → starts_named (cond n (drop_run bs) (b ∷ bs)) ≡ false
-    by_test h true k = h
-    by_test h false k = k
+starts (b ∷ bs) = search (rules, starts bs)
 
 is_front : (bs : List ℕ) (q : Spot) → run_all BeforeName true bs ≡ Some q → IsFront bs
-is_front bs q e = let f = runs_front BeforeName true bs q e in (f.0, f.1, to_expression (bs ++ f.0) f.1 f.2)
-  where
-    to_expression : (xs : List ℕ) (ts : List Term) → At BeforeName true xs ts → IsExpression xs ts
-    to_expression xs [] h = h
-    to_expression xs (t ∷ ts) h = h
+is_front bs q e = search (rules, runs_front)
 
 pub from_expression : (xs : List ℕ) (ts : List Term) → IsExpression xs ts → At BeforeName true xs ts
 from_expression xs [] h = h

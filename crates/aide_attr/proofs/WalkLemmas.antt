@@ -1,7 +1,7 @@
 -- Expressions are read byte by byte.
-use Rattle.std.proofs.Common.{rules, ℕ, ◌≡◌, ◌<◌, ◌≤◌, ◌+◌, Bool, true, false, not, List, [], ◌∷◌, ◌++◌, length, refl, sym, ap}
+use Rattle.std.proofs.Common.{rules, ℕ, ◌≡◌, ◌<◌, ◌≤◌, ◌+◌, Bool, true, false, List, [], ◌∷◌, ◌++◌, length, refl, sym, ap}
 use Rattle.std.proofs.Common.{◌∙◌, subst, inl, inr, arith, append_assoc, cond, Option, Some, None, Ok, Err, get_or, drop}
-use Rattle.std.specs.Prelude.{◌&&◌, ◌||◌, ◌⊎◌, ◌↔◌, ◌==◌, IsSome, option_and_then}
+use Rattle.std.specs.Prelude.{◌⊎◌, ◌↔◌, ◌==◌, IsSome, option_and_then}
 use Rattle.std.proofs.lemmas.Bool.{eqb-true}
 use Rattle.std.proofs.lemmas.List.{drop_all}
 use Rattle.aide_attr.specs.declared.attr.Attr.{Attr}
@@ -13,7 +13,7 @@ use Rattle.aide_attr.specs.Set.{has}
 use Rattle.aide_attr.specs.Byte.{is_blank, is_name_byte, is_word_byte}
 use Rattle.aide_attr.specs.Expression.{Each, Term, IsSpaced, sign, AreMore, IsExpression, Lookup, set_has, NoneHas}
 use Rattle.aide_attr.specs.Expression.{IsMeant, AllKnown, IsMeaning}
-use Rattle.aide_attr.specs.code.Walk.{Spot, name_run, after_step, step, begun, apply, taken, finish, after_byte, walk}
+use Rattle.aide_attr.specs.code.Walk.{Spot, name_run, after_step, step, begun, apply, taken, after_byte, walk}
 use Rattle.aide_attr.proofs.WalkSteps.{spot_is, stage_is, name_not_blank, sign_not_name, blank_not_name, At, whole_run}
 use Rattle.aide_attr.proofs.WalkSteps.{tail_no_name, onward}
 
@@ -38,16 +38,7 @@ AfterBack b bs ts =
 after_back : (s : Bool) (b : ℕ) (bs : List ℕ) (ts : List Term) (q : Spot) → after_step s b ≡ Some q → At q.0 q.1 bs ts
     → AfterBack b bs ts
 unfolding AfterBack
-after_back s b bs ts q e h = elim (bool_cases (is_blank b)) [
-  | inl k ↦ blank k (spot_is (AfterName, s) q (rw k at e))
-  | inr k ↦ elim (bool_cases (b == 43)) [
-    | inl m ↦ plus (eqb-true b 43 m) (spot_is (BeforeName, true) q (rw (k, m) at e))
-    | inr m ↦ elim (bool_cases (b == 45)) [
-      | inl n ↦ minus (eqb-true b 45 n) (spot_is (BeforeName, false) q (rw (k, m, n) at e))
-      | inr n ↦ absurd (none (rw (k, m, n) at e))
-    ]
-  ]
-]
+after_back s b bs ts q e h = search (rules, bool_cases, spot_is, eqb-true, none, blank, plus, minus)
   where
     none : None ≡ Some q → ⊥
     none z = cc
@@ -82,13 +73,7 @@ back InName s b bs ts q e h = elim (bool_cases (is_name_byte b)) [
     name : is_name_byte b ≡ true → (InName, s) ≡ q → At InName s (b ∷ bs) ts
     name k m = let j = at_spot (InName, s) q bs ts m h in
         (b ∷ j.0, j.1, j.2, ap (λ z. b ∷ z) j.3, (k, j.4), j.5, j.6)
-back BeforeName s b bs ts q e h = elim (bool_cases (is_blank b)) [
-  | inl k ↦ rw (blank_not_name b k) (blank k ts (at_spot (BeforeName, s) q bs ts (spot_is (BeforeName, s) q (rw k at e)) h))
-  | inr k ↦ elim (bool_cases (is_name_byte b)) [
-    | inl m ↦ rw m (name m (at_spot (InName, s) q bs ts (spot_is (InName, s) q (rw (k, m) at e)) h))
-    | inr m ↦ absurd (none (rw (k, m) at e))
-  ]
-]
+back BeforeName s b bs ts q e h = search (rules, bool_cases, blank_not_name, at_spot, spot_is, none, blank, name)
   where
     none : None ≡ Some q → ⊥
     none z = cc
@@ -222,20 +207,8 @@ walked look acc p s i (b ∷ bs) m e =
 apply_at : (adds : Bool) (o : Option (Attr → Bool)) (acc : Attr → Bool) (a : Attr)
     → apply adds o acc a ≡ cond (set_has o a) adds (acc a)
 apply_at adds None acc a = refl
-apply_at true (Some set) acc a = cases (acc a) (set a)
-  where
-    cases : (x y : Bool) → (x || y) ≡ cond y true x
-    cases true true = refl
-    cases true false = refl
-    cases false true = refl
-    cases false false = refl
-apply_at false (Some set) acc a = cases (acc a) (set a)
-  where
-    cases : (x y : Bool) → (x && not y) ≡ cond y false x
-    cases true true = refl
-    cases true false = refl
-    cases false true = refl
-    cases false false = refl
+apply_at true (Some set) acc a = search rules
+apply_at false (Some set) acc a = search rules
 
 meant_keep : (look : Lookup) (ts : List Term) (acc : Attr → Bool) (a : Attr) → NoneHas look a ts
     → meant look acc ts a ≡ acc a
@@ -247,9 +220,7 @@ meant_to : (look : Lookup) (ts : List Term) (acc : Attr → Bool) (a : Attr)
     → (earlier : List Term) (t : Term) (later : List Term)
     → ts ≡ earlier ++ t ∷ later
     → t.adds ≡ true → set_has (look t.name) a ≡ true → NoneHas look a later → meant look acc ts a ≡ true
-meant_to look ts acc a [] t later e h k n =
-    ap (λ z. meant look acc z a) e ∙ meant_keep look later _ a n ∙ apply_at t.adds (look t.name) acc a ∙ ap (λ b. cond b t.adds (acc a)) k
-    ∙ h
+meant_to look ts acc a [] t later e h k n = search (rules, meant, meant_keep, apply_at)
 meant_to look [] acc a (u ∷ earlier) t later e h k n = cc
 meant_to look (v ∷ ts) acc a (u ∷ earlier) t later e h k n =
     meant_to look ts _ a earlier t later (let f : ts ≡ earlier ++ t ∷ later = cc in f) h k n
@@ -328,8 +299,7 @@ unfolding walk
 at_unknown look acc p s i [] q h k w n t = absurd (omega arith)
 at_unknown look acc BeforeName s i (b ∷ bs) q h k w n t =
     let t' : taken look acc (record { adds = s; name = b ∷ name_run bs } ∷ []) ≡ None = rw n at t in rw (k, n, t') refl
-at_unknown look acc InName s i (b ∷ bs) q h k w n t = cc
-at_unknown look acc AfterName s i (b ∷ bs) q h k w n t = cc
+at_unknown look acc _ s i (b ∷ bs) q h k w n t = cc
 
 pub at_named : (look : Lookup) (acc : Attr → Bool) (p : Stage) (s : Bool) (i : ℕ) (bs : List ℕ) (q : Spot) (known : Attr → Bool)
     → 0 < length bs
@@ -340,8 +310,7 @@ unfolding walk
 at_named look acc p s i [] q known h k w n t = absurd (omega arith)
 at_named look acc BeforeName s i (b ∷ bs) q known h k w n t =
     let t' : taken look acc (record { adds = s; name = b ∷ name_run bs } ∷ []) ≡ Some known = rw n at t in rw (k, n, t') refl
-at_named look acc InName s i (b ∷ bs) q known h k w n t = cc
-at_named look acc AfterName s i (b ∷ bs) q known h k w n t = cc
+at_named look acc _ s i (b ∷ bs) q known h k w n t = cc
 
 pub at_plain : (look : Lookup) (acc : Attr → Bool) (p : Stage) (s : Bool) (i : ℕ) (bs : List ℕ) (q : Spot)
     → 0 < length bs
@@ -350,8 +319,7 @@ pub at_plain : (look : Lookup) (acc : Attr → Bool) (p : Stage) (s : Bool) (i :
 unfolding walk
 at_plain look acc p s i [] q h k n = absurd (omega arith)
 at_plain look acc BeforeName s i (b ∷ bs) q h k n = rw (k, n refl) refl
-at_plain look acc InName s i (b ∷ bs) q h k n = rw k refl
-at_plain look acc AfterName s i (b ∷ bs) q h k n = rw k refl
+at_plain look acc _ s i (b ∷ bs) q h k n = rw k refl
 
 -- the end of the text
 pub ends_wanting_more : (look : Lookup) (acc : Attr → Bool) (p : Stage) (s : Bool) (text : List ℕ) (i : ℕ)
@@ -369,9 +337,4 @@ pub ends_well : (look : Lookup) (acc : Attr → Bool) (p : Stage) (s : Bool) (te
     → (p ≡ BeforeName → ⊥)
     → walk look acc p s i (drop i text) ≡ Ok acc
 unfolding walk
-ends_well look acc p s text i h w = rw (drop_all i text h) (finished p w)
-  where
-    finished : (p : Stage) → (p ≡ BeforeName → ⊥) → finish p acc i ≡ Ok acc
-    finished BeforeName w = absurd (w refl)
-    finished InName w = refl
-    finished AfterName w = refl
+ends_well look acc p s text i h w = search (rules, drop_all)

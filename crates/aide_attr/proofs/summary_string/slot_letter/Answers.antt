@@ -23,9 +23,7 @@ returns-then-any_added c =
 
 pub returns-then-any_removed : goal.returns-then-any_removed
 unfolding slot_letter
-returns-then-any_removed c =
-    sym (later _ _ _ _ (sym c.any_changed.ensures ∙ c.if-any_changed.false)
-    (later _ _ _ _ (sym c.any_added.ensures ∙ c.if-any_added.false) (here _ _ _ (sym c.any_removed.ensures ∙ c.if-any_removed.true))))
+returns-then-any_removed c = search (rules, later, here)
 
 pub returns-then-any_affected : goal.returns-then-any_affected
 unfolding slot_letter
