@@ -1,20 +1,18 @@
 -- The test of a path says what the relation says: it counts the components and the names that begin with a dot.
-use Rattle.std.proofs.Common.{◌≡◌, ◌≤◌, ◌+◌, ℕ, Bool, true, false, ◌||◌, not, List, [], ◌∷◌, refl, ap, sym, subst, ◌∙◌, arith, eq-eqb, inl}
-use Rattle.std.proofs.Common.{inr}
-use Rattle.std.specs.Prelude.{◌==◌, if◌then◌else◌, ◌↔◌, Option, Some, None}
+use Rattle.std.proofs.lemmas.Grind.{common_steps}
+use Rattle.std.proofs.Common.{◌≡◌, ◌≤◌, ◌+◌, ℕ, Bool, true, false, ◌||◌, not, List, [], ◌∷◌, refl, ap, sym, ◌∙◌, arith, eq-eqb, inl}
+use Rattle.std.proofs.Common.{inr, rules}
+use Rattle.std.specs.Prelude.{if◌then◌else◌, ◌↔◌, Option, Some, None}
 use Rattle.std.specs.List.{list_any}
 use Rattle.std.proofs.lemmas.Bool.{and_parts, and_from, or_cases, false≢true, eqb-true}
 use Rattle.aide_patterns.specs.Parts.{one, many, Matches, end, item, none, more}
-use Rattle.aide_patterns.specs.Bytes.{is_byte}
 use Rattle.aide_patterns.specs.Component.{component_parts}
-use Rattle.aide_patterns.specs.Path.{Pattern, begins_with, below, components, is_dotted, is_double_star, pattern_from, pattern_of}
+use Rattle.aide_patterns.specs.Path.{Pattern, is_dotted, pattern_from, pattern_of}
 use Rattle.aide_patterns.specs.Path.{IsPlainName, MatchesName, MatchesPath}
-use Rattle.aide_patterns.specs.Tests.{dots, matches, matches_parts, matches_name, matches_path, matches_text, some_rest, line_of, names}
+use Rattle.aide_patterns.specs.Tests.{dots, matches, matches_name, matches_text, some_rest, line_of, names}
 use Rattle.aide_patterns.specs.Line.{RuleText}
 use Rattle.aide_patterns.specs.Rules.{Names, IsFirst, IsFound, IsNamed}
 use Rattle.aide_patterns.proofs.FindLemmas.{line_behind, line_here}
-use Rattle.aide_patterns.proofs.FrontLemmas.{plain, plain_part}
-use Rattle.aide_patterns.specs.code.Fronts.{is_plain}
 use Rattle.aide_patterns.proofs.MatchLemmas.{here, or_right}
 use Rattle.aide_patterns.proofs.MeaningLemmas.{parts_complete, parts_sound, some_in, some_test}
 
@@ -35,26 +33,10 @@ pattern_dots (many ∷ ps) = pattern_dots ps
 dot_kept : (component name : List ℕ) → is_dotted component ≡ true → matches_name component name ≡ true
     → is_dotted name ≡ true
 dot_kept [] name h m = absurd (false≢true h)
-dot_kept (byte ∷ component) name h m = go name (ap (λ ps. matches_parts ps name) parts ∙ m)
-  where
-    is : byte ≡ 46
-    is = eqb-true byte 46 h
-
-    parts : one (is_byte byte) ∷ component_parts component ≡ component_parts (byte ∷ component)
-    parts = sym (plain_part byte component (plain byte (ap is_plain is)))
-
-    go : (xs : List ℕ) → matches_parts (one (is_byte byte) ∷ component_parts component) xs ≡ true → is_dotted xs ≡ true
-    go [] k = absurd (false≢true k)
-    go (x ∷ xs) k =
-        ap (λ b. x == b) (sym is) ∙ (and_parts (x == byte) (matches_parts (component_parts component) xs) k).0
+dot_kept (byte ∷ component) name h m = search rules
 
 dot_fits : (component name : List ℕ) → matches_name component name ≡ true → dot component ≤ dot name
-dot_fits component name m = go (is_dotted component) refl
-  where
-    go : (b : Bool) → is_dotted component ≡ b → dot component ≤ dot name
-    go false h = omega (arith, ap one_if h)
-    go true h =
-        omega (arith, ap one_if h, ap one_if (dot_kept component name h m))
+dot_fits component name m = search rules
 
 some_fits : (ps : Pattern) → ((ys : List (List ℕ)) → matches matches_name ps ys ≡ true → pattern_dots ps ≤ dots ys)
     → (xs : List (List ℕ)) → some_rest (matches matches_name ps) xs ≡ true → pattern_dots ps ≤ dots xs
@@ -126,60 +108,17 @@ names_complete (item {t} {x} {ps} {xs} p m) =
       omega (arith, k.1, same_dot (is_dotted t) (is_dotted x) (λ h. dot_kept t x h it) p.dot),
     )
 names_complete (none {ps} {xs} m) = let k = names_complete m in (here matches_name ps xs k.0, k.1)
-names_complete (more {x} {ps} {xs} taken m) =
-    let k = names_complete m in (
-      or_right (matches matches_name ps (x ∷ xs)) (some_rest (matches matches_name ps) xs) k.0,
-      omega (arith, k.1, ap one_if taken),
-    )
-
--- `**` does not begin with a dot
-star_dot : (text : List ℕ) → is_double_star text ≡ true → dot text ≡ 0
-star_dot [] h = refl
-star_dot (a ∷ []) h = absurd (false≢true h)
-star_dot (a ∷ b ∷ []) h = go (a == 42) refl
-  where
-    go : (c : Bool) → (a == 42) ≡ c → dot (a ∷ b ∷ []) ≡ 0
-    go true at = ap (λ x. one_if (x == 46)) (eqb-true a 42 at)
-    go false at = absurd (false≢true (sym (simp at) ∙ h))
-star_dot (a ∷ b ∷ c ∷ text) h = absurd (false≢true h)
+names_complete (more {x} {ps} {xs} taken m) = search (rules, names_complete m, or_right, one_if)
 
 -- the pattern of some components has as many
 pub pattern_of_dots : (texts : List (List ℕ)) → pattern_dots (pattern_from texts) ≡ dots texts
 pattern_of_dots [] = refl
-pattern_of_dots (text ∷ []) = go (is_double_star text) refl
-  where
-    go : (b : Bool) → is_double_star text ≡ b → pattern_dots (pattern_from (text ∷ [])) ≡ dots (text ∷ [])
-    go true h = ap (λ b. pattern_dots (if b then below else one text ∷ [])) h ∙ omega (arith, star_dot text h)
-    go false h = ap (λ b. pattern_dots (if b then below else one text ∷ [])) h
-pattern_of_dots (text ∷ next ∷ texts) = go (is_double_star text) refl (pattern_of_dots (next ∷ texts))
-  where
-    go : (b : Bool) → is_double_star text ≡ b → pattern_dots (pattern_from (next ∷ texts)) ≡ dots (next ∷ texts)
-        → pattern_dots (pattern_from (text ∷ next ∷ texts)) ≡ dots (text ∷ next ∷ texts)
-    go true h again =
-        ap (λ b. pattern_dots (if b then many ∷ pattern_from (next ∷ texts) else one text ∷ pattern_from (next ∷ texts))) h
-        ∙ omega (arith, star_dot text h, again)
-    go false h again =
-        ap (λ b. pattern_dots (if b then many ∷ pattern_from (next ∷ texts) else one text ∷ pattern_from (next ∷ texts))) h
-        ∙ omega (arith, again)
+pattern_of_dots (text ∷ []) = search rules
+pattern_of_dots (text ∷ next ∷ texts) = search (rules, pattern_of_dots (next ∷ texts))
 
 -- the test of a path is true exactly if the path matches the pattern of the text
 pub text_meaning : (pattern path : List ℕ) → (matches_text pattern path ≡ true) ↔ MatchesPath (pattern_of pattern) path
-text_meaning pattern path = (
-  λ h.
-      let both = and_parts (begins_with 47 path) _ h in
-      let rest = and_parts (matches_path (pattern_of pattern) path) _ both.1 in
-      record {
-        slash = both.0;
-        names = names_sound (pattern_of pattern) (components path) rest.0
-            (pattern_of_dots (components pattern)
-            ∙ eqb-true (dots (components pattern)) (dots (components path)) rest.1);
-      },
-  λ m.
-      let k = names_complete m.names in
-      and_from (begins_with 47 path) _ m.slash
-      (and_from (matches_path (pattern_of pattern) path) _ k.0
-      (eq-eqb (dots (components pattern)) (dots (components path)) (sym (pattern_of_dots (components pattern)) ∙ k.1))),
-)
+text_meaning pattern path = search (rules, and_parts, names_sound, pattern_of_dots, eqb-true, names_complete, and_from, eq-eqb)
 
 means_them : (is_program programs : Bool) → (not is_program || programs) ≡ true → is_program ≡ true → programs ≡ true
 means_them true programs h is = h
@@ -191,18 +130,11 @@ may_mean false programs h = refl
 
 rule_sound : (path : List ℕ) (is_program : Bool) (rule : RuleText) → names path is_program rule ≡ true
     → Names path is_program rule
-rule_sound path is_program rule h =
-    let both = and_parts (not is_program || rule.programs) (matches_text rule.pattern path) h in
-    record {
-      matches = (text_meaning rule.pattern path).0 both.1;
-      programs = means_them is_program rule.programs both.0;
-    }
+rule_sound path is_program rule h = search (rules, and_parts, text_meaning, means_them)
 
 rule_complete : (path : List ℕ) (is_program : Bool) (rule : RuleText) → Names path is_program rule
     → names path is_program rule ≡ true
-rule_complete path is_program rule n =
-    and_from (not is_program || rule.programs) (matches_text rule.pattern path)
-    (may_mean is_program rule.programs n.programs) ((text_meaning rule.pattern path).1 n.matches)
+rule_complete path is_program rule n = search (rules, and_from, may_mean, text_meaning)
 
 -- the test of a list is true exactly if a rule names the path
 pub list_meaning : (rules : List RuleText) (path : List ℕ) (is_program : Bool)
@@ -246,15 +178,10 @@ found_here rule rules path is_program it_does = record {
 found_by : (rule : RuleText) (rules : List RuleText) (path : List ℕ) (is_program : Bool) (b : Bool)
     → names path is_program rule ≡ b → IsFound rules path is_program (line_of rules path is_program)
     → IsFound (rule ∷ rules) path is_program (line_of (rule ∷ rules) path is_program)
-found_by rule rules path is_program true it_does found =
-    subst (IsFound (rule ∷ rules) path is_program) (sym (line_here rule rules path is_program it_does))
-    (found_here rule rules path is_program it_does)
-found_by rule rules path is_program false it_does_not found =
-    subst (IsFound (rule ∷ rules) path is_program) (sym (line_behind rule rules path is_program it_does_not))
-    (found_behind rule rules path is_program (line_of rules path is_program) it_does_not found)
+found_by rule rules path is_program true it_does found = grind (arith, common_steps, line_here, found_here)
+found_by rule rules path is_program false it_does_not found = grind (arith, common_steps, line_behind, found_behind)
 
 pub line_is_found : (rules : List RuleText) (path : List ℕ) (is_program : Bool)
     → IsFound rules path is_program (line_of rules path is_program)
 line_is_found [] path is_program = λ named. false≢true ((list_meaning [] path is_program).1 named)
-line_is_found (rule ∷ rules) path is_program =
-    found_by rule rules path is_program (names path is_program rule) refl (line_is_found rules path is_program)
+line_is_found (rule ∷ rules) path is_program = grind (arith, common_steps, line_is_found rules path is_program, found_by)

@@ -1,16 +1,17 @@
 -- Laws of patterns, and of lists of them.
+use Rattle.std.proofs.lemmas.Grind.{common_steps}
 use Rattle.std.proofs.Common.{◌≡◌, ℕ, Bool, true, false, List, [], ◌∷◌, ◌++◌, length, refl, ap, sym, ◌∙◌, subst, arith, eq-eqb}
-use Rattle.std.proofs.Common.{append_assoc}
+use Rattle.std.proofs.Common.{append_assoc, rules}
 use Rattle.std.specs.Prelude.{◌↔◌, Some, Result, Ok, Err}
 use Rattle.std.specs.List.{All, list_all}
 use Rattle.std.proofs.lemmas.Bool.{and_from, and_parts, eqb-true, false≢true}
 use Rattle.std.proofs.lemmas.List.Elements.{All-nil, All-cons, All-head, All-tail}
 use Rattle.aide_patterns.specs.Parts.{Part, many, Matches, none, more}
 use Rattle.aide_patterns.specs.Path.{begins_with, components, pattern_of, IsPlainName, MatchesName, MatchesPath, Pattern}
-use Rattle.aide_patterns.specs.Pieces.{head_until, others_until, pieces}
+use Rattle.aide_patterns.specs.Pieces.{pieces}
 use Rattle.aide_patterns.specs.Line.{RuleText}
 use Rattle.aide_patterns.specs.List.{numbered, rules_of, HasRules, IsReading}
-use Rattle.aide_patterns.specs.Tests.{dots, line_of, matches, matches_name, matches_path, names}
+use Rattle.aide_patterns.specs.Tests.{dots, line_of, matches_path, names}
 use Rattle.aide_patterns.specs.Rules.{IsFound, IsNamed}
 use Rattle.aide_patterns.specs.code.Fronts.{is_plain}
 use Rattle.aide_patterns.specs.code.Reading.{read_list}
@@ -55,10 +56,7 @@ skipping {Takes} (x ∷ skipped) all m =
 -- some of them
 pub double_star : (rest : Pattern) (xs : List (List ℕ)) → Matches MatchesName IsPlainName (many ∷ rest) xs
     ↔ Skips MatchesName IsPlainName rest xs
-double_star rest xs = (
-  skips,
-  λ s. subst (Matches MatchesName IsPlainName (many ∷ rest)) (sym s.parts) (skipping s.skipped s.taken s.matches_left),
-)
+double_star rest xs = search (rules, skips, skipping)
 
 -- What a pattern matches has as many names that begin with a dot as the pattern has components that do.
 pub dots_are_spelled : (text path : List ℕ) → MatchesPath (pattern_of text) path
@@ -69,21 +67,12 @@ itself : (text path : List ℕ) → begins_with 47 text ≡ true → list_all is
     → begins_with 47 path ≡ true → matches_path (pattern_of text) path ≡ true → path ≡ text
 itself [] path s h t m = absurd (false≢true s)
 itself (slash ∷ text) [] s h t m = absurd (false≢true t)
-itself (slash ∷ text) (first ∷ path) s h t m =
-    let plain_rest = (and_parts (is_plain slash) (list_all is_plain text) h).1 in
-    let within = ap (λ ps. matches matches_name ps (head_until 47 path ∷ others_until 47 path))
-    (sym (one_part (head_until 47 text) (others_until 47 text) (first_no_star text plain_rest))) ∙ m in
-    ap (λ t. first ∷ t) (within_is text path plain_rest within)
-    ∙ ap (λ b. b ∷ text) (eqb-true first 47 t ∙ sym (eqb-true slash 47 s))
+itself (slash ∷ text) (first ∷ path) s h t m = search (rules, and_parts, one_part, first_no_star, within_is, eqb-true)
 
 matches_itself : (text : List ℕ) → begins_with 47 text ≡ true → list_all is_plain text ≡ true
     → matches_path (pattern_of text) text ≡ true
 matches_itself [] s h = absurd (false≢true s)
-matches_itself (slash ∷ text) s h =
-    let plain_rest = (and_parts (is_plain slash) (list_all is_plain text) h).1 in
-    ap (λ ps. matches matches_name ps (head_until 47 text ∷ others_until 47 text))
-    (one_part (head_until 47 text) (others_until 47 text) (first_no_star text plain_rest))
-    ∙ within_itself text plain_rest
+matches_itself (slash ∷ text) s h = search (rules, and_parts, one_part, first_no_star, within_itself)
 
 -- A path without `*`, `?`, `[` and a backslash is a pattern that matches this path, and no other.
 pub literal : (text path : List ℕ) → begins_with 47 text ≡ true → list_all is_plain text ≡ true
@@ -105,15 +94,7 @@ nothing_named path is_program named = false≢true ((list_meaning [] path is_pro
 -- more rules behind others change no line that was found
 pub line_stays : (rules later : List RuleText) (path : List ℕ) (is_program : Bool) (line : ℕ)
     → IsFound rules path is_program (Some line) → IsFound (rules ++ later) path is_program (Some line)
-line_stays rules later path is_program line found = record {
-  before = found.before;
-  rule = found.rule;
-  after = found.after ++ later;
-  parts = ap (λ rs. rs ++ later) found.parts ∙ append_assoc found.before (found.rule ∷ found.after) later;
-  number = found.number;
-  names = found.names;
-  others = found.others;
-}
+line_stays rules later path is_program line found = grind (arith, common_steps, append_assoc)
 
 -- the same by computation
 pub same_line : (rules later : List RuleText) (path : List ℕ) (is_program : Bool) (line : ℕ)
@@ -143,9 +124,7 @@ longer_list text lines rules longer short long =
 pub line_stays_in_text : (text lines : List ℕ) (rules longer : List RuleText) (path : List ℕ) (is_program : Bool) (line : ℕ)
     → HasRules text rules → HasRules (text ++ 10 ∷ lines) longer → IsFound rules path is_program (Some line)
     → IsFound longer path is_program (Some line)
-line_stays_in_text text lines rules longer path is_program line short long found =
-    let k = longer_list text lines rules longer short long in
-    subst (λ rs. IsFound rs path is_program (Some line)) (sym k.1) (line_stays rules k.0 path is_program line found)
+line_stays_in_text text lines rules longer path is_program line short long found = grind (arith, common_steps, longer_list, line_stays)
 
 -- each text has a reading
 pub has_reading : (text : List ℕ) → IsReading text (read_list text)

@@ -1,8 +1,8 @@
 -- A text without wildcards matches itself, and nothing else.
-use Rattle.std.proofs.Common.{◌≡◌, ℕ, Bool, true, false, List, [], ◌∷◌, refl, ap, sym, ◌∙◌, eq-eqb}
+use Rattle.std.proofs.Common.{◌≡◌, ℕ, Bool, true, false, List, [], ◌∷◌, refl, ap, sym, ◌∙◌, eq-eqb, rules}
 use Rattle.std.specs.Prelude.{◌==◌}
 use Rattle.std.specs.List.{list_all}
-use Rattle.std.proofs.lemmas.Bool.{and_parts, and_from, false≢true, eqb-true}
+use Rattle.std.proofs.lemmas.Bool.{and_parts, and_from, eqb-true}
 use Rattle.aide_patterns.specs.Bytes.{is_byte}
 use Rattle.aide_patterns.specs.Component.{component_parts}
 use Rattle.aide_patterns.specs.Parts.{one}
@@ -21,14 +21,7 @@ first_no_star (byte ∷ text) h = no_double_star byte text (plain byte (and_part
 -- nothing is left of a path
 nothing_left : (path : List ℕ) → within [] path ≡ true → path ≡ []
 nothing_left [] h = refl
-nothing_left (d ∷ path) h = go (d == 47) refl
-  where
-    both : (matches_parts [] (head_until 47 (d ∷ path)) ≡ true) × (matches matches_name [] (others_until 47 (d ∷ path)) ≡ true)
-    both = and_parts (matches_parts [] (head_until 47 (d ∷ path))) (matches matches_name [] (others_until 47 (d ∷ path))) h
-
-    go : (b : Bool) → (d == 47) ≡ b → d ∷ path ≡ []
-    go true at = absurd (false≢true (ap (matches matches_name []) (sym (others_slash d path at)) ∙ both.1))
-    go false at = absurd (false≢true (ap (matches_parts []) (sym (head_other d path at)) ∙ both.0))
+nothing_left (d ∷ path) h = search rules
 
 -- what such a text matches behind a slash is itself
 pub within_is : (text path : List ℕ) → list_all is_plain text ≡ true → within text path ≡ true → path ≡ text

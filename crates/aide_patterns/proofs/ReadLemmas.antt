@@ -1,9 +1,9 @@
 -- What is read line by line is what the list says.
-use Rattle.std.proofs.Common.{◌≡◌, ◌≤◌, ◌<◌, ◌+◌, ◌⊎◌, ℕ, Bool, true, false, List, [], ◌∷◌, ◌++◌, length, refl, ap, sym, ◌∙◌, subst, arith}
-use Rattle.std.proofs.Common.{inl, inr, append_assoc, length-append}
-use Rattle.std.specs.Prelude.{Some, None, Result, Ok, Err, nat_lt, if◌then◌else◌}
+use Rattle.std.proofs.lemmas.Grind.{common_steps}
+use Rattle.std.proofs.Common.{◌≡◌, ◌≤◌, ◌<◌, ◌+◌, ◌⊎◌, ℕ, List, [], ◌∷◌, ◌++◌, length, refl, ap, sym, ◌∙◌, subst, arith}
+use Rattle.std.proofs.Common.{inl, append_assoc}
+use Rattle.std.specs.Prelude.{Some, None, Result, Ok, Err}
 use Rattle.std.specs.List.{All}
-use Rattle.std.proofs.lemmas.Bool.{ltb-true, ltb-false}
 use Rattle.std.proofs.lemmas.List.{append-nil}
 use Rattle.std.proofs.lemmas.List.Elements.{All-nil, All-cons}
 use Rattle.aide_patterns.specs.Line.{LineResult, RuleText, rule_of}
@@ -22,21 +22,8 @@ record IsAdded (rules : List RuleText) (line : LineResult) (all : List RuleText)
 
 is_added : (rules : List RuleText) (line : LineResult) (all : List RuleText) → length rules ≤ most_rules
     → added rules line ≡ Ok all → IsAdded rules line all
-is_added rules (Ok None) all fits e =
-    let is : rules ≡ all = cc in
-    record { sound = refl; rules_are = sym is ∙ sym (append-nil rules); few = omega (arith, fits, ap length is) }
-is_added rules (Ok (Some rule)) all fits e = go (nat_lt (length rules) most_rules) refl e
-  where
-    go : (b : Bool) → nat_lt (length rules) most_rules ≡ b
-        → (if b then Ok (rules ++ rule ∷ []) else Err TooMany) ≡ Ok all → IsAdded rules (Ok (Some rule)) all
-    go true h f =
-        let is : rules ++ rule ∷ [] ≡ all = cc in
-        record {
-          sound = refl;
-          rules_are = sym is;
-          few = omega (arith, ltb-true (length rules) most_rules h, ap length is, length-append rules (rule ∷ []));
-        }
-    go false h f = cc
+is_added rules (Ok None) all fits e = grind (arith, common_steps, append-nil)
+is_added rules (Ok (Some rule)) all fits e = grind (arith, common_steps)
 is_added rules (Err kind) all fits e = cc
 
 -- a line has a fault behind some rules: its own one, or that its rule is one too many
@@ -47,14 +34,7 @@ FaultBehind rules line kind = (fault_read line ≡ Some kind)
 is_refused : (rules : List RuleText) (line : LineResult) (kind : ListFaultKind) → added rules line ≡ Err kind
     → FaultBehind rules line kind
 is_refused rules (Ok None) kind e = cc
-is_refused rules (Ok (Some rule)) kind e = go (nat_lt (length rules) most_rules) refl e
-  where
-    go : (b : Bool) → nat_lt (length rules) most_rules ≡ b
-        → (if b then Ok (rules ++ rule ∷ []) else Err TooMany) ≡ Err kind → FaultBehind rules (Ok (Some rule)) kind
-    go true h f = cc
-    go false h f =
-        let is : TooMany ≡ kind = cc in
-        inr (sym is, omega (arith, ltb-false (length rules) most_rules h, length-append rules (rule ∷ [])))
+is_refused rules (Ok (Some rule)) kind e = grind (arith, common_steps)
 is_refused rules (Err first) kind e = let is : first ≡ kind = cc in inl (ap Some is)
 
 -- the lines from a number on have these rules, behind others
@@ -65,9 +45,7 @@ record RulesFrom (number : ℕ) (rules : List RuleText) (texts : List (List ℕ)
 
 rules_from : (number : ℕ) (rules : List RuleText) (texts : List (List ℕ)) (all : List RuleText)
     → length rules ≤ most_rules → read_from number rules texts ≡ Ok all → RulesFrom number rules texts all
-rules_from number rules [] all fits e =
-    let is : rules ≡ all = cc in
-    record { sound = All-nil IsSound; rules_are = sym is ∙ sym (append-nil rules); few = omega (arith, fits, ap length is) }
+rules_from number rules [] all fits e = grind (arith, common_steps, All-nil, append-nil)
 rules_from number rules (text ∷ texts) all fits e =
     go (λ others k f. rules_from (number + 1) others texts all k f) (added rules (rule_of number text)) refl e
   where

@@ -1,7 +1,8 @@
 -- What a list says is what is read line by line; and what longer lists say.
-use Rattle.std.proofs.Common.{◌≡◌, ◌≤◌, ◌<◌, ◌+◌, ℕ, Bool, true, false, List, [], ◌∷◌, ◌++◌, length, refl, ap, sym, ◌∙◌, subst, arith, inl}
-use Rattle.std.proofs.Common.{inr, append_assoc, length-append}
-use Rattle.std.specs.Prelude.{◌==◌, Some, None, Ok, Err, if◌then◌else◌}
+use Rattle.std.proofs.lemmas.Grind.{common_steps}
+use Rattle.std.proofs.Common.{◌≡◌, ◌≤◌, ◌+◌, ℕ, List, [], ◌∷◌, ◌++◌, length, refl, ap, sym, ◌∙◌, subst, arith, inl}
+use Rattle.std.proofs.Common.{inr, append_assoc, length-append, rules}
+use Rattle.std.specs.Prelude.{Some, None, Ok, Err}
 use Rattle.std.specs.List.{All}
 use Rattle.std.proofs.lemmas.Bool.{lt-ltb, le-ltb, eq-eqb}
 use Rattle.std.proofs.lemmas.List.{append-nil}
@@ -12,30 +13,23 @@ use Rattle.aide_patterns.specs.Pieces.{head_until, others_until, pieces}
 use Rattle.aide_patterns.specs.code.Reading.{added, and_then, read_from}
 use Rattle.aide_patterns.specs.declared.fault.ListFault.{ListFault}
 use Rattle.aide_patterns.specs.declared.fault.ListFaultKind.{ListFaultKind}
-use Rattle.aide_patterns.specs.declared.fault.ListFaultKind.TheVariants.{TooMany}
 use Rattle.aide_patterns.proofs.ReadLemmas.{FaultBehind}
 
 -- a line without a fault is added
 adds : (rules : List RuleText) (line : LineResult) → fault_read line ≡ None → length (rules ++ rule_read line) ≤ most_rules
     → added rules line ≡ Ok (rules ++ rule_read line)
 adds rules (Ok None) sound few = ap Ok (sym (append-nil rules))
-adds rules (Ok (Some rule)) sound few =
-    let room : length rules < most_rules = omega (arith, few, length-append rules (rule ∷ [])) in
-    ap (λ b. if b then Ok (rules ++ rule ∷ []) else Err TooMany) (lt-ltb (length rules) most_rules room)
+adds rules (Ok (Some rule)) sound few = grind (arith, common_steps, length-append, lt-ltb)
 adds rules (Err kind) sound few = cc
 
 -- a line with a fault is refused
 refuses : (rules : List RuleText) (line : LineResult) (kind : ListFaultKind) → length rules ≤ most_rules
     → FaultBehind rules line kind → added rules line ≡ Err kind
-refuses rules (Ok None) kind few (inl own) = cc
 refuses rules (Ok None) kind few (inr many) = absurd (omega (arith, few, many.1, ap length (append-nil rules)))
-refuses rules (Ok (Some rule)) kind few (inl own) = cc
-refuses rules (Ok (Some rule)) kind few (inr many) =
-    let full : most_rules ≤ length rules = omega (arith, many.1, length-append rules (rule ∷ [])) in
-    ap (λ b. if b then Ok (rules ++ rule ∷ []) else Err TooMany) (le-ltb (length rules) most_rules full)
-    ∙ ap Err (sym many.0)
+refuses rules (Ok (Some rule)) kind few (inr many) = grind (arith, common_steps, length-append, le-ltb)
 refuses rules (Err first) kind few (inl own) = let is : first ≡ kind = cc in ap Err is
 refuses rules (Err first) kind few (inr many) = absurd (omega (arith, few, many.1, ap length (append-nil rules)))
+refuses rules _ kind few (inl own) = cc
 
 -- lines without a fault are read
 pub reads_rules : (number : ℕ) (rules : List RuleText) (texts : List (List ℕ)) → All IsSound (numbered number texts)
@@ -60,8 +54,6 @@ pub reads_fault : (number : ℕ) (rules : List RuleText) (texts : List (List ℕ
     → All IsSound before → length (rules ++ rules_of before) ≤ most_rules
     → FaultBehind (rules ++ rules_of before) (rule_of fault.line line) fault.kind
     → read_from number rules texts ≡ Err fault
-reads_fault number rules [] [] line after fault e sound few why = cc
-reads_fault number rules [] (first ∷ before) line after fault e sound few why = cc
 reads_fault number rules (text ∷ texts) [] line after fault e sound few why =
     let same : ◌≡◌ {A = Line} (number, text) (fault.line, line) = cc in
     let none = append-nil rules in
@@ -82,6 +74,8 @@ reads_fault number rules (text ∷ texts) (first ∷ before) line after fault e 
     ∙ reads_fault (number + 1) (rules ++ rule_at (number, text)) texts before line after fault left
     (All-tail IsSound first before sound) (omega (arith, few, ap length joined))
     (subst (λ rs. FaultBehind rs (rule_of fault.line line) fault.kind) (sym joined) why)
+reads_fault number rules [] [] line after fault e sound few why = cc
+reads_fault number rules [] (first ∷ before) line after fault e sound few why = cc
 
 -- ---- lines behind a list
 
@@ -89,42 +83,20 @@ reads_fault number rules (text ∷ texts) (first ∷ before) line after fault e 
 head_ends : (separator : ℕ) (text behind : List ℕ)
     → head_until separator (text ++ separator ∷ behind) ≡ head_until separator text
 head_ends separator [] behind = simp (eq-eqb separator separator refl)
-head_ends separator (byte ∷ text) behind = go (byte == separator) refl (head_ends separator text behind)
-  where
-    go : (b : Bool) → (byte == separator) ≡ b
-        → head_until separator (text ++ separator ∷ behind) ≡ head_until separator text
-        → head_until separator (byte ∷ (text ++ separator ∷ behind)) ≡ head_until separator (byte ∷ text)
-    go true at again = simp at
-    go false at again = simp (at, again)
+head_ends separator (byte ∷ text) behind = search (rules, head_ends separator text behind)
 
 others_go_on : (separator : ℕ) (text behind : List ℕ)
     → others_until separator (text ++ separator ∷ behind) ≡ others_until separator text ++ pieces separator behind
 others_go_on separator [] behind = simp (eq-eqb separator separator refl)
-others_go_on separator (byte ∷ text) behind =
-    go (byte == separator) refl (head_ends separator text behind) (others_go_on separator text behind)
-  where
-    go : (b : Bool) → (byte == separator) ≡ b
-        → head_until separator (text ++ separator ∷ behind) ≡ head_until separator text
-        → others_until separator (text ++ separator ∷ behind) ≡ others_until separator text ++ pieces separator behind
-        → others_until separator (byte ∷ (text ++ separator ∷ behind))
-        ≡ others_until separator (byte ∷ text) ++ pieces separator behind
-    go true at heads again = simp (at, heads, again)
-    go false at heads again = simp (at, again)
+others_go_on separator (byte ∷ text) behind = search (rules, others_go_on separator text behind, head_ends)
 
 -- the pieces of two texts with a separator between them
 pub pieces_go_on : (separator : ℕ) (text behind : List ℕ)
     → pieces separator (text ++ separator ∷ behind) ≡ pieces separator text ++ pieces separator behind
-pieces_go_on separator text behind =
-    ap (λ t. t ∷ others_until separator (text ++ separator ∷ behind)) (head_ends separator text behind)
-    ∙ ap (λ ts. head_until separator text ∷ ts) (others_go_on separator text behind)
+pieces_go_on separator text behind = search (rules, head_ends, others_go_on)
 
 -- the rules of lines behind others are behind theirs
 pub rules_go_on : (number : ℕ) (texts others : List (List ℕ))
     → (later : List RuleText) × (rules_of (numbered number (texts ++ others)) ≡ rules_of (numbered number texts) ++ later)
 rules_go_on number [] others = (rules_of (numbered number others), refl)
-rules_go_on number (text ∷ texts) others =
-    let k = rules_go_on (number + 1) texts others in (
-      k.0,
-      ap (λ rs. rule_at (number, text) ++ rs) k.1
-          ∙ sym (append_assoc (rule_at (number, text)) (rules_of (numbered (number + 1) texts)) k.0),
-    )
+rules_go_on number (text ∷ texts) others = search (rules, rules_go_on (number + 1) texts others, append_assoc)

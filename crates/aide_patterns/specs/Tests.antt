@@ -26,9 +26,11 @@ matches passes (one t ∷ ps) [] = false
 matches passes (one t ∷ ps) (x ∷ xs) = passes t x && matches passes ps xs
 matches passes (many ∷ ps) xs = some_rest (matches passes ps) xs
 
+-- the byte is in the range
 abbrev pub is_in : ℕ → Range → Bool
 is_in byte range = nat_le range.0 byte && nat_le byte range.1
 
+-- the byte passes the test
 abbrev pub passes_byte : ByteTest → ℕ → Bool
 passes_byte (is_byte wanted) byte = byte == wanted
 passes_byte any_byte byte = true
