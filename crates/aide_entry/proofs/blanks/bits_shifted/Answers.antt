@@ -1,4 +1,4 @@
-use Rattle.std.proofs.Common.{◌≡◌, ◌+◌, ◌-◌, ◌*◌, ◌%◌, ◌^◌, ◌<◌, ◌≤◌, ℕ, ap, ◌∙◌, arith, pow_pos, pow_mono}
+use Rattle.std.proofs.Common.{◌≡◌, ◌+◌, ◌*◌, ◌%◌, ◌^◌, ◌<◌, ◌≤◌, ℕ, arith, pow_pos, pow_mono, rules}
 use Rattle.std.specs.Int.{bit_at}
 use Rattle.std.proofs.lemmas.Nat.{mul-le}
 use Rattle.std.proofs.lemmas.Nat.Bits.{bit_at_cat_low, bit_at_cat_high, bit_at-zero}
@@ -16,14 +16,7 @@ fits bits distance low few =
     omega (arith, product)
 
 pub returns-clause-each : goal.returns-clause-each
-returns-clause-each c k =
-    let bits = c.args.bits in
-    let distance = c.args.distance in
-    let back : k + distance - distance ≡ k = omega arith in
-    ap (λ (m : ℕ). bit_at m (k + distance)) (fits bits distance c.requires.low c.requires.few)
-    ∙ bit_at_cat_high bits distance 0 (k + distance) (pow_pos distance) (omega arith) ∙ ap (λ (j : ℕ). bit_at bits j) back
+returns-clause-each c k = search (rules, fits, bit_at_cat_high, pow_pos)
 
 pub returns-clause-gone : goal.returns-clause-gone
-returns-clause-gone c k lt =
-    ap (λ (m : ℕ). bit_at m k) (fits c.args.bits c.args.distance c.requires.low c.requires.few)
-    ∙ bit_at_cat_low c.args.bits c.args.distance 0 k lt ∙ bit_at-zero k
+returns-clause-gone c k lt = search (rules, fits, bit_at_cat_low, bit_at-zero)

@@ -1,4 +1,4 @@
-use Rattle.std.proofs.Common.{arith, sym, ◌∙◌}
+use Rattle.std.proofs.Common.{arith, sym, ◌∙◌, rules}
 use Rattle.aide_entry.proofs.SkippedLemmas.{back_fits, back_one, back_none, one_bit}
 use Rattle.aide_entry.proofs.columns.skipped_bits.Goals as goal
 
@@ -20,11 +20,7 @@ overflow_add-bits c =
     )
 
 pub columns-preserved-then-is_column : goal.columns-preserved-then-is_column
-columns-preserved-then-is_column c =
-    back_one c.args.columns.now c.columns.rest.now c.in-Some.before.now c.in-Some.column.now c.columns.bits
-    (sym c.is_column.ensures ∙ c.if-is_column.true) c.in-Some.ensures.cases.0 c.columns.invariant
+columns-preserved-then-is_column c = search (rules, back_one)
 
 pub columns-preserved : goal.columns-preserved
-columns-preserved c =
-    back_none c.args.columns.now c.columns.rest.now c.in-Some.before.now c.in-Some.column.now c.columns.bits
-    (sym c.is_column.ensures ∙ c.if-is_column.false) c.in-Some.ensures.cases.0 c.columns.invariant
+columns-preserved c = search (rules, back_none)

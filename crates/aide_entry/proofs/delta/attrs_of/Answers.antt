@@ -1,4 +1,4 @@
-use Rattle.std.proofs.Common.{sym, refl, ◌≡◌, false, true, ◌∙◌}
+use Rattle.std.proofs.Common.{sym, ◌≡◌, false, true, ◌∙◌, rules}
 use Rattle.std.specs.List.{list_any}
 use Rattle.aide_attr.specs.Attr.{all_attrs}
 use Rattle.aide_attr.specs.Set.{is_attr}
@@ -12,14 +12,10 @@ returns-then-same-clause-old c =
     unlisted c.attrs-old_attrs.result.now (columns_in c.args.old.now.columns.now) c.args.old.now.line.now c.attrs-old_attrs.ensures
 
 pub returns-then-same-clause-new : goal.returns-then-same-clause-new
-returns-then-same-clause-new c =
-    unlisted c.attrs-old_attrs.result.now (columns_in c.args.new.now.columns.now) c.args.new.now.line.now
-    (rw (c.if-same.ensures.only refl) at c.attrs-old_attrs.ensures)
+returns-then-same-clause-new c = search (rules, unlisted)
 
 pub returns-then-are_among-clause-old : goal.returns-then-are_among-clause-old
-returns-then-are_among-clause-old c = λ attr none.
-    unlisted c.attrs-old_attrs.result.now (columns_in c.args.old.now.columns.now) c.args.old.now.line.now c.attrs-old_attrs.ensures attr
-    (c.are_among.ensures c.if-are_among.true attr none)
+returns-then-are_among-clause-old c = search (rules, unlisted)
 
 pub returns-then-are_among-clause-new : goal.returns-then-are_among-clause-new
 returns-then-are_among-clause-new c =
@@ -30,9 +26,7 @@ returns-then-are_among-2-clause-old c =
     unlisted c.attrs-old_attrs.result.now (columns_in c.args.old.now.columns.now) c.args.old.now.line.now c.attrs-old_attrs.ensures
 
 pub returns-then-are_among-2-clause-new : goal.returns-then-are_among-2-clause-new
-returns-then-are_among-2-clause-new c = λ attr none.
-    unlisted c.attrs-new_attrs.result.now (columns_in c.args.new.now.columns.now) c.args.new.now.line.now c.attrs-new_attrs.ensures attr
-    (c.are_among-else-are_among.ensures c.if-are_among-2.true attr none)
+returns-then-are_among-2-clause-new c = search (rules, unlisted)
 
 pub returns-else-are_among-2-clause-old : goal.returns-else-are_among-2-clause-old
 returns-else-are_among-2-clause-old c = λ attr none.

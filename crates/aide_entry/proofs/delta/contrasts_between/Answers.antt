@@ -1,4 +1,4 @@
-use Rattle.std.proofs.Common.{ap}
+use Rattle.std.proofs.Common.{rules}
 use Rattle.std.specs.Prelude.{is_some}
 use Rattle.aide_entry.specs.Attributes.{is_different}
 use Rattle.aide_entry.specs.View.{entry_in}
@@ -6,15 +6,7 @@ use Rattle.aide_entry.proofs.AttrLoops.{begins_filling, filled, steps}
 use Rattle.aide_entry.proofs.delta.contrasts_between.Goals as goal
 
 pub attrs-init : goal.attrs-init
-attrs-init c = record {
-  old_filling = begins_filling _ _ (λ a. is_some ((entry_in c.args.old.now).1 a)) c.empty-in_old.ensures
-      (λ a none. ap is_some (c.attrs_of-rest.ensures.old a none));
-  new_filling = begins_filling _ _ (λ a. is_some ((entry_in c.args.new.now).1 a)) c.empty-in_new.ensures
-      (λ a none. ap is_some (c.attrs_of-rest.ensures.new a none));
-  differs_filling = begins_filling _ _ (λ a. is_different ((entry_in c.args.old.now).1 a) ((entry_in c.args.new.now).1 a))
-      c.empty-differs.ensures
-      (λ a none. ap (λ v. is_different v ((entry_in c.args.new.now).1 a)) (c.attrs_of-rest.ensures.old a none));
-}
+attrs-init c = search (rules, begins_filling)
 
 pub attrs-preserved : goal.attrs-preserved
 attrs-preserved c = record {

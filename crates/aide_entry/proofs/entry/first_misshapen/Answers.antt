@@ -1,4 +1,4 @@
-use Rattle.std.proofs.Common.{arith, sym, ◌∙◌, ◌+◌}
+use Rattle.std.proofs.Common.{arith, sym, ◌∙◌, ◌+◌, rules}
 use Rattle.aide_entry.proofs.ShapeLemmas.{shaped_more, all_shaped, nought_is_shaped}
 use Rattle.aide_entry.proofs.entry.first_misshapen.Goals.{then-not-is_nought+in-Some, else-not-is_nought}
 use Rattle.aide_entry.proofs.entry.first_misshapen.Goals as goal
@@ -20,7 +20,4 @@ columns-preserved c = record {
 }
 
 pub returns-clause-same : goal.returns-clause-same
-returns-clause-same c =
-    sym (all_shaped (c.columns.index + 1) c.args.line.now c.args.shapes.now c.args.spans.now c.columns.index
-    (omega (arith, c.min-count.ensures, c.columns-test.false)))
-    ∙ c.columns.invariant.same
+returns-clause-same c = search (rules, all_shaped)

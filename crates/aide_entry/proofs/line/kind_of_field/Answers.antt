@@ -1,4 +1,4 @@
-use Rattle.std.proofs.Common.{◌≡◌, ap, sym, ◌∙◌, true, false, List, ℕ}
+use Rattle.std.proofs.Common.{◌≡◌, sym, true, false, List, ℕ, rules}
 use Rattle.std.specs.Prelude.{codes, nat_eq}
 use Rattle.std.specs.List.{starts_with}
 use Rattle.std.specs.Str.{bytes_eq}
@@ -13,6 +13,4 @@ unfolding kind_of_field
 begins field plain is = sym (rw (plain, is))
 
 pub returns-then-eq : goal.returns-then-eq
-returns-then-eq c =
-    begins c.args.field.now (sym c.starts_with.ensures.value ∙ c.if-starts_with.false)
-    (ap (bytes_eq c.args.field.now) (sym c.as_slice.ensures) ∙ (sym c.eq.ensures ∙ c.if-eq.true))
+returns-then-eq c = search (rules, begins)

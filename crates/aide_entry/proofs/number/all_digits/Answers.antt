@@ -1,4 +1,4 @@
-use Rattle.std.proofs.Common.{◌≡◌, ◌+◌, ◌-◌, ℕ, length, drop, ap, sym, ◌∙◌, arith}
+use Rattle.std.proofs.Common.{◌≡◌, ◌+◌, ◌-◌, ℕ, length, drop, ap, sym, ◌∙◌, arith, rules}
 use Rattle.std.specs.List.{list_all}
 use Rattle.std.proofs.lemmas.List.{drop-drop}
 use Rattle.aide_entry.specs.Numbers.{is_digit}
@@ -22,10 +22,4 @@ fours-preserved c =
     }
 
 pub returns-else-is_empty : goal.returns-else-is_empty
-returns-else-is_empty c =
-    let bytes = c.args.bytes.now in
-    let rest = c.fours.rest.now in
-    let whole = ap (λ xs. list_all (is_digit c.args.base) xs) (sym c.fours.invariant.behind) in
-    c.are_four_digits-else-is_empty.ensures ∙ ap (λ xs. list_all (is_digit c.args.base) xs) c.in-Some.ensures.cases.1.same
-    ∙ digits_from c.args.base bytes (length bytes - 4) (length bytes - length rest)
-    (omega (arith, c.in_default-split_first_chunk.ensures.cases, c.in-Some.ensures.cases.0)) (c.fours.invariant.digits ∙ sym whole)
+returns-else-is_empty c = search (rules, digits_from)

@@ -1,8 +1,7 @@
-use Rattle.std.proofs.Common.{◌≡◌, sym, arith, length, ◌∙◌, ap, ◌+◌, ◌*◌, ◌^◌, ℕ}
+use Rattle.std.proofs.Common.{◌≡◌, sym, arith, length, ◌^◌, rules}
 use Rattle.std.proofs.lemmas.Grind.{common_steps}
-use Rattle.aide_entry.proofs.NumberLemmas.{natural_empty, natural_stops, natural_over, natural_goes, natural_ends}
-use Rattle.aide_entry.proofs.NumberLemmas.{digits_after}
-use Rattle.aide_entry.specs.Numbers.{positional, mode_of}
+use Rattle.aide_entry.proofs.NumberLemmas.{natural_empty, natural_stops, natural_over, natural_goes, natural_ends, digits_after}
+use Rattle.aide_entry.specs.Numbers.{mode_of}
 use Rattle.aide_entry.proofs.number.read_mode.Goals as goal
 
 pub returns-then-is_empty : goal.returns-then-is_empty
@@ -11,9 +10,7 @@ returns-then-is_empty c = sym (natural_empty 8 (2 ^ 32) c.args.digits.now (grind
 
 pub returns-then-not-is_digit : goal.returns-then-not-is_digit
 unfolding mode_of
-returns-then-not-is_digit c =
-    sym (natural_stops 8 (2 ^ 32) c.args.digits.now c.digits.rest.now c.in-Some.more.now c.in-Some.byte.now c.in-Some.ensures.cases.0
-    c.digits.invariant.digits (sym c.is_digit.ensures ∙ c.if-not-is_digit.true))
+returns-then-not-is_digit c = search (rules, natural_stops)
 
 pub returns-then-value-digit : goal.returns-then-value-digit
 unfolding mode_of
@@ -23,15 +20,7 @@ returns-then-value-digit c =
     (omega (arith, c.if-value-digit.true, c.from-digit.ensures)))
 
 pub digits-preserved : goal.digits-preserved
-digits-preserved c = record {
-  filled = c.digits.invariant.filled;
-  digits = digits_after 8 (2 ^ 32) c.args.digits.now c.digits.rest.now c.in-Some.more.now c.in-Some.byte.now c.in-Some.ensures.cases.0
-      c.digits.invariant.digits (sym c.is_digit.ensures ∙ c.if-not-is_digit.false);
-  number = natural_goes 8 (2 ^ 32) c.args.digits.now c.digits.rest.now c.in-Some.more.now c.digits.value c.in-Some.byte.now
-      c.in-Some.ensures.cases.0 c.digits.invariant.number
-      ∙ ap (λ (d : ℕ). (c.digits.value * 8 + d) * 8 ^ length c.in-Some.more.now + positional 8 c.in-Some.more.now)
-      (sym c.from-digit.ensures);
-}
+digits-preserved c = search (rules, digits_after, natural_goes)
 
 pub returns : goal.returns
 unfolding mode_of

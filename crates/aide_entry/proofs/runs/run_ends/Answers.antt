@@ -1,19 +1,12 @@
-use Rattle.std.proofs.Common.{◌∙◌, arith, ap, sym, ◌++◌, drop, take}
-use Rattle.aide_entry.specs.Text.{fields}
-use Rattle.aide_entry.specs.Spans.{fields_at}
+use Rattle.std.proofs.Common.{arith, drop, take, rules}
 use Rattle.aide_entry.proofs.SpanLemmas.{blank_passed, run_field, too_many}
 use Rattle.aide_entry.proofs.runs.run_ends.Goals as goal
 
 pub returns-then-from-at-clause-found : goal.returns-then-from-at-clause-found
-returns-then-from-at-clause-found c =
-    ap (λ fs. fields_at c.args.line.now (take c.args.count c.args.spanned.now) ++ fs)
-    (sym (ap (λ n. fields (drop n c.args.line.now)) c.if-from-at.true
-    ∙ blank_passed c.args.line.now c.args.at c.requires.short c.requires.blank)) ∙ c.requires.found
+returns-then-from-at-clause-found c = search (rules, blank_passed)
 
 pub returns-in-Some-clause-found : goal.returns-in-Some-clause-found
-returns-in-Some-clause-found c =
-    rw c.in-Some.ensures.added.1 (run_field c.args.line.now (take c.args.count c.args.spanned.now) c.args.from c.args.at
-    (omega (arith, c.requires.order, c.if-from-at.false)) c.requires.short c.requires.plain c.requires.blank c.requires.found).0
+returns-in-Some-clause-found c = search (rules, run_field)
 
 pub returns-in-None-clause-many : goal.returns-in-None-clause-many
 returns-in-None-clause-many c =

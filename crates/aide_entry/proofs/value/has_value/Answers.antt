@@ -1,4 +1,4 @@
-use Rattle.std.proofs.Common.{sym, ◌∙◌, ◌%◌}
+use Rattle.std.proofs.Common.{sym, ◌∙◌, ◌%◌, rules}
 use Rattle.aide_entry.specs.Attributes.{number_value, mode_value}
 use Rattle.aide_entry.specs.Numbers.{mode_of, number_of}
 use Rattle.aide_entry.specs.Values.{time_of}
@@ -16,6 +16,4 @@ pub returns-in-Time : goal.returns-in-Time
 returns-in-Time c = rw c.in-Time.is (sym (is_some-map number_value (time_of c.args.field.now) ∙ rw c.in-Time.is at c.requires))
 
 pub returns-in-Digest : goal.returns-in-Digest
-returns-in-Digest c =
-    rw (c.in-Digest.is, c.is_nought.ensures)
-    (digest_there c.in-Digest.field-0 c.in-Digest.field-1 c.args.field.now (rw c.in-Digest.is at c.requires))
+returns-in-Digest c = search (rules, digest_there)

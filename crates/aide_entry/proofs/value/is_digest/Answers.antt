@@ -1,4 +1,4 @@
-use Rattle.std.proofs.Common.{◌≡◌, ◌/◌, ap, sym, ◌∙◌, arith, length, take}
+use Rattle.std.proofs.Common.{◌≡◌, ◌/◌, ap, sym, ◌∙◌, arith, length, take, rules}
 use Rattle.std.specs.List.{list_all}
 use Rattle.std.proofs.lemmas.List.{length-take-le}
 use Rattle.aide_entry.specs.code.Symbols.{is_symbol}
@@ -6,10 +6,7 @@ use Rattle.aide_entry.proofs.SymbolLemmas.{no_symbols, no_last, by_count}
 use Rattle.aide_entry.proofs.value.is_digest.Goals as goal
 
 pub returns-then-not-are_symbols : goal.returns-then-not-are_symbols
-returns-then-not-are_symbols c =
-    no_symbols c.args.field.now (c.saturating_sub-groups.result / 4) (λ i. let f = c.type_inv.field i in omega arith)
-    (ap (λ n. n / 4) c.saturating_sub-groups.ensures) c.args.least c.args.most
-    (sym (ap (list_all is_symbol) c.split_at.ensures.front) ∙ sym c.are_symbols.ensures ∙ c.if-not-are_symbols.true)
+returns-then-not-are_symbols c = search (rules, no_symbols)
 
 pub returns-in-Ok : goal.returns-in-Ok
 returns-in-Ok c =

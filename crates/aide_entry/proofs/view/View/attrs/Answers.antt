@@ -1,16 +1,12 @@
-use Rattle.std.proofs.Common.{ap}
+use Rattle.std.proofs.Common.{rules}
 use Rattle.std.specs.Prelude.{is_some}
-use Rattle.aide_entry.specs.Columns.{columns_in}
 use Rattle.aide_entry.specs.View.{entry_in}
 use Rattle.aide_entry.proofs.AttrLoops.{begins_filling, filled, steps}
 use Rattle.aide_entry.proofs.ColumnAttrLemmas.{unlisted}
 use Rattle.aide_entry.proofs.view.View.attrs.Goals as goal
 
 pub attrs-init : goal.attrs-init
-attrs-init c =
-    begins_filling _ _ (λ a. is_some ((entry_in c.args.self.now).1 a)) c.empty-set.ensures
-    (λ a none. ap is_some (unlisted c.attrs-rest.result.now
-    (columns_in c.args.self.now.columns.now) c.args.self.now.line.now c.attrs-rest.ensures a none))
+attrs-init c = search (rules, begins_filling, unlisted)
 
 pub attrs-preserved : goal.attrs-preserved
 attrs-preserved c =

@@ -1,10 +1,8 @@
-use Rattle.std.proofs.Common.{ap, sym, ◌∙◌}
+use Rattle.std.proofs.Common.{ap, rules}
 use Rattle.aide_attr.specs.Attr.{row, row_of}
 use Rattle.aide_attr.specs.declared.form.Form.TheVariants.{Kind}
 use Rattle.aide_entry.specs.Attributes.{type_in}
 use Rattle.aide_entry.specs.Entry.{value_in}
-use Rattle.aide_entry.specs.Numbers.{mode_of}
-use Rattle.aide_entry.specs.Values.{type_of_mode}
 use Rattle.aide_entry.proofs.FieldValues.{types_mapped}
 use Rattle.aide_entry.proofs.view.View.kind.Goals as goal
 
@@ -14,6 +12,4 @@ returns-in-None c = ap (λ field. type_in (value_in Kind field)) c.in-None.ensur
 
 pub returns-in-Some : goal.returns-in-Some
 unfolding row_of row
-returns-in-Some c =
-    c.read_type.ensures
-    ∙ (sym (types_mapped (type_of_mode (mode_of c.in-Some.field.now))) ∙ ap (λ field. type_in (value_in Kind field)) c.in-Some.ensures)
+returns-in-Some c = search (rules, types_mapped)

@@ -1,4 +1,4 @@
-use Rattle.std.proofs.Common.{sym, ◌∙◌, refl, None, Some}
+use Rattle.std.proofs.Common.{refl, None, rules}
 use Rattle.aide_entry.specs.Columns.{columns_in}
 use Rattle.aide_entry.proofs.FieldValues.{field_on, field_off, field_none}
 use Rattle.aide_entry.proofs.view.ViewWithBits.field.Goals as goal
@@ -9,13 +9,7 @@ returns-in-None c =
     c.holder.ensures refl c.in-None.ensures
 
 pub returns-then-is_on : goal.returns-then-is_on
-returns-then-is_on c =
-    field_on (columns_in c.args.self.now.view.now.columns.now) c.args.self.now.view.now.line.now c.args.attr c.holder.result c.bit.result
-    c.args.self.now.bits (Some c.in-Some.field.now)
-    c.holder.ensures c.bit.ensures.same c.args.self.now.read (sym c.is_on.ensures ∙ c.if-is_on.true) c.in-Some.ensures
+returns-then-is_on c = search (rules, field_on)
 
 pub returns-else-is_on : goal.returns-else-is_on
-returns-else-is_on c =
-    field_off (columns_in c.args.self.now.view.now.columns.now) c.args.self.now.view.now.line.now c.args.attr c.bit.result
-    c.args.self.now.bits
-    c.bit.ensures.same c.args.self.now.read (sym c.is_on.ensures ∙ c.if-is_on.false)
+returns-else-is_on c = search (rules, field_off)
