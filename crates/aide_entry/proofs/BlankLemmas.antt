@@ -1,7 +1,6 @@
 -- Blanks as bits.
 use Rattle.std.proofs.Common.{◌≡◌, ◌↔◌, ℕ, ◌+◌, ◌-◌, ◌*◌, ◌^◌, pow_pos, max, ◌⊎◌, ◌<◌, ◌≤◌, List, refl, ap, ◌∙◌, subst, true, false, Bool}
-use Rattle.std.proofs.Common.{cond}
-use Rattle.std.proofs.Common.{zero, suc, ◌/◌, ◌%◌, sym, arith, get_or, bit_or, inl, inr}
+use Rattle.std.proofs.Common.{zero, suc, ◌/◌, ◌%◌, sym, arith, get_or, bit_or, inl, inr, rules, cond}
 use Rattle.std.specs.Prelude.{◌==◌, ◌||◌}
 use Rattle.std.specs.Int.{bit_at}
 use Rattle.std.proofs.lemmas.Bool.{cases_lt}
@@ -72,18 +71,7 @@ below_from_bits n k h =
 bit_of_either : (distance a b shifted whole : ℕ) → ((k : ℕ) → bit_at shifted (k + distance) ≡ bit_at b k)
     → ((k : ℕ) → k < distance → bit_at shifted k ≡ 0) → ((k : ℕ) → bit_at whole k ≡ max (bit_at a k) (bit_at shifted k))
     → (k : ℕ) → bit_at whole k ≡ 1 → (bit_at a k ≡ 1) ⊎ ((distance ≤ k) × (bit_at b (k - distance) ≡ 1))
-bit_of_either distance a b shifted whole each gone both k one =
-    elim (cases_lt (bit_at a k) 1) [
-      | inl none ↦
-          let high : bit_at shifted k ≡ 1 = omega (arith, both k, one, none) in
-          elim (cases_lt k distance) [
-            | inl under ↦ absurd (omega (arith, gone k under, high))
-            | inr over ↦
-                let sum : k - distance + distance ≡ k = omega (arith, over) in
-                inr (over, sym (each (k - distance)) ∙ ap (λ j. bit_at shifted j) sum ∙ high)
-          ]
-      | inr set ↦ inl (omega (arith, set, bit_at-lt a k))
-    ]
+bit_of_either distance a b shifted whole each gone both k one = search (rules, cases_lt, bit_at-lt)
 
 pub bit_within : (at later a b shifted whole : ℕ) → at ≤ later → ((k : ℕ) → bit_at a k ≡ 1 → k < 32) → ((k : ℕ) → bit_at b k ≡ 1 → k < 32)
     → ((k : ℕ) → bit_at shifted (k + (later - at)) ≡ bit_at b k) → ((k : ℕ) → k < later - at → bit_at shifted k ≡ 0)
@@ -131,18 +119,9 @@ either_of_blank line at later a b shifted whole order near here there each both 
 -- a bit above one that is set stays in the number one less
 pub bit_at_pred_above : (k low n : ℕ) → bit_at n low ≡ 1 → low < k → bit_at (n - 1) k ≡ bit_at n k
 bit_at_pred_above zero low n set above = absurd (omega (arith, above))
-bit_at_pred_above (suc k) zero n set above =
-    let half : (n - 1) / 2 ≡ n / 2 = omega (arith, bit_at_lowest n, set) in
-    bit_at-suc (n - 1) k ∙ (ap (λ m. bit_at m k) half ∙ sym (bit_at-suc n k))
+bit_at_pred_above (suc k) zero n set above = search (rules, bit_at_lowest, bit_at-suc)
 bit_at_pred_above (suc k) (suc low) n set above =
-    bit_at-suc (n - 1) k ∙ (elim (cases_lt (n % 2) 1) [
-      | inl even ↦
-          let half : (n - 1) / 2 ≡ n / 2 - 1 = omega (arith, even) in
-          ap (λ m. bit_at m k) half ∙ bit_at_pred_above k low (n / 2) (sym (bit_at-suc n low) ∙ set) (omega (arith, above))
-      | inr odd ↦
-          let half : (n - 1) / 2 ≡ n / 2 = omega (arith, odd) in
-          ap (λ m. bit_at m k) half
-    ] ∙ sym (bit_at-suc n k))
+    search (rules, bit_at_pred_above k low (n / 2) (sym (bit_at-suc n low) ∙ set) (omega (arith, above)), bit_at-suc, cases_lt)
 
 -- the lowest bit is not set in the number one less
 pub bit_at_pred_lowest : (low n : ℕ) → bit_at n low ≡ 1 → ((k : ℕ) → k < low → bit_at n k ≡ 0)

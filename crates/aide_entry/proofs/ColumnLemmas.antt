@@ -14,18 +14,16 @@ column_is Name Name e = refl
 column_is Bits Bits e = refl
 column_is Skipped Skipped e = refl
 column_is (Of a) (Of b) e = ap Of (attr_is a b (eq-eqb (index a) (index b) (omega (arith, e))))
-column_is Name Bits e = absurd (omega (arith, e))
 column_is Name Skipped e = absurd (omega (arith, e))
 column_is Name (Of b) e = absurd (omega (arith, e))
 column_is Bits Name e = absurd (omega (arith, e))
 column_is Bits Skipped e = absurd (omega (arith, e))
 column_is Bits (Of b) e = absurd (omega (arith, e))
 column_is Skipped Name e = absurd (omega (arith, e))
-column_is Skipped Bits e = absurd (omega (arith, e))
 column_is Skipped (Of b) e = absurd (omega (arith, e))
 column_is (Of a) Name e = absurd (omega (arith, e))
-column_is (Of a) Bits e = absurd (omega (arith, e))
 column_is (Of a) Skipped e = absurd (omega (arith, e))
+column_is _ Bits e = absurd (omega (arith, e))
 
 -- lists of columns whose numbers are the same
 pub same_codes : (xs ys : List Column) → map code_of xs ≡ map code_of ys → xs ≡ ys

@@ -1,6 +1,6 @@
 -- Paths behind a common front.
 use Rattle.std.proofs.Common.{◌≡◌, ℕ, zero, suc, ◌+◌, ◌≤◌, List, [], ◌∷◌, ◌++◌, length, take, drop, map, refl, sym, ap}
-use Rattle.std.proofs.Common.{◌∙◌, true, false, cond, Bool, arith, get_or}
+use Rattle.std.proofs.Common.{◌∙◌, true, false, cond, Bool, arith, rules}
 use Rattle.std.specs.Prelude.{◌==◌, ◌*◌, not}
 use Rattle.std.specs.declared.cmp.Ordering.{Ordering}
 use Rattle.std.specs.declared.cmp.Ordering.TheVariants.{Equal}
@@ -8,8 +8,7 @@ use Rattle.std.specs.Ordering.{nat_cmp, ordering_then}
 use Rattle.std.specs.Str.{bytes_eq}
 use Rattle.std.specs.Cmp.{nat_cmp_is}
 use Rattle.std.specs.Cmp.Lexicographic.{slice_cmp, same_text}
-use Rattle.std.proofs.lemmas.List.{map-append, get_or-take, take-take, take-append-drop, drop-take, drop-drop}
-use Rattle.std.proofs.lemmas.List.{length-drop}
+use Rattle.std.proofs.lemmas.List.{map-append, get_or-take, take-take, take-append-drop, drop-take, drop-drop, length-drop}
 use Rattle.percent_encoding.specs.Percent.{percent_decode, is_escape}
 use Rattle.std.specs.Char.{digit_value}
 use Rattle.aide_entry.specs.Path.{path_cmp, rank_of, IsBetweenEscapes}
@@ -17,9 +16,8 @@ use Rattle.aide_entry.proofs.PathLemmas.{path_cmp_ranks}
 
 plain_first : (b : ℕ) (r : List ℕ) → (b == 37) ≡ false → percent_decode (b ∷ r) ≡ b ∷ percent_decode r
 unfolding percent_decode
-plain_first b [] e = refl
-plain_first b (h ∷ []) e = refl
 plain_first b (h ∷ l ∷ r) e = rw e refl
+plain_first b _ e = refl
 
 -- a text is decoded in two parts where no escape reaches over the cut
 decode_cut : (n : ℕ) (x : List ℕ) → n ≤ length x → IsBetweenEscapes x n
@@ -45,9 +43,7 @@ decode_cut (suc (suc (suc n))) (b ∷ h ∷ l ∷ r) le cut =
     ]
 
 cut_same : (x y : List ℕ) (n : ℕ) → n ≤ length x → n ≤ length y → take n x ≡ take n y → IsBetweenEscapes x n → IsBetweenEscapes y n
-cut_same x y n left right same cut k lt near =
-    ap (λ (b : ℕ). b == 37) (sym (get_or-take n y k 0 lt) ∙ (ap (λ (t : List ℕ). get_or t k 0) (sym same) ∙ get_or-take n x k 0 lt))
-    ∙ cut k lt near
+cut_same x y n left right same cut k lt near = search (rules, get_or-take)
 
 behind_front : (p x y : List ℕ) → slice_cmp nat_cmp (p ++ x) (p ++ y) ≡ slice_cmp nat_cmp x y
 behind_front [] x y = refl
@@ -90,14 +86,7 @@ pub front_more : (x y left right more_left more_right : List ℕ) (count n : ℕ
     → more_left ≡ drop n left → more_right ≡ drop n right → n ≤ length left → n ≤ length right
     → take n left ≡ take n right
     → HasFront x y more_left more_right (count + n)
-front_more x y left right more_left more_right count n h a b le lf e = record {
-  left_at = a ∙ (ap (drop n) h.left_at ∙ drop-drop n count x);
-  right_at = b ∙ (ap (drop n) h.right_at ∙ drop-drop n count y);
-  left_in = omega (arith, le, h.left_in, ap length h.left_at, length-drop count x);
-  right_in = omega (arith, lf, h.right_in, ap length h.right_at, length-drop count y);
-  same = take_two count n x ∙ (ap (λ (t : List ℕ). t ++ take n (drop count x)) h.same
-      ∙ (ap (λ (t : List ℕ). take count y ++ t) (ap (take n) (sym h.left_at) ∙ (e ∙ ap (take n) h.right_at)) ∙ sym (take_two count n y)));
-}
+front_more x y left right more_left more_right count n h a b le lf e = search (rules, drop-drop, length-drop, take_two)
 
 pub byte_more : (x y left right more_left more_right : List ℕ) (count a b : ℕ) → HasFront x y left right count
     → left ≡ a ∷ more_left → right ≡ b ∷ more_right → a ≡ b → HasFront x y more_left more_right (count + 1)

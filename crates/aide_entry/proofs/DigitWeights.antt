@@ -1,6 +1,6 @@
 -- What the weights of symbols tell: four symbols are three digits, or two are one digit.
 use Rattle.std.proofs.Common.{◌≡◌, ℕ, ◌+◌, ◌*◌, ◌/◌, ◌%◌, ◌<◌, ◌≤◌, ◌⊎◌, inl, inr, List, [], ◌∷◌, slice_index, refl, arith}
-use Rattle.std.proofs.Common.{true, false, Bool, ◌&&◌, ◌||◌, nat_le, nat_lt, Some}
+use Rattle.std.proofs.Common.{true, false, Bool, ◌&&◌, ◌||◌, nat_le, nat_lt, Some, rules}
 use Rattle.std.specs.Prelude.{◌==◌}
 use Rattle.std.specs.List.{list_all}
 use Rattle.std.proofs.lemmas.Bool.{and_parts, and_from, or_cases, eqb-true, leb-true, ne_eqb, le-leb, lt-ltb}
@@ -111,10 +111,7 @@ three a b c d small_a small_b small_c small_d is =
 -- the first symbol of a group
 first_is : (a : ℕ) → a < 256 → 1 ≤ slice_index FIRST a → (a ≡ 77) ⊎ ((a ≡ 78) ⊎ (a ≡ 79))
 unfolding implies
-first_is a small some = elim (or_cases (a == 77) ((a == 78) || (a == 79)) test) [
-  | inl e ↦ inl (eqb-true a 77 e)
-  | inr e ↦ elim (or_cases (a == 78) (a == 79) e) [ inl f ↦ inr (inl (eqb-true a 78 f)) | inr f ↦ inr (inr (eqb-true a 79 f)) ]
-]
+first_is a small some = search (rules, or_cases, eqb-true, test)
   where
     test : ((a == 77) || ((a == 78) || (a == 79))) ≡ true
     test = passed FIRST (λ weight b. (b == 77) || ((b == 78) || (b == 79))) refl a small some
@@ -139,10 +136,7 @@ first_high a b c d small_a small_b small_c small_d is =
 
 last_is : (a : ℕ) → a < 256 → 1 ≤ slice_index LAST a → ((a ≡ 65) ⊎ (a ≡ 81)) ⊎ ((a ≡ 103) ⊎ (a ≡ 119))
 unfolding implies
-last_is a small some = elim (or_cases ((a == 65) || (a == 81)) ((a == 103) || (a == 119)) test) [
-  | inl e ↦ elim (or_cases (a == 65) (a == 81) e) [ inl f ↦ inl (inl (eqb-true a 65 f)) | inr f ↦ inl (inr (eqb-true a 81 f)) ]
-  | inr e ↦ elim (or_cases (a == 103) (a == 119) e) [ inl f ↦ inr (inl (eqb-true a 103 f)) | inr f ↦ inr (inr (eqb-true a 119 f)) ]
-]
+last_is a small some = search (rules, or_cases, eqb-true, test)
   where
     test : (((a == 65) || (a == 81)) || ((a == 103) || (a == 119))) ≡ true
     test = passed LAST (λ weight b. ((b == 65) || (b == 81)) || ((b == 103) || (b == 119))) refl a small some

@@ -1,15 +1,14 @@
 -- An entry line has no fault, and a line without one is an entry line.
 use Rattle.std.proofs.Common.{◌≡◌, ℕ, ◌+◌, List, [], ◌∷◌, length, refl, sym, true, false}
-use Rattle.std.proofs.Common.{cond, Bool, not, ◌&&◌, ◌∙◌, Option, Some, None, eq-eqb}
-use Rattle.std.specs.Prelude.{◌==◌, IfNone}
+use Rattle.std.proofs.Common.{cond, Bool, not, ◌&&◌, Option, Some, None, eq-eqb, rules}
+use Rattle.std.specs.Prelude.{IfNone}
 use Rattle.std.specs.List.{list_all, zip}
 use Rattle.std.proofs.lemmas.Bool.{and_parts, and_from, eqb-true}
 use Rattle.aide_entry.specs.Text.{fields}
 use Rattle.aide_entry.specs.Entry.{has_entry, has_form, is_path, is_before, entry_fault, fault_of_column, first_bad_from}
-use Rattle.aide_entry.specs.Entry.{first_bad, have_forms, path_of}
+use Rattle.aide_entry.specs.Entry.{first_bad, path_of}
 use Rattle.aide_entry.specs.declared.column.Column.{Column}
 use Rattle.aide_entry.specs.declared.fault_kind.DbFaultKind.{DbFaultKind}
-use Rattle.aide_entry.specs.declared.fault_kind.DbFaultKind.TheVariants.{FieldCount, BadName, OutOfOrder}
 
 -- a test that has to be passed, and what is left then
 pub guard_none : (b : Bool) (k : DbFaultKind) (o : Option DbFaultKind) → cond (not b) (Some k) o ≡ None
@@ -41,11 +40,7 @@ all_good i (x ∷ xs) e =
 -- an entry line with no fault, after others
 pub no_entry_fault : (cs : List Column) (es : List (List ℕ)) (l : List ℕ) → entry_fault cs es l ≡ None
     → (has_entry cs l ≡ true) × (list_all (λ e. is_before cs e l) es ≡ true)
-no_entry_fault cs es l none =
-    let a = guard_none (length (fields l) == length cs) FieldCount _ none in
-    let b = guard_none (is_path (path_of cs l)) BadName _ a.1 in
-    let c = guard_none (list_all (λ e. is_before cs e l) es) OutOfOrder _ b.1 in
-    (and_from _ _ (and_from _ _ a.0 b.0) (none_bad 1 (zip cs (fields l)) c.1), c.0)
+no_entry_fault cs es l none = search (rules, guard_none, and_from, none_bad)
 
 pub has_from : (cs : List Column) (l : List ℕ) → length (fields l) ≡ length cs → is_path (path_of cs l) ≡ true
     → first_bad cs (fields l) ≡ None → has_entry cs l ≡ true
@@ -61,15 +56,8 @@ sound_from cs l (Some kind) count path e = tt
 -- what an entry line has
 pub entry_parts : (cs : List Column) (l : List ℕ) → has_entry cs l ≡ true
     → (length (fields l) ≡ length cs) × (is_path (path_of cs l) ≡ true) × (first_bad cs (fields l) ≡ None)
-entry_parts cs l has =
-    let forms = and_parts ((length (fields l) == length cs) && is_path (path_of cs l)) (have_forms cs (fields l)) has in
-    let count = and_parts (length (fields l) == length cs) (is_path (path_of cs l)) forms.0 in
-    (eqb-true (length (fields l)) (length cs) count.0, count.1, all_good 1 (zip cs (fields l)) forms.1)
+entry_parts cs l has = search (rules, and_parts, eqb-true, all_good)
 
 pub entry_is_fine : (cs : List Column) (es : List (List ℕ)) (l : List ℕ) → has_entry cs l ≡ true
     → list_all (λ e. is_before cs e l) es ≡ true → entry_fault cs es l ≡ None
-entry_is_fine cs es l has before =
-    let forms = and_parts ((length (fields l) == length cs) && is_path (path_of cs l)) (have_forms cs (fields l)) has in
-    let count = and_parts (length (fields l) == length cs) (is_path (path_of cs l)) forms.0 in
-    guard_pass _ FieldCount _ count.0 ∙ (guard_pass _ BadName _ count.1
-    ∙ (guard_pass _ OutOfOrder _ before ∙ all_good 1 (zip cs (fields l)) forms.1))
+entry_is_fine cs es l has before = search (rules, and_parts, guard_pass, all_good)

@@ -1,6 +1,6 @@
 -- The fields of a line, cut at its first one.
 use Rattle.std.proofs.Common.{◌≡◌, ℕ, ◌+◌, ◌<◌, ◌≤◌, List, [], ◌∷◌, ◌++◌, length, take, drop, refl, sym, ap, ◌∙◌, subst}
-use Rattle.std.proofs.Common.{true, false, Bool, arith, get_or, filter, append-nil, inl, inr}
+use Rattle.std.proofs.Common.{true, false, Bool, arith, get_or, filter, append-nil, inl, inr, rules}
 use Rattle.std.specs.List.{All, AllByRecursion}
 use Rattle.std.proofs.lemmas.Bool.{cases_lt}
 use Rattle.std.proofs.lemmas.List.{take-append-drop, get_or-take, get_or-drop, length-take-le, length-drop, drop_more}
@@ -37,9 +37,7 @@ filled_from_length (x ∷ f) h = refl
 -- the bytes before an index, each of them
 all_front : (line : List ℕ) (n : ℕ) (t : Bool) → n ≤ length line → ((k : ℕ) → k < n → is_blank (get_or line k 0) ≡ t)
     → All (λ b. is_blank b ≡ t) (take n line)
-all_front line n t le each = λ k d lt.
-    let small : k < n = omega (arith, length-take-le n line le) in
-    subst (λ (x : ℕ). is_blank x ≡ t) (sym (get_or-take n line k d small ∙ get_or_default line k d 0 (omega arith))) (each k small)
+all_front line n t le each = search (rules, length-take-le, get_or-take, get_or_default)
 
 pub field_none : (line : List ℕ) → ((k : ℕ) → k < length line → is_blank (get_or line k 0) ≡ true) → fields line ≡ []
 field_none line each =
@@ -97,11 +95,7 @@ pub field_first_parts : (line rest front back : List ℕ) (start end : ℕ) → 
     → end ≤ length rest → ((k : ℕ) → k < end → is_blank (get_or rest k 0) ≡ false)
     → (end < length rest → is_blank (get_or rest end 0) ≡ true)
     → (fields line ≡ front ∷ fields back) × (0 < end)
-field_first_parts line rest front back start end e f g lt blanks here le each stops =
-    let P : List ℕ → Type 0 = λ r. end ≤ length r → ((k : ℕ) → k < end → is_blank (get_or r k 0) ≡ false)
-    → (end < length r → is_blank (get_or r end 0) ≡ true) → (fields line ≡ take end r ∷ fields (drop end r)) × (0 < end) in
-    let h : P rest = subst P (sym e) (λ a b c. field_first line start end lt blanks here a b c) in
-    rw (f, g) (h le each stops)
+field_first_parts line rest front back start end e f g lt blanks here le each stops = search (rules, field_first)
 
 -- the first field of a line, or that there is none
 pub ruleset first_fields = (field_first, field_none)

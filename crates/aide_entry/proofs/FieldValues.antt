@@ -1,17 +1,17 @@
 -- What fields mean, step by step.
 use Rattle.std.proofs.Common.{◌≡◌, ℕ, ℤ, ◌≤◌, List, length, refl, sym, ◌∙◌, true, false, cond, if◌then◌else◌, Bool, Option, Some, None, Ok}
-use Rattle.std.proofs.Common.{Err, nat_le}
+use Rattle.std.proofs.Common.{Err, nat_le, rules}
 use Rattle.std.specs.Prelude.{option_map}
 use Rattle.std.proofs.lemmas.Bool.{le-leb}
 use Rattle.base64.specs.declared.decode.DecodeError.{DecodeError}
 use Rattle.base64.specs.Engines.{standard}
 use Rattle.base64.specs.GeneralPurpose.{decode_of, decoded_of}
 use Rattle.aide_attr.specs.declared.file_type.FileType.{FileType}
-use Rattle.aide_attr.specs.Attr.{bit_of, holder_of, form_of}
+use Rattle.aide_attr.specs.Attr.{bit_of, holder_of}
 use Rattle.aide_attr.specs.declared.attr.Attr.{Attr}
 use Rattle.aide_entry.specs.Text.{fields}
 use Rattle.aide_entry.specs.Fields.{field_under, is_bits, is_of}
-use Rattle.aide_entry.specs.Entry.{field_of, is_on, attributes_of, value_in}
+use Rattle.aide_entry.specs.Entry.{field_of, is_on, attributes_of}
 use Rattle.aide_entry.specs.code.FirstColumns.{bits_in, is_set}
 use Rattle.aide_entry.proofs.FirstColumnLemmas.{set_is_on}
 use Rattle.aide_entry.specs.declared.column.Column.{Column}
@@ -45,10 +45,7 @@ field_on cs line attr holder bit bits field h b f on is =
 
 pub field_off : (cs : List Column) (line : List ℕ) (attr : Attr) (bit bits : Option ℕ)
     → bit ≡ bit_of attr → bits ≡ bits_in cs line → is_set bit bits ≡ false → None ≡ field_of cs line attr
-field_off cs line attr bit bits b f off =
-    let t : is_on (bit_of attr) (field_under is_bits cs (fields line)) ≡ false =
-    sym (set_is_on (bit_of attr) (field_under is_bits cs (fields line))) ∙ rw (← b, ← f) off in
-    rw t refl
+field_off cs line attr bit bits b f off = search (rules, set_is_on)
 
 none_either : (b : Bool) (field : Option (List ℕ)) → None ≡ field → None ≡ (if b then field else None)
 none_either true field none = none
@@ -64,8 +61,4 @@ field_none cs line attr holder field h none is =
 -- an attribute without a column has no value
 pub lacking : (cs : List Column) (line : List ℕ) (attr : Attr) → field_under (is_of (holder_of attr)) cs (fields line) ≡ None
     → attributes_of cs line attr ≡ None
-lacking cs line attr none = rw none (by_test (is_on (bit_of attr) (field_under is_bits cs (fields line))))
-  where
-    by_test : (b : Bool) → value_in (form_of attr) (if b then None else None) ≡ None
-    by_test true = refl
-    by_test false = refl
+lacking cs line attr none = search rules

@@ -1,7 +1,7 @@
 -- Where the first column of a kind stands.
 use Rattle.std.proofs.Common.{◌≡◌, ℕ, ◌+◌, ◌-◌, ◌<◌, ◌≢◌, List, [], ◌∷◌, ◌++◌, length, take, drop, set, get_or, replicate, map, suc, zero}
-use Rattle.std.proofs.Common.{refl, sym, ap, ◌∙◌}
-use Rattle.std.proofs.Common.{Bool, true, false, if◌then◌else◌, Option, None, Some, inl, inr, arith, get_or-set_same, get_or-set_other}
+use Rattle.std.proofs.Common.{refl, sym, ap, ◌∙◌, rules}
+use Rattle.std.proofs.Common.{Bool, true, false, Option, None, Some, arith, get_or-set_same, get_or-set_other}
 use Rattle.std.proofs.lemmas.Bool.{cases_eq, eq-eqb, ne_eqb}
 use Rattle.std.proofs.lemmas.List.{drop_all, get_or-replicate, take_more_set, map-append}
 use Rattle.aide_attr.specs.Attr.{index}
@@ -15,34 +15,28 @@ use Rattle.aide_entry.specs.declared.column.Column.TheVariants.{Name, Bits, Of, 
 use Rattle.aide_entry.proofs.ColumnLemmas.{column_is, code_fits}
 
 code_small : (c : Column) → code_of c < 64
-code_small Name = omega arith
-code_small Bits = omega arith
-code_small Skipped = omega arith
 code_small (Of attr) = code_fits attr
+code_small _ = omega arith
 
 itself : (c : Column) → is_column c c ≡ true
-itself Name = refl
-itself Bits = refl
-itself Skipped = refl
 itself (Of attr) = eq-eqb (index attr) (index attr) refl
+itself _ = refl
 
 other : (a b : Column) → code_of a ≢ code_of b → is_column a b ≡ false
 other Name Name ne = absurd (ne refl)
 other Bits Bits ne = absurd (ne refl)
 other Skipped Skipped ne = absurd (ne refl)
 other (Of a) (Of b) ne = ne_eqb (index a) (index b) (λ e. ne (ap (λ n. 3 + n) e))
-other Name Bits ne = refl
 other Name Skipped ne = refl
 other Name (Of b) ne = refl
 other Bits Name ne = refl
 other Bits Skipped ne = refl
 other Bits (Of b) ne = refl
 other Skipped Name ne = refl
-other Skipped Bits ne = refl
 other Skipped (Of b) ne = refl
 other (Of a) Name ne = refl
-other (Of a) Bits ne = refl
 other (Of a) Skipped ne = refl
+other _ Bits ne = refl
 
 -- ---- what stands under the first column of a kind
 
@@ -59,13 +53,7 @@ field_placed : (test : Column → Bool) (cs : List Column) (fields : List (List 
     → field_under test cs fields ≡ field_at_first (first_column test cs) fields
 field_placed test [] fields = refl
 field_placed test (c ∷ cs) [] = nothing_at (first_column test (c ∷ cs))
-field_placed test (c ∷ cs) (field ∷ fields) = by_test (test c) (field_placed test cs fields)
-  where
-    by_test : (b : Bool) → field_under test cs fields ≡ field_at_first (first_column test cs) fields
-        → (if b then Some field else field_under test cs fields)
-        ≡ field_at_first (if b then 1 else one_behind (first_column test cs)) (field ∷ fields)
-    by_test true more = refl
-    by_test false more = more ∙ behind (first_column test cs) field fields
+field_placed test (c ∷ cs) (field ∷ fields) = search (rules, field_placed test cs fields)
 
 -- ---- a column more
 
@@ -75,27 +63,11 @@ after zero true index = suc index
 after zero false index = 0
 after (suc first) b index = suc first
 
-after_behind : (first : ℕ) (b : Bool) (index : ℕ) → one_behind (after first b index) ≡ after (one_behind first) b (suc index)
-unfolding after
-after_behind zero true index = refl
-after_behind zero false index = refl
-after_behind (suc first) b index = refl
-
 placed_more : (test : Column → Bool) (cs : List Column) (c : Column)
     → first_column test (cs ++ c ∷ []) ≡ after (first_column test cs) (test c) (length cs)
 unfolding after
-placed_more test [] c = by_test (test c)
-  where
-    by_test : (b : Bool) → (if b then 1 else 0) ≡ after 0 b 0
-    by_test true = refl
-    by_test false = refl
-placed_more test (x ∷ cs) c = by_test (test x) (placed_more test cs c)
-  where
-    by_test : (b : Bool) → first_column test (cs ++ c ∷ []) ≡ after (first_column test cs) (test c) (length cs)
-        → (if b then 1 else one_behind (first_column test (cs ++ c ∷ [])))
-        ≡ after (if b then 1 else one_behind (first_column test cs)) (test c) (suc (length cs))
-    by_test true more = refl
-    by_test false more = ap one_behind more ∙ after_behind (first_column test cs) (test c) (length cs)
+placed_more test [] c = search rules
+placed_more test (x ∷ cs) c = search (rules, placed_more test cs c)
 
 -- without columns there is none
 pub none_placed : AreFirstColumns (replicate 64 0) []
@@ -105,49 +77,25 @@ module _ (firsts : List ℕ) (cs : List Column) (c : Column) (are : AreFirstColu
   other_placed : (wanted : Column) → code_of wanted ≢ code_of c
       → get_or firsts (code_of wanted) 0 ≡ first_column (is_column wanted) (cs ++ c ∷ [])
   unfolding after
-  other_placed wanted ne =
-      are wanted ∙ sym (placed_more (is_column wanted) cs c ∙ rw (other wanted c ne) (kept (first_column (is_column wanted) cs)))
-    where
-      kept : (first : ℕ) → after first false (length cs) ≡ first
-      kept zero = refl
-      kept (suc first) = refl
+  other_placed wanted ne = search (rules, placed_more, other)
 
   -- the first column of its kind is added
   pub first_placed : (first : ℕ) → length firsts ≡ 64 → first ≡ length cs + 1 → get_or firsts (code_of c) 0 ≡ 0
       → AreFirstColumns (set firsts (code_of c) first) (cs ++ c ∷ [])
   unfolding after
-  first_placed first long is none wanted = elim (cases_eq (code_of wanted) (code_of c)) [
-    | inl e ↦
-        let same : wanted ≡ c = column_is wanted c e in
-        let lt : code_of c < length firsts = omega (arith, code_small c) in
-        let zero_there : first_column (is_column c) cs ≡ 0 = sym (are c) ∙ none in
-        rw same (get_or-set_same firsts (code_of c) first 0 lt
-        ∙ sym (placed_more (is_column c) cs c ∙ rw (zero_there, itself c) (let s : suc (length cs) ≡ first = omega (arith, is) in s)))
-    | inr ne ↦ get_or-set_other firsts (code_of c) (code_of wanted) first 0 ne ∙ other_placed wanted ne
-  ]
+  first_placed first long is none wanted =
+      search (rules, cases_eq, column_is, code_small, get_or-set_same, placed_more, itself, get_or-set_other, other_placed)
 
   -- a further column of its kind is added
   pub again_placed : (get_or firsts (code_of c) 0 ≡ 0 → ⊥) → AreFirstColumns firsts (cs ++ c ∷ [])
   unfolding after
-  again_placed some wanted = elim (cases_eq (code_of wanted) (code_of c)) [
-    | inl e ↦
-        let same : wanted ≡ c = column_is wanted c e in
-        are wanted ∙ sym (placed_more (is_column wanted) cs c ∙ there (first_column (is_column wanted) cs) (is_column wanted c)
-        (λ none. some (ap (λ w. get_or firsts (code_of w) 0) (sym same) ∙ are wanted ∙ none)))
-    | inr ne ↦ other_placed wanted ne
-  ]
-    where
-      there : (first : ℕ) (b : Bool) → (first ≡ 0 → ⊥) → after first b (length cs) ≡ first
-      there zero b h = absurd (h refl)
-      there (suc first) b h = refl
+  again_placed some wanted = search (rules, cases_eq, column_is, placed_more, other_placed)
 
 -- a function of each column, kept beside the first ones
 pub pushed_map : {A B : Type 0} (f : A → B) (xs : List B) (kinds : List A) (count : ℕ) (x : B) (c : A) → count < length xs
     → count < length kinds → x ≡ f c → take count xs ≡ map f (take count kinds)
     → take (count + 1) (set xs count x) ≡ map f (take (count + 1) (set kinds count c))
-pushed_map f xs kinds count x c lt less is same =
-    take_more_set xs count x lt ∙ ap (λ l. l ++ x ∷ []) same ∙ ap (λ y. map f (take count kinds) ++ y ∷ []) is
-    ∙ sym (ap (map f) (take_more_set kinds count c less) ∙ map-append f (take count kinds) (c ∷ []))
+pushed_map f xs kinds count x c lt less is same = search (rules, take_more_set, map-append)
 
 -- ---- what is looked up
 
@@ -167,9 +115,7 @@ module _ (firsts : List ℕ) (cs : List Column) (wanted : Column) (code : ℕ) (
 
   pub some_found : (get_or firsts code 0 ≡ 0 → ⊥) → (fields : List (List ℕ))
       → field_under (is_column wanted) cs fields ≡ first_in (drop (get_or firsts code 0 - 1) fields)
-  some_found some fields =
-      field_placed (is_column wanted) cs fields ∙ ap (λ p. field_at_first p fields) (sym first_is)
-      ∙ at_first (get_or firsts code 0) fields some
+  some_found some fields = search (rules, field_placed, first_is, at_first)
 
 -- ---- bits
 

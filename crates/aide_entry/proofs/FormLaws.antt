@@ -1,6 +1,6 @@
 -- Which kind of value an attribute has, by its form.
-use Rattle.std.proofs.Common.{◌≡◌, ℕ, List, refl, true, false, cond, Option, Some, None}
-use Rattle.std.specs.Prelude.{option_map, nat_abs, ◌%◌, ℤ}
+use Rattle.std.proofs.Common.{◌≡◌, ℕ, List, refl, Option, Some, None, rules}
+use Rattle.std.specs.Prelude.{option_map, nat_abs, ℤ}
 use Rattle.aide_attr.specs.Attr.{form_of}
 use Rattle.aide_attr.specs.declared.attr.Attr.{Attr}
 use Rattle.aide_attr.specs.declared.file_type.FileType.{FileType}
@@ -8,7 +8,7 @@ use Rattle.aide_attr.specs.declared.form.Form.TheVariants.{Kind, Mode, Number, T
 use Rattle.aide_entry.specs.Attributes.{number_value, mode_value, type_value, link_value, digest_value, opaque_value}
 use Rattle.aide_entry.specs.Attributes.{number_in, type_in, link_in, digest_in, opaque_in}
 use Rattle.aide_entry.specs.Numbers.{mode_of, number_of}
-use Rattle.aide_entry.specs.Values.{type_of_mode, time_of, digest_of, is_nought}
+use Rattle.aide_entry.specs.Values.{type_of_mode, time_of, digest_of}
 use Rattle.aide_entry.specs.Entry.{attributes_of, field_of, value_in}
 use Rattle.aide_entry.specs.declared.column.Column.{Column}
 
@@ -42,13 +42,7 @@ time_kept (Some field) = numbers_kept (time_of field)
 mode_kept : (field : Option (List ℕ))
     → value_in Mode field ≡ option_map (λ mode. mode_value (nat_abs mode)) (number_in (value_in Mode field))
 mode_kept None = refl
-mode_kept (Some field) = kept (mode_of field)
-  where
-    kept : (o : Option ℕ)
-        → option_map (λ mode. mode_value (mode % 4096)) o ≡ option_map (λ mode. mode_value (nat_abs mode))
-        (number_in (option_map (λ mode. mode_value (mode % 4096)) o))
-    kept None = refl
-    kept (Some mode) = refl
+mode_kept (Some field) = search rules
 
 link_kept : (field : Option (List ℕ)) → value_in Link field ≡ option_map link_value (link_in (value_in Link field))
 link_kept None = refl
@@ -62,9 +56,7 @@ digest_kept least most (Some field) = digests_kept (digest_of least most field)
 opaque_kept : (field : Option (List ℕ))
     → value_in Opaque field ≡ option_map opaque_value (opaque_in (value_in Opaque field))
 opaque_kept None = refl
-opaque_kept (Some field) = elim (is_nought field) as
-    (λ b. cond b None (Some (opaque_value field)) ≡ option_map opaque_value (opaque_in (cond b None (Some (opaque_value field)))))
-    [ true ↦ refl | false ↦ refl ]
+opaque_kept (Some field) = search rules
 
 -- of each form, what a view answers is the value
 module _ (columns : List Column) (line : List ℕ) (attr : Attr) where

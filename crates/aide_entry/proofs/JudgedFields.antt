@@ -1,7 +1,7 @@
 -- Fields that were judged: which have a value.
 use Rattle.std.proofs.Common.{◌≡◌, ℕ, List, [], ◌∷◌, refl, sym, ap, ◌∙◌, true, false, Bool, ◌&&◌, ◌||◌, not, if◌then◌else◌, Option, Some}
-use Rattle.std.proofs.Common.{None, inl, inr}
-use Rattle.std.specs.Prelude.{is_some, option_map, codes, length, ◌==◌, nat_le}
+use Rattle.std.proofs.Common.{None, inl, inr, rules}
+use Rattle.std.specs.Prelude.{is_some, option_map, codes, length, ◌==◌}
 use Rattle.std.specs.Cmp.Lexicographic.{same_text}
 use Rattle.std.proofs.lemmas.Bool.{and_parts}
 use Rattle.std.proofs.lemmas.Slice.Eq.{bytes_eq-Decides}
@@ -12,7 +12,7 @@ use Rattle.std.specs.declared.result.Result.TheVariants.{Ok, Err}
 use Rattle.base64.proofs.EngineFacts.{decode_of_strict}
 use Rattle.base64.proofs.OnLiterals.{base64_on_literals}
 use Rattle.base64.specs.Engines.{standard}
-use Rattle.base64.specs.GeneralPurpose.{IsBytes, decode_of, decoded_of, encode_of}
+use Rattle.base64.specs.GeneralPurpose.{IsBytes, decoded_of, encode_of}
 use Rattle.base64.specs.declared.decode.DecodeError.{DecodeError}
 use Rattle.aide_attr.specs.Attr.{row, row_of, bit_of, form_of, holder_of}
 use Rattle.aide_attr.specs.Set.{is_attr}
@@ -84,11 +84,7 @@ digest_there least most field judged = by_test (is_nought field) refl judged ∙
 of_length_some : (least most : ℕ) (decoded : Option (List ℕ)) (bytes : List ℕ) → of_length least most decoded ≡ Some bytes
     → decoded ≡ Some bytes
 of_length_some least most None bytes e = cc
-of_length_some least most (Some text) bytes e = by_test (nat_le least (length text) && nat_le (length text) most) e
-  where
-    by_test : (b : Bool) → (if b then Some text else None) ≡ Some bytes → Some text ≡ Some bytes
-    by_test true e = e
-    by_test false e = cc
+of_length_some least most (Some text) bytes e = search rules
 
 pub result_some : (r : Result (List ℕ) DecodeError) (bytes : List ℕ) → result_ok r ≡ Some bytes → r ≡ Ok bytes
 result_some (Ok text) bytes e = cc
@@ -98,9 +94,7 @@ result_some (Err why) bytes e = cc
 digest_text : (least most : ℕ) (field bytes : List ℕ) → IsBytes field → digest_of least most field ≡ Some bytes
     → field ≡ encode_of standard bytes
 unfolding digest_of decoded_of
-digest_text least most field bytes each is =
-    decode_of_strict standard field bytes (refl, refl) each
-    (result_some (decode_of standard field) bytes (of_length_some least most (decoded_of standard field) bytes is))
+digest_text least most field bytes each is = search (rules, decode_of_strict, result_some, of_length_some)
 
 -- a judged digest that is there has its field as its text
 pub digest_written : (least most : ℕ) (field : List ℕ) → IsBytes field
@@ -123,9 +117,7 @@ pub digests_differ : (least most : ℕ) (old new : List ℕ) → IsBytes old →
     → (is_nought old || is_some (digest_of least most old)) ≡ true → (is_nought new || is_some (digest_of least most new)) ≡ true
     → (not (is_nought old) && not (is_nought new))
     ≡ is_different (option_map digest_value (digest_of least most old)) (option_map digest_value (digest_of least most new))
-digests_differ least most old new old_bytes new_bytes unlike old_judged new_judged =
-    rw (digest_there least most old old_judged, digest_there least most new new_judged)
-    (by_values (digest_of least most old) (digest_of least most new) refl refl)
+digests_differ least most old new old_bytes new_bytes unlike old_judged new_judged = search (rules, digest_there, by_values)
   where
     by_values : (x y : Option (List ℕ)) → digest_of least most old ≡ x → digest_of least most new ≡ y
         → (is_some (option_map digest_value x) && is_some (option_map digest_value y))

@@ -1,8 +1,8 @@
 -- The number that digits write, a digit at a time.
+use Rattle.std.proofs.lemmas.Grind.{common_steps}
 use Rattle.std.proofs.Common.{◌≡◌, ℕ, ◌+◌, ◌-◌, ◌*◌, ◌^◌, ◌<◌, ◌≤◌, List, [], ◌∷◌, length, take, drop, refl, sym, ap, ◌∙◌, subst}
-use Rattle.std.proofs.Common.{true, false, Bool, ◌&&◌, arith, Option, cond, None, Some, suc, zero, nat_lt, nat_le}
+use Rattle.std.proofs.Common.{true, false, Bool, ◌&&◌, arith, Option, cond, None, Some, suc, zero, nat_lt, nat_le, is_some, rules}
 use Rattle.std.specs.List.{list_all}
-use Rattle.std.proofs.Common.{is_some}
 use Rattle.std.proofs.lemmas.List.{take-append-drop, drop-drop}
 use Rattle.std.proofs.lemmas.List.Folds.{list_all-append}
 use Rattle.std.proofs.lemmas.Bool.{le-ltb, lt-ltb, ltb-true, leb-true, ne_eqb, and_parts}
@@ -15,19 +15,11 @@ module _ (base bound : ℕ) where
   -- the number so far, a digit further
   pub digit_step : (v d : ℕ) (ds : List ℕ)
       → v * base ^ length (d ∷ ds) + positional base (d ∷ ds) ≡ (v * base + (d - 48)) * base ^ length ds + positional base ds
-  digit_step v d ds = ap (λ p. v * p + positional base (d ∷ ds)) (pow-suc base (length ds))
-      ∙ spread v (d - 48) (base ^ length ds) (positional base ds)
-    where
-      spread : (v d p r : ℕ) → v * (p * base) + (d * p + r) ≡ (v * base + d) * p + r
-      spread v d p r = omega arith
+  digit_step v d ds = search (rules, pow-suc)
 
   pow_some : 0 < base → (n : ℕ) → 1 ≤ base ^ n
   pow_some some zero = omega (arith, pow-zero base)
-  pow_some some (suc n) = subst (λ p. 1 ≤ p) (sym (pow-suc base n)) (grows_one (base ^ n) base (pow_some some n) some)
-    where
-      grows_one : (n b : ℕ) → 1 ≤ n → 0 < b → 1 ≤ n * b
-      grows_one n zero h k = absurd (omega arith)
-      grows_one n (suc b) h k = omega arith
+  pow_some some (suc n) = grind (arith, common_steps, pow_some some n, pow-suc)
 
   grows : (n p : ℕ) → 1 ≤ p → n ≤ n * p
   grows n zero h = absurd (omega arith)
@@ -37,9 +29,7 @@ module _ (base bound : ℕ) where
   natural_empty ds e = rw e refl
 
   pub natural_no_digits : (ds : List ℕ) → list_all (is_digit base) ds ≡ false → digits_of base bound ds ≡ None
-  natural_no_digits ds e = rw e (elim (is_filled ds) as
-      (λ b. cond ((b && false) && nat_lt (positional base ds) bound) (Some (positional base ds)) None ≡ None)
-      [ true ↦ refl | false ↦ refl ])
+  natural_no_digits ds e = search rules
 
   natural_large : (ds : List ℕ) → bound ≤ positional base ds → digits_of base bound ds ≡ None
   natural_large ds le = rw (le-ltb (positional base ds) bound le)
@@ -71,9 +61,7 @@ module _ (base bound : ℕ) where
       → list_all (is_digit base) all ≡ list_all (is_digit base) rest
       → positional base all ≡ v * base ^ length rest + positional base rest → v < bound
       → digits_of base bound all ≡ Some v
-  natural_ends all rest v e filled digits same lt =
-      let n : positional base all ≡ v = same ∙ rw (e, pow-zero base) (omega arith) in
-      natural_is all filled (digits ∙ rw e refl) (omega (arith, n)) ∙ ap (λ k. Some k) n
+  natural_ends all rest v e filled digits same lt = search (rules, pow-zero, natural_is)
 
   -- digits write less than the power of their number
   pub positional_below : (ds : List ℕ) → list_all (is_digit base) ds ≡ true → positional base ds < base ^ length ds
@@ -97,11 +85,7 @@ module _ (base bound : ℕ) where
   -- digits whose power is not above the bound have a number where they are digits
   pub short_digits : (ds : List ℕ) → is_filled ds ≡ true → base ^ length ds ≤ bound
       → list_all (is_digit base) ds ≡ is_some (digits_of base bound ds)
-  short_digits ds filled le =
-      elim (list_all (is_digit base) ds) as (λ b. list_all (is_digit base) ds ≡ b → b ≡ is_some (digits_of base bound ds)) [
-        | true ↦ λ e. sym (ap is_some (natural_is ds filled e (omega (arith, positional_below ds e, le))))
-        | false ↦ λ e. sym (ap is_some (natural_no_digits ds e))
-      ] refl
+  short_digits ds filled le = search (rules, is_some, natural_is, positional_below, natural_no_digits)
 
   pub digits_after : (all rest more : List ℕ) (d : ℕ) → rest ≡ d ∷ more
       → list_all (is_digit base) all ≡ list_all (is_digit base) rest → is_digit base d ≡ true
@@ -132,16 +116,12 @@ bits_plainly field more first e plain =
 pub short_natural : (ds : List ℕ) → is_filled ds ≡ true → length ds ≤ 19
     → list_all (is_digit 10) ds ≡ is_some (natural_of ds)
 unfolding natural_of
-short_natural ds filled le =
-    let below : 10 ^ length ds ≤ 10 ^ 19 = pow-le-pow_right (omega arith) le in
-    short_digits 10 (2 ^ 64) ds filled (omega (arith, below))
+short_natural ds filled le = search (rules, pow-le-pow_right, short_digits)
 
 -- at most 10 octal digits write a number below 2^32
 pub short_mode : (ds : List ℕ) → is_filled ds ≡ true → length ds ≤ 10 → list_all (is_digit 8) ds ≡ is_some (mode_of ds)
 unfolding mode_of
-short_mode ds filled le =
-    let below : 8 ^ length ds ≤ 8 ^ 10 = pow-le-pow_right (omega arith) le in
-    short_digits 8 (2 ^ 32) ds filled (omega (arith, below))
+short_mode ds filled le = search (rules, pow-le-pow_right, short_digits)
 
 pub no_natural : (ds : List ℕ) → ds ≡ [] → false ≡ is_some (natural_of ds)
 unfolding natural_of
@@ -164,18 +144,13 @@ no_bits ds e = rw e refl
 -- where the first four are digits the others tell
 pub digits_behind : (base : ℕ) (ds : List ℕ) → list_all (is_digit base) (take 4 ds) ≡ true
     → list_all (is_digit base) ds ≡ list_all (is_digit base) (drop 4 ds)
-digits_behind base ds first =
-    ap (λ xs. list_all (is_digit base) xs) (sym (take-append-drop 4 ds)) ∙ list_all-append (is_digit base) (take 4 ds) (drop 4 ds)
-    ∙ ap (λ b. b && list_all (is_digit base) (drop 4 ds)) first
+digits_behind base ds first = search (rules, take-append-drop, list_all-append)
 
 -- what is no digit behind an index is none of the whole
 none_behind : (base : ℕ) (ds : List ℕ) (i : ℕ) → list_all (is_digit base) (drop i ds) ≡ false → list_all (is_digit base) ds ≡ false
 none_behind base ds zero h = h
 none_behind base [] (suc i) h = h
-none_behind base (d ∷ ds) (suc i) h = elim (is_digit base d) as (λ b. (b && list_all (is_digit base) ds) ≡ false) [
-  | true ↦ none_behind base ds i h
-  | false ↦ refl
-]
+none_behind base (d ∷ ds) (suc i) h = search (rules, none_behind base ds i h)
 
 -- where those from an index on tell of all, those from an earlier index on do so too
 pub digits_from : (base : ℕ) (ds : List ℕ) (i j : ℕ) → i ≤ j → list_all (is_digit base) ds ≡ list_all (is_digit base) (drop j ds)

@@ -1,8 +1,8 @@
 -- Each entry before a line, from the last one alone.
 use Rattle.std.proofs.Common.{◌≡◌, ℕ, ◌<◌, List, [], ◌∷◌, length, refl, sym, ap, ◌∙◌, subst, true, false, arith, get_or}
-use Rattle.std.proofs.Common.{suc, Option, Some, eq-eqb}
+use Rattle.std.proofs.Common.{suc, Option, Some, eq-eqb, rules}
 use Rattle.std.specs.declared.cmp.Ordering.{Ordering}
-use Rattle.std.specs.declared.cmp.Ordering.TheVariants.{Less, Equal, Greater}
+use Rattle.std.specs.declared.cmp.Ordering.TheVariants.{Less}
 use Rattle.std.specs.List.{All, AllPairs, list_all}
 use Rattle.std.specs.Ordering.{is_lt}
 use Rattle.std.proofs.lemmas.Cmp.{nat_list_cmp_total, lists_total}
@@ -21,8 +21,7 @@ use Rattle.aide_entry.proofs.FieldLemmas.{no_field}
 
 less_is : (o : Ordering) → is_lt o ≡ true → o ≡ Less
 less_is Less e = refl
-less_is Equal e = cc
-less_is Greater e = cc
+less_is _ e = cc
 
 path_trans : (x y z : List ℕ) → path_cmp x y ≡ Less → path_cmp y z ≡ Less → path_cmp x z ≡ Less
 unfolding path_cmp
@@ -82,12 +81,7 @@ follows_all cs (y ∷ es) last l each pairs same after =
 not_follows : (cs : List Column) (es : List (List ℕ)) (last l : List ℕ) → All (IsEntryLine cs) es → last ≡ last_of es
     → follows cs last l ≡ false → list_all (λ e. is_before cs e l) es ≡ false
 not_follows cs [] last l each same after = let h : follows cs [] l ≡ false = rw same at after in cc
-not_follows cs (y ∷ es) last l each same after =
-    let h : is_before cs (last_of (y ∷ es)) l ≡ false = rw (same, last_filled cs y es each) at after in
-    elim (list_all (λ e. is_before cs e l) (y ∷ es)) as (λ b. list_all (λ e. is_before cs e l) (y ∷ es) ≡ b → b ≡ false) [
-      | true ↦ λ e. let t = last_before cs (y ∷ es) l e (omega arith) in cc
-      | false ↦ λ e. refl
-    ] refl
+not_follows cs (y ∷ es) last l each same after = search (rules, last_filled, last_before)
 
 pub fault_order : (cs : List Column) (es : List (List ℕ)) (last l : List ℕ) → length (fields l) ≡ length cs
     → is_path (path_of cs l) ≡ true → All (IsEntryLine cs) es → last ≡ last_of es → follows cs last l ≡ false

@@ -1,11 +1,10 @@
 -- The order of paths is total, and only equal paths tie.
-use Rattle.std.proofs.Common.{◌≡◌, ℕ, List, [], ◌∷◌, ◌++◌, refl, sym, ap, ◌∙◌, true, false, cond}
+use Rattle.std.proofs.Common.{◌≡◌, ℕ, List, [], ◌∷◌, ◌++◌, refl, sym, ap, ◌∙◌, rules}
 use Rattle.std.specs.List.{onto_first}
 use Rattle.std.specs.Cmp.{IsTotalOrder, on_total, nat_cmp_total}
 use Rattle.std.specs.Cmp.Lexicographic.{lists_total}
 use Rattle.std.specs.FinMap.{IsAntisymmetric, nat_cmp-IsAntisymmetric, slice_cmp-IsAntisymmetric}
 use Rattle.std.proofs.lemmas.Bool.{eqb-true}
-use Rattle.aide_entry.specs.Text.{is_slash}
 use Rattle.aide_entry.specs.Path.{pieces, path_cmp}
 use Rattle.aide_entry.proofs.SplitLemmas.{split_pieces}
 
@@ -32,13 +31,7 @@ rejoin_byte b p ps all e = rw e refl
 
 rejoined-pieces : (xs : List ℕ) → rejoined (pieces xs) ≡ xs
 rejoined-pieces [] = refl
-rejoined-pieces (x ∷ xs) =
-    let s = split_pieces is_slash xs in
-    elim (is_slash x) as (λ t. is_slash x ≡ t → rejoined (cond t ([] ∷ pieces xs) (onto_first x (pieces xs))) ≡ x ∷ xs) [
-      | true ↦ λ e. rejoin_slash s.0 s.1 (pieces xs) s.2 ∙
-          (ap (λ t. 47 ∷ t) (rejoined-pieces xs) ∙ ap (λ t. t ∷ xs) (sym (eqb-true x 47 e)))
-      | false ↦ λ e. rejoin_byte x s.0 s.1 (pieces xs) s.2 ∙ ap (λ t. x ∷ t) (rejoined-pieces xs)
-    ] refl
+rejoined-pieces (x ∷ xs) = search (rules, rejoined-pieces xs, split_pieces, rejoin_slash, eqb-true, rejoin_byte)
 
 pub path_cmp-IsAntisymmetric : IsAntisymmetric path_cmp
 unfolding path_cmp

@@ -1,6 +1,6 @@
 -- The bits of skipped columns, from the last one.
-use Rattle.std.proofs.Common.{◌≡◌, ℕ, ◌+◌, ◌*◌, ◌^◌, ◌<◌, ◌≤◌, List, [], ◌∷◌, ◌++◌, length, refl, sym, ap, ◌∙◌, subst}
-use Rattle.std.proofs.Common.{true, false, cond, arith}
+use Rattle.std.proofs.Common.{◌≡◌, ℕ, ◌+◌, ◌*◌, ◌^◌, ◌<◌, ◌≤◌, List, [], ◌∷◌, ◌++◌, length, refl, sym, ap, ◌∙◌}
+use Rattle.std.proofs.Common.{true, false, cond, arith, rules}
 use Rattle.std.proofs.Math.Nat.{pow-suc, pow-le-pow_right}
 use Rattle.aide_entry.specs.Fields.{is_skipped}
 use Rattle.aide_entry.specs.Skipped.{skipped_bit, skipped_below, skipped_in}
@@ -23,9 +23,7 @@ double s n p h i = omega arith
 
 in_power : (cs : List Column) → skipped_in cs + 1 ≤ 2 ^ length cs
 in_power [] = omega arith
-in_power (c ∷ cs) =
-    subst (λ p. skipped_in (c ∷ cs) + 1 ≤ p) (sym (pow-suc 2 (length cs)))
-    (double (skipped_bit c) (skipped_in cs) (2 ^ length cs) (bit_small c) (in_power cs))
+in_power (c ∷ cs) = search (rules, in_power cs, pow-suc, double, bit_small)
 
 less_power : (n p q : ℕ) → n + 1 ≤ p → p ≤ q → n < q
 less_power n p q h i = omega arith

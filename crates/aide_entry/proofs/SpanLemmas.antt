@@ -1,6 +1,6 @@
 -- The spans of the fields of a line.
 use Rattle.std.proofs.Common.{append-nil, ◌≡◌, ℕ, ◌+◌, ◌-◌, ◌<◌, ◌≤◌, List, [], ◌∷◌, ◌++◌, length, take, drop, refl}
-use Rattle.std.proofs.Common.{sym, ap, ◌∙◌, subst, true, false, arith, get_or, append_assoc, inl, inr}
+use Rattle.std.proofs.Common.{sym, ap, ◌∙◌, subst, true, false, arith, get_or, append_assoc, rules}
 use Rattle.std.proofs.lemmas.Bool.{cases_lt}
 use Rattle.std.proofs.lemmas.List.{length-append, length-take-le, length-drop, get_or-take, get_or-map, get_or-drop}
 use Rattle.std.proofs.lemmas.List.{drop_more, drop_all, drop-drop, map-append, length-map}
@@ -28,16 +28,7 @@ pub none_left : (rest behind : List ℕ) (skip len : ℕ) → behind ≡ drop sk
     → ((k : ℕ) → k < skip → is_blank (get_or rest k 0) ≡ true)
     → (skip < length rest → is_blank (get_or rest skip 0) ≡ false)
     → len ≡ 0 → (len < length behind → is_blank (get_or behind len 0) ≡ true) → fields rest ≡ []
-none_left rest behind skip len e le blanks stops zero goes =
-    elim (cases_lt skip (length rest)) [
-      | inl lt ↦
-          let some : len < length behind = omega (arith, zero, ap length e, length-drop skip rest) in
-          let b : is_blank (get_or rest skip 0) ≡ true = ap (λ n. is_blank (get_or rest n 0))
-          (let z : skip ≡ skip + len = omega (arith, zero) in z)
-          ∙ (ap is_blank (sym (get_or-drop skip rest len 0)) ∙ (ap (λ xs. is_blank (get_or xs len 0)) (sym e) ∙ goes some)) in
-          let c = stops lt in cc
-      | inr ge ↦ field_none rest (λ k lt. blanks k (omega arith))
-    ]
+none_left rest behind skip len e le blanks stops zero goes = search (rules, cases_lt, length-drop, get_or-drop, field_none)
 
 -- one span more
 pub span_more : (line rest behind more : List ℕ) (ps : List Span) (at skip len : ℕ)
@@ -65,10 +56,7 @@ span_more line rest behind more ps at skip len found position e f blanks stops l
 
 pub too_many : (line rest : List ℕ) (ps : List Span) (f : List ℕ) (fs : List (List ℕ))
     → fields_at line ps ++ fields rest ≡ fields line → fields rest ≡ f ∷ fs → length ps ≡ 64 → 64 < length (fields line)
-too_many line rest ps f fs found cut full =
-    let n : length (fields line) ≡ length (fields_at line ps) + length (fields rest) = sym (ap length found)
-    ∙ length-append (fields_at line ps) (fields rest) in
-    omega (arith, n, length-map ps (field_at line), ap length cut, full)
+too_many line rest ps f fs found cut full = search (rules, length-append, length-map)
 
 -- as many spans as fields
 pub spans_count : (line : List ℕ) (ps : List Span) → fields_at line ps ≡ fields line → length ps ≡ length (fields line)

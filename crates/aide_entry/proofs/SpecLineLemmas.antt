@@ -1,5 +1,5 @@
 -- Whether a database may have the columns of a spec line.
-use Rattle.std.proofs.Common.{◌≡◌, ◌<◌, ◌≤◌, List, ◌∷◌, ◌++◌, length, map, refl, ap, true, false, arith, ℕ}
+use Rattle.std.proofs.Common.{◌≡◌, ◌<◌, ◌≤◌, List, ◌∷◌, ◌++◌, length, map, refl, true, false, arith, ℕ, rules}
 use Rattle.std.proofs.lemmas.Bool.{le-leb}
 use Rattle.std.proofs.lemmas.Bool.Decides.{nat_tests}
 use Rattle.std.proofs.lemmas.List.{length-append}
@@ -20,11 +20,4 @@ too_many columns many = grind (arith, nat_tests)
 pub full_columns : (held : List Column) (rest more field : List ℕ) (columns : List Column)
     → held ++ map column_named (fields rest) ≡ columns → length held ≡ 64 → fields rest ≡ field ∷ fields more
     → are_columns columns ≡ false
-full_columns held rest more field columns joined full cut =
-    too_many columns (omega (
-      arith,
-      ap length joined,
-      length-append held (map column_named (fields rest)),
-      ap length (ap (map column_named) cut),
-      full,
-    ))
+full_columns held rest more field columns joined full cut = search (rules, too_many, length-append)

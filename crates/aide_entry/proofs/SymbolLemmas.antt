@@ -1,7 +1,8 @@
 -- Base64 by its groups: those before the last one are symbols, and the last one is decoded.
+use Rattle.std.proofs.lemmas.Grind.{common_steps}
 use Rattle.std.proofs.Common.{◌≡◌, ℕ, ◌+◌, ◌*◌, ◌<◌, ◌≤◌, List, [], ◌∷◌, ◌++◌, length, take, drop, slice_index, refl, sym, ap, ◌∙◌, suc}
 use Rattle.std.proofs.Common.{zero, arith, inl, inr}
-use Rattle.std.proofs.Common.{Bool, true, false, not, ◌&&◌, if◌then◌else◌, Option, Some, None, nat_le}
+use Rattle.std.proofs.Common.{Bool, true, false, not, ◌&&◌, if◌then◌else◌, Option, Some, None, nat_le, rules}
 use Rattle.std.specs.Prelude.{is_some, ◌==◌}
 use Rattle.std.specs.List.{list_all}
 use Rattle.std.specs.Io.KnownBytes.{prepend_known}
@@ -12,8 +13,7 @@ use Rattle.std.proofs.lemmas.List.Folds.{list_all-append}
 use Rattle.base64.proofs.Decoding.{length-groups_bytes}
 use Rattle.base64.proofs.Streams.{decoded_of-groups, decoded_of-ok}
 use Rattle.base64.proofs.Tables.{all_below_at}
-use Rattle.base64.specs.Decode.{or_else, symbol_error, groups_error, groups_bytes, groups_before_last, lone_error}
-use Rattle.base64.specs.Decode.{decode_outcome}
+use Rattle.base64.specs.Decode.{or_else, symbol_error, groups_error, groups_bytes, groups_before_last, decode_outcome}
 use Rattle.base64.specs.Engines.{standard}
 use Rattle.base64.specs.GeneralPurpose.{IsBytes, decode_of, decoded_of}
 use Rattle.base64.specs.declared.decode.DecodeError.{DecodeError}
@@ -38,16 +38,8 @@ pub eight_symbols : (xs : List ℕ) → length xs ≡ 8
     → (is_symbol (slice_index xs 0) && is_symbol (slice_index xs 1) && is_symbol (slice_index xs 2) && is_symbol (slice_index xs 3)
     && is_symbol (slice_index xs 4) && is_symbol (slice_index xs 5) && is_symbol (slice_index xs 6) && is_symbol (slice_index xs 7))
     ≡ list_all is_symbol xs
-eight_symbols [] long = absurd (omega arith)
-eight_symbols (a ∷ []) long = absurd (omega arith)
-eight_symbols (a ∷ b ∷ []) long = absurd (omega arith)
-eight_symbols (a ∷ b ∷ c ∷ []) long = absurd (omega arith)
-eight_symbols (a ∷ b ∷ c ∷ d ∷ []) long = absurd (omega arith)
-eight_symbols (a ∷ b ∷ c ∷ d ∷ e ∷ []) long = absurd (omega arith)
-eight_symbols (a ∷ b ∷ c ∷ d ∷ e ∷ f ∷ []) long = absurd (omega arith)
-eight_symbols (a ∷ b ∷ c ∷ d ∷ e ∷ f ∷ g ∷ []) long = absurd (omega arith)
 eight_symbols (a ∷ b ∷ c ∷ d ∷ e ∷ f ∷ g ∷ h ∷ []) long = simp (and_assoc, and_true)
-eight_symbols (a ∷ b ∷ c ∷ d ∷ e ∷ f ∷ g ∷ h ∷ i ∷ rest) long = absurd (omega arith)
+eight_symbols _ long = absurd (omega arith)
 
 abbrev table : List ℕ
 table = standard.decode_table
@@ -89,16 +81,7 @@ none_at s i bytes = none_if_not (slice_index table (slice_index s i) == 255) _ �
 
 take_four : (s : List ℕ) (i : ℕ) → i + 4 ≤ length s
     → take (i + 4) s ≡ take i s ++ slice_index s i ∷ slice_index s (i + 1) ∷ slice_index s (i + 2) ∷ slice_index s (i + 3) ∷ []
-take_four s i h =
-    let a : take (i + 1) s ≡ take i s ++ slice_index s i ∷ [] = take_more s i 0 (omega arith) in
-    let b : take (i + 1 + 1) s ≡ take (i + 1) s ++ slice_index s (i + 1) ∷ [] = take_more s (i + 1) 0 (omega arith) in
-    let c : take (i + 1 + 1 + 1) s ≡ take (i + 1 + 1) s ++ slice_index s (i + 1 + 1) ∷ [] = take_more s (i + 1 + 1) 0 (omega arith) in
-    let d : take (i + 1 + 1 + 1 + 1) s ≡ take (i + 1 + 1 + 1) s ++ slice_index s (i + 1 + 1 + 1) ∷ [] =
-    take_more s (i + 1 + 1 + 1) 0 (omega arith) in
-    let two : i + 1 + 1 ≡ i + 2 = omega arith in
-    let three : i + 1 + 1 + 1 ≡ i + 3 = omega arith in
-    let four : i + 1 + 1 + 1 + 1 ≡ i + 4 = omega arith in
-    rw (← four, d, c, b, a) (simp append_assoc (rw (three, two) refl))
+take_four s i h = grind (arith, common_steps, slice_index, take_more, append_assoc)
 
 -- the groups have no error where their bytes are symbols
 groups_none : (s : List ℕ) (q : ℕ) → IsBytes s → 4 * q ≤ length s
@@ -150,11 +133,7 @@ no_outcome (Some x) text e = refl
 
 counted : (least most count : ℕ) (text : List ℕ) → count ≡ length text
     → (nat_le least count && nat_le count most) ≡ is_some (of_length least most (Some text))
-counted least most count text is = rw is (by_test (nat_le least (length text) && nat_le (length text) most))
-  where
-    by_test : (b : Bool) → b ≡ is_some (if b then Some text else None)
-    by_test true = refl
-    by_test false = refl
+counted least most count text is = search rules
 
 module _ (s : List ℕ) (q : ℕ) (bytes : IsBytes s) (last : q ≡ groups_before_last (length s)) where
   -- the last group, behind symbols
@@ -173,9 +152,7 @@ module _ (s : List ℕ) (q : ℕ) (bytes : IsBytes s) (last : q ≡ groups_befor
   -- something else before it
   undecoded : list_all is_symbol (take (4 * q) s) ≡ false → decoded_of standard s ≡ None
   unfolding decoded_of
-  undecoded others =
-      let groups : is_none (groups_error table s q) ≡ false = sym (groups_none s q bytes (omega arith)) ∙ others in
-      no_outcome _ _ (second_error (lone_error table 61 s) (groups_error table s (groups_before_last (length s))) _ (rw last at groups))
+  undecoded others = search (rules, is_none, groups_none, no_outcome, second_error)
 
   pub no_symbols : (least most : ℕ) → list_all is_symbol (take (4 * q) s) ≡ false → false ≡ is_some (digest_of least most s)
   unfolding digest_of

@@ -1,7 +1,7 @@
 -- A field of ten digits: it is a time, and two different ones are different times.
 use Rattle.std.proofs.Common.{◌≡◌, ◌∙◌, ℕ, ◌+◌, ◌-◌, ◌*◌, ◌^◌, ◌<◌, ◌≤◌, List, [], ◌∷◌, ◌++◌, length, drop, slice_index, refl, sym, ap}
 use Rattle.std.proofs.Common.{subst, zero, suc, arith}
-use Rattle.std.proofs.Common.{true, false, Bool, ◌&&◌, ◌||◌, not, nat_le, nat_lt, Some, None}
+use Rattle.std.proofs.Common.{true, false, not, nat_le, nat_lt, Some, None, rules}
 use Rattle.std.specs.Prelude.{is_some, ◌==◌, pos}
 use Rattle.std.specs.List.{list_all}
 use Rattle.std.specs.Ordering.{int_eq}
@@ -15,12 +15,11 @@ use Rattle.std.proofs.lemmas.Slice.Eq.{bytes_eq-Decides}
 use Rattle.std.proofs.Math.Nat.{pow-le-pow_right}
 use Rattle.base64.proofs.EngineFacts.{decode_of_strict}
 use Rattle.base64.proofs.Streams.{decoded_of-groups}
-use Rattle.base64.specs.Decode.{groups_error, groups_bytes, group_bytes}
+use Rattle.base64.specs.Decode.{groups_error, groups_bytes}
 use Rattle.base64.specs.Engines.{standard}
 use Rattle.base64.specs.GeneralPurpose.{IsBytes, decode_of, decoded_of, encode_of}
 use Rattle.aide_entry.specs.Lent.{differs_by, same_number}
-use Rattle.aide_entry.specs.Numbers.{is_digit, positional, digits_of, natural_of, number_of}
-use Rattle.aide_entry.specs.Text.{is_filled}
+use Rattle.aide_entry.specs.Numbers.{is_digit, positional, natural_of, number_of}
 use Rattle.aide_entry.specs.Values.{begins_number, time_of}
 use Rattle.aide_entry.specs.code.TimeDigits.{are_three, is_one, are_ten}
 use Rattle.aide_entry.proofs.DigitWeights.{Three, first_high, three, one}
@@ -36,17 +35,7 @@ groups_three : (s : List ℕ) → Three (slice_index s 0) (slice_index s 1) (sli
     → Three (slice_index s 8) (slice_index s 9) (slice_index s 10) (slice_index s 11)
     → (groups_error table s 3 ≡ None) × (list_all (is_digit 10) (groups_bytes table s 3) ≡ true) × (length (groups_bytes table s 3) ≡ 9)
 unfolding groups_error groups_bytes
-groups_three s p q r = (
-  rw (p.first, p.second, p.third, p.fourth, q.first, q.second, q.third, q.fourth, r.first, r.second, r.third, r.fourth) refl,
-  rw (
-    list_all-append (is_digit 10) (group_bytes table s 0 ++ group_bytes table s 4) (group_bytes table s 8),
-    list_all-append (is_digit 10) (group_bytes table s 0) (group_bytes table s 4),
-    p.digits,
-    q.digits,
-    r.digits,
-  ) refl,
-  refl,
-)
+groups_three s p q r = search (rules, list_all-append)
 
 -- ---- a field of ten digits
 
@@ -69,12 +58,7 @@ pub record Ten (s : List ℕ) : Type 0 where
   pub plain : begins_number s ≡ false
 
 pub no_number_first : (s more : List ℕ) (first : ℕ) → s ≡ first ∷ more → 77 ≤ first → begins_number s ≡ false
-no_number_first s more first e high = rw (e, le-ltb first 58 (omega (arith, high)), ne_eqb first 45 (omega (arith, high)))
-    (by_low (nat_le 48 first))
-  where
-    by_low : (b : Bool) → ((b && false) || false) ≡ false
-    by_low true = refl
-    by_low false = refl
+no_number_first s more first e high = search (rules, le-ltb, ne_eqb)
 
 pub ten : (s : List ℕ) → IsBytes s → are_ten s ≡ true → Ten s
 unfolding are_ten
@@ -108,14 +92,7 @@ ten s bytes is =
 number_digits : (text more : List ℕ) (first : ℕ) → text ≡ first ∷ more → list_all (is_digit 10) text ≡ true → length text ≤ 19
     → number_of text ≡ Some (pos (positional 10 text))
 unfolding number_of natural_of
-number_digits text more first e digits short =
-    let below : 10 ^ length text ≤ 10 ^ 19 = pow-le-pow_right (omega arith) short in
-    let filled : is_filled text ≡ true = rw e refl in
-    let natural : digits_of 10 (2 ^ 64) text ≡ Some (positional 10 text) =
-    natural_is 10 (2 ^ 64) text filled digits (omega (arith, below, positional_below 10 (2 ^ 64) text digits)) in
-    let first_digit : is_digit 10 first ≡ true = (and_parts (is_digit 10 first) (list_all (is_digit 10) more) (rw e at digits)).0 in
-    let low : 48 ≤ first = leb-true 48 first (and_parts (nat_le 48 first) (nat_lt first (48 + 10)) first_digit).0 in
-    rw (e, ne_eqb first 45 (omega (arith, low))) (rw (rw e at natural) refl)
+number_digits text more first e digits short = search (rules, pow-le-pow_right, natural_is, positional_below, and_parts, leb-true, ne_eqb)
 
 some_first : (text : List ℕ) → length text ≡ 10 → text ≡ slice_index text 0 ∷ drop 1 text
 some_first text long = drop_more text 0 0 (omega (arith, long))

@@ -1,7 +1,7 @@
 -- A field that is known to be a time: its length, its first symbol and its padding tell whether it is one of ten digits.
-use Rattle.std.proofs.Common.{◌≡◌, ◌∙◌, ℕ, ◌+◌, ◌-◌, ◌*◌, ◌/◌, ◌%◌, ◌^◌, ◌<◌, ◌≤◌, ◌⊎◌, inl, inr, List, [], ◌∷◌, ◌++◌, length, take, drop}
+use Rattle.std.proofs.Common.{◌≡◌, ◌∙◌, ℕ, ◌+◌, ◌-◌, ◌*◌, ◌/◌, ◌%◌, ◌<◌, ◌≤◌, ◌⊎◌, inl, inr, List, [], ◌∷◌, ◌++◌, length, drop}
 use Rattle.std.proofs.Common.{slice_index, refl, sym, ap, zero, suc, arith}
-use Rattle.std.proofs.Common.{true, false, Bool, ◌&&◌, not, nat_le, nat_lt, Option, Some, None}
+use Rattle.std.proofs.Common.{true, false, Bool, not, Option, Some, None, rules}
 use Rattle.std.specs.Prelude.{is_some, ◌==◌, replicate}
 use Rattle.std.specs.List.{list_all}
 use Rattle.std.proofs.lemmas.Bool.{and_parts, eqb-true, leb-true, ltb-true, eq-eqb, le-leb}
@@ -41,12 +41,7 @@ last_alone [] x a b d size digits e = elim size
 last_alone (f ∷ []) x a b d size digits e = refl
 last_alone (f ∷ g ∷ []) x a b d size digits e =
     absurd (no_padding (g % 16 * 4) (omega arith) (sym (ap (λ xs. slice_index xs 2) e)))
-last_alone (f ∷ g ∷ h ∷ []) x a b d size digits e =
-    let third = (and_parts (is_digit 10 h) true
-    (and_parts (is_digit 10 g) (is_digit 10 h && true)
-    (and_parts (is_digit 10 f) (is_digit 10 g && (is_digit 10 h && true)) digits).1).1).0 in
-    let small : h < 58 = ltb-true h (48 + 10) (and_parts (nat_le 48 h) (nat_lt h (48 + 10)) third).1 in
-    absurd (no_padding (g % 16 * 4 + h / 64) (omega (arith, small)) (sym (ap (λ xs. slice_index xs 2) e)))
+last_alone (f ∷ g ∷ h ∷ []) x a b d size digits e = search (rules, and_parts, ltb-true, no_padding, slice_index)
 last_alone (f ∷ g ∷ h ∷ i ∷ rest) x a b d size digits e = elim size
     [ inl k ↦ absurd (omega (arith, k)) | inr k ↦ elim k [ inl l ↦ absurd (omega (arith, l)) | inr l ↦ absurd (omega (arith, l)) ] ]
 
@@ -59,15 +54,10 @@ first_symbol first (f ∷ g ∷ more) x = refl
 
 digits_some : (ds : List ℕ) → is_some (natural_of ds) ≡ true → list_all (is_digit 10) ds ≡ true
 unfolding natural_of
-digits_some ds some = elim (list_all (is_digit 10) ds) as (λ b. list_all (is_digit 10) ds ≡ b → b ≡ true) [
-  | true ↦ λ e. refl
-  | false ↦ λ e. let both : false ≡ true = sym (ap is_some (natural_no_digits 10 (2 ^ 64) ds e)) ∙ some in cc
-] refl
+digits_some ds some = search (rules, natural_no_digits)
 
 digits_behind_nine : (text : List ℕ) → list_all (is_digit 10) text ≡ true → list_all (is_digit 10) (drop 9 text) ≡ true
-digits_behind_nine text digits =
-    (and_parts (list_all (is_digit 10) (take 9 text)) (list_all (is_digit 10) (drop 9 text))
-    (sym (list_all-append (is_digit 10) (take 9 text) (drop 9 text)) ∙ ap (list_all (is_digit 10)) (take-append-drop 9 text) ∙ digits)).1
+digits_behind_nine text digits = search (rules, and_parts, list_all-append, take-append-drop)
 
 rest_size : (n k : ℕ) → 10 ≤ n → n ≤ 12 → k ≡ n - 9 → (k ≡ 1) ⊎ ((k ≡ 2) ⊎ (k ≡ 3))
 rest_size n zero low high e = absurd (omega (arith, low, e))
@@ -118,16 +108,9 @@ module _ (s : List ℕ) (bytes : IsBytes s) (size : length s ≡ 16) (high : 77 
 
   known_ten : is_some (time_of s) ≡ true → Ten s
   unfolding time_of
-  known_ten some = by_decoded (decoded_of standard s) refl
-      (rw (
-        no_number_first s (drop 1 s) (slice_index s 0) (drop_more s 0 0 (omega (arith, size))) high,
-        le-leb (length s) 44 (omega (arith, size)),
-      ) at some)
+  known_ten some = search (rules, by_decoded, no_number_first, slice_index, drop_more, le-leb)
 
 -- a time whose length, first byte and padding are those of ten digits
 pub told_ten : (s : List ℕ) → IsBytes s → is_some (time_of s) ≡ true → tells_ten s ≡ true → Ten s
 unfolding tells_ten
-told_ten s bytes some is =
-    let p = and_parts (length s == 16) (nat_le 77 (slice_index s 0) && (slice_index s 14 == 61)) is in
-    let q = and_parts (nat_le 77 (slice_index s 0)) (slice_index s 14 == 61) p.1 in
-    known_ten s bytes (eqb-true (length s) 16 p.0) (leb-true 77 (slice_index s 0) q.0) (eqb-true (slice_index s 14) 61 q.1) some
+told_ten s bytes some is = search (rules, and_parts, slice_index, known_ten, eqb-true, leb-true)

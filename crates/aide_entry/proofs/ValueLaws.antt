@@ -1,12 +1,11 @@
 -- Two values are tested as the same exactly if they are equal.
-use Rattle.std.proofs.Common.{◌≡◌, ℕ, List, refl, ap, arith, Option, None, Some, eq-eqb, false}
+use Rattle.std.proofs.Common.{◌≡◌, ℕ, List, refl, ap, arith, Option, None, Some, eq-eqb, false, rules}
 use Rattle.std.specs.Bool.{Decides}
 use Rattle.std.proofs.lemmas.Bool.{eqb-true}
 use Rattle.std.proofs.lemmas.Bool.Decides.{Decides-int_eq}
 use Rattle.std.proofs.lemmas.Slice.Eq.{bytes_eq-Decides}
 use Rattle.aide_attr.specs.declared.file_type.FileType.{FileType}
-use Rattle.aide_attr.specs.declared.file_type.FileType.TheVariants.{File, Directory, Link, Char, Block, Fifo, Socket}
-use Rattle.aide_attr.specs.declared.file_type.FileType.TheVariants.{Other}
+use Rattle.aide_attr.specs.declared.file_type.FileType.TheVariants.{File, Directory, Link, Char, Block, Fifo, Socket, Other}
 use Rattle.aide_entry.specs.Attributes.{Value, is_different, number_value, mode_value, type_value, link_value}
 use Rattle.aide_entry.specs.Attributes.{digest_value, opaque_value, number_of_type, same_link, same_value}
 
@@ -31,11 +30,7 @@ link-Decides (Some x) (Some y) =
 pub same_value-Decides : (x y : Value) → Decides (same_value x y) (x ≡ y)
 same_value-Decides (number_value x) (number_value y) =
     let d = Decides-int_eq x y in (λ e. ap number_value (d.0 e), λ p. let q : x ≡ y = cc in d.1 q)
-same_value-Decides (type_value x) (type_value y) = (
-  λ e. ap type_value (same_type x y (eqb-true (number_of_type x) (number_of_type y) e)),
-  λ p. let q : x ≡ y = cc in
-      eq-eqb (number_of_type x) (number_of_type y) (ap number_of_type q),
-)
+same_value-Decides (type_value x) (type_value y) = search (rules, same_type, eqb-true, eq-eqb)
 same_value-Decides (link_value x) (link_value y) =
     let d = link-Decides x y in (λ e. ap link_value (d.0 e), λ p. let q : x ≡ y = cc in d.1 q)
 same_value-Decides (digest_value x) (digest_value y) =
