@@ -1,11 +1,11 @@
 -- A text that is not sound has a first fault.
 use Rattle.std.proofs.Common.{◌≡◌, ℕ, ◌+◌, ◌≤◌, List, [], ◌∷◌, ◌++◌, length, refl, sym, subst, true, false, rules}
-use Rattle.std.proofs.Common.{append_assoc, append-nil, None, Some, inl, inr}
+use Rattle.std.proofs.Common.{append_assoc, append-nil, Some, inl, inr}
 use Rattle.std.specs.Prelude.{nat_le, ◌⊎◌}
 use Rattle.std.proofs.lemmas.Bool.{leb-true}
 use Rattle.std.proofs.lemmas.List.Elements.{All-nil}
+use Rattle.aide_db.proofs.FirstFault.{whole_uncut}
 use Rattle.aide_entry.specs.Text.{lines}
-use Rattle.aide_entry.specs.Lines.{is_end}
 use Rattle.aide_db.specs.Database.{counted, IsShort, IsFront, IsDatabase, IsSound, fault_of, whole_lines, IsFirstFault, cut_kind, end_kind}
 use Rattle.aide_db.specs.Parts.{IsOpen}
 use Rattle.aide_db.specs.declared.limits.Limits.{Limits}
@@ -31,23 +31,7 @@ Walked limit all = IsOpen limit all ⊎ (IsDatabase limit all ⊎ HasBadLine lim
 
 walk : (limit : ℕ) (before rest : List (List ℕ)) → IsOpen limit before → Walked limit (before ++ rest)
 walk limit before [] is_open = inl (subst (IsOpen limit) (sym (append-nil before)) is_open)
-walk limit before (l ∷ rest) is_open =
-    elim (fault_of limit before l) as (λ o. fault_of limit before l ≡ o → Walked limit (before ++ l ∷ rest)) [
-      | Some kind ↦ λ e. inr (inr (record {
-        front = before;
-        line = l;
-        after = rest;
-        kind = kind;
-        parts = refl;
-        is_open = is_open;
-        fault = e;
-      }))
-      | None ↦ λ e. elim (is_end l) as (λ b. is_end l ≡ b → Walked limit (before ++ l ∷ rest)) [
-        | true ↦ λ ends. inr (inl (open_end limit before l rest is_open e ends))
-        | false ↦ λ goes_on. subst (Walked limit) (append_assoc before (l ∷ []) rest)
-            (walk limit (before ++ l ∷ []) rest (open_more limit before l is_open e goes_on))
-      ] refl
-    ] refl
+walk limit before (l ∷ rest) is_open = search (rules, walk limit (before ++ l ∷ []) rest, open_end, append_assoc, open_more)
 
 AreLines-front : (xs ys : List (List ℕ)) → AreLines (xs ++ ys) → AreLines xs
 AreLines-front [] ys a = tt
@@ -56,11 +40,6 @@ AreLines-front (x ∷ xs) ys a = (a.0, AreLines-front xs ys a.1)
 whole_plain : (limits : Limits) (text : List ℕ) → AreLines (whole_lines limits text)
 unfolding whole_lines
 whole_plain limits text = search (rules, AreLines, lines_plain, ended_plain)
-
-whole_uncut : (limits : Limits) (text : List ℕ) → nat_le (length text) limits.bytes ≡ true
-    → whole_lines limits text ≡ lines text
-unfolding whole_lines
-whole_uncut limits text e = rw e refl
 
 pub open_nil : (limit : ℕ) → IsOpen limit []
 open_nil limit = record { no_end = refl; short = All-nil (IsShort limit); part = tt }
@@ -95,7 +74,7 @@ at_open limits text le is_open =
 
 at_database : (limits : Limits) (text : List ℕ) → IsDatabase limits.line (whole_lines limits text)
     → IsSound limits text ⊎ HasFirstFault limits text
-at_database limits text d = search (rules, HasFirstFault, whole_uncut, leb-true, at_cut, database_front, whole_plain)
+at_database limits text d = search (rules, whole_uncut, leb-true, at_cut, database_front, whole_plain)
 
 at_bad : (limits : Limits) (text : List ℕ) → 14 ≤ limits.line → HasBadLine limits.line (whole_lines limits text)
     → HasFirstFault limits text

@@ -1,10 +1,11 @@
 -- The first fault in the order that a line has is the fault of the line.
 use Rattle.std.proofs.Common.{◌≡◌, ℕ, ◌+◌, ◌<◌, ◌≤◌, List, [], ◌∷◌, length, refl, sym, ap, ◌∙◌, true, false, cond, Bool, rules}
-use Rattle.std.proofs.Common.{not, ◌&&◌, ◌||◌, arith, Option, Some, None, zero, suc, eq-eqb}
+use Rattle.std.proofs.Common.{not, ◌&&◌, arith, Option, Some, None, zero, suc, eq-eqb}
 use Rattle.std.specs.Prelude.{◌==◌, find, flat_map, zip, All, unwrap_or}
 use Rattle.std.specs.List.{list_any, list_all, range_with_len, enumerate_from}
 use Rattle.std.proofs.lemmas.Bool.{ne_eqb, and_parts, leb-true}
 use Rattle.std.proofs.lemmas.List.Elements.{All-head, All-tail}
+use Rattle.std.proofs.Math.Bool.{or-false}
 use Rattle.aide_attr.specs.Attr.{form_of}
 use Rattle.aide_attr.specs.declared.form.Form.{Form}
 use Rattle.aide_attr.specs.declared.form.Form.TheVariants as forms
@@ -21,7 +22,7 @@ use Rattle.aide_db.specs.FaultOrder.{lacks_begin, is_unexpected, names_bad_colum
 use Rattle.aide_db.specs.FaultOrder.{has_bad_name, is_out_of_order, has_fault, is_too_long}
 use Rattle.aide_db.specs.Parts.{IsPart, IsOpen}
 use Rattle.aide_entry.specs.declared.column.Column.{Column}
-use Rattle.aide_entry.specs.declared.column.Column.TheVariants.{Name, Bits, Of, Skipped}
+use Rattle.aide_entry.specs.declared.column.Column.TheVariants.{Bits, Of}
 use Rattle.aide_entry.specs.declared.line.LineKind.{LineKind}
 use Rattle.aide_entry.specs.declared.line.LineKind.TheVariants.{Blank, Begin, Spec, End, Directive, Other}
 use Rattle.aide_entry.specs.declared.fault_kind.DbFaultKind.{DbFaultKind}
@@ -61,20 +62,18 @@ by_form forms.Number field n o = elim (is_field forms.Number field) as
     (λ b. of_field (not b) false false n o ≡ cond b o (Some (BadNumber n))) [ true ↦ refl | false ↦ refl ]
 by_form forms.Time field n o = elim (is_field forms.Time field) as (λ b. of_field false (not b) false n o ≡ cond b o (Some (BadTime n)))
     [ true ↦ refl | false ↦ refl ]
-by_form forms.Link field n o = refl
 by_form (forms.Digest least most) field n o = elim (is_field (forms.Digest least most) field) as
     (λ b. of_field false false (not b) n o ≡ cond b o (Some (BadDigest n))) [ true ↦ refl | false ↦ refl ]
-by_form forms.Opaque field n o = refl
+by_form _ field n o = refl
 
 by_column : (c : Column) (field : List ℕ) (n : ℕ) (o : Option DbFaultKind)
     → of_field (is_of_numbers c && not (has_form c field)) (is_of_form is_time_form c && not (has_form c field))
     (is_of_form is_digest_form c && not (has_form c field)) n o
     ≡ cond (has_form c field) o (Some (fault_of_column c n))
-by_column Name field n o = refl
 by_column Bits field n o = elim (has_form Bits field) as (λ b. of_field (not b) false false n o ≡ cond b o (Some (BadNumber n)))
     [ true ↦ refl | false ↦ refl ]
 by_column (Of attr) field n o = by_form (form_of attr) field n o
-by_column Skipped field n o = refl
+by_column _ field n o = refl
 
 -- ---- the first that passes
 
@@ -105,15 +104,11 @@ no_cell test n m [] lt = refl
 no_cell test n m (x ∷ xs) lt =
     rw (ne_eqb m n (λ e. omega (arith, lt, e)), no_cell test n (m + 1) xs (omega (arith, lt))) refl
 
-or_false : (b : Bool) → (b || false) ≡ b
-or_false true = refl
-or_false false = refl
-
 -- the first cell of some
 at_cell : (test : Column → Bool) (m : ℕ) (x : Column × List ℕ) (xs : List (Column × List ℕ))
     → list_any (is_bad test m) (enumerate_from m (x ∷ xs)) ≡ (test x.0 && not (has_form x.0 x.1))
 at_cell test m x xs =
-    rw (eq-eqb m m refl, no_cell test m (m + 1) xs (omega arith)) (or_false (test x.0 && not (has_form x.0 x.1)))
+    rw (eq-eqb m m refl, no_cell test m (m + 1) xs (omega arith)) (or-false (test x.0 && not (has_form x.0 x.1)))
 
 past_cell : (test : Column → Bool) (n m : ℕ) (x : Column × List ℕ) (xs : List (Column × List ℕ)) → m < n
     → list_any (is_bad test n) (enumerate_from m (x ∷ xs)) ≡ list_any (is_bad test n) (enumerate_from (m + 1) xs)
@@ -155,20 +150,12 @@ no_field limit before l e =
 any_counted : (p : List ℕ → Bool) → ((l : List ℕ) → counts l ≡ false → p l ≡ false) → (ls : List (List ℕ))
     → list_any p ls ≡ list_any p (counted ls)
 any_counted p h [] = refl
-any_counted p h (l ∷ ls) =
-    elim (counts l) as (λ b. counts l ≡ b → (p l || list_any p ls) ≡ list_any p (cond b (l ∷ counted ls) (counted ls))) [
-      | true ↦ λ e. ap (λ b. p l || b) (any_counted p h ls)
-      | false ↦ λ e. rw (h l e) (any_counted p h ls)
-    ] refl
+any_counted p h (l ∷ ls) = search (rules, any_counted p h ls)
 
 find_counted : (p : List ℕ → Bool) → ((l : List ℕ) → counts l ≡ false → p l ≡ false) → (ls : List (List ℕ))
     → find p ls ≡ find p (counted ls)
 find_counted p h [] = refl
-find_counted p h (l ∷ ls) =
-    elim (counts l) as (λ b. counts l ≡ b → cond (p l) (Some l) (find p ls) ≡ find p (cond b (l ∷ counted ls) (counted ls))) [
-      | true ↦ λ e. ap (λ o. cond (p l) (Some l) o) (find_counted p h ls)
-      | false ↦ λ e. rw (h l e) (find_counted p h ls)
-    ] refl
+find_counted p h (l ∷ ls) = search (rules, find_counted p h ls)
 
 -- a skipped line is of no other kind
 skipped_is_no : (kind k : LineKind) → is_blank_kind kind ≡ false → not (is_blank_kind k) ≡ false → is_kind kind k ≡ false
@@ -211,10 +198,6 @@ told before l o =
 told_directive : (before head : List (List ℕ)) (l : List ℕ) (k : LineKind) → Heads before head → IsPart head
     → kind_of l ≡ k → is_kind Other k ≡ false → fault_after head l k ≡ told before l None
 told_directive before head l Blank h part is e = rw is refl
-told_directive before [] l Begin h part is e = rw (is, h.begins) refl
-told_directive before [] l Spec h part is e = rw (is, h.begins) refl
-told_directive before [] l End h part is e = rw (is, h.begins) refl
-told_directive before [] l Directive h part is e = rw (is, h.begins) refl
 told_directive before (b ∷ []) l Begin h part is e = rw (is, h.begins, part) refl
 told_directive before (b ∷ []) l Directive h part is e = rw (is, h.begins, part) refl
 told_directive before (b ∷ []) l End h part is e = rw (is, h.begins, h.specifies, part) refl
@@ -224,16 +207,13 @@ told_directive before (b ∷ s ∷ es) l Spec h part is e = rw (is, h.begins, h.
 told_directive before (b ∷ s ∷ es) l End h part is e = rw (is, h.begins, h.specifies, part.begins, part.specifies) refl
 told_directive before (b ∷ s ∷ es) l Directive h part is e = rw (is, h.begins, part.begins) refl
 told_directive before head l Other h part is e = cc
+told_directive before [] l _ h part is e = rw (is, h.begins) refl
 
 -- some entry is not before the line exactly if not all entries are
 none_late : (cs : List Column) (l : List ℕ) (es : List (List ℕ)) → All (IsEntryLine cs) es
     → list_any (λ e. is_a Other e && not (is_before cs e l)) es ≡ not (list_all (λ e. is_before cs e l) es)
 none_late cs l [] each = refl
-none_late cs l (e ∷ es) each =
-    let it = All-head (IsEntryLine cs) e es each in
-    rw (it.0, none_late cs l es (All-tail (IsEntryLine cs) e es each))
-    (elim (is_before cs e l) as (λ b. (not b || not (list_all (λ x. is_before cs x l) es))
-    ≡ not (b && list_all (λ x. is_before cs x l) es)) [ true ↦ refl | false ↦ refl ])
+none_late cs l (e ∷ es) each = search (rules, none_late cs l es (All-tail (IsEntryLine cs) e es each), All-head, All-tail)
 
 late_among : (before : List (List ℕ)) (cs : List Column) (l b s : List ℕ) (es : List (List ℕ)) → counted before ≡ b ∷ s ∷ es
     → kind_of b ≡ Begin → kind_of s ≡ Spec → All (IsEntryLine cs) es

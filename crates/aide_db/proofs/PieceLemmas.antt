@@ -1,8 +1,9 @@
 -- The first piece of a line, by the index of its newline.
+use Rattle.std.proofs.lemmas.Grind.{common_steps}
 use Rattle.std.proofs.Common.{◌≡◌, ℕ, ◌+◌, ◌<◌, ◌≤◌, List, [], ◌∷◌, ◌++◌, length, take, drop, refl, sym, ap, ◌∙◌, subst, rules}
 use Rattle.std.proofs.Common.{true, false, Bool, arith, get_or, None, Some, inl, inr, append_assoc, append-nil}
 use Rattle.std.specs.Prelude.{min, ◌==◌, ◌-◌}
-use Rattle.std.proofs.lemmas.Bool.{eqb-true, cases_lt}
+use Rattle.std.proofs.lemmas.Bool.{eqb-true, cases_lt, false_from_ne_true}
 use Rattle.std.proofs.lemmas.List.{take-append-drop, take-append-le, get_or-take, get_or_default, length-take-le}
 use Rattle.std.proofs.lemmas.List.{length-take, length-drop, drop_more, drop-drop, take_all, drop_all, length-append}
 use Rattle.memchr.specs.Find.{IsFirstByte, is_byte}
@@ -16,36 +17,27 @@ use Rattle.aide_db.specs.NextChunk.{Gives}
 use Rattle.aide_db.specs.declared.limits.Limits.{Limits}
 use Rattle.aide_db.specs.code.Piece.{IsPiece}
 
-not_true : (b : Bool) → (b ≡ true → ⊥) → b ≡ false
-not_true true n = absurd (n refl)
-not_true false n = refl
-
 -- the bytes before an index, none of them a newline
 plain_front : (xs : List ℕ) (n : ℕ) → n ≤ length xs → ((k : ℕ) → k < n → is_newline (get_or xs k 0) ≡ true → ⊥)
     → HasNoNewline (take n xs)
-plain_front xs n le none = search (rules, length-take-le, get_or-take, get_or_default, not_true)
+plain_front xs n le none = search (rules, length-take-le, get_or-take, get_or_default, false_from_ne_true)
 
 pub piece_some : (ahead near piece : List ℕ) (most at : ℕ) → near ≡ take most ahead
     → IsFirstByte (is_byte 10) near (Some at) → piece ≡ take at near → IsPiece ahead most piece true
 piece_some ahead near piece most at e f g =
-    let n : length near ≡ min most (length ahead) = ap length e ∙ length-take most ahead in
-    let small : at < length near = f.0.high in
-    let here : get_or ahead at 0 ≡ 10 = sym (get_or-take most ahead at 0 (omega (arith, n, small)))
-    ∙ (ap (λ xs. get_or xs at 0) (sym e) ∙ eqb-true (get_or near at 0) 10 f.1) in
-    let whole : near ++ drop most ahead ≡ ahead = ap (λ xs. xs ++ drop most ahead) e ∙ take-append-drop most ahead in
-    let front : piece ≡ take at ahead = g ∙ (sym (take-append-le at near (drop most ahead) (omega (arith, small))) ∙ ap (take at) whole) in
-    let count : length piece ≡ at = ap length g ∙ length-take-le at near (omega (arith, small)) in
-    let more : drop at ahead ≡ 10 ∷ drop 1 (drop at ahead) = drop_more ahead at 0 (omega (arith, n, small))
-    ∙ (ap (λ b. b ∷ drop (at + 1) ahead) here ∙ ap (λ xs. 10 ∷ xs) (sym (drop-drop 1 at ahead))) in
-    record {
-      parts = sym (ap (λ p. p ++ drop (length piece) ahead) front
-          ∙ (ap (λ k. take at ahead ++ drop k ahead) count ∙ take-append-drop at ahead));
-      none = subst (λ (p : List ℕ). HasNoNewline p) (sym g)
-          (plain_front near at (omega (arith, small)) (λ k lt. f.0.before k (omega arith) lt));
-      short = omega (arith, count, n, small);
-      newline = λ t. (subst (λ (k : ℕ). drop k ahead ≡ 10 ∷ drop 1 (drop k ahead)) (sym count) more, omega (arith, count, n, small));
-      all = λ t. cc;
-    }
+    grind (
+      arith,
+      common_steps,
+      length-take,
+      get_or-take,
+      eqb-true,
+      take-append-drop,
+      take-append-le,
+      length-take-le,
+      drop_more,
+      drop-drop,
+      plain_front,
+    )
 
 none_left : (xs : List ℕ) (n : ℕ) → is_filled (drop n xs) ≡ true → n < length xs
 none_left xs n e = elim (cases_lt n (length xs))
@@ -90,12 +82,8 @@ gives_more a b c h i j x y =
 pub begun_more : (limits : Limits) (bytes line ahead rest left piece : List ℕ) (used used_now most : ℕ) (ends : Bool)
     → HaveBegun limits bytes used line left used_now → ahead ++ rest ≡ left → IsPiece ahead most piece ends
     → HaveBegun limits bytes used (line ++ piece) (drop (length piece) ahead ++ rest) (used_now + length piece)
-begun_more limits bytes line ahead rest left piece used used_now most ends h same p = record {
-  parts = h.parts ∙ (ap (λ r. line ++ r) (sym same ∙ (ap (λ r. r ++ rest) p.parts ∙ append_assoc piece (drop (length piece) ahead) rest))
-      ∙ sym (append_assoc line piece (drop (length piece) ahead ++ rest)));
-  none = All-append (λ b. is_newline b ≡ false) line piece h.none p.none;
-  count = omega (arith, h.count, length-append line piece);
-}
+begun_more limits bytes line ahead rest left piece used used_now most ends h same p =
+    grind (arith, common_steps, append_assoc, All-append, length-append)
 
 -- a line with too many bytes
 pub begun_too_long : (limits : Limits) (bytes line ahead rest left piece : List ℕ) (used used_now most over : ℕ) (ends : Bool)
@@ -139,12 +127,7 @@ pub begun_too_many : (limits : Limits) (bytes line ahead rest left piece : List 
     × (is_filled (drop (length piece) ahead ++ rest) ≡ true) × (length (line ++ piece) ≤ limits.line)
     × (used_now + length piece ≡ limits.bytes)
 begun_too_many limits bytes line ahead rest left piece used used_now most h same p some short sum =
-    let b = begun_more limits bytes line ahead rest left piece used used_now most false h same p in (
-      b,
-      filled_more (drop (length piece) ahead) rest some,
-      omega (arith, short, length-append line piece),
-      omega (arith, p.all refl some, sum),
-    )
+    grind (arith, common_steps, begun_more, filled_more, length-append)
 
 -- a line that has begun stands at the front
 pub begun_begins : (limits : Limits) (bytes line left : List ℕ) (used used_now : ℕ)
@@ -174,13 +157,7 @@ pub begun_ended : (limits : Limits) (bytes line ahead rest left piece : List ℕ
     → ends ≡ true → length line + length piece ≤ limits.line
     → HasCome limits bytes used false (line ++ piece) (drop 1 (drop (length piece) ahead) ++ rest) (used_now + length piece + 1)
 begun_ended limits bytes line ahead rest left piece used used_now most ends h same p end short =
-    let b = begun_more limits bytes line ahead rest left piece used used_now most ends h same p in
-    record {
-      none = b.none;
-      short = omega (arith, short, length-append line piece);
-      whole = λ t. (b.parts ∙ ap (λ d. (line ++ piece) ++ (d ++ rest)) (p.newline end).0, omega (arith, b.count));
-      at_end = λ e. cc;
-    }
+    grind (arith, common_steps, begun_more, length-append)
 
 -- the byte limit still holds once so many of the bytes ahead are used
 pub within_used : (limits : Limits) (used count : ℕ) (before ahead : List ℕ) → IsWithinLimit limits used before

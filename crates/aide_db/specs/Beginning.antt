@@ -1,5 +1,5 @@
 -- Where a cursor begins to read.
-use Rattle.std.specs.Prelude.{ℕ, ◌≡◌, [], false, List}
+use Rattle.std.specs.Prelude.{◌≡◌, [], false}
 use Rattle.aide_db.specs.CursorView.{CursorView}
 use Rattle.aide_db.specs.Desk.{columns_of_side, list_of}
 use Rattle.aide_db.specs.DeskView.{DeskView}
