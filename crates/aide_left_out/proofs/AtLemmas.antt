@@ -1,5 +1,5 @@
 -- Paths at a front.
-use Rattle.std.proofs.Common.{◌≡◌, ◌&&◌, ℕ, Bool, true, false, List, [], ◌∷◌, length, refl, ap, ◌∙◌, arith, eq-eqb}
+use Rattle.std.proofs.Common.{◌≡◌, ◌&&◌, ℕ, true, false, List, [], ◌∷◌, length, refl, ap, ◌∙◌, arith, eq-eqb, rules}
 use Rattle.std.specs.Prelude.{◌==◌}
 use Rattle.std.proofs.lemmas.Bool.{and_left, and_right, ne_eqb}
 use Rattle.aide_left_out.specs.Settings.{is_at, is_last}
@@ -9,11 +9,7 @@ at_nothing [] path h = refl
 at_nothing (byte ∷ left) path h = absurd (omega arith)
 
 pub at_last : (left more : List ℕ) (byte : ℕ) → left ≡ byte ∷ more → length more ≡ 0 → is_at left [] ≡ (byte == 47)
-at_last left [] byte e h = ap (λ l. is_at l []) e ∙ and_true (byte == 47)
-  where
-    and_true : (b : Bool) → (b && true) ≡ b
-    and_true true = refl
-    and_true false = refl
+at_last left [] byte e h = search rules
 at_last left (x ∷ more) byte e h = absurd (omega arith)
 
 pub at_longer : (left more rest : List ℕ) (byte next : ℕ) → left ≡ byte ∷ more → more ≡ next ∷ rest → is_at left [] ≡ false

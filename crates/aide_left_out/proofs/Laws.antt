@@ -1,23 +1,23 @@
 -- What it means that a list leaves out a change, and laws of it.
-use Rattle.std.proofs.Common.{◌≡◌, ◌∙◌, ℕ, Bool, true, false, refl, sym, ap, subst, inl, inr, eq-eqb, rules, List, [], ◌∷◌, ◌++◌}
-use Rattle.std.specs.Prelude.{not, ◌==◌, ◌%◌, ℤ, pos, ◌&&◌, ◌||◌, Option, Some, None, IfSome, is_some}
-use Rattle.std.proofs.lemmas.Bool.{and_from, and_parts}
+use Rattle.std.proofs.lemmas.Grind.{common_steps}
+use Rattle.std.proofs.Common.{◌≡◌, ◌∙◌, ℕ, Bool, true, false, refl, sym, ap, subst, inl, inr, eq-eqb, rules, List, [], ◌∷◌, ◌++◌, arith}
+use Rattle.std.specs.Prelude.{not, ◌==◌, ◌%◌, ℤ, pos, ◌&&◌, ◌||◌, Option, Some, None, IfSome}
+use Rattle.std.proofs.lemmas.Bool.{and_from, and_parts, not-true, not_from_false, or_from, both_ways}
 use Rattle.aide_agreement.specs.Account.{Pair}
-use Rattle.aide_agreement.specs.Own.{is_device}
-use Rattle.aide_attr.specs.declared.attr.Attr.TheVariants.{Caps, Ftype, Perm, Uid}
+use Rattle.aide_attr.specs.declared.attr.Attr.TheVariants.{Ftype, Perm}
 use Rattle.aide_attr.specs.declared.file_type.FileType.{FileType}
 use Rattle.aide_attr.specs.declared.file_type.FileType.TheVariants.{Directory}
-use Rattle.aide_entry.specs.Attributes.{Attributes, number_in, type_in}
+use Rattle.aide_entry.specs.Attributes.{Attributes, type_in}
 use Rattle.aide_patterns.specs.Line.{RuleText}
 use Rattle.aide_left_out.specs.LeftOut.{has_entry, has_program, is_harmless_if, left_out, line_at, may_go}
 use Rattle.aide_left_out.specs.Meaning.{GivesRight, IsHarmless, IsLeftOut, IsThere, KeepsWriters}
 use Rattle.aide_left_out.specs.Meaning.{by_setting, by_unknown_type, by_unknown_mode, by_user_id, by_group_id}
 use Rattle.aide_left_out.specs.Meaning.{by_capabilities, by_old_program, by_new_program, by_device, by_directory, by_owner}
-use Rattle.aide_left_out.specs.Rights.{has_bit, is_of_program, is_program_by, is_root, is_within_reach, mode_in}
+use Rattle.aide_left_out.specs.Rights.{is_of_program, is_program_by, is_root, is_within_reach, mode_in}
 use Rattle.aide_left_out.specs.Settings.{is_setting}
-use Rattle.aide_left_out.specs.Writers.{gains_writers, is_directory, is_directory_type, opens_directory}
+use Rattle.aide_left_out.specs.Writers.{is_directory, is_directory_type, opens_directory}
 use Rattle.aide_left_out.specs.declared.change.Measures.{Measures}
-use Rattle.aide_left_out.proofs.BoolLemmas.{choose, chosen, negated, negative, neither, never_both}
+use Rattle.aide_left_out.proofs.BoolLemmas.{choose, chosen}
 use Rattle.aide_left_out.proofs.LineLemmas.{at_from, at_longer, at_means}
 use Rattle.aide_left_out.proofs.RightLemmas.{harmless_from, harmless_means}
 use Rattle.aide_left_out.proofs.WriterLemmas.{writers_from, writers_mean}
@@ -30,10 +30,9 @@ there_means (None, Some one) h = (one, inr refl)
 there_means (None, None) h = cc
 
 there_from : (pair : Pair) (entry : Attributes) → IsThere entry pair → has_entry pair ≡ true
-there_from (Some one, other) entry h = refl
-there_from (None, Some one) entry h = refl
 there_from (None, None) entry (inl h) = cc
 there_from (None, None) entry (inr h) = cc
+there_from _ entry h = refl
 
 harmless_if_means : (measures : Bool) (found : Option Attributes) → is_harmless_if measures found ≡ true
     → IfSome found (IsHarmless measures)
@@ -51,9 +50,7 @@ same_there x y e = cc
 opens_means : (old_one new_one : Option Attributes) → opens_directory old_one new_one ≡ false
     → (after : Attributes) → new_one ≡ Some after → is_directory after ≡ true → KeepsWriters old_one after
 opens_means old_one None h after e directory = cc
-opens_means old_one (Some one) h after e directory =
-    let same = same_there one after e in
-    writers_mean old_one after (ap (gains_writers old_one) (sym same) ∙ h) directory
+opens_means old_one (Some one) h after e directory = search (rules, same_there, writers_mean)
 
 opens_from : (old_one new_one : Option Attributes)
     → ((after : Attributes) → new_one ≡ Some after → is_directory after ≡ true → KeepsWriters old_one after)
@@ -77,10 +74,10 @@ left_out_means rules measures path pair line e =
       there = there_means pair a.0;
       first = named.1;
       short = named.0;
-      no_setting = negative (is_setting path) b.0;
+      no_setting = not-true (is_setting path) b.0;
       old_one = harmless_if_means measures.of_old pair.0 c.0;
       new_one = harmless_if_means measures.of_new pair.1 d.0;
-      writers = opens_means pair.0 pair.1 (negative (opens_directory pair.0 pair.1) d.1);
+      writers = opens_means pair.0 pair.1 (not-true (opens_directory pair.0 pair.1) d.1);
     }
 
 -- and it does if all this holds.
@@ -90,10 +87,10 @@ unfolding left_out
 left_out_from rules measures path pair line h =
     choose (has_entry pair && may_go measures path pair) (line_at rules path (has_program pair.0 || has_program pair.1)) line
     (and_from (has_entry pair) (may_go measures path pair) (there_from pair h.there.0 h.there.1)
-    (and_from (not (is_setting path)) _ (negated (is_setting path) h.no_setting)
+    (and_from (not (is_setting path)) _ (not_from_false (is_setting path) h.no_setting)
     (and_from (is_harmless_if measures.of_old pair.0) _ (harmless_if_from measures.of_old pair.0 h.old_one)
     (and_from (is_harmless_if measures.of_new pair.1) _ (harmless_if_from measures.of_new pair.1 h.new_one)
-    (negated (opens_directory pair.0 pair.1) (opens_from pair.0 pair.1 h.writers))))))
+    (not_from_false (opens_directory pair.0 pair.1) (opens_from pair.0 pair.1 h.writers))))))
     (at_from rules path (has_program pair.0 || has_program pair.1) line h.short h.first)
 
 -- ---- laws
@@ -148,7 +145,7 @@ directory_by entry kind typed is = ap is_directory_type (typed ∙ ap Some is)
 
 unreached : (mode : ℕ) (owner : Option ℤ) → mode % 512 ≡ 0 → owner ≡ Some (pos 0) → is_within_reach mode owner ≡ false
 unreached mode owner e f =
-    neither (not (mode % 512 == 0)) (not (is_root owner)) (ap not (eq-eqb (mode % 512) 0 e)) (ap (λ o. not (is_root o)) f)
+    or_from (not (mode % 512 == 0)) (not (is_root owner)) (ap not (eq-eqb (mode % 512) 0 e)) (ap (λ o. not (is_root o)) f)
 
 measured_program : (measures : Bool) (entry : Attributes) → IsHarmless measures entry → is_of_program entry ≡ true
     → measures ≡ true
@@ -157,39 +154,21 @@ measured_program measures entry h program = h.measured (sym (
 
 never_out : (rules : List RuleText) (measures : Measures) (path : List ℕ) (pair : Pair) (line : ℕ)
     → IsLeftOut rules measures path pair line → GivesRight measures path pair → ⊥
-never_out rules measures path pair line h (by_setting is) = never_both (is_setting path) is h.no_setting
-never_out rules measures path pair line h (by_unknown_type entry there none) =
-    let k = (harmless_of rules measures path pair line entry h there).1 in
-    let e = sym none ∙ k.typed in cc
-never_out rules measures path pair line h (by_unknown_mode entry there none) =
-    let k = (harmless_of rules measures path pair line entry h there).1 in
-    let e = sym none ∙ k.moded in cc
+never_out rules measures path pair line h (by_setting is) = both_ways (is_setting path) h.no_setting is
+never_out rules measures path pair line h (by_unknown_type entry there none) = grind (arith, common_steps, harmless_of)
+never_out rules measures path pair line h (by_unknown_mode entry there none) = grind (arith, common_steps, harmless_of)
 never_out rules measures path pair line h (by_user_id entry mode there moded set) =
-    let k = (harmless_of rules measures path pair line entry h there).1 in
-    let e = same_mode mode k.mode (sym moded ∙ k.moded) in
-    never_both (has_bit k.mode 11) (ap (λ m. has_bit m 11) (sym e) ∙ set) k.no_user_id
+    grind (arith, common_steps, harmless_of, same_mode, both_ways)
 never_out rules measures path pair line h (by_group_id entry mode there other moded set) =
-    let k = (harmless_of rules measures path pair line entry h there).1 in
-    let e = same_mode mode k.mode (sym moded ∙ k.moded) in
-    never_both (has_bit k.mode 10) (ap (λ m. has_bit m 10) (sym e) ∙ set)
-    (k.no_group_id (λ is. never_both (is_directory entry) (directory_by entry k.kind k.typed is) other))
+    grind (arith, common_steps, harmless_of, same_mode, both_ways, directory_by)
 never_out rules measures path pair line h (by_capabilities entry kind there typed other some) =
-    let k = (harmless_of rules measures path pair line entry h there).1 in
-    let e = same_kind kind k.kind (sym typed ∙ k.typed) in
-    never_both (is_some (entry Caps)) some (ap is_some (k.no_capabilities (λ is. other (e ∙ is))))
+    grind (arith, common_steps, harmless_of, same_kind, both_ways)
 never_out rules measures path pair line h (by_device entry kind mode there typed device moded reach) =
-    let k = (harmless_of rules measures path pair line entry h there).1 in
-    let e = same_kind kind k.kind (sym typed ∙ k.typed) in
-    let f = same_mode mode k.mode (sym moded ∙ k.moded) in
-    let none = k.no_device (ap is_device (sym e) ∙ device) in
-    never_both (is_within_reach mode (number_in (entry Uid))) reach
-    (unreached mode (number_in (entry Uid)) (ap (λ m. m % 512) f ∙ none.0) none.1)
+    grind (arith, common_steps, harmless_of, same_kind, same_mode, both_ways, unreached)
 never_out rules measures path pair line h (by_old_program entry is program unmeasured) =
-    let k = harmless_there measures.of_old pair.0 entry is h.old_one in
-    never_both measures.of_old (measured_program measures.of_old entry k program) unmeasured
+    grind (arith, common_steps, harmless_there, both_ways, measured_program)
 never_out rules measures path pair line h (by_new_program entry is program unmeasured) =
-    let k = harmless_there measures.of_new pair.1 entry is h.new_one in
-    never_both measures.of_new (measured_program measures.of_new entry k program) unmeasured
+    grind (arith, common_steps, harmless_there, both_ways, measured_program)
 never_out rules measures path pair line h (by_directory after is directory writable others) =
     let o = (h.writers after is directory).others writable in others o.0 o.1 o.2 o.3 o.4 o.5
 never_out rules measures path pair line h (by_owner before after was is was_directory directory other) =

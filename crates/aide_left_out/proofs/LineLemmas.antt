@@ -1,15 +1,16 @@
 -- The line of a list that names a path.
-use Rattle.std.proofs.Common.{◌≡◌, ◌∙◌, ◌≤◌, ℕ, Bool, true, false, refl, ap, subst, arith, List, [], ◌∷◌, ◌++◌, length}
+use Rattle.std.proofs.lemmas.Grind.{common_steps}
+use Rattle.std.proofs.Common.{◌≡◌, ◌∙◌, ◌≤◌, ℕ, Bool, true, false, refl, ap, subst, arith, List, [], ◌∷◌, ◌++◌, length, rules}
 use Rattle.std.specs.Prelude.{nat_le, Option, Some, if◌then◌else◌, ◌||◌}
 use Rattle.std.specs.List.{list_any}
-use Rattle.std.proofs.lemmas.Bool.{leb-true, le-leb}
+use Rattle.std.proofs.lemmas.Bool.{leb-true, le-leb, or_parts, false_from_ne_true}
 use Rattle.aide_patterns.proofs.DotLemmas.{line_is_found, list_meaning}
 use Rattle.aide_patterns.proofs.Laws.{same_line}
 use Rattle.aide_patterns.specs.Line.{RuleText}
 use Rattle.aide_patterns.specs.Rules.{IsFirst, IsFound, Names}
 use Rattle.aide_patterns.specs.Tests.{line_of, names}
 use Rattle.aide_left_out.specs.LeftOut.{line_at, longest_path}
-use Rattle.aide_left_out.proofs.BoolLemmas.{choose, chosen, first_none, second_none}
+use Rattle.aide_left_out.proofs.BoolLemmas.{choose, chosen}
 
 -- the test's answer is the first line that names the path
 pub first_line : (rules : List RuleText) (path : List ℕ) (is_program : Bool) (line : ℕ)
@@ -29,15 +30,7 @@ past_test false line more e = refl
 past_others : (others rest : List RuleText) (path : List ℕ) (is_program : Bool)
     → list_any (names path is_program) others ≡ false → line_of (others ++ rest) path is_program ≡ line_of rest path is_program
 past_others [] rest path is_program h = refl
-past_others (rule ∷ others) rest path is_program h =
-    past_test (names path is_program rule) rule.line (line_of (others ++ rest) path is_program)
-    (first_none (names path is_program rule) (list_any (names path is_program) others) h)
-    ∙ past_others others rest path is_program
-    (second_none (names path is_program rule) (list_any (names path is_program) others) h)
-
-not_any : (b : Bool) → (b ≡ true → ⊥) → b ≡ false
-not_any true h = absurd (h refl)
-not_any false h = refl
+past_others (rule ∷ others) rest path is_program h = search (rules, past_others others rest path is_program, past_test, or_parts)
 
 or_nothing : (b : Bool) → (b || false) ≡ true → b ≡ true
 or_nothing true h = refl
@@ -48,7 +41,7 @@ pub line_from : (rules : List RuleText) (path : List ℕ) (is_program : Bool) (l
     → IsFirst rules path is_program line → line_of rules path is_program ≡ Some line
 line_from rules path is_program line h =
     let others : list_any (names path is_program) h.before ≡ false =
-    not_any (list_any (names path is_program) h.before) (λ e. h.others ((list_meaning h.before path is_program).0 e)) in
+    false_from_ne_true (list_any (names path is_program) h.before) (λ e. h.others ((list_meaning h.before path is_program).0 e)) in
     ap (λ rs. line_of rs path is_program) h.parts
     ∙ (past_others h.before (h.rule ∷ h.after) path is_program others
     ∙ (by_test (names path is_program h.rule) h.rule.line (line_of h.after path is_program)
@@ -61,9 +54,7 @@ line_from rules path is_program line h =
 
 pub at_means : (rules : List RuleText) (path : List ℕ) (is_program : Bool) (line : ℕ)
     → line_at rules path is_program ≡ Some line → (length path ≤ longest_path) × IsFirst rules path is_program line
-at_means rules path is_program line e =
-    let both = chosen (nat_le (length path) longest_path) (line_of rules path is_program) line e in
-    (leb-true (length path) longest_path both.0, first_line rules path is_program line both.1)
+at_means rules path is_program line e = grind (arith, common_steps, chosen, leb-true, first_line)
 
 pub at_from : (rules : List RuleText) (path : List ℕ) (is_program : Bool) (line : ℕ) → length path ≤ longest_path
     → IsFirst rules path is_program line → line_at rules path is_program ≡ Some line
@@ -73,7 +64,4 @@ at_from rules path is_program line short h =
 
 pub at_longer : (rules more : List RuleText) (path : List ℕ) (is_program : Bool) (line : ℕ)
     → line_at rules path is_program ≡ Some line → line_at (rules ++ more) path is_program ≡ Some line
-at_longer rules more path is_program line e =
-    let both = chosen (nat_le (length path) longest_path) (line_of rules path is_program) line e in
-    choose (nat_le (length path) longest_path) (line_of (rules ++ more) path is_program) line both.0
-    (same_line rules more path is_program line both.1)
+at_longer rules more path is_program line e = grind (arith, common_steps, chosen, choose, same_line)

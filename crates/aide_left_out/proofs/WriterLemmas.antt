@@ -1,18 +1,16 @@
 -- Who can write a directory, in facts.
-use Rattle.std.proofs.Common.{◌≡◌, ◌∙◌, Bool, true, false, refl, sym, ap, inl, inr}
+use Rattle.std.proofs.Common.{◌≡◌, ◌∙◌, Bool, true, false, refl, ap, rules}
 use Rattle.std.specs.Prelude.{◌||◌, ◌&&◌, not, Option, Some, None, is_some, if◌then◌else◌}
-use Rattle.std.proofs.lemmas.Bool.{and_from, and_parts, cases_Bool}
+use Rattle.std.proofs.lemmas.Bool.{and_from, and_parts, cases_Bool, not-true, not_from_false, both_ways}
 use Rattle.aide_attr.specs.declared.attr.Attr.{Attr}
 use Rattle.aide_attr.specs.declared.attr.Attr.TheVariants.{Acl, Gid, Perm, Uid}
 use Rattle.aide_entry.specs.Attributes.{Attributes, Value, is_different}
-use Rattle.aide_entry.proofs.ValueLaws.{same_value-Decides}
 use Rattle.aide_agreement.proofs.SideLemmas.{unaffected_at}
 use Rattle.aide_left_out.specs.Meaning.{KeepsWriters}
 use Rattle.aide_left_out.specs.Writers.{gains_writers, is_directory, is_kept, keeps_writers, others_write}
-use Rattle.aide_left_out.proofs.BoolLemmas.{negated, negative, never_both}
 
 kept_means : (before after : Attributes) (a : Attr) → is_kept before after a ≡ true → before a ≡ after a
-kept_means before after a h = unaffected_at (before a) (after a) (negative _ h)
+kept_means before after a h = unaffected_at (before a) (after a) (not-true _ h)
 
 -- whether one of two values is missing, or they differ
 abbrev affected_of : (x y : Option Value) → Bool
@@ -20,21 +18,10 @@ affected_of x y =
     (is_different x y && is_some x && is_some y) || (is_some y && not (is_some x)) || (is_some x && not (is_some y))
 
 unaffected_from : (x y : Option Value) → x ≡ y → affected_of x y ≡ false
-unaffected_from x y e = ap (affected_of x) (sym e) ∙ with_itself x
-  where
-    no : (d : Bool) → d ≡ false → ((d && true && true) || (true && not true) || (true && not true)) ≡ false
-    no false e = refl
-    no true e = cc
-
-    never : (u : Value) → is_different (Some u) (Some u) ≡ false
-    never u = rw ((same_value-Decides u u).1 refl) refl
-
-    with_itself : (x : Option Value) → affected_of x x ≡ false
-    with_itself None = refl
-    with_itself (Some u) = no (is_different (Some u) (Some u)) (never u)
+unaffected_from x y e = search rules
 
 kept_from : (before after : Attributes) (a : Attr) → before a ≡ after a → is_kept before after a ≡ true
-kept_from before after a e = negated _ (unaffected_from (before a) (after a) e)
+kept_from before after a e = not_from_false _ (unaffected_from (before a) (after a) e)
 
 others_kept : (o p g a : Bool) → (not o || (p && (g && a))) ≡ true → o ≡ true → (p ≡ true) × (g ≡ true) × (a ≡ true)
 others_kept true true true true h e = (refl, refl, refl)
@@ -70,44 +57,16 @@ same_there x y e = cc
 
 writers_kept : (before after : Attributes) → is_directory before ≡ true → keeps_writers before after ≡ true
     → KeepsWriters (Some before) after
-writers_kept before after directory h =
-    let parts = and_parts (is_kept before after Uid) _ h in
-    record {
-      others = λ writable.
-          let kept = others_kept (others_write after) (is_kept before after Perm) (is_kept before after Gid)
-          (is_kept before after Acl) parts.1 writable in (
-            before,
-            refl,
-            directory,
-            kept_means before after Perm kept.0,
-            kept_means before after Gid kept.1,
-            kept_means before after Acl kept.2,
-          );
-      owner = λ one e was. ap (λ (x : Attributes). x Uid) (sym (same_there before one e)) ∙ kept_means before after Uid parts.0;
-    }
+writers_kept before after directory h = search (rules, and_parts, others_kept, kept_means, same_there)
 
 writers_closed : (before after : Attributes) → is_directory before ≡ false → others_write after ≡ false
     → KeepsWriters (Some before) after
-writers_closed before after other closed = record {
-  others = λ writable. absurd (never_both (others_write after) writable closed);
-  owner = λ one e was. absurd (never_both (is_directory before) (ap is_directory (same_there before one e) ∙ was) other);
-}
+writers_closed before after other closed = search (rules, both_ways, same_there)
 
 pub writers_mean : (old_one : Option Attributes) (after : Attributes) → gains_writers old_one after ≡ false
     → is_directory after ≡ true → KeepsWriters old_one after
-writers_mean None after h directory = record {
-  others = λ writable. absurd (never_both (others_write after) writable (behind (is_directory after) (others_write after) directory h));
-  owner = λ one e was. cc;
-}
-writers_mean (Some before) after h directory =
-    let gains : gains_of (is_directory before) (others_write after) (keeps_writers before after) ≡ false =
-    behind (is_directory after) _ directory h in
-    elim (cases_Bool (is_directory before)) [
-      | inl was ↦ writers_kept before after was
-          (kept_by (is_directory before) (others_write after) (keeps_writers before after) was gains)
-      | inr was ↦ writers_closed before after was
-          (closed_by (is_directory before) (others_write after) (keeps_writers before after) was gains)
-    ]
+writers_mean None after h directory = search (rules, both_ways, behind)
+writers_mean (Some before) after h directory = search (rules, behind, cases_Bool, writers_kept, kept_by, writers_closed, closed_by)
 
 -- ---- and back
 
@@ -117,25 +76,8 @@ no_gain false o k h l = l refl
 
 pub writers_from : (old_one : Option Attributes) (after : Attributes)
     → (is_directory after ≡ true → KeepsWriters old_one after) → gains_writers old_one after ≡ false
-writers_from None after h = none_by (is_directory after) (others_write after) (λ directory. not_open (h directory))
-  where
-    none_by : (d o : Bool) → (d ≡ true → o ≡ false) → (d && o) ≡ false
-    none_by true o h = h refl
-    none_by false o h = refl
-
-    closed : (o : Bool) → (o ≡ true → ⊥) → o ≡ false
-    closed true h = absurd (h refl)
-    closed false h = refl
-
-    not_open : KeepsWriters None after → others_write after ≡ false
-    not_open k = closed (others_write after) (λ writable. nothing_there (k.others writable).0 (k.others writable).1)
-      where
-        nothing_there : (before : Attributes) → None ≡ Some before → ⊥
-        nothing_there before e = cc
-writers_from (Some before) after h =
-    none_by (is_directory after) (gains_of (is_directory before) (others_write after) (keeps_writers before after))
-    (λ directory. no_gain (is_directory before) (others_write after) (keeps_writers before after)
-    (λ was. keeps before after (h directory) was) (λ was. stays_closed before after (h directory) was))
+writers_from None after h = search rules
+writers_from (Some before) after h = search (rules, no_gain, none_by, closed, keeps, stays_closed)
   where
     none_by : (d o : Bool) → (d ≡ true → o ≡ false) → (d && o) ≡ false
     none_by true o h = h refl
@@ -161,4 +103,4 @@ writers_from (Some before) after h =
         → others_write after ≡ false
     stays_closed before after k was = closed (others_write after)
         (λ writable. let o = k.others writable in
-        never_both (is_directory before) (ap is_directory (same_there before o.0 o.1) ∙ o.2) was)
+        both_ways (is_directory before) was (ap is_directory (same_there before o.0 o.1) ∙ o.2))

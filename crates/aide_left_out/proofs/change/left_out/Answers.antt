@@ -1,4 +1,4 @@
-use Rattle.std.proofs.Common.{◌∙◌, sym}
+use Rattle.std.proofs.Common.{◌∙◌, sym, rules}
 use Rattle.aide_agreement.specs.Found.{found}
 use Rattle.aide_left_out.specs.LeftOut.{path_of}
 use Rattle.aide_left_out.proofs.Laws.{left_out_from, left_out_means, longer_leaves_out, nothing_left_out, rights_stay}
@@ -14,9 +14,7 @@ returns-clause-means c line = (
 )
 
 pub returns-clause-longer : goal.returns-clause-longer
-returns-clause-longer c line more e =
-    longer_leaves_out c.args.list.now more c.args.measures (path_of c.args.old_one c.args.new_one)
-    (found c.args.old_one, found c.args.new_one) line (sym c.line_of_change.ensures ∙ e)
+returns-clause-longer c line more e = search (rules, longer_leaves_out)
 
 pub returns-clause-rights : goal.returns-clause-rights
 returns-clause-rights c right =
@@ -25,7 +23,4 @@ returns-clause-rights c right =
     (found c.args.old_one, found c.args.new_one) right
 
 pub returns-clause-nothing : goal.returns-clause-nothing
-returns-clause-nothing c e =
-    c.line_of_change.ensures
-    ∙ nothing_left_out c.args.list.now c.args.measures (path_of c.args.old_one c.args.new_one)
-    (found c.args.old_one, found c.args.new_one) e
+returns-clause-nothing c e = search (rules, nothing_left_out)

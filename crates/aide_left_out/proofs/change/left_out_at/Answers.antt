@@ -1,4 +1,4 @@
-use Rattle.std.proofs.Common.{◌∙◌, sym, ap}
+use Rattle.std.proofs.Common.{◌∙◌, sym, ap, rules}
 use Rattle.aide_entry.specs.View.{entry_in}
 use Rattle.aide_agreement.specs.Found.{found}
 use Rattle.aide_left_out.specs.LeftOut.{line_at}
@@ -6,10 +6,7 @@ use Rattle.aide_left_out.proofs.ChangeLemmas.{line_goes, line_stays, no_line}
 use Rattle.aide_left_out.proofs.change.left_out_at.Goals as goal
 
 pub returns-in_default : goal.returns-in_default
-returns-in_default c =
-    no_line c.args.list.now c.args.measures (entry_in c.args.named.now).0 (found c.args.old_one, found c.args.new_one)
-    (ap (line_at c.args.list.now (entry_in c.args.named.now).0) (sym c.have_program-is_program.ensures)
-    ∙ (sym c.line_at.ensures ∙ c.in_default.is))
+returns-in_default c = search (rules, no_line)
 
 pub returns-then-may_go : goal.returns-then-may_go
 returns-then-may_go c =
@@ -19,6 +16,4 @@ returns-then-may_go c =
     ∙ (sym c.line_at.ensures ∙ c.in-Some.is))
 
 pub returns-else-may_go : goal.returns-else-may_go
-returns-else-may_go c =
-    line_stays c.args.list.now c.args.measures (entry_in c.args.named.now).0 (found c.args.old_one, found c.args.new_one)
-    c.if-may_go.ensures
+returns-else-may_go c = search (rules, line_stays)
