@@ -1,7 +1,7 @@
 -- Cutting a text into pieces, and the lines that they make.
 use Rattle.std.proofs.lemmas.Grind.{common_steps}
 use Rattle.std.proofs.Common.{◌≡◌, ℕ, zero, suc, ◌+◌, ◌≤◌, ◌<◌, max, List, [], ◌∷◌, ◌++◌, length, take, drop, refl, sym}
-use Rattle.std.proofs.Common.{ap, ◌∙◌, arith, length-drop, true, false, Bool, if◌then◌else◌, append_assoc, subst}
+use Rattle.std.proofs.Common.{ap, ◌∙◌, arith, length-drop, true, false, Bool, if◌then◌else◌, append_assoc, subst, rules}
 use Rattle.std.specs.Prelude.{slice_set, not, ◌==◌}
 use Rattle.std.proofs.lemmas.List.{append-nil, take-append-drop, take_more_set, take_all, drop_all, length-take}
 use Rattle.std.proofs.Math.Seq.{take-append_seam, drop-append_seam}
@@ -12,9 +12,7 @@ use Rattle.aide_text.specs.Layout.{side_by_side, single_line, single_lines, alon
 pub one_byte : (bytes before after text : List ℕ) (len c : ℕ) → len < length bytes → take len bytes ++ before ≡ text
     → before ≡ c ∷ after
     → take (len + 1) (slice_set bytes len c) ++ after ≡ text
-one_byte bytes before after text len c h whole is =
-    ap (λ ds. ds ++ after) (take_more_set bytes len c h) ∙ append_assoc (take len bytes) (c ∷ []) after
-    ∙ ap (λ ds. take len bytes ++ ds) (sym is) ∙ whole
+one_byte bytes before after text len c h whole is = search (rules, take_more_set, append_assoc)
 
 -- the buffer is full
 pub cut_full : (piece rest text : List ℕ) → piece ++ rest ≡ text → length piece ≡ 32
@@ -88,7 +86,7 @@ no_lines a b e = lines_none a b (no_length a (grind (arith, e))) (no_length b (g
 
 pub next_and_later : (a b : List ℕ) → later_lines a b ≡ next_line a b ++ later_lines (drop 32 a) (drop 32 b)
 unfolding next_line
-next_and_later a b = grind (arith, common_steps, later_lines, some_lines, no_lines, lines_none, drop_all)
+next_and_later a b = grind (arith, common_steps, some_lines, no_lines, lines_none, drop_all)
 
 pub lines_ended : (a b : List ℕ) → has_lines a b ≡ false → later_lines (drop 32 a) (drop 32 b) ≡ []
 lines_ended a b e =

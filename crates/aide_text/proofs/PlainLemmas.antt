@@ -1,12 +1,12 @@
 -- Plain bytes, one after another.
 use Rattle.std.proofs.lemmas.Grind.{common_steps}
 use Rattle.std.proofs.Common.{rules, ◌≡◌, ◌∙◌, ℕ, ◌+◌, ◌<◌, List, [], ◌∷◌, ◌++◌, length, take, drop}
-use Rattle.std.proofs.Common.{slice_index, refl, sym, ap, append_assoc, true, false, Bool, arith}
+use Rattle.std.proofs.Common.{slice_index, refl, sym, ap, append_assoc, true, false, arith}
 use Rattle.std.specs.Prelude.{◌≢◌, ◌&&◌}
 use Rattle.std.specs.List.{list_all}
 use Rattle.std.proofs.lemmas.Bool.{and_parts}
 use Rattle.std.proofs.lemmas.List.{take_more, drop_more, take-append-drop, drop-drop}
-use Rattle.std.proofs.Math.Bool.{and_assoc}
+use Rattle.std.proofs.Math.Bool.{and_assoc, and-true}
 use Rattle.std.proofs.Math.Seq.{take-add}
 use Rattle.percent_encoding.specs.Percent.{percent_decode}
 use Rattle.percent_encoding.proofs.PercentLemmas.{percent_decode_not_percent, percent_decode-nil}
@@ -50,22 +50,10 @@ pub plain_then : (text rest : List ℕ) (n m : ℕ) → rest ≡ drop n text →
     → IsPlainUpTo text (n + m)
 plain_then text rest n m from first then = search (rules, append_assoc, take-add, drop-drop)
 
-and_true : (b : Bool) → (b && true) ≡ b
-and_true true = refl
-and_true false = refl
-
 -- eight of them, as they are tested
 pub eight_plain : (xs : List ℕ) → length xs ≡ 8
     → (is_plain (slice_index xs 0) && is_plain (slice_index xs 1) && is_plain (slice_index xs 2) && is_plain (slice_index xs 3)
     && is_plain (slice_index xs 4) && is_plain (slice_index xs 5) && is_plain (slice_index xs 6) && is_plain (slice_index xs 7))
     ≡ list_all is_plain xs
-eight_plain [] long = absurd (omega arith)
-eight_plain (a ∷ []) long = absurd (omega arith)
-eight_plain (a ∷ b ∷ []) long = absurd (omega arith)
-eight_plain (a ∷ b ∷ c ∷ []) long = absurd (omega arith)
-eight_plain (a ∷ b ∷ c ∷ d ∷ []) long = absurd (omega arith)
-eight_plain (a ∷ b ∷ c ∷ d ∷ e ∷ []) long = absurd (omega arith)
-eight_plain (a ∷ b ∷ c ∷ d ∷ e ∷ f ∷ []) long = absurd (omega arith)
-eight_plain (a ∷ b ∷ c ∷ d ∷ e ∷ f ∷ g ∷ []) long = absurd (omega arith)
-eight_plain (a ∷ b ∷ c ∷ d ∷ e ∷ f ∷ g ∷ h ∷ []) long = simp (and_assoc, and_true)
-eight_plain (a ∷ b ∷ c ∷ d ∷ e ∷ f ∷ g ∷ h ∷ i ∷ rest) long = absurd (omega arith)
+eight_plain (a ∷ b ∷ c ∷ d ∷ e ∷ f ∷ g ∷ h ∷ []) long = simp (and_assoc, and-true)
+eight_plain _ long = absurd (omega arith)

@@ -1,5 +1,5 @@
 -- What has gone out, piece by piece.
-use Rattle.std.proofs.Common.{◌≡◌, ◌∙◌, ℕ, ◌+◌, List, [], ◌++◌, take, drop, sym, ap, subst, append_assoc}
+use Rattle.std.proofs.Common.{◌≡◌, ◌∙◌, ℕ, ◌+◌, List, [], ◌++◌, take, drop, sym, ap, append_assoc, rules}
 use Rattle.std.specs.Prelude.{Option, Some, None}
 use Rattle.std.proofs.Math.Seq.{take-add}
 use Rattle.std.proofs.lemmas.List.{append-nil}
@@ -26,6 +26,4 @@ Appends-nothing (Some x) = sym (append-nil x)
 -- the bytes up to one index, and those from there to a later one
 pub Appends-take : (a b c : Option (List ℕ)) (bytes rest : List ℕ) (at count : ℕ) → rest ≡ drop at bytes
     → Appends a b (take at bytes) → Appends b c (take count rest) → Appends a c (take (at + count) bytes)
-Appends-take a b c bytes rest at count from first then =
-    subst (λ sent. Appends a c sent) (sym (take-add at count bytes))
-    (Appends-Appends a b c (take at bytes) (take count (drop at bytes)) first (subst (λ xs. Appends b c (take count xs)) from then))
+Appends-take a b c bytes rest at count from first then = search (rules, take-add, Appends-Appends)

@@ -1,17 +1,16 @@
 -- What a pen has written, piece by piece.
+use Rattle.std.proofs.lemmas.Grind.{common_steps}
 use Rattle.std.proofs.Common.{rules, ◌≡◌, ◌∙◌, ℕ, ◌<◌, ◌≤◌, Bool, true, false, List, [], ◌++◌, length, take, drop}
 use Rattle.std.proofs.Common.{refl, sym, ap, subst, append_assoc, length-append, arith}
 use Rattle.std.proofs.lemmas.List.{append-nil, take-append-drop, length-take-le}
 use Rattle.std.proofs.Math.Seq.{take-append_seam}
 use Rattle.std.specs.Io.KnownBytes.{Appends}
+use Rattle.std.proofs.lemmas.Bool.{true≢false}
 use Rattle.aide_db.specs.Count.{sum_of}
 use Rattle.aide_text.specs.Failures.{one_more}
 use Rattle.aide_text.specs.Sent.{IsCut, SendsPart}
 use Rattle.aide_text.specs.Sheet.{Sheet, Adds, WroteBy, Wrote, Writing, WritesPart, WritesSome}
 use Rattle.aide_text.proofs.Sending.{Appends-Appends, Appends-nothing}
-
-true_false : true ≡ false → ⊥
-true_false e = cc
 
 adds_more : (x y : List ℕ) (a b c : Sheet) → Adds x a b → Adds y b c → Adds (x ++ y) a c
 adds_more x y a b c p q = search (rules, Appends-Appends, length-append)
@@ -19,9 +18,9 @@ adds_more x y a b c p q = search (rules, Appends-Appends, length-append)
 more_by : (x y : List ℕ) (a b c : Sheet) (f g h : Bool) → WroteBy f g x a b → WroteBy g h y b c
     → WroteBy f h (x ++ y) a c
 more_by x y a b c true true h p q = (q.0, q.1 ∙ p.1)
-more_by x y a b c true false h p q = absurd (true_false (sym p.0))
+more_by x y a b c true false h p q = absurd (true≢false (sym p.0))
 more_by x y a b c false true true p q = search (rules, append_assoc, length-append)
-more_by x y a b c false true false p q = absurd (true_false (sym q.0))
+more_by x y a b c false true false p q = absurd (true≢false (sym q.0))
 more_by x y a b c false false true p q = record {
   front = x ++ q.front;
   rest = q.rest;
@@ -142,11 +141,11 @@ writing_as {text} {rest} {more} {a} {b} e p = subst (λ l. Writing text l a b) e
 some_by : (text : List ℕ) (a b : Sheet) (f h : Bool) → a.failed ≡ f → b.failed ≡ h → f ≡ false → WroteBy f h text a b
     → (sent : List ℕ) × Appends a.bytes b.bytes sent × (b.sent ≡ sum_of a.sent (length sent)) × (a.failures ≤ b.failures)
     × (h ≡ true → b.failures ≡ one_more a.failures)
-some_by text a b true h is_f is_h fresh p = absurd (true_false fresh)
+some_by text a b true h is_f is_h fresh p = absurd (true≢false fresh)
 some_by text a b false true is_f is_h fresh p =
     (p.front, p.adds.bytes, p.adds.count, omega (arith, p.failures), λ e. p.failures)
 some_by text a b false false is_f is_h fresh p =
-    (text, p.0.bytes, p.0.count, omega (arith, p.1), λ e. absurd (true_false (sym e)))
+    (text, p.0.bytes, p.0.count, omega (arith, p.1), λ e. absurd (true≢false (sym e)))
 
 -- what a fresh pen has written: some bytes, which it counts, and its sink's failures
 pub from_fresh : {a b : Sheet} → a.failed ≡ false → WritesSome a b
@@ -156,14 +155,9 @@ from_fresh {a} {b} fresh p = some_by p.text a b a.failed b.failed refl refl fres
 
 cut_by : (text : List ℕ) (a b : Sheet) (f h : Bool) → f ≡ false → h ≡ true → a.sent ≡ 0 → WroteBy f h text a b
     → IsCut text a.bytes b.bytes b.sent
-cut_by text a b true h fresh broken start p = absurd (true_false fresh)
-cut_by text a b false true fresh broken start p = record {
-  sent = length p.front;
-  fewer = p.fewer;
-  bytes = subst (λ l. Appends a.bytes b.bytes l) (sym (ap (take (length p.front)) p.whole ∙ take-append_seam p.front p.rest)) p.adds.bytes;
-  count = omega (arith, p.adds.count, start);
-}
-cut_by text a b false false fresh broken start p = absurd (true_false (sym broken))
+cut_by text a b true h fresh broken start p = absurd (true≢false fresh)
+cut_by text a b false true fresh broken start p = grind (arith, common_steps, take-append_seam)
+cut_by text a b false false fresh broken start p = absurd (true≢false (sym broken))
 
 -- a pen that had written nothing has failed within its first text
 pub cut_within : {text : List ℕ} {a b : Sheet} → a.failed ≡ false → b.failed ≡ true → a.sent ≡ 0 → Wrote text a b
@@ -172,8 +166,8 @@ cut_within {text} {a} {b} fresh broken start p = cut_by text a b a.failed b.fail
 
 whole_by : (text : List ℕ) (a b : Sheet) (f h : Bool) → f ≡ false → h ≡ false → WroteBy f h text a b
     → Appends a.bytes b.bytes text
-whole_by text a b true h fresh on p = absurd (true_false fresh)
-whole_by text a b false true fresh on p = absurd (true_false on)
+whole_by text a b true h fresh on p = absurd (true≢false fresh)
+whole_by text a b false true fresh on p = absurd (true≢false on)
 whole_by text a b false false fresh on p = p.0.bytes
 
 -- a pen that goes on has written all of its text
@@ -182,7 +176,7 @@ pub wrote_whole : {text : List ℕ} {a b : Sheet} → a.failed ≡ false → b.f
 wrote_whole {text} {a} {b} fresh on p = whole_by text a b a.failed b.failed fresh on p.as_flags
 
 part_by : (text : List ℕ) (a b : Sheet) (f h : Bool) → f ≡ false → WroteBy f h text a b → SendsPart text a.bytes b.bytes
-part_by text a b true h fresh p = absurd (true_false fresh)
+part_by text a b true h fresh p = absurd (true≢false fresh)
 part_by text a b false true fresh p = record { front = p.front; rest = p.rest; whole = p.whole; bytes = p.adds.bytes }
 part_by text a b false false fresh p =
     record { front = text; rest = []; whole = sym (append-nil text); bytes = p.0.bytes }

@@ -11,9 +11,7 @@ pub loop-at-init : goal.loop-at-init
 loop-at-init g c = search (rules, Appends-nothing)
 
 pub returns-in-Err-clause-cut : goal.returns-in-Err-clause-cut
-returns-in-Err-clause-cut g c =
-    Appends-Keeps (g.W.Sink.delivered c.args.out.now) (g.W.Sink.delivered c.loop-at.out) (g.W.Sink.delivered c.write.new.self) _
-    c.loop-at.invariant.so_far c.in-Err.ensures.bytes
+returns-in-Err-clause-cut g c = search (rules, Appends-Keeps)
 
 pub returns-in-Err-clause-fault : goal.returns-in-Err-clause-fault
 returns-in-Err-clause-fault g c = c.in-Err.ensures.fault ∙ ap one_more c.loop-at.invariant.unfailed

@@ -1,6 +1,5 @@
-use Rattle.std.proofs.Common.{◌∙◌, sym}
+use Rattle.std.proofs.Common.{◌∙◌, rules}
 use Rattle.aide_text.specs.PenSheet.{on_sheet}
-use Rattle.aide_text.specs.code.PieceText.{piece_text}
 use Rattle.aide_text.proofs.Pieces.{piece_more, piece_shorter, piece_none}
 use Rattle.aide_text.proofs.Sheets.{writing_start, writing_more, writing_done}
 use Rattle.aide_text.proofs.feeding.put_feed.Goals as goal
@@ -9,9 +8,7 @@ pub pieces-init : goal.pieces-init
 pieces-init g c = writing_start (g.B.Feed.rest c.args.text) (on_sheet g.W.Sink c.args.out.now c.args.pen.now)
 
 pub pieces-smaller : goal.pieces-smaller
-pieces-smaller g c =
-    piece_shorter (g.B.Feed.rest c.pieces.text) (piece_text c.of-piece.result) (g.B.Feed.rest c.of-piece.new.text)
-    c.of-piece.ensures.piece c.of-piece.ensures.rest (λ none. c.if-len-eq0.false (c.len.ensures.value ∙ none))
+pieces-smaller g c = search (rules, piece_shorter)
 
 pub pieces-preserved : goal.pieces-preserved
 pieces-preserved g c =
@@ -19,6 +16,4 @@ pieces-preserved g c =
     (c.bytes.ensures ∙ c.of-piece.ensures.piece) c.of-piece.ensures.rest) c.pieces.invariant c.put.ensures
 
 pub returns-then-len-eq0 : goal.returns-then-len-eq0
-returns-then-len-eq0 g c =
-    writing_done (piece_none (g.B.Feed.rest c.pieces.text) (piece_text c.of-piece.result) (g.B.Feed.rest c.of-piece.new.text)
-    c.of-piece.ensures.piece (sym c.len.ensures.value ∙ c.if-len-eq0.true)) c.pieces.invariant
+returns-then-len-eq0 g c = search (rules, writing_done, piece_none)

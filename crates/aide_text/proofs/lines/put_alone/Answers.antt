@@ -1,4 +1,4 @@
-use Rattle.std.proofs.Common.{rules, ap, sym, arith}
+use Rattle.std.proofs.Common.{rules, arith}
 use Rattle.aide_text.proofs.Pieces.{later_single, single_first, single_some, single_none, no_length, single_shorter}
 use Rattle.aide_text.proofs.Sheets.{writing_start, writing_more, writing_as, writing_done}
 use Rattle.aide_text.proofs.lines.put_alone.Goals as goal
@@ -11,9 +11,7 @@ lines-smaller g c =
     rw c.behind-rest-in-lines.ensures (single_shorter c.lines.rest.now (grind (arith, c.lines-test.ensures)))
 
 pub lines-preserved : goal.lines-preserved
-lines-preserved g c =
-    writing_as (ap later_single (sym c.behind-rest-in-lines.ensures))
-    (writing_more (single_some c.lines.rest.now (grind (arith, c.lines-test.ensures))) c.lines.invariant c.put_more.ensures)
+lines-preserved g c = search (rules, writing_as, later_single, writing_more, single_some)
 
 pub returns : goal.returns
 returns g c =

@@ -1,4 +1,4 @@
-use Rattle.std.proofs.Common.{rules, ◌∙◌, true, false, sym}
+use Rattle.std.proofs.Common.{rules, ◌∙◌, sym}
 use Rattle.aide_text.proofs.Pieces.{later_lines, first_line, lines_fall, short_piece, some_lines, no_lines}
 use Rattle.aide_text.proofs.Sheets.{writing_start, writing_more, writing_as, writing_done, wrote_as}
 use Rattle.aide_text.proofs.lines.put_texts_side_by_side.Goals as goal
@@ -19,9 +19,7 @@ pub lines-init : goal.lines-init
 lines-init g c = search (rules, writing_as, later_lines, writing_more, first_line, writing_start, wrote_as)
 
 pub lines-smaller : goal.lines-smaller
-lines-smaller g c =
-    rw (c.behind-old_rest-in-lines.ensures, c.behind-new_rest-in-lines.ensures)
-    (lines_fall c.lines.old_rest.now c.lines.new_rest.now (sym c.has_rest.ensures ∙ c.lines-test.true))
+lines-smaller g c = search (rules, lines_fall)
 
 pub lines-preserved : goal.lines-preserved
 lines-preserved g c = search (rules, writing_as, later_lines, writing_more, some_lines, wrote_as)

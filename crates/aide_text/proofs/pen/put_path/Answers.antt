@@ -1,21 +1,14 @@
-use Rattle.std.proofs.Common.{rules, ◌∙◌, sym}
-use Rattle.aide_text.specs.PenSheet.{on_sheet}
-use Rattle.aide_text.specs.code.PieceText.{piece_text}
-use Rattle.aide_text.specs.Printed.{printed}
+use Rattle.std.proofs.Common.{rules, ◌∙◌}
 use Rattle.aide_text.specs.PrintedRest.{printed_rest}
 use Rattle.aide_text.proofs.Pieces.{piece_more, piece_shorter, piece_none}
 use Rattle.aide_text.proofs.Sheets.{writing_start, writing_more, writing_as, writing_done}
 use Rattle.aide_text.proofs.pen.put_path.Goals as goal
 
 pub pieces-init : goal.pieces-init
-pieces-init g c =
-    writing_as (sym c.of-text.ensures)
-    (writing_start (printed (g.B.Feed.rest c.args.path)) (on_sheet g.W.Sink c.args.out.now c.args.pen.now))
+pieces-init g c = search (rules, writing_as, writing_start)
 
 pub pieces-smaller : goal.pieces-smaller
-pieces-smaller g c =
-    piece_shorter (printed_rest g.B.Feed.rest c.pieces.text) (piece_text c.of-piece.result) (printed_rest g.B.Feed.rest c.of-piece.new.text)
-    c.of-piece.ensures.piece c.of-piece.ensures.rest (λ none. c.if-len-eq0.false (c.len.ensures.value ∙ none))
+pieces-smaller g c = search (rules, piece_shorter)
 
 pub pieces-preserved : goal.pieces-preserved
 pieces-preserved g c =
