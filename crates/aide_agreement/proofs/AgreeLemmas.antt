@@ -1,5 +1,5 @@
 -- Two entries agree by how they differ.
-use Rattle.std.proofs.Common.{◌≡◌, Bool, true, false, refl, sym, ap, ◌∙◌}
+use Rattle.std.proofs.Common.{◌≡◌, Bool, true, false, refl, sym, ap}
 use Rattle.std.specs.Prelude.{◌||◌, ◌&&◌, not, Some, None}
 use Rattle.std.specs.List.{list_any}
 use Rattle.aide_attr.specs.Attr.{all_attrs}
@@ -46,10 +46,7 @@ pub agree_then : (x y : Attributes) (s : Sides) (kind : FileType) (d stray : Boo
     → true ≡ shares_content kind s (x Lname) (y Lname)
     → d ≡ is_directory kind → stray ≡ list_any (strays d s) all_attrs → not stray ≡ agree x y
 unfolding agree shares all_of
-agree_then x y s kind d stray same is holds is_d f =
-    ap not f ∙ ap (λ d. not (list_any (strays d s) all_attrs)) is_d
-    ∙ ap (λ b. b && not (list_any (strays (is_directory kind) s) all_attrs)) holds
-    ∙ ap (all_of x y kind) same ∙ sym (ap (λ t. agree_by t x y) is)
+agree_then x y s kind d stray same is holds is_d f = cc
 
 -- entries that have not the same content do not agree
 pub agree_else : (x y : Attributes) (s : Sides) (kind : FileType) (shared : Bool)
@@ -57,9 +54,7 @@ pub agree_else : (x y : Attributes) (s : Sides) (kind : FileType) (shared : Bool
     → false ≡ shares_content kind s (x Lname) (y Lname) → shared ≡ shares_content kind s (x Lname) (y Lname)
     → shared ≡ agree x y
 unfolding agree shares all_of
-agree_else x y s kind shared same is fails e =
-    e ∙ sym fails ∙ ap (λ b. b && not (list_any (strays (is_directory kind) s) all_attrs)) fails
-    ∙ ap (all_of x y kind) same ∙ sym (ap (λ t. agree_by t x y) is)
+agree_else x y s kind shared same is fails e = cc
 
 pub stray_at : (changed missing digest own : Bool) (a b c d : Bool) → changed ≡ a → missing ≡ b → digest ≡ c → own ≡ d
     → ((changed || (missing && not digest)) && not own) ≡ ((a || (b && not c)) && not d)

@@ -1,7 +1,9 @@
 -- Laws of agreement, and of what accounts for a change.
-use Rattle.std.proofs.Common.{◌≡◌, ◌∙◌, Bool, true, false, refl, sym, ap, inl, inr}
+use Rattle.std.proofs.lemmas.Grind.{common_steps}
+use Rattle.std.proofs.Common.{◌≡◌, ◌∙◌, Bool, true, false, refl, sym, ap, inl, inr, arith, rules}
 use Rattle.std.specs.Prelude.{◌||◌, ◌&&◌, not, Option, Some, None, IsSome, if◌then◌else◌, is_some}
 use Rattle.std.specs.List.{list_any}
+use Rattle.std.proofs.lemmas.Bool.{and_parts, not-true}
 use Rattle.aide_attr.specs.Attr.{all_attrs}
 use Rattle.aide_attr.specs.Difference.{Sides, is_added, is_affected, is_changed, is_removed, is_reported, is_same}
 use Rattle.aide_attr.specs.Set.{has}
@@ -19,30 +21,17 @@ use Rattle.aide_agreement.specs.Own.{is_device, is_digest, is_directory, is_own,
 use Rattle.aide_agreement.specs.declared.account.SameAs.{SameAs}
 use Rattle.aide_agreement.specs.declared.account.SameAs.TheVariants.{Old, Trusted}
 use Rattle.aide_agreement.proofs.ListLemmas.{found_any, none_at, none_of, some_at}
-use Rattle.aide_agreement.proofs.SetLemmas.{digest_not_own, strong_is_digest, type_not_own}
-use Rattle.aide_agreement.proofs.SetLemmas.{type_no_digest}
+use Rattle.aide_agreement.proofs.SetLemmas.{digest_not_own, strong_is_digest, type_not_own, type_no_digest}
 use Rattle.aide_agreement.proofs.SideLemmas.{alike_at, alike_no_stray, digest_at, digest_no_stray, own_no_stray}
 use Rattle.aide_agreement.proofs.SideLemmas.{same_from, same_of, shared_at, target_at, target_from, unaffected_at}
 
 -- ---- what it means that two entries agree
 
-first_of : (a b : Bool) → (a && b) ≡ true → a ≡ true
-first_of true b e = refl
-first_of false b e = cc
-
-second_of : (a b : Bool) → (a && b) ≡ true → b ≡ true
-second_of true b e = e
-second_of false b e = cc
-
-negative : (a : Bool) → not a ≡ true → a ≡ false
-negative true e = cc
-negative false e = refl
-
 no_stray : (x y : Attributes) (kind : FileType) → agree_by (Some kind) x y ≡ true
     → (a : Attr) → strays (is_directory kind) (sides_between x y) a ≡ false
 no_stray x y kind e =
     none_at (strays (is_directory kind) (sides_between x y))
-    (negative _ (second_of (shares_content kind (sides_between x y) (x Lname) (y Lname)) _ e))
+    (not-true _ (and_parts (shares_content kind (sides_between x y) (x Lname) (y Lname)) _ e).1)
 
 alike_by : (x y : Attributes) (kind : FileType) → agree_by (Some kind) x y ≡ true
     → (a : Attr) → is_own (is_directory kind) a ≡ false → is_digest a ≡ false → x a ≡ y a
@@ -58,40 +47,35 @@ digests_by x y kind e a digest u v is_u is_v =
 shared_by : (x y : Attributes) → list_any (is_shared (sides_between x y)) all_attrs ≡ true → SharesDigest x y
 shared_by x y e =
     let found = found_any (is_shared (sides_between x y)) all_attrs e in
-    let same = first_of (is_same (sides_between x y) found.0) (is_strong found.0) found.1 in
+    let same = (and_parts (is_same (sides_between x y) found.0) (is_strong found.0) found.1).0 in
     let shared = shared_at (x found.0) (y found.0) same in
     record {
       attribute = found.0;
       value = shared.0;
-      strong = second_of (is_same (sides_between x y) found.0) (is_strong found.0) found.1;
+      strong = (and_parts (is_same (sides_between x y) found.0) (is_strong found.0) found.1).1;
       in_first = shared.1;
       in_second = shared.2;
     }
 
 content_of_file : (x y : Attributes) (kind : FileType) → agree_by (Some kind) x y ≡ true → kind ≡ kinds.File → SharesDigest x y
 content_of_file x y kind e is =
-    let content = first_of (shares_content kind (sides_between x y) (x Lname) (y Lname)) _ e in
+    let content = (and_parts (shares_content kind (sides_between x y) (x Lname) (y Lname)) _ e).0 in
     shared_by x y (ap (λ k. shares_content k (sides_between x y) (x Lname) (y Lname)) (sym is) ∙ content)
 
 content_of_link : (x y : Attributes) (kind : FileType) → agree_by (Some kind) x y ≡ true → kind ≡ kinds.Link
     → HasTarget x × HasTarget y
 content_of_link x y kind e is =
-    let content = first_of (shares_content kind (sides_between x y) (x Lname) (y Lname)) _ e in
+    let content = (and_parts (shares_content kind (sides_between x y) (x Lname) (y Lname)) _ e).0 in
     let both : (has_target (x Lname) && has_target (y Lname)) ≡ true =
     ap (λ k. shares_content k (sides_between x y) (x Lname) (y Lname)) (sym is) ∙ content in (
-      target_at x (first_of (has_target (x Lname)) (has_target (y Lname)) both),
-      target_at y (second_of (has_target (x Lname)) (has_target (y Lname)) both),
+      target_at x (and_parts (has_target (x Lname)) (has_target (y Lname)) both).0,
+      target_at y (and_parts (has_target (x Lname)) (has_target (y Lname)) both).1,
     )
 
 no_device_by : (kind : FileType) (s : Sides) (a b : Option Value) → shares_content kind s a b ≡ true → is_device kind ≡ false
 no_device_by kinds.Char s a b e = cc
 no_device_by kinds.Block s a b e = cc
-no_device_by kinds.File s a b e = refl
-no_device_by kinds.Link s a b e = refl
-no_device_by kinds.Directory s a b e = refl
-no_device_by kinds.Fifo s a b e = refl
-no_device_by kinds.Socket s a b e = refl
-no_device_by (kinds.Other bits) s a b e = refl
+no_device_by _ s a b e = refl
 
 agrees_by : (x y : Attributes) (o : Option FileType) → type_in (x Ftype) ≡ o → agree_by o x y ≡ true → Agrees x y
 agrees_by x y None is e = cc
@@ -100,7 +84,7 @@ agrees_by x y (Some kind) is e = record {
   of_first = is;
   of_second = sym (ap type_in (alike_by x y kind e Ftype (type_not_own (is_directory kind)) type_no_digest)) ∙ is;
   no_device = no_device_by kind (sides_between x y) (x Lname) (y Lname)
-      (first_of (shares_content kind (sides_between x y) (x Lname) (y Lname)) _ e);
+      (and_parts (shares_content kind (sides_between x y) (x Lname) (y Lname)) _ e).0;
   alike = alike_by x y kind e;
   digests = digests_by x y kind e;
   shared = content_of_file x y kind e;
@@ -125,10 +109,7 @@ content_from x y kinds.Link no_device shared target =
     let targets = target refl in rw (target_from x targets.0, target_from y targets.1) refl
 content_from x y kinds.Char no_device shared target = cc
 content_from x y kinds.Block no_device shared target = cc
-content_from x y kinds.Directory no_device shared target = refl
-content_from x y kinds.Fifo no_device shared target = refl
-content_from x y kinds.Socket no_device shared target = refl
-content_from x y (kinds.Other bits) no_device shared target = refl
+content_from x y _ no_device shared target = refl
 
 stays : (x y : Attributes) (h : Agrees x y) (a : Attr) → strays (is_directory h.kind) (sides_between x y) a ≡ false
 stays x y h a = elim (bool_cases (is_own (is_directory h.kind) a)) [
@@ -142,11 +123,7 @@ stays x y h a = elim (bool_cases (is_own (is_directory h.kind) a)) [
 -- And entries of which this holds agree.
 pub agree_from_meaning : (x y : Attributes) → Agrees x y → agree x y ≡ true
 unfolding agree
-agree_from_meaning x y h =
-    let none : list_any (strays (is_directory h.kind) (sides_between x y)) all_attrs ≡ false =
-    none_of (strays (is_directory h.kind) (sides_between x y)) (stays x y h) all_attrs in
-    ap (λ t. agree_by t x y) h.of_first
-    ∙ (λ i. content_from x y h.kind h.no_device h.shared h.target i && not (none i))
+agree_from_meaning x y h = grind (arith, common_steps, none_of, stays, content_from)
 
 -- ---- agreement is an equivalence, as far as digests tell
 
@@ -155,19 +132,7 @@ same_kind x y e = cc
 
 -- An entry that says what its content is agrees with itself.
 pub agree_itself : (x : Attributes) → SaysContent x → agree x x ≡ true
-agree_itself x h = agree_from_meaning x x (record {
-  kind = h.kind;
-  of_first = h.of_entry;
-  of_second = h.of_entry;
-  no_device = h.no_device;
-  alike = λ a own digest. refl;
-  digests = λ a digest u v is_u is_v. some_injective u v (sym is_u ∙ is_v);
-  shared = h.shared;
-  target = λ is. (h.target is, h.target is);
-})
-  where
-    some_injective : (u v : Value) → Some u ≡ Some v → u ≡ v
-    some_injective u v e = cc
+agree_itself x h = search (rules, agree_from_meaning)
 
 turned : (x y : Attributes) → Agrees x y → Agrees y x
 turned x y h = record {
@@ -252,13 +217,12 @@ trusted_has found trusted e = by_trusted (is_as_old found) (is_as_trusted found 
 reported_stays : (c a r i j k digest own : Bool)
     → ((c || ((a || r) && not digest)) && not own) ≡ false → own ≡ false → ((c && i) || (a && j) || (r && k)) ≡ true
     → (digest ≡ true) × (c ≡ false)
-reported_stays true a r i j k digest true e own is = cc
 reported_stays true a r i j k digest false e own is = cc
-reported_stays false a r i j k digest true e own is = cc
 reported_stays false a r i j k true false e own is = (refl, refl)
 reported_stays false true r i j k false false e own is = cc
 reported_stays false false true i j k false false e own is = cc
 reported_stays false false false i j k false false e own is = cc
+reported_stays _ a r i j k digest true e own is = cc
 
 -- Where the old entry accounts for a change, no attribute is reported, whatever the options ignore, but what each machine
 -- has of its own, and digests that only one of the entries has.
@@ -281,7 +245,7 @@ pub trusted_here : (old : Option Attributes) (new : Attributes) (trusted : Pair)
     → same_as (old, Some new) trusted ≡ Some Trusted → (t : Attributes) × (trusted.1 ≡ Some t) × Agrees new t
 trusted_here old new (trusted_old, None) e = let f = trusted_has (old, Some new) (trusted_old, None) e in cc
 trusted_here old new (trusted_old, Some t) e =
-    (t, refl, meaning_of_agree new t (first_of (agree new t) _ (trusted_has (old, Some new) (trusted_old, Some t) e)))
+    (t, refl, meaning_of_agree new t (and_parts (agree new t) _ (trusted_has (old, Some new) (trusted_old, Some t) e)).0)
 
 -- Where it accounts for a removed entry, it had one there that agrees with the old one, and has none any more.
 pub trusted_gone : (old : Option Attributes) (trusted : Pair) → same_as (old, None) trusted ≡ Some Trusted
@@ -301,19 +265,7 @@ trusted_gone old trusted e = gone old trusted (trusted_has (old, None) trusted e
 
 -- what agrees with another entry says what its content is
 second_says : (x y : Attributes) → Agrees x y → SaysContent y
-second_says x y h = record {
-  kind = h.kind;
-  of_entry = h.of_second;
-  no_device = h.no_device;
-  shared = λ is. let d = h.shared is in record {
-    attribute = d.attribute;
-    value = d.value;
-    strong = d.strong;
-    in_first = d.in_second;
-    in_second = d.in_second;
-  };
-  target = λ is. (h.target is).1;
-}
+second_says x y h = search rules
 
 -- an entry that differs in no attribute from one that says its content agrees with it
 agree_unaffected : (x y : Attributes) → SaysContent y → list_any (is_affected (sides_between x y)) all_attrs ≡ false
@@ -339,22 +291,7 @@ unaccounted_of new old told e f = record {
 -- At each path for which a trusted machine accounts, its own databases have a change for which nothing accounts.
 pub trusted_changed : (found trusted : Pair) → same_as found trusted ≡ Some Trusted → IsUnaccounted trusted
 unfolding same_as
-trusted_changed found trusted e = changed found trusted (trusted_has found trusted e)
-  where
-    changed : (found trusted : Pair) → is_as_trusted found trusted ≡ true → IsUnaccounted trusted
-    changed (old, Some new) (None, Some t) e = record { changed = refl; alone = refl }
-    changed (old, Some new) (Some o, Some t) e =
-        unaccounted_of new o t (first_of (agree new t) _ e) (negative _ (second_of (agree new t) _ e))
-    changed (old, Some new) (None, None) e = cc
-    changed (old, Some new) (Some o, None) e = cc
-    changed (Some old, None) (Some o, None) e = record { changed = refl; alone = refl }
-    changed (Some old, None) (None, None) e = cc
-    changed (Some old, None) (None, Some t) e = cc
-    changed (Some old, None) (Some o, Some t) e = cc
-    changed (None, None) (None, None) e = cc
-    changed (None, None) (None, Some t) e = cc
-    changed (None, None) (Some o, None) e = cc
-    changed (None, None) (Some o, Some t) e = cc
+trusted_changed found trusted e = search (rules, trusted_has, unaccounted_of, and_parts, not-true)
 
 -- At a path that a trusted machine never had, nothing is accounted for by it.
 pub none_without_path : (found : Pair) → same_as found (None, None) ≡ Some Trusted → ⊥

@@ -1,23 +1,16 @@
 -- Whether some attribute passes a test.
 use Rattle.std.proofs.Common.{ℕ, ◌<◌, ◌≡◌, Bool, true, false, List, [], ◌∷◌, suc, zero, length, refl, sym, ap, ◌∙◌}
-use Rattle.std.proofs.Common.{arith, get_or, inl, inr}
+use Rattle.std.proofs.Common.{arith, get_or, rules}
 use Rattle.std.specs.Prelude.{◌||◌, not, IsTrue, ◌↔◌}
 use Rattle.std.specs.List.{list_any}
 use Rattle.std.proofs.lemmas.List.Folds.{list_any_at}
+use Rattle.std.proofs.lemmas.Bool.{or_parts}
 use Rattle.aide_attr.specs.Attr.{index, all_attrs, count}
 use Rattle.aide_attr.specs.Set.{has}
 use Rattle.aide_attr.specs.declared.attr.Attr.{Attr}
 use Rattle.aide_attr.specs.declared.set.AttrSet.{AttrSet}
 use Rattle.aide_attr.proofs.AttrLemmas.{at_index, index_small}
 use Rattle.aide_attr.proofs.WalkLemmas.{bool_cases}
-
-left_false : (a b : Bool) → (a || b) ≡ false → a ≡ false
-left_false false b h = refl
-left_false true b h = cc
-
-right_false : (a b : Bool) → (a || b) ≡ false → b ≡ false
-right_false false b h = h
-right_false true b h = cc
 
 right_true : (a b : Bool) → (a || b) ≡ true → a ≡ false → b ≡ true
 right_true false b h is = h
@@ -26,8 +19,8 @@ right_true true b h is = cc
 none_from : (p : Attr → Bool) (xs : List Attr) (k : ℕ) (d : Attr) → list_any p xs ≡ false → k < length xs
     → p (get_or xs k d) ≡ false
 none_from p [] k d h l = absurd (omega arith)
-none_from p (x ∷ xs) zero d h l = left_false (p x) (list_any p xs) h
-none_from p (x ∷ xs) (suc k) d h l = none_from p xs k d (right_false (p x) (list_any p xs) h) (omega arith)
+none_from p (x ∷ xs) zero d h l = (or_parts (p x) (list_any p xs) h).0
+none_from p (x ∷ xs) (suc k) d h l = none_from p xs k d (or_parts (p x) (list_any p xs) h).1 (omega arith)
 
 -- a test that no attribute passes, none of a list passes
 pub none_of : (p : Attr → Bool) → ((a : Attr) → p a ≡ false) → (xs : List Attr) → list_any p xs ≡ false
@@ -47,16 +40,10 @@ some_at p a e = list_any_at p all_attrs (index a) a (index_small a) (ap p (at_in
 -- a test that one of a list passes, some attribute passes
 pub found_any : (p : Attr → Bool) (xs : List Attr) → list_any p xs ≡ true → (a : Attr) × (p a ≡ true)
 found_any p [] e = absurd cc
-found_any p (x ∷ xs) e = elim (bool_cases (p x)) [
-  | inl is ↦ (x, is)
-  | inr is ↦ found_any p xs (right_true (p x) (list_any p xs) e is)
-]
+found_any p (x ∷ xs) e = search (rules, found_any p xs, bool_cases, right_true)
 
 some_of : (p : Attr → Bool) → (((a : Attr) → p a ≡ false) → ⊥) → list_any p all_attrs ≡ true
-some_of p k = elim (bool_cases (list_any p all_attrs)) [
-  | inl e ↦ e
-  | inr e ↦ absurd (k (none_at p e))
-]
+some_of p k = search (rules, bool_cases, none_at)
 
 -- a set has an attribute exactly if one passes its test
 pub any_in : (r : AttrSet) (p : Attr → Bool) (empty : Bool) → ((a : Attr) → has r a ≡ p a)

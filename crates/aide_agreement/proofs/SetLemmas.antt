@@ -1,5 +1,5 @@
 -- The attributes of the table by what they are: a machine's own, digests, digests of at least 256 bits.
-use Rattle.std.proofs.Common.{◌≡◌, Bool, true, false, [], ◌∷◌, refl}
+use Rattle.std.proofs.Common.{◌≡◌, Bool, true, false, [], ◌∷◌, refl, rules}
 use Rattle.std.specs.Prelude.{◌||◌, ◌&&◌}
 use Rattle.std.specs.List.{list_any}
 use Rattle.aide_attr.specs.Attr.{row, row_of}
@@ -28,16 +28,11 @@ unfolding row_of row
 digests_listed attr.Ftype = refl
 digests_listed _ = refl
 
--- no machine has the type of its own, nor the target of a link
+-- no machine has the type of its own
 pub type_not_own : (directories : Bool) → is_own directories attr.Ftype ≡ false
 unfolding row_of row
 type_not_own true = refl
 type_not_own false = refl
-
-pub link_not_own : (directories : Bool) → is_own directories attr.Lname ≡ false
-unfolding row_of row
-link_not_own true = refl
-link_not_own false = refl
 
 own_or_digest : (directories : Bool) (a : Attr) → (is_own directories a && is_digest a) ≡ false
 unfolding row_of row
@@ -61,17 +56,9 @@ strong_or_other _ = refl
 
 -- a digest of at least 256 bits is a digest
 pub strong_is_digest : (a : Attr) → is_strong a ≡ true → is_digest a ≡ true
-strong_is_digest a is = by (is_strong a) (is_digest a) is (strong_or_other a)
-  where
-    by : (x y : Bool) → x ≡ true → (x && y) ≡ x → y ≡ true
-    by true y is e = e
-    by false y is e = cc
+strong_is_digest a is = search (rules, strong_or_other)
 
--- neither the type nor the target of a link is a digest
+-- the type is no digest
 pub type_no_digest : is_digest attr.Ftype ≡ false
 unfolding row_of row
 type_no_digest = refl
-
-pub link_no_digest : is_digest attr.Lname ≡ false
-unfolding row_of row
-link_no_digest = refl

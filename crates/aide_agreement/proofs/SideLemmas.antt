@@ -1,9 +1,9 @@
 -- Two values at one attribute: whether entries stray from each other there, and what they share.
-use Rattle.std.proofs.Common.{◌≡◌, ◌∙◌, Bool, true, false, refl, sym, ap}
+use Rattle.std.proofs.Common.{◌≡◌, ◌∙◌, Bool, true, false, refl, sym, ap, rules}
 use Rattle.std.specs.Prelude.{◌||◌, ◌&&◌, not, Option, Some, None, is_some}
 use Rattle.aide_attr.specs.declared.attr.Attr.TheVariants.{Lname}
-use Rattle.aide_entry.specs.Attributes.{Attributes, Value, number_value, mode_value, type_value, link_value}
-use Rattle.aide_entry.specs.Attributes.{digest_value, opaque_value, is_different}
+use Rattle.aide_entry.specs.Attributes.{Attributes, Value, link_value}
+use Rattle.aide_entry.specs.Attributes.{is_different}
 use Rattle.aide_entry.proofs.ValueLaws.{same_value-Decides}
 use Rattle.aide_agreement.specs.Agreement.{has_target}
 use Rattle.aide_agreement.specs.Meaning.{HasTarget}
@@ -31,11 +31,10 @@ never u = rw ((same_value-Decides u u).1 refl) refl
 same_by : (d digest own : Bool) → own ≡ false
     → (((d && true && true) || (((true && not true) || (true && not true)) && not digest)) && not own) ≡ false
     → d ≡ false
-same_by true true true o e = cc
-same_by true false true o e = cc
 same_by true true false o e = cc
 same_by true false false o e = cc
 same_by false digest own o e = refl
+same_by true _ true o e = cc
 
 both_at : (u v : Value) (digest own : Bool) → own ≡ false → stray_of (Some u) (Some v) digest own ≡ false → u ≡ v
 both_at u v digest own o e = equal_values u v (same_by (is_different (Some u) (Some v)) digest own o e)
@@ -78,11 +77,7 @@ pub unaffected_at : (x y : Option Value)
 unaffected_at None None e = refl
 unaffected_at None (Some v) e = cc
 unaffected_at (Some u) None e = cc
-unaffected_at (Some u) (Some v) e = ap Some (equal_values u v (not_so (is_different (Some u) (Some v)) e))
-  where
-    not_so : (d : Bool) → ((d && true && true) || (true && not true) || (true && not true)) ≡ false → d ≡ false
-    not_so true e = cc
-    not_so false e = refl
+unaffected_at (Some u) (Some v) e = search (rules, equal_values)
 
 -- ---- and back
 
@@ -95,18 +90,7 @@ pub own_no_stray : (x y : Option Value) (digest own : Bool) → own ≡ true →
 own_no_stray x y digest own o = never_own _ own o
 
 pub alike_no_stray : (x y : Option Value) (digest own : Bool) → x ≡ y → stray_of x y digest own ≡ false
-alike_no_stray x y digest own e = ap (λ z. stray_of x z digest own) (sym e) ∙ with_itself x digest own
-  where
-    no : (d digest own : Bool) → d ≡ false
-        → (((d && true && true) || (((true && not true) || (true && not true)) && not digest)) && not own) ≡ false
-    no false true own e = refl
-    no false false own e = refl
-    no true digest own e = cc
-
-    with_itself : (x : Option Value) (digest own : Bool) → stray_of x x digest own ≡ false
-    with_itself None true own = refl
-    with_itself None false own = refl
-    with_itself (Some u) digest own = no (is_different (Some u) (Some u)) digest own (never u)
+alike_no_stray x y digest own e = search (rules, stray_of)
 
 pub digest_no_stray : (x y : Option Value) (digest own : Bool) → digest ≡ true
     → ((u v : Value) → x ≡ Some u → y ≡ Some v → u ≡ v) → stray_of x y digest own ≡ false
@@ -119,14 +103,8 @@ digest_no_stray x y false own d h = cc
 -- ---- targets
 
 target_of : (e : Attributes) (o : Option Value) → e Lname ≡ o → has_target o ≡ true → HasTarget e
-target_of e None is has = cc
-target_of e (Some (number_value n)) is has = cc
-target_of e (Some (mode_value n)) is has = cc
-target_of e (Some (type_value n)) is has = cc
-target_of e (Some (link_value None)) is has = cc
 target_of e (Some (link_value (Some target))) is has = record { target = target; is = is }
-target_of e (Some (digest_value n)) is has = cc
-target_of e (Some (opaque_value n)) is has = cc
+target_of e _ is has = cc
 
 pub target_at : (e : Attributes) → has_target (e Lname) ≡ true → HasTarget e
 target_at e has = target_of e (e Lname) refl has

@@ -1,13 +1,11 @@
-use Rattle.std.proofs.Common.{◌∙◌, sym}
+use Rattle.std.proofs.Common.{◌∙◌, sym, rules}
 use Rattle.aide_attr.specs.Difference.{sides_of}
 use Rattle.aide_entry.specs.View.{entry_in}
 use Rattle.aide_agreement.proofs.AgreeLemmas.{agree_else, agree_none, agree_then, same_sides}
 use Rattle.aide_agreement.proofs.agreement.agree.Goals as goal
 
 pub returns-in-None : goal.returns-in-None
-returns-in-None c =
-    agree_none (entry_in c.args.first.now).1 (entry_in c.args.second.now).1
-    (sym c.delta_of-delta.ensures.old_type ∙ c.in-None.is)
+returns-in-None c = search (rules, agree_none)
 
 pub returns-then-share_content : goal.returns-then-share_content
 returns-then-share_content c =
