@@ -1,6 +1,6 @@
 -- A text that is UTF-8 is escaped byte by byte as it is character by character.
-use Rattle.std.proofs.Common.{◌≡◌, ℕ, ◌+◌, ◌-◌, ◌/◌, ◌<◌, ◌≤◌, Bool, true, false, ◌&&◌, ◌||◌, ◌==◌, if◌then◌else◌, nat_lt, nat_le, List, []}
-use Rattle.std.proofs.Common.{◌∷◌, ◌++◌, inl, inr, arith, refl, sym, ap, ◌∙◌, IsUtf8, chars, lt-ltb, le-ltb, ne_eqb}
+use Rattle.std.proofs.Common.{◌≡◌, ℕ, ◌+◌, ◌/◌, ◌<◌, ◌≤◌, Bool, true, false, ◌||◌, ◌==◌, if◌then◌else◌, nat_lt, List, []}
+use Rattle.std.proofs.Common.{◌∷◌, ◌++◌, inl, inr, arith, refl, sym, ap, ◌∙◌, IsUtf8, chars, lt-ltb, le-ltb, ne_eqb, rules}
 use Rattle.std.proofs.lemmas.Bool.{and_parts, cases_lt, cases_eq, cases_Bool}
 use Rattle.std.proofs.lemmas.Bool.Decides.{nat_tests}
 use Rattle.std.proofs.lemmas.Str.{encode_ascii, encodes-chars, scalars-chars}
@@ -41,10 +41,7 @@ hidden c h e = middle_of (c == 34 || c == 92) (is_hidden c) (92 ∷ c ∷ []) (u
 
 skip : (x : ℕ) (cs : List ℕ) → 128 ≤ x → (x ≡ 0xc2 → ⊥) → (x ≡ 0xd8 → ⊥) → (x ≡ 0xe2 → ⊥) → text_after Nothing (x ∷ cs)
     ≡ x ∷ text_after Nothing cs
-skip x cs h a b d =
-    rw (ne_eqb x 0xc2 a, ne_eqb x 0xd8 b, ne_eqb x 0xe2 d)
-    (ap (λ l. l ++ text_after Nothing cs) (last_of (x == 34 || x == 92) (nat_lt x 0x20 || x == 0x7f) (92 ∷ x ∷ []) (u_escape x) (x ∷ [])
-    (no_quote x h) (grind (arith, nat_tests))))
+skip x cs h a b d = search (rules, ne_eqb, last_of, no_quote, nat_tests)
 
 low : (c : ℕ) (cs : List ℕ) → c < 128 → text_after Nothing (c ∷ cs) ≡ one_byte c ++ text_after Nothing cs
 low c cs h = rw (ne_eqb c 0xc2 (omega arith), ne_eqb c 0xd8 (omega arith), ne_eqb c 0xe2 (omega arith))
@@ -53,9 +50,7 @@ low_hidden : (c : ℕ) → c < 128 → (nat_lt c 0x20 || c == 0x7f) ≡ is_hidde
 low_hidden c h = grind (arith, nat_tests)
 
 low_char : (c : ℕ) → c < 128 → one_byte c ≡ json_char c
-low_char c h =
-    ap (λ (b : Bool). if c == 34 || c == 92 then 92 ∷ c ∷ [] else (if b then u_escape c else (c ∷ []))) (low_hidden c h)
-    ∙ ap (λ (l : List ℕ). if c == 34 || c == 92 then 92 ∷ c ∷ [] else (if is_hidden c then u_escape c else l)) (sym (encode_ascii c h))
+low_char c h = search (rules, low_hidden, encode_ascii)
 
 from_c2 : (x : ℕ) (cs : List ℕ) → x ≡ 0xc2 → text_after Nothing (x ∷ cs) ≡ text_after C2 cs
 from_c2 x cs e = ap (λ y. text_after Nothing (y ∷ cs)) e
@@ -76,125 +71,75 @@ from_e2_81 x y cs e f = ap (λ z. text_after Nothing (z ∷ y ∷ cs)) e ∙ ap 
 -- ---- characters
 
 c2_char : (c : ℕ) → 128 ≤ c → c < 192 → after_c2 (next c) ≡ json_char c
-c2_char c l h =
-    let same : next c ≡ c = omega arith in
-    let lead : 192 + c / 64 ≡ 0xc2 = omega arith in
-    elim (cases_lt c 160) [
-      | inl a ↦ ap after_c2 same ∙ ap (λ (b : Bool). if b then u_escape c else (0xc2 ∷ c ∷ [])) (lt-ltb c 0xa0 a)
-          ∙ sym (hidden c l (grind (arith, nat_tests)))
-      | inr a ↦ ap after_c2 same ∙ ap (λ (b : Bool). if b then u_escape c else (0xc2 ∷ c ∷ [])) (le-ltb c 0xa0 a)
-          ∙ sym (plain c l (grind (arith, nat_tests)) ∙ two c l (omega arith) ∙ (λ k. lead k ∷ same k ∷ []))
-    ]
+c2_char c l h = search (rules, cases_lt, lt-ltb, hidden, nat_tests, le-ltb, plain, two)
 
 d8_char : (c : ℕ) → 1536 ≤ c → c < 1600 → after_d8 (next c) ≡ json_char c
-d8_char c l h =
-    let lead : 192 + c / 64 ≡ 0xd8 = omega arith in
-    elim (cases_eq c 0x61c) [
-      | inl e ↦ ap (λ d. after_d8 (next d)) e ∙ sym (ap json_char e)
-      | inr n ↦ ap (λ (b : Bool). if b then u_escape 0x61c else (0xd8 ∷ next c ∷ [])) (ne_eqb (next c) 0x9c (λ e. n (omega arith)))
-          ∙ sym (plain c (omega arith) (grind (arith, nat_tests, n)) ∙ two c (omega arith) (omega arith) ∙ (λ k. lead k ∷ next c ∷ []))
-    ]
+d8_char c l h = search (rules, cases_eq, ne_eqb, plain, nat_tests, two)
 
 -- U+2000 to U+203F
 e2_80_char : (c : ℕ) → 8192 ≤ c → c < 8256 → after_e2_80 (next c) ≡ json_char c
-e2_80_char c l h =
-    let lead : 224 + c / 4096 ≡ 0xe2 = omega arith in
-    let second : next (c / 64) ≡ 0x80 = omega arith in
-    let same : 0x1f80 + next c ≡ c = omega arith in
-    elim (cases_Bool (is_hidden c)) [
-      | inl e ↦ ap (λ (b : Bool). if b then u_escape (0x1f80 + next c) else (0xe2 ∷ 0x80 ∷ next c ∷ [])) (e2_80_hidden c l h ∙ e)
-          ∙ ap u_escape same ∙ sym (hidden c (omega arith) e)
-      | inr e ↦ ap (λ (b : Bool). if b then u_escape (0x1f80 + next c) else (0xe2 ∷ 0x80 ∷ next c ∷ [])) (e2_80_hidden c l h ∙ e)
-          ∙ sym (plain c (omega arith) e ∙ three c (omega arith) (omega arith) ∙ (λ k. lead k ∷ second k ∷ next c ∷ []))
-    ]
-  where
-    e2_80_hidden : (c : ℕ) → 8192 ≤ c → c < 8256 →
-        ((nat_le 0x8e (next c) && nat_le (next c) 0x8f) || (nat_le 0xa8 (next c) && nat_le (next c) 0xae)) ≡ is_hidden c
-    e2_80_hidden c l h = let same : next c ≡ c - 8064 = omega arith in rw same (grind (arith, nat_tests, l, h))
+e2_80_char c l h = search (rules, cases_Bool, hidden, plain, three)
 
 -- U+2040 to U+207F
 e2_81_char : (c : ℕ) → 8256 ≤ c → c < 8320 → after_e2_81 (next c) ≡ json_char c
-e2_81_char c l h =
-    let lead : 224 + c / 4096 ≡ 0xe2 = omega arith in
-    let second : next (c / 64) ≡ 0x81 = omega arith in
-    let same : 0x1fc0 + next c ≡ c = omega arith in
-    elim (cases_Bool (is_hidden c)) [
-      | inl e ↦ ap (λ (b : Bool). if b then u_escape (0x1fc0 + next c) else (0xe2 ∷ 0x81 ∷ next c ∷ [])) (e2_81_hidden c l h ∙ e)
-          ∙ ap u_escape same ∙ sym (hidden c (omega arith) e)
-      | inr e ↦ ap (λ (b : Bool). if b then u_escape (0x1fc0 + next c) else (0xe2 ∷ 0x81 ∷ next c ∷ [])) (e2_81_hidden c l h ∙ e)
-          ∙ sym (plain c (omega arith) e ∙ three c (omega arith) (omega arith) ∙ (λ k. lead k ∷ second k ∷ next c ∷ []))
-    ]
-  where
-    e2_81_hidden : (c : ℕ) → 8256 ≤ c → c < 8320 → (nat_le 0xa6 (next c) && nat_le (next c) 0xa9) ≡ is_hidden c
-    e2_81_hidden c l h = let same : next c ≡ c - 8128 = omega arith in rw same (grind (arith, nat_tests, l, h))
+e2_81_char c l h = search (rules, cases_Bool, hidden, plain, three)
 
-pub one_char : (c : ℕ) (bs : List ℕ) → scalar c ≡ true → text_after Nothing (encode c ++ bs) ≡ json_char c ++ text_after Nothing bs
-one_char c bs ok = elim (cases_lt c 128) [
-  | inl a ↦ ap (λ l. text_after Nothing (l ++ bs)) (encode_ascii c a) ∙ low c bs a ∙ ap (λ l. l ++ text_after Nothing bs) (low_char c a)
-  | inr a ↦ elim (cases_lt c 2048) [
-    | inl b ↦ ap (λ l. text_after Nothing (l ++ bs)) (two c a b) ∙ two_bytes c bs a b
-    | inr b ↦ elim (cases_lt c 65536) [
-      | inl d ↦ ap (λ l. text_after Nothing (l ++ bs)) (three c b d) ∙ three_bytes c bs b d
-      | inr d ↦ ap (λ l. text_after Nothing (l ++ bs)) (four c d) ∙ four_bytes c bs ok d
-    ]
+two_bytes : (c : ℕ) (bs : List ℕ) → 128 ≤ c → c < 2048 → text_after Nothing ((192 + c / 64) ∷ next c ∷ bs)
+    ≡ json_char c ++ text_after Nothing bs
+two_bytes c bs l h = elim (cases_lt c 192) [
+  | inl a ↦ from_c2 (192 + c / 64) (next c ∷ bs) (omega arith) ∙ ap (λ g. g ++ text_after Nothing bs) (c2_char c l a)
+  | inr a ↦ elim (cases_eq (c / 64) 24) [
+    | inl e ↦ from_d8 (192 + c / 64) (next c ∷ bs) (omega arith)
+        ∙ ap (λ g. g ++ text_after Nothing bs) (d8_char c (omega arith) (omega arith))
+    | inr n ↦ skip (192 + c / 64) (next c ∷ bs) (omega arith) (omega arith) (omega arith) (omega arith)
+        ∙ ap (λ l. (192 + c / 64) ∷ l) (skip (next c) bs (omega arith) (omega arith) (omega arith) (omega arith))
+        ∙ ap (λ g. g ++ text_after Nothing bs) (sym (plain c l (grind (arith, nat_tests, n, a, h)) ∙ two c l h))
   ]
 ]
-  where
-    two_bytes : (c : ℕ) (bs : List ℕ) → 128 ≤ c → c < 2048 → text_after Nothing ((192 + c / 64) ∷ next c ∷ bs)
-        ≡ json_char c ++ text_after Nothing bs
-    two_bytes c bs l h = elim (cases_lt c 192) [
-      | inl a ↦ from_c2 (192 + c / 64) (next c ∷ bs) (omega arith) ∙ ap (λ g. g ++ text_after Nothing bs) (c2_char c l a)
-      | inr a ↦ elim (cases_eq (c / 64) 24) [
-        | inl e ↦ from_d8 (192 + c / 64) (next c ∷ bs) (omega arith)
-            ∙ ap (λ g. g ++ text_after Nothing bs) (d8_char c (omega arith) (omega arith))
-        | inr n ↦ skip (192 + c / 64) (next c ∷ bs) (omega arith) (omega arith) (omega arith) (omega arith)
-            ∙ ap (λ l. (192 + c / 64) ∷ l) (skip (next c) bs (omega arith) (omega arith) (omega arith) (omega arith))
-            ∙ ap (λ g. g ++ text_after Nothing bs) (sym (plain c l (grind (arith, nat_tests, n, a, h)) ∙ two c l h))
-      ]
-    ]
 
-    three_bytes : (c : ℕ) (bs : List ℕ) → 2048 ≤ c → c < 65536 → text_after Nothing ((224 + c / 4096) ∷ next (c / 64) ∷ next c ∷ bs)
-        ≡ json_char c ++ text_after Nothing bs
-    three_bytes c bs l h = elim (cases_eq (c / 4096) 2) [
-      | inl e ↦ elim (cases_eq (c / 64) 128) [
-        | inl f ↦ from_e2_80 (224 + c / 4096) (next (c / 64)) (next c ∷ bs) (omega arith) (omega arith)
-            ∙ ap (λ g. g ++ text_after Nothing bs) (e2_80_char c (omega arith) (omega arith))
-        | inr m ↦ elim (cases_eq (c / 64) 129) [
-          | inl f ↦ from_e2_81 (224 + c / 4096) (next (c / 64)) (next c ∷ bs) (omega arith) (omega arith)
-              ∙ ap (λ g. g ++ text_after Nothing bs) (e2_81_char c (omega arith) (omega arith))
-          | inr k ↦
-              let lead : 224 + c / 4096 ≡ 0xe2 = omega arith in
-              from_e2 (224 + c / 4096) (next (c / 64)) (next c ∷ bs) lead (omega (arith, m, k, e)) (omega (arith, m, k, e))
-              ∙ ap (λ l. 0xe2 ∷ next (c / 64) ∷ l) (skip (next c) bs (omega arith) (omega arith) (omega arith) (omega arith))
-              ∙ ap (λ g. g ++ text_after Nothing bs) (sym
-              (plain c (omega arith) (grind (arith, nat_tests, e, m, k)) ∙ three c l h ∙ (λ i. lead i ∷ next (c / 64) ∷ next c ∷ [])))
-        ]
-      ]
-      | inr n ↦ skip (224 + c / 4096) (next (c / 64) ∷ next c ∷ bs) (omega arith) (omega arith) (omega arith) (omega (arith, n))
-          ∙ ap (λ l. (224 + c / 4096) ∷ l)
-          (skip (next (c / 64)) (next c ∷ bs) (omega arith) (omega arith) (omega arith) (omega arith)
-          ∙ ap (λ l. next (c / 64) ∷ l) (skip (next c) bs (omega arith) (omega arith) (omega arith) (omega arith)))
-          ∙ ap (λ g. g ++ text_after Nothing bs) (sym (plain c (omega arith) (grind (arith, nat_tests, n, l)) ∙ three c l h))
+three_bytes : (c : ℕ) (bs : List ℕ) → 2048 ≤ c → c < 65536 → text_after Nothing ((224 + c / 4096) ∷ next (c / 64) ∷ next c ∷ bs)
+    ≡ json_char c ++ text_after Nothing bs
+three_bytes c bs l h = elim (cases_eq (c / 4096) 2) [
+  | inl e ↦ elim (cases_eq (c / 64) 128) [
+    | inl f ↦ from_e2_80 (224 + c / 4096) (next (c / 64)) (next c ∷ bs) (omega arith) (omega arith)
+        ∙ ap (λ g. g ++ text_after Nothing bs) (e2_80_char c (omega arith) (omega arith))
+    | inr m ↦ elim (cases_eq (c / 64) 129) [
+      | inl f ↦ from_e2_81 (224 + c / 4096) (next (c / 64)) (next c ∷ bs) (omega arith) (omega arith)
+          ∙ ap (λ g. g ++ text_after Nothing bs) (e2_81_char c (omega arith) (omega arith))
+      | inr k ↦
+          let lead : 224 + c / 4096 ≡ 0xe2 = omega arith in
+          from_e2 (224 + c / 4096) (next (c / 64)) (next c ∷ bs) lead (omega (arith, m, k, e)) (omega (arith, m, k, e))
+          ∙ ap (λ l. 0xe2 ∷ next (c / 64) ∷ l) (skip (next c) bs (omega arith) (omega arith) (omega arith) (omega arith))
+          ∙ ap (λ g. g ++ text_after Nothing bs) (sym
+          (plain c (omega arith) (grind (arith, nat_tests, e, m, k)) ∙ three c l h ∙ (λ i. lead i ∷ next (c / 64) ∷ next c ∷ [])))
     ]
+  ]
+  | inr n ↦ skip (224 + c / 4096) (next (c / 64) ∷ next c ∷ bs) (omega arith) (omega arith) (omega arith) (omega (arith, n))
+      ∙ ap (λ l. (224 + c / 4096) ∷ l)
+      (skip (next (c / 64)) (next c ∷ bs) (omega arith) (omega arith) (omega arith) (omega arith)
+      ∙ ap (λ l. next (c / 64) ∷ l) (skip (next c) bs (omega arith) (omega arith) (omega arith) (omega arith)))
+      ∙ ap (λ g. g ++ text_after Nothing bs) (sym (plain c (omega arith) (grind (arith, nat_tests, n, l)) ∙ three c l h))
+]
 
-    four_bytes : (c : ℕ) (bs : List ℕ) → scalar c ≡ true → 65536 ≤ c
-        → text_after Nothing ((240 + c / 262144) ∷ next (c / 4096) ∷ next (c / 64) ∷ next c ∷ bs) ≡ json_char c ++ text_after Nothing bs
-    four_bytes c bs ok l =
-        let range = scalar_cases c ok in
-        skip (240 + c / 262144) (next (c / 4096) ∷ next (c / 64) ∷ next c ∷ bs) (omega arith) (omega (arith, range)) (omega (arith, range))
-        (omega (arith, range))
-        ∙ ap (λ l. (240 + c / 262144) ∷ l)
-        (skip (next (c / 4096)) (next (c / 64) ∷ next c ∷ bs) (omega arith) (omega arith) (omega arith) (omega arith)
-        ∙ ap (λ l. next (c / 4096) ∷ l)
-        (skip (next (c / 64)) (next c ∷ bs) (omega arith) (omega arith) (omega arith) (omega arith)
-        ∙ ap (λ l. next (c / 64) ∷ l) (skip (next c) bs (omega arith) (omega arith) (omega arith) (omega arith))))
-        ∙ ap (λ g. g ++ text_after Nothing bs) (sym (plain c (omega arith) (grind (arith, nat_tests, l)) ∙ four c l))
+four_bytes : (c : ℕ) (bs : List ℕ) → scalar c ≡ true → 65536 ≤ c
+    → text_after Nothing ((240 + c / 262144) ∷ next (c / 4096) ∷ next (c / 64) ∷ next c ∷ bs) ≡ json_char c ++ text_after Nothing bs
+four_bytes c bs ok l =
+    let range = scalar_cases c ok in
+    skip (240 + c / 262144) (next (c / 4096) ∷ next (c / 64) ∷ next c ∷ bs) (omega arith) (omega (arith, range)) (omega (arith, range))
+    (omega (arith, range))
+    ∙ ap (λ l. (240 + c / 262144) ∷ l)
+    (skip (next (c / 4096)) (next (c / 64) ∷ next c ∷ bs) (omega arith) (omega arith) (omega arith) (omega arith)
+    ∙ ap (λ l. next (c / 4096) ∷ l)
+    (skip (next (c / 64)) (next c ∷ bs) (omega arith) (omega arith) (omega arith) (omega arith)
+    ∙ ap (λ l. next (c / 64) ∷ l) (skip (next c) bs (omega arith) (omega arith) (omega arith) (omega arith))))
+    ∙ ap (λ g. g ++ text_after Nothing bs) (sym (plain c (omega arith) (grind (arith, nat_tests, l)) ∙ four c l))
+
+pub one_char : (c : ℕ) (bs : List ℕ) → scalar c ≡ true → text_after Nothing (encode c ++ bs) ≡ json_char c ++ text_after Nothing bs
+one_char c bs ok = search (rules, cases_lt, encode_ascii, low, low_char, two, three, four, two_bytes, three_bytes, four_bytes)
 
 all_chars : (cs : List ℕ) → scalars cs ≡ true → text_after Nothing (encodes cs) ≡ flat_map json_char cs
 all_chars [] ok = refl
-all_chars (c ∷ cs) ok =
-    let p = and_parts (scalar c) (scalars cs) ok in
-    one_char c (encodes cs) p.0 ∙ ap (λ l. json_char c ++ l) (all_chars cs p.1)
+all_chars (c ∷ cs) ok = search (rules, all_chars cs, and_parts, one_char)
 
 -- the two ways are one, where the text is UTF-8
 pub text_after-IsUtf8 : (bs : List ℕ) → IsUtf8 bs → text_after Nothing bs ≡ json_text bs

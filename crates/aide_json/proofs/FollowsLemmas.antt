@@ -1,5 +1,5 @@
 -- The test of each byte after three others is the test of the whole text.
-use Rattle.std.proofs.Common.{◌≡◌, ℕ, ◌↔◌, Bool, true, false, ◌&&◌, List, [], ◌∷◌, inl, inr, arith, refl, sym, ap, ◌∙◌}
+use Rattle.std.proofs.Common.{◌≡◌, ℕ, ◌↔◌, Bool, true, false, ◌&&◌, List, [], ◌∷◌, arith, refl, ap, ◌∙◌, rules}
 use Rattle.std.proofs.lemmas.Bool.{and_parts, and_from, cases_lt}
 use Rattle.std.proofs.lemmas.Bool.Decides.{nat_tests}
 use Rattle.std.specs.Str.{IsUtf8}
@@ -14,16 +14,7 @@ pub from_closed : (x y z : ℕ) → IsClosed x y z → is_closed x y z ≡ true
 from_closed x y z p = grind (arith, nat_tests, p)
 
 pub to_step : (x y z c : ℕ) → may_follow x y z c ≡ true → Step x y z c
-to_step x y z c e = elim (cases_lt x 0xf0) [
-  | inr a ↦ later (inl a) (grind (arith, nat_tests, e)) (grind (arith, nat_tests, e))
-  | inl a ↦ elim (cases_lt y 0xe0) [
-    | inr b ↦ later (inr b) (grind (arith, nat_tests, e)) (grind (arith, nat_tests, e))
-    | inl b ↦ elim (cases_lt z 0xc0) [
-      | inl d ↦ first (a, b, d) (elim (cases_lt c 0x80) [ inl l ↦ inl l | inr l ↦ inr (grind (arith, nat_tests, e)) ])
-      | inr d ↦ second (a, b) (grind (arith, nat_tests, e)) (grind (arith, nat_tests, e))
-    ]
-  ]
-]
+to_step x y z c e = search (rules, cases_lt, nat_tests)
 
 pub from_step : (x y z c : ℕ) → Step x y z c → may_follow x y z c ≡ true
 from_step x y z c (first p q) = grind (arith, nat_tests, p, q)
@@ -45,10 +36,7 @@ accepts-IsUtf8 cs = (λ e. (StepsThen-IsUtf8 cs).0 (to_steps 0 0 0 cs e), λ u. 
 -- the answer of the test is the answer about the text
 pub by_answer : (cs : List ℕ) (r : Bool) → accepts 0 0 0 cs ≡ r → (r ≡ true) ↔ IsUtf8 cs
 by_answer cs true e = (λ t. (accepts-IsUtf8 cs).0 e, λ u. refl)
-by_answer cs false e = (λ t. absurd (true_false (sym t)), λ u. absurd (true_false (sym ((accepts-IsUtf8 cs).1 u) ∙ e)))
-  where
-    true_false : true ≡ false → ⊥
-    true_false h = cc
+by_answer cs false e = search (rules, accepts-IsUtf8)
 
 pub at_end : (cs rest : List ℕ) (x y z : ℕ) → accepts 0 0 0 cs ≡ accepts x y z rest → rest ≡ [] → accepts 0 0 0 cs ≡ is_closed x y z
 at_end cs rest x y z e none = e ∙ ap (accepts x y z) none

@@ -1,6 +1,6 @@
 -- Texts with commas between them, one after another.
 use Rattle.std.proofs.Common.{◌≡◌, ◌∙◌, ℕ, Bool, true, false, ◌&&◌, not, cond, if◌then◌else◌, List, [], ◌∷◌, ◌++◌, map, refl, sym, ap}
-use Rattle.std.proofs.Common.{append_assoc}
+use Rattle.std.proofs.Common.{append_assoc, rules}
 use Rattle.std.proofs.lemmas.List.{append-nil}
 use Rattle.std.specs.List.{filter}
 use Rattle.aide_json.specs.Object.{behind, comma, joined}
@@ -33,19 +33,12 @@ module _ {X : Type 0} (wants : X → Bool) (text : X → List ℕ) where
   pub items_more : (first wanted later : Bool) (xs : List X) (x : X) (rest : List X) → xs ≡ x ∷ rest → wanted ≡ wants x → later
       ≡ (first && not wanted)
       → items_from first wants text xs ≡ next_item wanted first (text x) ++ items_from later wants text rest
-  items_more first wanted later xs x rest is e f =
-      ap (items_from first wants text) is ∙ items_first first x rest
-      ∙ ap (λ (b : Bool). next_item b first (text x) ++ items_from (first && not b) wants text rest) (sym e)
-      ∙ ap (λ (b : Bool). next_item wanted first (text x) ++ items_from b wants text rest) (sym f)
+  items_more first wanted later xs x rest is e f = search (rules, items_first)
 
   -- none is left
   pub items_end : (first : Bool) (xs : List X) → xs ≡ [] → items_from first wants text xs ≡ []
   unfolding items_from
-  items_end first xs none = ap (λ ys. joined_on first (map text (filter wants ys))) none ∙ none_on first
-    where
-      none_on : (first : Bool) → joined_on first [] ≡ []
-      none_on true = refl
-      none_on false = refl
+  items_end first xs none = search rules
 
   -- all from the beginning, by an equal test
   pub items_as : (p : X → Bool) (xs : List X) → ((x : X) → p x ≡ wants x) → items_from true p text xs ≡ joined (map text (filter wants xs))

@@ -1,6 +1,6 @@
 -- Members by whether a text is UTF-8, and numbers by whether each reader keeps them.
 use Rattle.std.proofs.Common.{◌≡◌, ℕ, ◌/◌, ◌%◌, ◌↔◌, Bool, true, false, if◌then◌else◌, List, [], ◌∷◌, ◌++◌, option_to_list, Option, None}
-use Rattle.std.proofs.Common.{IsTrue, IsUtf8, refl, sym, ap, ◌∙◌}
+use Rattle.std.proofs.Common.{IsTrue, IsUtf8, refl, sym, ap, ◌∙◌, rules}
 use Rattle.std.proofs.lemmas.Str.{IsUtf8-from_is_utf8, is_utf8-from_IsUtf8}
 use Rattle.std.specs.Str.{is_utf8}
 use Rattle.hex.specs.Hex.{encode_lower, encode_with}
@@ -14,13 +14,11 @@ not_utf8 text false e wrong = refl
 
 pub as_string : (name text : List ℕ) → IsUtf8 text → name_colon name ++ json_string text ≡ text_member name text
 unfolding text_member
-as_string name text u = ap (λ (b : Bool). if b then name_colon name ++ json_string text else hex_name_colon name ++ hex_string text)
-    (sym (is_utf8-from_IsUtf8 text u))
+as_string name text u = search (rules, is_utf8-from_IsUtf8)
 
 pub as_hex : (name text : List ℕ) → (IsUtf8 text → ⊥) → hex_name_colon name ++ hex_string text ≡ text_member name text
 unfolding text_member
-as_hex name text wrong = ap (λ (b : Bool). if b then name_colon name ++ json_string text else hex_name_colon name ++ hex_string text)
-    (sym (not_utf8 text (is_utf8 text) refl wrong))
+as_hex name text wrong = search (rules, not_utf8)
 
 false_true : false ≡ true → ⊥
 false_true e = cc
@@ -36,8 +34,7 @@ pub hex_some : (pending : Option ℕ) (before after : List ℕ) (c x y : ℕ) �
     ≡ hex_digit (c % 16)
     → option_to_list pending ++ encode_lower before ≡ x ∷ y ∷ encode_lower after
 unfolding encode_with
-hex_some pending before after c x y e f p q = ap (λ p. option_to_list p ++ encode_lower before) e ∙ ap encode_lower f
-    ∙ sym (λ i. p i ∷ q i ∷ encode_lower after)
+hex_some pending before after c x y e f p q = cc
 
 pub as_digits : (size : ℕ) (digits : List ℕ) → is_exact size ≡ true → digits ≡ number_as size digits
 unfolding number_as

@@ -1,12 +1,10 @@
-use Rattle.std.proofs.Common.{◌∙◌, sym}
+use Rattle.std.proofs.Common.{rules}
 use Rattle.aide_text.proofs.Sheets.{wrote_as}
 use Rattle.aide_json.proofs.MemberLemmas.{as_digits, as_quoted}
 use Rattle.aide_json.proofs.number.put_digits.Goals as goal
 
 pub returns-then-is_exact : goal.returns-then-is_exact
-returns-then-is_exact g c =
-    wrote_as (as_digits c.args.size c.args.digits.now (sym c.is_exact.ensures ∙ c.if-is_exact.true)) c.put.ensures
+returns-then-is_exact g c = search (rules, wrote_as, as_digits)
 
 pub returns-else-is_exact : goal.returns-else-is_exact
-returns-else-is_exact g c =
-    wrote_as (as_quoted c.args.size c.args.digits.now (sym c.is_exact.ensures ∙ c.if-is_exact.false)) c.put_quoted.ensures
+returns-else-is_exact g c = search (rules, wrote_as, as_quoted)
