@@ -93,6 +93,11 @@ class SetupTest(CommandTest):
         self.expect(label, answer, status, [*output] if output else b"", b"")
         return answer
 
+    def left_out(self) -> list[str]:
+        """What the options of each day leave out."""
+        lines = self.read(DEFAULTS).decode().splitlines()
+        return [line.partition(" ")[2] for line in lines if line.startswith("--exclude ")]
+
     def owners(self) -> dict[str, int]:
         """The owner of each path that is there."""
         found = {}
@@ -154,6 +159,7 @@ class SetupTest(CommandTest):
         daily = self.path(DAILY)
         self.assertIn(f"--trusted {daily}/signed.db.old {daily}/signed.db", lines)
         self.assertIn(f"--state {daily}/state", lines)
+        self.assertEqual(self.left_out(), [], "the shipped list names the databases")
         test = f"mail --test --user {NOBODY_NAME} --to=a@example.org"
         wanted = ["daemon-reload", "enable --now aide-compare.timer", test, "aideinit"]
         self.assertEqual(self.calls()[-4:], wanted, "the baseline is last")
@@ -240,6 +246,8 @@ class SetupTest(CommandTest):
         self.assertEqual(self.owners()["root/srv/its.db"], NOBODY)
         self.assertFalse(os.path.lexists(self.path(DATABASES + "aide.db")))
         self.set_up("nothing is missing there", ("--check",), 0, b"nothing is missing")
+        written = [made, self.path("root/srv/its.new"), f"{made}.previous"]
+        self.assertEqual(self.left_out(), written, "each run and accept write them")
         os.remove(made)
         self.stub("aideinit", "")
         said = f"AIDE has not written {made}\n".encode()

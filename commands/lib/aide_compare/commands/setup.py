@@ -87,6 +87,10 @@ class Machine:
         ]
         if self.is_debian:
             self.needed.append(f"--trusted {daily}/signed.db.old {daily}/signed.db")
+            # The shipped list names those in AIDE's own directory only.
+            if os.path.dirname(self.baseline) != PATHS.databases:
+                own = (self.baseline, self.new, f"{self.baseline}.previous")
+                self.needed += [f"--exclude {path}" for path in own]
 
     def owns(self, path: str) -> bool:
         """Whether what is by a path is the user's; False if there is nothing."""

@@ -29,6 +29,7 @@ class Paths:
         self.debian_configuration = f"{root}/etc/aide/aide.conf"
         self.other_configuration = f"{root}/etc/aide.conf"
         self.aliases = f"{root}/etc/aliases"
+        self.databases = f"{root}/var/lib/aide"
         self.own_directory = f"{root}/var/lib/aide-compare"
         self.defaults = f"{root}/etc/aide-compare/defaults"
         self.without = f"{root}/etc/aide-compare/without"
