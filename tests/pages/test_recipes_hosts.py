@@ -4,6 +4,7 @@ from __future__ import annotations
 import gzip
 import json
 import os
+import re
 import subprocess
 
 from tests.lib.answer import Answer
@@ -123,3 +124,13 @@ class HostsTest(RecipesTest):
         self.assertTrue(line[0].startswith("restrict,from="))
         self.assertIn(f'command="{command}"', line[0])
         self.assertIn(command, self.above(self.example("fleet/playbook.yaml")))
+
+    def test_jobs(self) -> None:
+        """The line of cron and the service of the timer run the same commands."""
+        line = self.example("fleet/aide-compare-fleet").splitlines()[-1]
+        service = self.example("fleet/aide-compare-fleet.service")
+        commands = [
+            re.findall(r"aide-compare (hosts [a-zA-Z -]+\b)", text) for text in (line, service)
+        ]
+        self.assertEqual(commands[0], commands[1])
+        self.assertEqual(len(commands[0]), 2)
