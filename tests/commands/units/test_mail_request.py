@@ -8,7 +8,6 @@ from unittest import mock
 from tests.commands.units.calls import ModuleTest
 
 from aide_compare.base import parser, progress
-from aide_compare.base.ending import Fault
 from aide_compare.base.options import COMPARISON_DEFAULTS, MAIL_DEFAULTS
 from aide_compare.base.parser import defaults_for
 from aide_compare.commands.mail_request import own_parser, request_of
