@@ -1,4 +1,4 @@
--- The attributes that each machine has of its own, and the digests that tell two contents apart.
+-- The attributes that are a machine's own, and the digests that distinguish two contents.
 use Rattle.std.specs.Prelude.{ℕ, nat_le, Bool, true, false, ◌&&◌, ◌||◌, List, [], ◌∷◌}
 use Rattle.std.specs.List.{list_any}
 use Rattle.aide_attr.specs.Attr.{form_of}

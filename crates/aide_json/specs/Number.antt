@@ -1,4 +1,4 @@
--- Numbers of JSON. Many readers keep 53 bits: a greater number is a string of its digits (RFC 7493 section 2.2).
+-- Numbers of JSON: one of more than 53 bits is a string of its digits (RFC 7493 section 2.2).
 use Rattle.std.specs.Prelude.{ℕ, ℤ, if◌then◌else◌, Bool, List, decimal, nat_abs, nat_lt}
 use Rattle.std.specs.Fmt.{signed_decimal}
 use Rattle.aide_json.specs.Json.{quoted}

@@ -18,8 +18,8 @@ use Rattle.aide_attr.specs.declared.attr.Attr.TheVariants.{Atime, Bcount, Caps, 
 use Rattle.aide_attr.specs.declared.attr.Attr.TheVariants.{Perm, Sha256, Sha3Of256}
 use Rattle.aide_attr.specs.declared.attr.Attr.TheVariants.{Sha3Of512, Sha512, Sha512Of256, Size, Stribog256, Stribog512, Whirlpool}
 use Rattle.aide_attr.specs.declared.delta.Ignore.{Ignore}
-use Rattle.aide_attr.specs.declared.file_type.FileType.TheVariants.{Block, Directory, Fifo, File, Link}
-use Rattle.aide_attr.specs.declared.form.Form.TheVariants.{Mode}
+use Rattle.aide_attr.specs.declared.file_type.FileType.TheVariants.{Block, Directory, Fifo, File, Link as SymbolicLink}
+use Rattle.aide_attr.specs.declared.form.Form.TheVariants.{Kind, Link, Mode, Opaque}
 use Rattle.aide_attr.specs.declared.set.AttrSet.{AttrSet}
 use Rattle.aide_db.specs.Map.{entries_of}
 use Rattle.aide_entry.specs.Attributes.{Attributes, Value, digest_value, is_different, link_value, mode_value, number_value}
@@ -30,6 +30,7 @@ use Rattle.aide_entry.specs.Lines.{kind_of, kind_of_field}
 use Rattle.aide_entry.specs.Numbers.{bits_of, mode_of, natural_of, number_of}
 use Rattle.aide_entry.specs.Path.{path_cmp}
 use Rattle.aide_entry.specs.Text.{fields, lines}
+use Rattle.aide_entry.specs.Values.{link_of}
 use Rattle.aide_entry.specs.declared.column.Column.TheVariants.{Bits, Name, Of, Skipped}
 use Rattle.aide_entry.specs.declared.line.LineKind.TheVariants.{Blank, End}
 use Rattle.aide_line_text.specs.declared.account.Account.TheVariants.{LeftOut, Old, Trusted}
@@ -64,7 +65,7 @@ directory mode size links =
 
 -- a link to a target, if the database has one
 abbrev pub link : Option (List ℕ) → Attributes
-link target = entry ((Ftype, type_value Link) ∷ (Lname, link_value target) ∷ [])
+link target = entry ((Ftype, type_value SymbolicLink) ∷ (Lname, link_value target) ∷ [])
 
 -- a database with two entries; what follows its end line is not read
 abbrev pub two_entries : List ℕ
@@ -213,6 +214,14 @@ attributes_of_example = refl
 pub value_in_example : value_in Mode (Some (codes "104755")) ≡ Some (mode_value (octal 4755))
 unfolding mode_of
 value_in_example = refl
+
+pub value_in_example_type : (value_in Kind (Some (codes "104755")) ≡ Some (type_value File)) × (value_in Opaque (Some (codes "0")) ≡ None)
+unfolding mode_of
+value_in_example_type = (refl, refl)
+
+pub value_in_example_link : value_in Link (Some (codes "0")) ≡ Some (link_value None)
+unfolding link_of
+value_in_example_link = refl
 
 pub path_cmp_example : path_cmp (codes "/a/b") (codes "/a-b") ≡ Less
 unfolding path_cmp

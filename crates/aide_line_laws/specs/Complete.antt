@@ -1,4 +1,4 @@
--- What a reader learns from the last line: that no line is missing, and what was read of each database.
+-- What a reader learns from the last line: that no line is missing, and what was read.
 use Rattle.std.specs.Io.KnownBytes.{Appends}
 use Rattle.std.specs.Prelude.{◌≡◌, ℕ, true, List, [], ◌∷◌, ◌++◌, Option, Some, None, codes}
 use Rattle.std.specs.Prelude.{option_and_then}
