@@ -1,15 +1,13 @@
 -- From what the matches hold to the job of the words.
-use Rattle.std.proofs.Common.{◌≡◌, ◌∙◌, List, [], ap, refl, sym, Bool, true, false, Option, Some, None, codes}
-use Rattle.std.proofs.Common.{if◌then◌else◌, Ok, Err}
+use Rattle.std.proofs.Common.{◌≡◌, ◌∙◌, List, [], ap, refl, Bool, true, false, Option, Some, None, codes}
+use Rattle.std.proofs.Common.{Ok, Err}
 use Rattle.std.proofs.Math.Path.{subst}
 use Rattle.std.specs.Prelude.{IfOk, Result, option_and_then}
-use Rattle.clap.specs.Walk.{Row, Text, first_of, is_empty}
+use Rattle.clap.specs.Walk.{Row, Text, first_of}
 use Rattle.clap.specs.Simple.{App, is_simple, matches_of}
-use Rattle.clap.specs.Kinds.{Kinds}
 use Rattle.clap.specs.Faults.{fault_of, is_simple_and_free}
 use Rattle.clap.proofs.OnLiterals.{clap_on_literals}
-use Rattle.aide_words.specs.Job.{JobText, aide_command, exactly_one, flag_of, job_for, job_of, job_of_rows, text_of}
-use Rattle.aide_words.specs.Job.{text_of_job}
+use Rattle.aide_words.specs.Job.{JobText, aide_command, exactly_one, flag_of, job_for, job_of, job_of_rows, text_of, text_of_job}
 use Rattle.aide_words.specs.declared.job.Job.{Job}
 use Rattle.aide_words.specs.declared.job.WordsFault.{WordsFault}
 
@@ -29,10 +27,7 @@ matched_by a b v rows is matched = subst (λ (x : App). (fault_of x v ≡ []) ×
 -- where the parse succeeds, the job is that of the rows
 pub job-rows : (v words : List Text) (rows : List Row) → v ≡ words
     → (fault_of aide_command v ≡ []) × (rows ≡ matches_of aide_command v) → job_of words ≡ job_of_rows rows
-job-rows v words rows same is =
-    sym (ap job_of same)
-    ∙ ap (λ (k : Kinds). if is_empty k then job_of_rows (matches_of aide_command v) else None) is.0
-    ∙ sym (ap job_of_rows is.1)
+job-rows v words rows same is = cc
 
 -- the job of the rows is that of the words, if there is one
 pub job-of-rows : (v words : List Text) (rows : List Row) → v ≡ words
@@ -52,12 +47,7 @@ pub choose_none : (rows : List Row) (o : Option Text)
     → exactly_one (flag_of (codes "compare") rows) (flag_of (codes "config-check") rows) ≡ false
     → option_and_then (job_for rows) o ≡ None
 choose_none rows None e = refl
-choose_none rows (Some t) e = ap (λ (b : Bool). if b then Some (record {
-  compare = flag_of (codes "compare") rows;
-  config = t;
-  before = text_of (codes "before") rows;
-  after = text_of (codes "after") rows;
-}) else None) e
+choose_none rows (Some t) e = cc
 
 pub job-some : (rows : List Row) (t : Text)
     → exactly_one (flag_of (codes "compare") rows) (flag_of (codes "config-check") rows) ≡ true
@@ -68,12 +58,7 @@ pub job-some : (rows : List Row) (t : Text)
       before = text_of (codes "before") rows;
       after = text_of (codes "after") rows;
     })
-job-some rows t e is = ap (option_and_then (job_for rows)) is ∙ ap (λ (b : Bool). if b then Some (record {
-  compare = flag_of (codes "compare") rows;
-  config = t;
-  before = text_of (codes "before") rows;
-  after = text_of (codes "after") rows;
-}) else None) e
+job-some rows t e is = cc
 
 pub job-made : (rows : List Row) (compare : Bool) (config before after t : Text)
     → compare ≡ flag_of (codes "compare") rows → config ≡ t
