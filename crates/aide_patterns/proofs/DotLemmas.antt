@@ -41,18 +41,13 @@ dot_fits component name m = search rules
 some_fits : (ps : Pattern) → ((ys : List (List ℕ)) → matches matches_name ps ys ≡ true → pattern_dots ps ≤ dots ys)
     → (xs : List (List ℕ)) → some_rest (matches matches_name ps) xs ≡ true → pattern_dots ps ≤ dots xs
 some_fits ps each [] h = each [] h
-some_fits ps each (x ∷ xs) h = elim (or_cases (matches matches_name ps (x ∷ xs)) (some_rest (matches matches_name ps) xs) h) [
-  | inl now ↦ each (x ∷ xs) now
-  | inr later ↦ omega (arith, some_fits ps each xs later)
-]
+some_fits ps each (x ∷ xs) h = search (rules, some_fits ps each xs, or_cases)
 
 -- no pattern has more of them than what it matches
 fits : (ps : Pattern) (xs : List (List ℕ)) → matches matches_name ps xs ≡ true → pattern_dots ps ≤ dots xs
 fits [] xs h = omega arith
 fits (one t ∷ ps) [] h = absurd (false≢true h)
-fits (one t ∷ ps) (x ∷ xs) h =
-    let both = and_parts (matches_name t x) (matches matches_name ps xs) h in
-    omega (arith, dot_fits t x both.0, fits ps xs both.1)
+fits (one t ∷ ps) (x ∷ xs) h = search (rules, fits ps xs, and_parts, dot_fits)
 fits (many ∷ ps) xs h = some_fits ps (λ ys k. fits ps ys k) xs h
 
 dotted : (b c : Bool) → one_if b ≡ one_if c → c ≡ true → b ≡ true

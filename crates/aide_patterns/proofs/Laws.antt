@@ -128,11 +128,7 @@ line_stays_in_text text lines rules longer path is_program line short long found
 
 -- each text has a reading
 pub has_reading : (text : List ℕ) → IsReading text (read_list text)
-has_reading text = go (read_list text) refl
-  where
-    go : (r : Result (List RuleText) ListFault) → read_list text ≡ r → IsReading text r
-    go (Ok rules) e = has_rules text rules e
-    go (Err fault) e = has_first_fault text fault e
+has_reading text = search (rules, has_rules, has_first_fault)
 
 -- and no other one
 pub one_reading : (text : List ℕ) (reading : Result (List RuleText) ListFault) → IsReading text reading

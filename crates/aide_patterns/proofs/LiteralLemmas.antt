@@ -3,12 +3,8 @@ use Rattle.std.proofs.Common.{◌≡◌, ℕ, Bool, true, false, List, [], ◌�
 use Rattle.std.specs.Prelude.{◌==◌}
 use Rattle.std.specs.List.{list_all}
 use Rattle.std.proofs.lemmas.Bool.{and_parts, and_from, eqb-true}
-use Rattle.aide_patterns.specs.Bytes.{is_byte}
-use Rattle.aide_patterns.specs.Component.{component_parts}
-use Rattle.aide_patterns.specs.Parts.{one}
-use Rattle.aide_patterns.specs.Path.{is_double_star, pattern_from}
-use Rattle.aide_patterns.specs.Pieces.{head_until, others_until}
-use Rattle.aide_patterns.specs.Tests.{matches, matches_name, matches_parts}
+use Rattle.aide_patterns.specs.Path.{is_double_star}
+use Rattle.aide_patterns.specs.Pieces.{head_until}
 use Rattle.aide_patterns.specs.code.Fronts.{is_plain}
 use Rattle.aide_patterns.proofs.FrontLemmas.{head_other, head_slash, no_double_star, one_part, others_other, others_slash, parts_plain}
 use Rattle.aide_patterns.proofs.FrontLemmas.{plain, step_plain, step_slash, within}
@@ -43,26 +39,20 @@ within_is (byte ∷ text) path h m = go (byte == 47) refl (λ left k. within_is 
 -- such a text matches itself behind a slash
 pub within_itself : (text : List ℕ) → list_all is_plain text ≡ true → within text text ≡ true
 within_itself [] h = refl
-within_itself (byte ∷ text) h = go (byte == 47) refl (within_itself text both.1)
-  where
-    both : (is_plain byte ≡ true) × (list_all is_plain text ≡ true)
-    both = and_parts (is_plain byte) (list_all is_plain text) h
-
-    names : List (List ℕ)
-    names = others_until 47 (byte ∷ text)
-
-    go : (b : Bool) → (byte == 47) ≡ b → within text text ≡ true → within (byte ∷ text) (byte ∷ text) ≡ true
-    go true at again =
-        and_from (matches_name (head_until 47 (byte ∷ text)) (head_until 47 (byte ∷ text))) _
-        (ap (λ t. matches_name t t) (head_slash byte text at))
-        (ap (λ ts. matches matches_name (pattern_from ts) ts) (others_slash byte text at)
-        ∙ (ap (λ ps. matches matches_name ps (head_until 47 text ∷ others_until 47 text))
-        (one_part (head_until 47 text) (others_until 47 text) (first_no_star text both.1)) ∙ again))
-    go false at again =
-        let rest = and_parts (matches_name (head_until 47 text) (head_until 47 text))
-        (matches matches_name (pattern_from (others_until 47 text)) (others_until 47 text)) again in
-        and_from (matches_name (head_until 47 (byte ∷ text)) (head_until 47 (byte ∷ text))) _
-        (ap (λ ps. matches_parts ps (head_until 47 (byte ∷ text))) (parts_plain byte text (plain byte both.0) at)
-        ∙ (ap (matches_parts (one (is_byte byte) ∷ component_parts (head_until 47 text))) (head_other byte text at)
-        ∙ and_from (byte == byte) (matches_name (head_until 47 text) (head_until 47 text)) (eq-eqb byte byte refl) rest.0))
-        (ap (λ ts. matches matches_name (pattern_from ts) ts) (others_other byte text at) ∙ rest.1)
+within_itself (byte ∷ text) h =
+    search (
+      rules,
+      within_itself text,
+      and_parts,
+      within,
+      and_from,
+      head_slash,
+      others_slash,
+      one_part,
+      first_no_star,
+      parts_plain,
+      plain,
+      head_other,
+      eq-eqb,
+      others_other,
+    )
