@@ -1,7 +1,7 @@
 -- What is kept after one more place.
 use Rattle.std.proofs.Common.{rules, ℕ, ◌≡◌, ◌<◌, ◌+◌, Bool, true, false, List, [], ◌∷◌, ◌++◌, length, refl, sym, ap}
 use Rattle.std.proofs.Common.{subst, ◌∙◌, arith, Option, Some, None, cond, Result, inl, inr, ◌⊎◌}
-use Rattle.std.specs.Prelude.{if◌then◌else◌, is_some, IsSome, Vec, ◌||◌, ◌&&◌, not, nat_le, option_map}
+use Rattle.std.specs.Prelude.{if◌then◌else◌, is_some, IsSome, Vec, ◌||◌, option_map}
 use Rattle.std.specs.List.{list_any}
 use Rattle.std.specs.Option.{option_or}
 use Rattle.std.specs.FinMap.{get, len, insert, remove, get-insert, len-insert}
@@ -9,6 +9,7 @@ use Rattle.std.specs.Cmp.Lexicographic.{nat_list_cmp_total, texts_ties}
 use Rattle.std.proofs.lemmas.Bool.Decides.{nat_tests}
 use Rattle.std.proofs.lemmas.List.{reverse-append}
 use Rattle.std.proofs.Math.Path.{fun_ext}
+use Rattle.std.proofs.Math.Bool.{or-true, or-false}
 use Rattle.aide_attr.specs.declared.set.AttrSet.{AttrSet}
 use Rattle.aide_attr.specs.declared.expression.ExprFault.{ExprFault}
 use Rattle.aide_attr.specs.Groups.{Sets, names_of, meaning_of, IsFull}
@@ -21,20 +22,18 @@ use Rattle.aide_conf.specs.declared.option_kind.Side.TheVariants.{Old, New}
 use Rattle.aide_conf.specs.declared.options.Switch.{Switch}
 use Rattle.aide_conf.specs.declared.options.AttrList.{AttrList}
 use Rattle.aide_conf.specs.declared.builder.SettingsBuilder.{SettingsBuilder}
-use Rattle.aide_conf.specs.Effect.{Effect, NamesDatabase, EndsOptions, DefinesGroup, DefinesVariable, DropsVariable}
-use Rattle.aide_conf.specs.Effect.{same}
+use Rattle.aide_conf.specs.Effect.{Effect, NamesDatabase, EndsOptions, DefinesGroup, DefinesVariable, DropsVariable, same}
 use Rattle.aide_conf.specs.Marks.{Marked, says, names_given, add_name, is_name}
-use Rattle.aide_conf.specs.MarkedGroups.{set_meant, meaning_after, group, group_in, group_names}
-use Rattle.aide_conf.specs.MarkedGroups.{group_name_of, is_too_many}
+use Rattle.aide_conf.specs.MarkedGroups.{set_meant, meaning_after, group, group_in, group_names, group_name_of, is_too_many}
 use Rattle.aide_conf.specs.MarkedPaths.{path_in, path_by, path_set}
 use Rattle.aide_conf.specs.MarkedVariables.{variable_by, variable_name_of}
 use Rattle.aide_conf.specs.Settings.{AreOptions, counted, fixes, fixes_by, level_by, switch_by, attrs_by}
 use Rattle.aide_conf.specs.code.Variables.{values_of}
 use Rattle.aide_conf.specs.code.Builder.{IsBuiltFrom, HasGroups, HasVariables, text_at, unless_fixed, NamesPath, HasNewGroup}
-use Rattle.aide_conf.proofs.Names.{exact, or_true}
+use Rattle.aide_conf.proofs.Names.{exact}
 use Rattle.aide_conf.proofs.VariableSteps.{variables_same, variables_set, variables_unset}
 use Rattle.aide_conf.proofs.Steps.{last_given-more, last_given-same, last_given-given, options_same, list_any-more}
-use Rattle.aide_conf.proofs.Steps.{counted-fixed, counted-open, counted-more, counted-fixes, or_false}
+use Rattle.aide_conf.proofs.Steps.{counted-fixed, counted-open, counted-more, counted-fixes}
 
 -- ---- effects that leave something as it was
 
@@ -114,14 +113,7 @@ pub few : (xs : List Marked) (table : Sets) → HasGroups xs table → (n : List
     → IsSome (get table n) ⊎ (len table < 1024) → is_too_many xs n ≡ false
 unfolding is_too_many
 few xs table h n (inl k) = let e : list_any (same n) (group_names xs) ≡ true = h.known n ∙ k in rw e refl
-few xs table h n (inr k) =
-    let l : length (group_names xs) < 1024 = omega (arith, h.size) in
-    let e : nat_le 1024 (length (group_names xs)) ≡ false = grind (arith, nat_tests) in
-    rw e (by (not (list_any (same n) (group_names xs))))
-  where
-    by : (b : Bool) → (b && false) ≡ false
-    by true = refl
-    by false = refl
+few xs table h n (inr k) = search (rules, nat_tests)
 
 pub many : (xs : List Marked) (table : Sets) → HasGroups xs table → (n : List ℕ) → IsFull table n
     → is_too_many xs n ≡ true
@@ -136,7 +128,7 @@ looks xs table h = fun_ext (λ n. ap (λ z. option_or (option_map has z) (predef
 
 module _ {A : Type 0} (xs : List Marked) (x : Marked) (p : SettingsBuilder A) (s : IsBuiltFrom xs p) where
   fixed_kept : fixes x ≡ false → p.fixed ≡ list_any fixes (xs ++ x ∷ [])
-  fixed_kept f = s.fixed ∙ sym (list_any-more xs x ∙ ap (λ z. list_any fixes xs || z) f ∙ or_false (list_any fixes xs))
+  fixed_kept f = s.fixed ∙ sym (list_any-more xs x ∙ ap (λ z. list_any fixes xs || z) f ∙ or-false (list_any fixes xs))
 
   options_fixed : (o : Options) → p.fixed ≡ true → AreOptions (counted xs) o → AreOptions (counted (xs ++ x ∷ [])) o
   options_fixed o e h = subst (λ z. AreOptions z o) (sym (counted-fixed xs x (sym s.fixed ∙ e))) h
@@ -226,7 +218,7 @@ module _ {A : Type 0} (xs : List Marked) (x : Marked) (p : SettingsBuilder A) (s
     groups = groups_same xs x (names_of p.groups) s.groups (ap group_name_of e);
     variables = no_variables EndsOptions e (record { value = λ m. refl; name = refl });
     options = by p.fixed refl;
-    fixed = sym (list_any-more xs x ∙ ap (λ z. list_any fixes xs || z) (ap fixes_by e) ∙ or_true (list_any fixes xs));
+    fixed = sym (list_any-more xs x ∙ ap (λ z. list_any fixes xs || z) (ap fixes_by e) ∙ or-true (list_any fixes xs));
     old_path = path_kept Old (text_at p.old_path) s.old_path (ap (path_by Old) e);
     new_path = path_kept New (text_at p.new_path) s.new_path (ap (path_by New) e);
   }

@@ -2,8 +2,7 @@
 use Rattle.std.proofs.Common.{rules, ℕ, ◌≡◌, ◌<◌, suc, zero, true, false, List, [], ◌∷◌, ◌++◌, length, refl, sym, ap}
 use Rattle.std.proofs.Common.{subst, ◌∙◌, arith, inl, inr, ◌⊎◌, append_assoc}
 use Rattle.std.proofs.lemmas.List.{length-append, append-nil}
-use Rattle.aide_conf.specs.Blocks.{Seen, opens, Inside, IsClosed, IsInnermost, IsOutside, Encloses, AreEnclosing}
-use Rattle.aide_conf.specs.Blocks.{AreFalling, IsOneOf}
+use Rattle.aide_conf.specs.Blocks.{Seen, opens, Inside, IsClosed, IsInnermost, IsOutside, Encloses, AreEnclosing, AreFalling, IsOneOf}
 use Rattle.aide_conf.proofs.BlockLemmas.{cut_at, opening, IsClosed-more, Settled, Settled-body}
 
 Settled-inside : (w : List Seen) → Inside w → Settled w
@@ -13,10 +12,7 @@ Settled-inside w (inr h) = Settled-body true w h
 -- an opening line that is not closed before another such line is not closed behind it
 still_open : (o : Seen) (rest between : List Seen) → opens o.role ≡ true → ¬ IsClosed rest → ¬ IsClosed between
     → ¬ IsClosed (rest ++ o ∷ between)
-still_open o rest between t no_rest no_between h = elim (cut_at rest (o ∷ between) h.0 h.2 h.1 h.3) [
-  | inl p ↦ no_rest (h.0, h.1, p.0, p.1, h.4, h.5)
-  | inr p ↦ within p.0 p.1 p.2
-]
+still_open o rest between t no_rest no_between h = search (rules, cut_at, within)
   where
     within : (more : List Seen) → h.0 ≡ rest ++ more → o ∷ between ≡ more ++ h.1 ∷ h.2 → ⊥
     within [] e q = search (rules, opening)
@@ -82,10 +78,7 @@ one_more_encloses n here outer o between inner r = (
 
 below_first : (n i : ℕ) (is : List ℕ) → AreFalling n is → IsOneOf i is → i < n
 below_first n i [] f h = absurd h
-below_first n i (j ∷ js) f h = elim h [
-  | inl e ↦ omega (arith, e, f.0)
-  | inr k ↦ omega (arith, f.0, below_first j i js f.1 k)
-]
+below_first n i (j ∷ js) f h = search (rules, below_first j i js f.1)
 
 abbrev HaveSame : List ℕ → List ℕ → Type 0
 HaveSame is js = (i : ℕ) → IsOneOf i is → IsOneOf i js

@@ -70,23 +70,16 @@ same_text : (t u : ConfText) → is_text t u ≡ true → u ≡ t
 same_text Before Before e = refl
 same_text File File e = refl
 same_text After After e = refl
-same_text Before File e = cc
 same_text Before After e = cc
 same_text File Before e = cc
 same_text File After e = cc
 same_text After Before e = cc
-same_text After File e = cc
+same_text _ File e = cc
 
 unseen : (text : ConfText) (xs : List Marked) (x : Marked) → is_text text x.place.text ≡ false
     → seen_in text (xs ++ x ∷ []) ≡ seen_in text xs
 unseen text [] x e = ap (λ z. if z then seen x ∷ [] else []) e
-unseen text (y ∷ ys) x e = by (is_text text y.place.text) (unseen text ys x e)
-  where
-    by : (b : Bool) → seen_in text (ys ++ x ∷ []) ≡ seen_in text ys
-        → (if b then seen y ∷ seen_in text (ys ++ x ∷ []) else seen_in text (ys ++ x ∷ []))
-        ≡ (if b then seen y ∷ seen_in text ys else seen_in text ys)
-    by true h = ap (λ z. seen y ∷ z) h
-    by false h = h
+unseen text (y ∷ ys) x e = search (rules, unseen text ys x e)
 
 open_after : (earlier : List Marked) (x : Marked) → AllOpen earlier → (gs : List Frame)
     → IsOpen (seen_in x.place.text (earlier ++ x ∷ [])) gs → AllOpen (earlier ++ x ∷ [])

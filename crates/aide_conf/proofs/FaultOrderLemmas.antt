@@ -11,7 +11,7 @@ use Rattle.aide_attr.specs.Level.{level_named}
 use Rattle.aide_attr.specs.declared.level.Level.{Level}
 use Rattle.aide_attr.specs.Name.{is_word, is_group_name}
 use Rattle.aide_conf.specs.declared.fault.ConfText.{ConfText}
-use Rattle.aide_conf.specs.declared.fault.ConfText.TheVariants.{Before, File, After}
+use Rattle.aide_conf.specs.declared.fault.ConfText.TheVariants.{Before}
 use Rattle.aide_conf.specs.declared.fault.ConfFaultKind.{ConfFaultKind}
 use Rattle.aide_conf.specs.declared.fault.ConfFaultKind.TheVariants as faults
 use Rattle.aide_conf.specs.declared.task.Need.{Need}
@@ -248,18 +248,9 @@ unused_told : (look : Look) (earlier : List Marked) (x : Marked) (line : List �
     → Judged look (directive_effect false item x.expanded) x.verdict
     → line_fault earlier x.depth x.divided (directive_effect false item x.expanded) x.verdict
     ≡ first_by (is_wrong earlier x line item (assignment_of false item x.expanded))
-unused_told look earlier x line (Some (Define n v)) used j = let none : x.verdict ≡ None = j in rw (used, none) refl
-unused_told look earlier x line (Some (Undef n)) used j = let none : x.verdict ≡ None = j in rw (used, none) refl
-unused_told look earlier x line (Some (IfDef n)) used j = let none : x.verdict ≡ None = j in rw (used, none) refl
-unused_told look earlier x line (Some (IfNotDef n)) used j = let none : x.verdict ≡ None = j in rw (used, none) refl
-unused_told look earlier x line (Some IfOther) used j = let none : x.verdict ≡ None = j in rw (used, none) refl
-unused_told look earlier x line (Some Else) used j = let none : x.verdict ≡ None = j in rw (used, none) refl
-unused_told look earlier x line (Some EndIf) used j = let none : x.verdict ≡ None = j in rw (used, none) refl
 unused_told look earlier x line (Some (Omitted true)) used j = rw used refl
-unused_told look earlier x line (Some (Omitted false)) used j = let none : x.verdict ≡ None = j in rw (used, none) refl
 unused_told look earlier x line (Some (Unknown true)) used j = rw used refl
-unused_told look earlier x line (Some (Unknown false)) used j = let none : x.verdict ≡ None = j in rw (used, none) refl
-unused_told look earlier x line None used j = let none : x.verdict ≡ None = j in rw (used, none) refl
+unused_told look earlier x line _ used j = let none : x.verdict ≡ None = j in rw (used, none) refl
 
 -- a line in a used part that is not too long before its expansion
 used_told : (look : Look) (earlier : List Marked) (x : Marked) (line : List ℕ) (item : Option (Directive (List ℕ))) → x.used ≡ true
@@ -318,8 +309,7 @@ end_told : (need : Need) (earlier : List Marked) (text : ConfText) (outside : Bo
 end_told need earlier text false = refl
 end_told Check earlier text true = refl
 end_told Compare earlier Before true = refl
-end_told Compare earlier File true = refl
-end_told Compare earlier After true = refl
+end_told Compare earlier _ true = refl
 
 says_of : (x : Marked) (o : Option (List ℕ)) → x.place.line ≡ o → says x ≡ line_says o x.used x.expanded
 unfolding says

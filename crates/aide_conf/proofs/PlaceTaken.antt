@@ -10,10 +10,9 @@ use Rattle.aide_attr.specs.declared.expression.ExprFault.{ExprFault}
 use Rattle.aide_conf.specs.declared.task.Need.{Need}
 use Rattle.aide_conf.specs.declared.task.Need.TheVariants.{Compare}
 use Rattle.aide_conf.specs.declared.fault.ConfText.{ConfText}
-use Rattle.aide_conf.specs.declared.fault.ConfText.TheVariants.{Before, File, After}
+use Rattle.aide_conf.specs.declared.fault.ConfText.TheVariants.{Before, After}
 use Rattle.aide_conf.specs.declared.fault.ConfFaultKind.{ConfFaultKind}
-use Rattle.aide_conf.specs.declared.fault.ConfFaultKind.TheVariants.{StrayElse, StrayEndif, MissingEndif, LineTooLong}
-use Rattle.aide_conf.specs.declared.fault.ConfFaultKind.TheVariants.{Memory}
+use Rattle.aide_conf.specs.declared.fault.ConfFaultKind.TheVariants.{StrayElse, StrayEndif, MissingEndif, LineTooLong, Memory}
 use Rattle.aide_conf.specs.declared.option_kind.Side.TheVariants.{Old, New}
 use Rattle.aide_conf.specs.declared.builder.SettingsBuilder.{SettingsBuilder}
 use Rattle.aide_conf.specs.declared.blocks.Frame.{Frame}
@@ -25,7 +24,7 @@ use Rattle.aide_conf.specs.Effect.{Effect, Nothing, Faulty, is_skipped, is_direc
 use Rattle.aide_conf.specs.Directive.{directive_of, read_directive, directive_text, directive_chooses, directive_effect, directive_grows}
 use Rattle.aide_conf.specs.Directive.{line_grows, role_of, line_effect}
 use Rattle.aide_conf.specs.code.Returned.{as_lists}
-use Rattle.aide_conf.specs.Blocks.{Opens, Divides, Closes, Seen, is_single, opens, divides, closes}
+use Rattle.aide_conf.specs.Blocks.{Opens, Divides, Closes, Seen, is_single, opens, closes}
 use Rattle.aide_conf.specs.code.Stack.{IsOpen, top_used, top_divided, opened, divided_at, closed_at, frames_after}
 use Rattle.aide_conf.specs.Expansion.{plain}
 use Rattle.aide_conf.specs.code.Replacing.{expansion_after}
@@ -37,8 +36,7 @@ use Rattle.aide_conf.specs.RightMarks.{Grows, IsMarkedWell}
 use Rattle.aide_conf.specs.MarkedPaths.{path_set}
 use Rattle.aide_conf.specs.PlaceFault.{line_fault, fault_at, end_fault, end_block_fault, missing}
 use Rattle.aide_conf.specs.code.Builder.{IsBuiltFrom, TakesOne, TakesEffect, fault_of, place_at, text_at}
-use Rattle.aide_conf.proofs.StackLemmas.{used_right, depth_right, divided_right, single_next, opens_next, divides_next}
-use Rattle.aide_conf.proofs.StackLemmas.{closes_next}
+use Rattle.aide_conf.proofs.StackLemmas.{used_right, depth_right, divided_right, single_next, opens_next, divides_next, closes_next}
 use Rattle.aide_conf.proofs.ExpansionLemmas.{is_expansion}
 use Rattle.aide_conf.proofs.Built.{built_same}
 use Rattle.aide_conf.proofs.BoundedLemmas.{not_zero}
@@ -47,19 +45,12 @@ use Rattle.aide_conf.proofs.BoundedLemmas.{not_zero}
 
 same_text : (text : ConfText) → is_text text text ≡ true
 same_text Before = refl
-same_text File = refl
-same_text After = refl
+same_text _ = refl
 
 pub seen_in-more : (text : ConfText) (xs : List Marked) (x : Marked) → x.place.text ≡ text
     → seen_in text (xs ++ x ∷ []) ≡ seen_in text xs ++ seen x ∷ []
 seen_in-more text [] x e = ap (λ z. if z then seen x ∷ [] else []) (ap (is_text text) e ∙ same_text text)
-seen_in-more text (y ∷ ys) x e = by (is_text text y.place.text) (seen_in-more text ys x e)
-  where
-    by : (b : Bool) → seen_in text (ys ++ x ∷ []) ≡ seen_in text ys ++ seen x ∷ []
-        → (if b then seen y ∷ seen_in text (ys ++ x ∷ []) else seen_in text (ys ++ x ∷ []))
-        ≡ (if b then seen y ∷ seen_in text ys else seen_in text ys) ++ seen x ∷ []
-    by true h = ap (λ z. seen y ∷ z) h
-    by false h = h
+seen_in-more text (y ∷ ys) x e = search (rules, seen_in-more text ys x e)
 
 -- ---- the blocks after one more line
 
@@ -72,12 +63,7 @@ module _ (here : List Seen) (fs : List Frame) (o : IsOpen here fs) (earlier : Li
       → (if length gs == 0 || top_divided gs then Some StrayElse else None) ≡ None
       → IsOpen (here ++ x ∷ []) (divided_at gs)
   divides_well x e [] h f = let bad : Some StrayElse ≡ None = f in cc
-  divides_well x e (g ∷ gs) h f = divides_next here g gs x h (ap divides e)
-      (by g.second (sym (ap (λ z. else_fault (z || g.second)) (not_zero (length gs))) ∙ f))
-    where
-      by : (b : Bool) → (if b then Some StrayElse else None) ≡ None → b ≡ false
-      by true k = let bad : Some StrayElse ≡ None = k in cc
-      by false k = refl
+  divides_well x e (g ∷ gs) h f = search (rules, divides_next, not_zero)
 
   closes_well : (x : Seen) → x.role ≡ Closes → (gs : List Frame) → IsOpen here gs
       → (if length gs == 0 then Some StrayEndif else None) ≡ None → IsOpen (here ++ x ∷ []) (closed_at gs)
@@ -93,16 +79,12 @@ module _ (here : List Seen) (fs : List Frame) (o : IsOpen here fs) (earlier : Li
       → x.first ≡ directive_chooses defined i
       → line_fault earlier (length fs) (top_divided fs) (directive_effect (top_used fs) i out) v ≡ None
       → IsOpen (here ++ x ∷ []) (frames_after (role_of i) (top_used fs) (directive_chooses defined i) fs)
-  blocks_after (Some (code.Define n t)) x e u f h = single_next here fs x o (ap is_single e)
-  blocks_after (Some (code.Undef n)) x e u f h = single_next here fs x o (ap is_single e)
   blocks_after (Some (code.IfDef n)) x e u f h = opens_well x (defined n) e u f
   blocks_after (Some (code.IfNotDef n)) x e u f h = opens_well x (not (defined n)) e u f
   blocks_after (Some code.IfOther) x e u f h = opens_well x false e u f
   blocks_after (Some code.Else) x e u f h = divides_well x e fs o h
   blocks_after (Some code.EndIf) x e u f h = closes_well x e fs o h
-  blocks_after (Some (code.Omitted c)) x e u f h = single_next here fs x o (ap is_single e)
-  blocks_after (Some (code.Unknown c)) x e u f h = single_next here fs x o (ap is_single e)
-  blocks_after None x e u f h = single_next here fs x o (ap is_single e)
+  blocks_after _ x e u f h = single_next here fs x o (ap is_single e)
 
 -- ---- one line
 
@@ -316,14 +298,7 @@ directive_is line i d e = ap (λ z. if z then Some (read_directive (drop 2 line)
 -- the code's directives are never plain lines
 pub text_of_directive : (line : List ℕ) (d : Directive (Bor (List ℕ))) → directive_text line (as_lists d) ≡ directive_text [] (as_lists d)
 text_of_directive line (code.Define n v) = refl
-text_of_directive line (code.Undef n) = refl
-text_of_directive line (code.IfDef n) = refl
-text_of_directive line (code.IfNotDef n) = refl
-text_of_directive line code.IfOther = refl
-text_of_directive line code.Else = refl
-text_of_directive line code.EndIf = refl
-text_of_directive line (code.Omitted c) = refl
-text_of_directive line (code.Unknown c) = refl
+text_of_directive line _ = refl
 
 -- ---- the end of a text
 

@@ -1,13 +1,13 @@
 -- Each test of attributes is that of a set.
-use Rattle.std.proofs.Common.{rules, ℕ, ◌≡◌, ◌<◌, ◌^◌, suc, zero, Bool, true, false, refl, ap, ◌∙◌, arith, inl, inr}
-use Rattle.std.proofs.Common.{◌⊎◌, get_or}
-use Rattle.std.specs.Prelude.{◌==◌, ◌||◌}
+use Rattle.std.proofs.Common.{rules, ℕ, ◌≡◌, ◌<◌, ◌^◌, suc, zero, Bool, true, false, ap, ◌∙◌, arith, get_or}
+use Rattle.std.specs.Prelude.{◌==◌}
 use Rattle.std.specs.Int.{bit_at}
 use Rattle.std.specs.Int.RustNames.{bit_or}
 use Rattle.std.proofs.Math.Pow.{pow_pos}
 use Rattle.std.proofs.Math.Path.{fun_ext}
 use Rattle.std.proofs.lemmas.Nat.{or_lt, pow_below}
 use Rattle.std.proofs.lemmas.Nat.Bits.{bit_at-zero, bit_at-pow_same, bit_at-pow_other, bit_at_above}
+use Rattle.std.proofs.Math.Bool.{or-false}
 use Rattle.aide_attr.specs.declared.attr.Attr.{Attr}
 use Rattle.aide_attr.specs.declared.attr.Attr.TheVariants as attr
 use Rattle.aide_attr.specs.declared.set.AttrSet.{AttrSet}
@@ -15,7 +15,6 @@ use Rattle.aide_attr.specs.Attr.{index, all_attrs, count}
 use Rattle.aide_attr.specs.Set.{has}
 use Rattle.aide_attr.proofs.AttrLemmas.{at_index, index_small}
 use Rattle.aide_attr.proofs.SetLemmas.{bit_or_test}
-use Rattle.aide_conf.proofs.Steps.{or_false}
 
 attr_of : ℕ → Attr
 attr_of i = get_or all_attrs i attr.Ftype
@@ -55,19 +54,7 @@ bits_are : (f : Attr → Bool) (n i : ℕ) → i < n → (bit_at (bits f n) i ==
 unfolding bits
 bits_are f zero i h = absurd (omega arith)
 bits_are f (suc n) i h =
-    bit_or_test (bits f n) (bit_if (f (attr_of n)) n) i ∙ by_place (λ l. bits_are f n i l) (split i n h)
-  where
-    split : (i n : ℕ) → i < suc n → (i < n) ⊎ (i ≡ n)
-    split zero zero h = inr refl
-    split zero (suc n) h = inl (omega arith)
-    split (suc i) zero h = absurd (omega arith)
-    split (suc i) (suc n) h = elim (split i n (omega arith)) [ inl l ↦ inl (omega (arith, l)) | inr e ↦ inr (ap suc e) ]
-
-    by_place : ((i < n) → (bit_at (bits f n) i == 1) ≡ f (attr_of i)) → (i < n) ⊎ (i ≡ n)
-        → ((bit_at (bits f n) i == 1) || (bit_at (bit_if (f (attr_of n)) n) i == 1)) ≡ f (attr_of i)
-    by_place below (inl l) = ap (λ z. z || (bit_at (bit_if (f (attr_of n)) n) i == 1)) (below l)
-        ∙ ap (λ z. f (attr_of i) || z) (other_bit (f (attr_of n)) n i l) ∙ or_false (f (attr_of i))
-    by_place below (inr e) = search (rules, bit_at_above, bits_small, attr_of, own_bit)
+    search (rules, bits_are f n i, bit_or_test, bits, bit_if, attr_of, other_bit, or-false, bit_at_above, bits_small, own_bit)
 
 -- the set of the attributes that pass a test
 pub set_of : (Attr → Bool) → AttrSet

@@ -247,10 +247,9 @@ module _ {A : Type 0} (E : Type 0) (earlier : List Marked) (depth : ℕ) (divide
       → IsAnswered (if b then Some kind else None) result → Taken (if b then Faulty kind else Nothing) p result
   refused_if true kind (Ok u) h = let bad : Some kind ≡ None = h in cc
   refused_if true kind (Err k) (inl h) = let e : kind ≡ k = cc in subst (λ z. Taken (Faulty kind) p (Err z)) e (faulty kind p)
-  refused_if true kind (Err k) (inr h) = inr h
   refused_if false kind (Ok u) h = nothing u
   refused_if false kind (Err k) (inl h) = let bad : None ≡ Some k = h in cc
-  refused_if false kind (Err k) (inr h) = inr h
+  refused_if _ kind (Err k) (inr h) = inr h
 
   -- ---- expanded lines
 

@@ -1,13 +1,12 @@
 -- The lines of a text, taken one after another.
-use Rattle.std.proofs.Common.{rules, ℕ, ◌≡◌, ◌<◌, ◌+◌, Bool, true, false, List, [], ◌∷◌, ◌++◌, length, refl, sym, ap}
+use Rattle.std.proofs.Common.{rules, ℕ, ◌≡◌, ◌<◌, ◌+◌, List, [], ◌∷◌, ◌++◌, length, refl, sym, ap}
 use Rattle.std.proofs.Common.{subst, ◌∙◌, arith, Option, Some, None, Result, Ok, Err, append_assoc}
-use Rattle.std.specs.Prelude.{map, unwrap_or, if◌then◌else◌, ◌==◌}
+use Rattle.std.specs.Prelude.{map, unwrap_or}
 use Rattle.aide_conf.specs.declared.task.Need.{Need}
 use Rattle.aide_conf.specs.declared.fault.ConfText.{ConfText}
 use Rattle.aide_conf.specs.declared.fault.ConfFaultKind.{ConfFaultKind}
 use Rattle.aide_conf.specs.declared.builder.SettingsBuilder.{SettingsBuilder}
-use Rattle.aide_conf.specs.Cutting.{Place, places_from, lines_of, onto_first, strip, is_newline, bytes_before}
-use Rattle.aide_conf.specs.Cutting.{bytes_after}
+use Rattle.aide_conf.specs.Cutting.{Place, places_from, lines_of, strip, is_newline, bytes_before, bytes_after}
 use Rattle.aide_conf.specs.declared.blocks.Frame.{Frame}
 use Rattle.aide_conf.specs.Blocks.{nothing}
 use Rattle.aide_conf.specs.code.Stack.{IsOpen}
@@ -25,34 +24,13 @@ line_rest bs = unwrap_or (bytes_after is_newline bs) []
 
 some_line : (bs : List ℕ) → 0 < length bs → lines_of bs ≡ bytes_before is_newline bs ∷ lines_of (line_rest bs)
 some_line [] h = absurd (omega arith)
-some_line (b ∷ []) h = by (b == 10)
-  where
-    by : (t : Bool)
-        → (if t then [] ∷ [] else (b ∷ []) ∷ []) ≡ (if t then [] else b ∷ []) ∷ lines_of (unwrap_or (if t then Some [] else None) [])
-    by true = refl
-    by false = refl
-some_line (b ∷ c ∷ cs) h = by (b == 10) (some_line (c ∷ cs) (omega arith))
-  where
-    by : (t : Bool) → lines_of (c ∷ cs) ≡ bytes_before is_newline (c ∷ cs) ∷ lines_of (line_rest (c ∷ cs))
-        → (if t then [] ∷ lines_of (c ∷ cs) else onto_first b (lines_of (c ∷ cs)))
-        ≡ (if t then [] else b ∷ bytes_before is_newline (c ∷ cs)) ∷ lines_of
-        (unwrap_or (if t then Some (c ∷ cs) else bytes_after is_newline (c ∷ cs)) [])
-    by true e = refl
-    by false e = ap (onto_first b) e
+some_line (b ∷ []) h = search rules
+some_line (b ∷ c ∷ cs) h = search (rules, some_line (c ∷ cs) (omega arith))
 
 pub shorter : (bs : List ℕ) → 0 < length bs → length (line_rest bs) < length bs
 shorter [] h = absurd (omega arith)
-shorter (b ∷ []) h = by (b == 10)
-  where
-    by : (t : Bool) → length {A = ℕ} (unwrap_or (if t then Some [] else None) []) < length (b ∷ [])
-    by true = omega arith
-    by false = omega arith
-shorter (b ∷ c ∷ cs) h = by (b == 10) (shorter (c ∷ cs) (omega arith))
-  where
-    by : (t : Bool) → length (line_rest (c ∷ cs)) < length (c ∷ cs)
-        → length (unwrap_or (if t then Some (c ∷ cs) else bytes_after is_newline (c ∷ cs)) []) < length (b ∷ c ∷ cs)
-    by true e = omega arith
-    by false e = omega (arith, e)
+shorter (b ∷ []) h = search rules
+shorter (b ∷ c ∷ cs) h = search (rules, shorter (c ∷ cs) (omega arith))
 
 -- ---- places
 
