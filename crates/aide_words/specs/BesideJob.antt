@@ -1,19 +1,15 @@
--- The comparison with a trusted pair that a list of arguments asks for, by the matches that `clap` states.
+-- The comparison that a list of arguments asks for, by the matches that `clap` states. It may name a trusted pair.
 use Rattle.std.specs.Prelude.{true, List, Option, Some, None, codes, if◌then◌else◌}
 use Rattle.clap.specs.Walk.{Row, Rule, Text, is_empty}
 use Rattle.clap.specs.Simple.{App, matches_of, new_app, new_rule, with_rule}
 use Rattle.clap.specs.Faults.{fault_of}
 use Rattle.clap.specs.declared.builder.action.ArgAction.TheVariants.{Set, SetTrue}
-use Rattle.aide_words.specs.Job.{option_rule, text_of, with_texts}
+use Rattle.aide_words.specs.Job.{exactly_one, option_rule, text_of, with_texts}
 use Rattle.aide_words.specs.declared.beside_job.BesideJob.{BesideJob}
 
 -- an option without a letter; its long name is its id
 abbrev pub long_rule : Text → Rule
 long_rule id = record (new_rule id) { long = Some id; action = Some Set }
-
--- the same, if it has to be given
-abbrev pub trusted_rule : Text → Rule
-trusted_rule id = record (long_rule id) { required = true }
 
 -- a command with the flag of a comparison, which has to be given
 abbrev pub with_compare : App → App
@@ -23,15 +19,15 @@ with_compare app =
 -- a command with the options that name a trusted pair
 abbrev pub with_trusted : App → App
 with_trusted app = with_rule (with_rule app
-    (trusted_rule (codes "trusted-old")))
-    (trusted_rule (codes "trusted-new"))
+    (long_rule (codes "trusted-old")))
+    (long_rule (codes "trusted-new"))
 
 -- a command with the option that gives a list of what is left out
 abbrev pub with_list : App → App
 with_list app = with_rule app (long_rule (codes "without"))
 
--- The command of a comparison with a trusted pair. It has the options of `aide` but the one that
--- only checks the configuration, and may be given a list of what is left out.
+-- The command of a comparison. It has the options of `aide` but the one that only checks the
+-- configuration, and may be given a trusted pair and a list of what is left out.
 unfoldable pub beside_command : App
 beside_command = with_list
     (with_trusted (with_texts (with_compare (new_app (codes "aide_lines")))))
@@ -41,6 +37,7 @@ pub record BesideText : Type 0 where
   pub config : Text
   pub before : Text
   pub after : Text
+  -- the paths of the trusted pair; both are empty if none was named
   pub trusted_old : Text
   pub trusted_new : Text
   -- the text of the list of what is left out
@@ -57,11 +54,16 @@ beside_text rows = record {
   without = text_of (codes "without") rows;
 }
 
--- the comparison with a trusted pair that the arguments ask for, if there is one
+-- a job that names both databases of a trusted pair, or neither
+abbrev pub paired : BesideText → Option BesideText
+paired job =
+    if exactly_one (is_empty job.trusted_old) (is_empty job.trusted_new) then None else Some job
+
+-- the comparison that the arguments ask for, if there is one
 abbrev pub beside_job_of : List Text → Option BesideText
 beside_job_of words =
     if is_empty (fault_of beside_command words)
-    then Some (beside_text (matches_of beside_command words)) else None
+    then paired (beside_text (matches_of beside_command words)) else None
 
 -- the texts of a job
 abbrev pub text_of_beside : BesideJob → BesideText

@@ -1,17 +1,16 @@
-//! What a command line asks for that names a trusted pair of databases.
+//! The comparison that a command line asks for, which may name a trusted pair of databases.
 ghost use Rattle.std.specs.Prelude.{◌≡◌, false, Some, None, IfOk, IsErrOf};
 ghost use Rattle.aide_words.specs.BesideJob.{beside_command, beside_job_of, beside_text};
-ghost use Rattle.aide_words.specs.BesideJob.{long_rule, text_of_beside, trusted_rule};
+ghost use Rattle.aide_words.specs.BesideJob.{long_rule, paired, text_of_beside};
 ghost use Rattle.aide_words.specs.BesideJob.{with_compare, with_list, with_trusted};
 ghost use Rattle.clap.specs.Words.{app_of, found_of, rows_of, rule_of};
 
 use crate::job::{WordsFault, add_texts, matches, option, text};
-use crate::words::{Memory, Word, Words};
+use crate::words::{Word, Words};
 use clap::{Arg, ArgAction, ArgMatches, Command};
 use std::alloc::{AllocError, Global};
 
-/// A comparison that the command line asks for, and the two databases of a trusted machine that
-/// stand beside it.
+/// A comparison that the command line asks for.
 #[derive(Drop)]
 pub struct BesideJob {
     /// The path of the configuration.
@@ -20,9 +19,9 @@ pub struct BesideJob {
     pub before: Word,
     /// Lines of configuration to read after those of the file. Empty if none were given.
     pub after: Word,
-    /// The path of the old database of the trusted machine.
+    /// The path of the old database of the trusted pair. Empty if no pair was named.
     pub trusted_old: Word,
-    /// The path of the new database of the trusted machine.
+    /// The path of the new database of the trusted pair. Empty if no pair was named.
     pub trusted_new: Word,
     /// The text of a list of what is left out. Empty if none was given.
     pub without: Word,
@@ -34,17 +33,6 @@ fn long_option<'a>(alloc: Global, id: &'a str) -> Arg<'a>
     ensures local { result.global ≡ false }
 {
     Arg::new(alloc, id).long(id).action(ArgAction::Set)
-}
-
-/// Makes the option `--id`, which has no letter and has to be given.
-fn trusted_option<'a>(alloc: Global, id: &'a str) -> Arg<'a>
-    ensures rule { rule_of result ≡ trusted_rule id.now }
-    ensures local { result.global ≡ false }
-{
-    Arg::new(alloc, id)
-        .long(id)
-        .action(ArgAction::Set)
-        .required(true)
 }
 
 /// Adds the flag of a comparison, which has to be given.
@@ -59,8 +47,8 @@ fn add_trusted<'a>(alloc: Global, command: Command<'a>) -> Result<Command<'a>, A
     ensures { IfOk result (λ c. app_of c ≡ with_trusted (app_of command.entry)) }
 {
     command
-        .arg(trusted_option(alloc, "trusted-old"))?
-        .arg(trusted_option(alloc, "trusted-new"))
+        .arg(long_option(alloc, "trusted-old"))?
+        .arg(long_option(alloc, "trusted-new"))
 }
 
 /// Adds the option that gives a list of what is left out.
@@ -70,7 +58,7 @@ fn add_list<'a>(alloc: Global, command: Command<'a>) -> Result<Command<'a>, Allo
     command.arg(long_option(alloc, "without"))
 }
 
-/// Makes the command of a comparison with a trusted pair.
+/// Makes the command of a comparison.
 fn command<'a>(alloc: Global) -> Result<Command<'a>, AllocError>
     ensures { IfOk result (λ c. app_of c ≡ beside_command) }
 {
@@ -80,27 +68,35 @@ fn command<'a>(alloc: Global) -> Result<Command<'a>, AllocError>
     add_list(alloc, command)
 }
 
-/// Copies the texts of the options.
-fn beside_job_from(alloc: Global, found: &ArgMatches<'_>) -> Result<BesideJob, Memory>
-    ensures { IfOk result (λ job. text_of_beside job ≡ beside_text (rows_of (found_of found.now))) }
+/// Returns the job that the options ask for.
+fn beside_job_from(alloc: Global, found: &ArgMatches<'_>) -> Result<BesideJob, WordsFault>
+    ensures ok { IfOk result (λ job. paired (beside_text (rows_of (found_of found.now)))
+        ≡ Some (text_of_beside job)) }
+    ensures usage { IsErrOf result WordsFault.Usage
+        → paired (beside_text (rows_of (found_of found.now))) ≡ None }
 {
+    let trusted_old = text(found, "trusted-old");
+    let trusted_new = text(found, "trusted-new");
+    if trusted_old.is_empty() != trusted_new.is_empty() {
+        return Err(WordsFault::Usage);
+    }
     Ok(BesideJob {
         config: Word::new(alloc, text(found, "config"))?,
         before: Word::new(alloc, text(found, "before"))?,
         after: Word::new(alloc, text(found, "after"))?,
-        trusted_old: Word::new(alloc, text(found, "trusted-old"))?,
-        trusted_new: Word::new(alloc, text(found, "trusted-new"))?,
+        trusted_old: Word::new(alloc, trusted_old)?,
+        trusted_new: Word::new(alloc, trusted_new)?,
         without: Word::new(alloc, text(found, "without"))?,
     })
 }
 
-/// Reads the arguments of a comparison with a trusted pair. The first one is the program's name:
-/// `aide_lines (-E | --compare) (-c | --config) FILE --trusted-old FILE --trusted-new FILE
-/// [-B | --before TEXT] [-A | --after TEXT] [--without TEXT]`.
+/// Reads the arguments of a comparison. The first one is the program's name:
+/// `aide_lines (-E | --compare) (-c | --config) FILE [-B | --before TEXT] [-A | --after TEXT]
+/// [--trusted-old FILE --trusted-new FILE] [--without TEXT]`.
 ///
-/// All but `-B`, `-A` and `--without` have to be given, and each option at most once. Everything
-/// else is `Usage`, including a request for help, and arguments that name no trusted pair. Out of
-/// memory is `WordsFault::Memory`.
+/// `-E` and FILE have to be given, and each option at most once. Of the trusted pair both databases
+/// have to be named or neither; an empty text names none. Everything else is `Usage`, including a
+/// request for help. Out of memory is `WordsFault::Memory`.
 #[inline(never)]
 pub fn read_beside_words(alloc: Global, words: &Words) -> Result<BesideJob, WordsFault>
     ensures ok { IfOk result (λ job. beside_job_of words.now ≡ Some (text_of_beside job)) }
@@ -110,8 +106,5 @@ pub fn read_beside_words(alloc: Global, words: &Words) -> Result<BesideJob, Word
         return Err(WordsFault::Memory);
     };
     let found = matches(command, words.as_slice())?;
-    match beside_job_from(alloc, &found) {
-        Ok(job) => Ok(job),
-        Err(Memory) => Err(WordsFault::Memory),
-    }
+    beside_job_from(alloc, &found)
 }
