@@ -1,7 +1,6 @@
 -- The file added last counts.
 use Rattle.std.proofs.Common.{◌≡◌, ◌≢◌, ◌∙◌, ℕ, ◌+◌, ◌<◌, List, [], ◌∷◌, ◌++◌, Option, Some, None, Bool, true, false}
 use Rattle.std.proofs.Common.{if◌then◌else◌, refl, sym, ap, ap₂, take, get_or, length, rules}
-use Rattle.std.specs.Prelude.{option_and_then}
 use Rattle.std.proofs.Math.Path.{subst}
 use Rattle.std.specs.Str.{bytes_eq}
 use Rattle.std.specs.Cmp.Lexicographic.{bytes_decides}
@@ -10,7 +9,8 @@ use Rattle.std.proofs.lemmas.List.{drop_more}
 use Rattle.aide_db.specs.Side.{by_side}
 use Rattle.aide_db.specs.declared.side.Side.{Side}
 use Rattle.aide_session.specs.Files.{GivesFile}
-use Rattle.aide_session.specs.Sites.{Shelf, bytes_at, either, of_file, side_bytes}
+use Rattle.aide_session.specs.Sites.{Shelf, aim_bytes, bytes_at, either, of_file, side_bytes}
+use Rattle.aide_session.specs.declared.pointed.Aim.{Aim}
 
 either_none : (o : Option (List ℕ)) → o ≡ either o None
 either_none None = refl
@@ -59,12 +59,11 @@ added_elsewhere files path bytes other apart =
     bytes_snoc files (path, bytes) other ∙ ap (λ (b : Bool). either (if b then Some bytes else None) (bytes_at files other))
     (bytes_eq_other path other (λ same. apart (sym same)))
 
--- what was found at a path that may be missing, by files and a path that are equal
-pub found_at : (files same_files : List (List ℕ × List ℕ)) (path same_path : Option (List ℕ)) (found : Option (List ℕ))
-    → files ≡ same_files → path ≡ same_path → found ≡ option_and_then (λ p. bytes_at files p) path
-    → option_and_then (λ p. bytes_at same_files p) same_path ≡ found
-found_at files same_files path same_path found is_files is_path is =
-    sym (is ∙ ap₂ (λ (l : List (List ℕ × List ℕ)) (q : Option (List ℕ)). option_and_then (λ p. bytes_at l p) q) is_files is_path)
+-- what a side gives, by files and an aim that are equal
+pub found_at : (files same_files : List (List ℕ × List ℕ)) (aim same_aim : Aim) (found : Option (List ℕ))
+    → files ≡ same_files → aim ≡ same_aim → found ≡ aim_bytes files aim → aim_bytes same_files same_aim ≡ found
+found_at files same_files aim same_aim found is_files is_aim is =
+    sym (is ∙ ap₂ (λ (l : List (List ℕ × List ℕ)) (a : Aim). aim_bytes l a) is_files is_aim)
 
 -- what was found at a path of a site, whose view is that of its files
 pub found_in : (view site : Shelf) (files : List (List ℕ × List ℕ)) (path : List ℕ) (found : Option (List ℕ))
@@ -72,12 +71,11 @@ pub found_in : (view site : Shelf) (files : List (List ℕ × List ℕ)) (path :
 found_in view site files path found is_files is_view is =
     sym (is ∙ ap (λ (l : List (List ℕ × List ℕ)). bytes_at l path) (is_files ∙ ap (λ (s : Shelf). s.files) is_view))
 
--- what was found at the path of a side
-pub found_on_side : (view site : Shelf) (side : Side) (files : List (List ℕ × List ℕ)) (old_path new_path path found : Option (List ℕ))
-    → files ≡ view.files → old_path ≡ view.old_path → new_path ≡ view.new_path → view ≡ site
-    → path ≡ by_side old_path new_path side → found ≡ option_and_then (λ p. bytes_at files p) path
-    → side_bytes site side ≡ found
-found_on_side view site side files old_path new_path path found is_files is_old is_new is_view is_path is = search (rules, found_at)
+-- what a side of a site gives
+pub found_on_side : (view site : Shelf) (side : Side) (files : List (List ℕ × List ℕ)) (old_aim new_aim aim : Aim) (found : Option (List ℕ))
+    → files ≡ view.files → old_aim ≡ view.old_aim → new_aim ≡ view.new_aim → view ≡ site
+    → aim ≡ by_side old_aim new_aim side → found ≡ aim_bytes files aim → side_bytes site side ≡ found
+found_on_side view site side files old_aim new_aim aim found is_files is_old is_new is_view is_aim is = search (rules, found_at)
 
 -- a reel over the bytes that were found gives the file that is known
 pub gives_found : (there : Option (List ℕ)) (bytes : List ℕ) (file : Option (List ℕ)) → there ≡ Some bytes

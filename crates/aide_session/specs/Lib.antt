@@ -4,8 +4,10 @@ pub mod Lines
 pub mod TrustedLines
 pub mod GivenList
 pub mod Files
+pub mod Trusted
 pub mod Pointing
 pub mod Sites
+pub mod Reels
 pub mod Output
 pub mod Writing
 pub mod Answer

@@ -1,18 +1,21 @@
 -- What contracts see of sites: files in memory, and those of the machine.
-use Rattle.std.specs.Prelude.{ℕ, List, [], ◌∷◌, Option, Some, None, option_and_then, is_none, Bool}
+use Rattle.std.specs.Prelude.{ℕ, List, [], ◌∷◌, Option, Some, None, is_none, Bool}
 use Rattle.std.specs.Prelude.{if◌then◌else◌}
 use Rattle.std.specs.Str.{bytes_eq}
 use Rattle.aide_db.specs.Side.{by_side}
 use Rattle.aide_db.specs.declared.side.Side.{Side}
 use Rattle.aide_session.specs.Files.{Files}
+use Rattle.aide_session.specs.Trusted.{empty_database}
+use Rattle.aide_session.specs.declared.pointed.Aim.{Aim}
+use Rattle.aide_session.specs.declared.pointed.Aim.TheVariants.{Nowhere, Empty, At}
 
--- A site in memory: its files by their paths, in the order in which they were added; the paths of
--- the two sides; how often each side was opened, and whether its last opening succeeded; how often
+-- A site in memory: its files by their paths, in the order in which they were added; what
+-- the two sides are pointed at; how often each side was opened, and whether its last opening succeeded; how often
 -- a configuration was opened; the number of failures.
 pub record Shelf : Type 0 where
   pub files : List (List ℕ × List ℕ)
-  pub old_path : Option (List ℕ)
-  pub new_path : Option (List ℕ)
+  pub old_aim : Aim
+  pub new_aim : Aim
   pub old_openings : ℕ
   pub new_openings : ℕ
   pub old_given : Bool
@@ -23,8 +26,8 @@ pub record Shelf : Type 0 where
 -- a site over the files of the machine, by their handle; it does not show its files
 pub record Machine (F : Type 0) : Type 0 where
   pub files : F
-  pub old_path : Option (List ℕ)
-  pub new_path : Option (List ℕ)
+  pub old_aim : Aim
+  pub new_aim : Aim
   pub old_openings : ℕ
   pub new_openings : ℕ
   pub old_given : Bool
@@ -50,15 +53,33 @@ bytes_at (file ∷ files) path = either (bytes_at files path) (of_file file path
 abbrev pub files_at : Shelf → Files
 files_at s path = Some (bytes_at s.files path)
 
+-- the path that a side is pointed at, if it is pointed at one
+abbrev pub aim_path : Aim → Option (List ℕ)
+aim_path Nowhere = None
+aim_path Empty = None
+aim_path (At path) = Some path
+
+-- the bytes that a side gives over these files
+abbrev pub aim_bytes : List (List ℕ × List ℕ) → Aim → Option (List ℕ)
+aim_bytes files Nowhere = None
+aim_bytes files Empty = Some empty_database
+aim_bytes files (At path) = bytes_at files path
+
+-- the bytes that a side gives whose files are not told
+abbrev pub aim_text : Aim → Option (List ℕ)
+aim_text Nowhere = None
+aim_text Empty = Some empty_database
+aim_text (At path) = None
+
 -- the path that a side is pointed at
 abbrev pub side_path : Shelf → Side → Option (List ℕ)
-side_path s side = by_side s.old_path s.new_path side
+side_path s side = aim_path (by_side s.old_aim s.new_aim side)
 
--- the bytes at the path of a side
+-- the bytes that a side gives
 abbrev pub side_bytes : Shelf → Side → Option (List ℕ)
-side_bytes s side = option_and_then (λ path. bytes_at s.files path) (side_path s side)
+side_bytes s side = aim_bytes s.files (by_side s.old_aim s.new_aim side)
 
--- the side is not pointed at a file that is there
+-- the side is pointed neither at a file that is there nor at the empty database
 abbrev pub side_missing : Shelf → Side → Bool
 side_missing s side = is_none (side_bytes s side)
 
@@ -72,7 +93,11 @@ side_openings s side = by_side s.old_openings s.new_openings side
 
 -- the path that a side of a site over the machine's files is pointed at
 abbrev pub machine_path : {F : Type 0} → Machine F → Side → Option (List ℕ)
-machine_path s side = by_side s.old_path s.new_path side
+machine_path s side = aim_path (by_side s.old_aim s.new_aim side)
+
+-- the bytes that a side of such a site gives, if they are told: only those of the empty database
+abbrev pub machine_text : {F : Type 0} → Machine F → Side → Option (List ℕ)
+machine_text s side = aim_text (by_side s.old_aim s.new_aim side)
 
 -- whether the last opening of a side of the machine's files succeeded
 abbrev pub machine_given : {F : Type 0} → Machine F → Side → Bool

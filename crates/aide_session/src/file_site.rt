@@ -1,19 +1,22 @@
 //! The machine's files.
-ghost use Rattle.std.specs.Prelude.{◌≡◌, ℕ, List, Option, None, false, IfSome};
-ghost use Rattle.aide_session.specs.Sites.{machine_given, machine_path};
+ghost use Rattle.std.specs.Prelude.{◌≡◌, ℕ, List, Some, false, IfSome};
+ghost use Rattle.aide_session.specs.Reels.{reel_failures, reel_to_come};
+ghost use Rattle.aide_session.specs.Sites.{aim_text, machine_given, machine_path, machine_text};
+ghost use Rattle.aide_session.specs.declared.pointed.Aim.TheVariants.{Nowhere};
 ghost use Rattle.aide_db.specs.Side.{by_side};
 
-use crate::pointed::Pointed;
+use crate::file_reel::FileReel;
+use crate::pointed::{Aim, Pointed, empty_database};
 use crate::site::Site;
 use aide_db::{OpenFault, ReadReel, Reel, Side, Sources};
-use aide_words::{Memory, Word};
+use aide_words::Memory;
 use std::alloc::Global;
 use std::fs;
 use std::marker::Model;
 use std::rt::Files;
 
-/// The files of the machine. Contracts see nothing of their bytes. A read asks the machine for no
-/// more bytes than the caller asks for.
+/// The files of the machine. Contracts see nothing of their bytes, only those of the empty database.
+/// A read asks the machine for no more bytes than the caller asks for.
 #[derive(Drop)]
 pub struct FileSite<F> {
     files: F,
@@ -29,8 +32,8 @@ impl<F> Model for FileSite<F> {
 
     ghost view = { λ s. record {
       files = s.files;
-      old_path = s.sides.old_path;
-      new_path = s.sides.new_path;
+      old_aim = s.sides.old_aim;
+      new_aim = s.sides.new_aim;
       old_openings = s.sides.old_openings;
       new_openings = s.sides.new_openings;
       old_given = s.sides.old_given;
@@ -41,34 +44,37 @@ impl<F> Model for FileSite<F> {
 }
 
 /// Opens a reel over the file at a path.
-fn open_file<F: Files>(files: &F, path: &str) -> Option<ReadReel<F::File>>
-    ensures { IfSome result (λ r. r.failures ≡ 0) }
+fn open_file<F: Files>(files: &F, path: &str) -> Option<FileReel<F::File>>
+    ensures { IfSome result (λ r. reel_failures r ≡ 0) }
 {
     let Ok(file) = fs::open(files, path) else {
         return None;
     };
-    Some(ReadReel::new(file))
+    Some(FileReel::File(ReadReel::new(file)))
 }
 
-/// Opens a reel over the file that a side is pointed at, if it is pointed at one.
-fn open_pointed<F: Files>(files: &F, path: &Option<Word>) -> Option<ReadReel<F::File>>
-    ensures { IfSome result (λ r. r.failures ≡ 0) }
+/// Opens a reel over what a side is pointed at, if it is pointed at anything.
+fn open_aim<F: Files>(files: &F, aim: &Aim) -> Option<FileReel<F::File>>
+    ensures fresh { IfSome result (λ r. reel_failures r ≡ 0) }
+    ensures gives { IfSome result (λ r. IfSome (aim_text aim.now)
+        (λ bytes. reel_to_come F.File.Read.remaining r ≡ Some bytes)) }
 {
-    match path {
-        Some(path) => open_file(files, path.as_str()),
-        None => None,
+    match aim {
+        Aim::At(path) => open_file(files, path.as_str()),
+        Aim::Empty => Some(FileReel::Text(empty_database())),
+        Aim::Nowhere => None,
     }
 }
 
 impl<F: Files> FileSite<F> {
-    /// Returns the files of a machine. No side is pointed at a path yet. Takes no memory.
+    /// Returns the files of a machine. No side is pointed at anything yet. Takes no memory.
     pub fn new(files: F) -> FileSite<F>
         ensures { result ≡ record {
           files = files;
           failures = 0;
           lookups = 0;
-          old_path = None;
-          new_path = None;
+          old_aim = Nowhere;
+          new_aim = Nowhere;
           old_openings = 0;
           new_openings = 0;
           old_given = false;
@@ -85,9 +91,9 @@ impl<F: Files> FileSite<F> {
 }
 
 impl<F: Files> Sources for FileSite<F> {
-    type R = ReadReel<F::File>;
+    type R = FileReel<F::File>;
 
-    ghost bytes_of = { λ _ _. None };
+    ghost bytes_of = { machine_text };
 
     ghost openings = { λ s side. by_side s.old_openings s.new_openings side };
 
@@ -97,8 +103,8 @@ impl<F: Files> Sources for FileSite<F> {
 
     ghost lookups = { λ s. s.lookups };
 
-    fn open(&mut self, side: Side) -> Result<ReadReel<F::File>, OpenFault> {
-        let reel = open_pointed(&self.files, self.sides.path(side));
+    fn open(&mut self, side: Side) -> Result<FileReel<F::File>, OpenFault> {
+        let reel = open_aim(&self.files, self.sides.aim(side));
         self.sides.count(side, reel.is_some());
         let Some(reel) = reel else {
             self.failures = self.failures.saturating_add(1);
@@ -107,16 +113,21 @@ impl<F: Files> Sources for FileSite<F> {
         Ok(reel)
     }
 
-    fn close(&mut self, reel: ReadReel<F::File>) {
-        self.failures = self.failures.saturating_add(reel.failures());
-        let _ = reel.into_reader();
+    fn close(&mut self, reel: FileReel<F::File>) {
+        match reel {
+            FileReel::File(reel) => {
+                self.failures = self.failures.saturating_add(reel.failures());
+                let _ = reel.into_reader();
+            }
+            FileReel::Text(_) => {}
+        }
     }
 }
 
 impl<F: Files> Site for FileSite<F> {
     ghost path_of = { machine_path };
 
-    fn config(&mut self, path: &str) -> Result<ReadReel<F::File>, OpenFault> {
+    fn config(&mut self, path: &str) -> Result<FileReel<F::File>, OpenFault> {
         self.lookups = self.lookups.saturating_add(1);
         match open_file(&self.files, path) {
             Some(reel) => Ok(reel),
@@ -129,5 +140,9 @@ impl<F: Files> Site for FileSite<F> {
 
     fn point(&mut self, alloc: Global, side: Side, path: &str) -> Result<(), Memory> {
         self.sides.point(alloc, side, path)
+    }
+
+    fn point_at_empty(&mut self, side: Side) {
+        self.sides.set(side, Aim::Empty);
     }
 }

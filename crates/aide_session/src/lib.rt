@@ -7,6 +7,7 @@ mod config_check;
 mod config_file;
 mod databases;
 mod devices;
+mod file_reel;
 mod file_site;
 mod given_list;
 mod lines;
@@ -25,6 +26,7 @@ mod trusted_lines;
 pub use aide_words::{
     BesideJob, Job, Memory, Word, Words, WordsFault, read_beside_words, read_words,
 };
+pub use file_reel::FileReel;
 pub use file_site::FileSite;
 pub use lines_program::lines_session_on;
 pub use machine::{start, start_lines};

@@ -1,18 +1,20 @@
 //! A site in memory.
 ghost use Rattle.std.specs.Prelude.{◌≡◌, ◌≤◌, ◌≢◌, ◌++◌, ◌∷◌, [], ℕ, true, false, List, Option};
-ghost use Rattle.std.specs.Prelude.{Some, None, IfOk, IfSome, IsSome, OnOk, OnErr, option_and_then};
+ghost use Rattle.std.specs.Prelude.{Some, None, IfOk, IfSome, IsSome, OnOk, OnErr};
 ghost use Rattle.std.specs.Option.{option_map};
-ghost use Rattle.aide_session.specs.Sites.{bytes_at, either, files_at, of_file, side_bytes};
-ghost use Rattle.aide_session.specs.Sites.{side_given, side_missing, side_openings, side_path};
+ghost use Rattle.aide_session.specs.Sites.{aim_bytes, bytes_at, either, files_at, of_file};
+ghost use Rattle.aide_session.specs.Sites.{side_bytes, side_given, side_missing, side_openings};
+ghost use Rattle.aide_session.specs.Sites.{side_path};
 ghost use Rattle.aide_session.specs.Files.{GivesFile};
+ghost use Rattle.aide_session.specs.declared.pointed.Aim.TheVariants.{Nowhere};
 ghost use Rattle.aide_session.specs.Pointing.{KeepsSite};
 ghost use Rattle.aide_db.specs.Count.{one_more, sum_of};
 ghost use Rattle.aide_db.specs.Opening.{TellsTheSame, CountsOpening, HasOpened, HasRefused};
 
-use crate::pointed::Pointed;
+use crate::pointed::{Aim, Pointed, empty_database};
 use crate::site::Site;
 use aide_db::{OpenFault, Reel, Side, Sources};
-use aide_words::{Memory, Word};
+use aide_words::Memory;
 use std::alloc::Global;
 use std::marker::Model;
 
@@ -47,8 +49,8 @@ impl<'a> Model for MemorySite<'a> {
 
     ghost view = { λ s. record {
       files = s.files.items;
-      old_path = s.sides.old_path;
-      new_path = s.sides.new_path;
+      old_aim = s.sides.old_aim;
+      new_aim = s.sides.new_aim;
       old_openings = s.sides.old_openings;
       new_openings = s.sides.new_openings;
       old_given = s.sides.old_given;
@@ -81,25 +83,26 @@ fn look<'a>(files: &[StoredFile<'a>], path: &str) -> Option<&'a [u8]>
     found
 }
 
-fn look_side<'a>(files: &[StoredFile<'a>], path: &Option<Word>) -> Option<&'a [u8]>
-    ensures { option_map (λ b. b.now) result ≡ option_and_then
-        (λ p. bytes_at files.now p) path.now }
+/// Returns the bytes that a side gives.
+fn look_side<'a>(files: &[StoredFile<'a>], aim: &Aim) -> Option<&'a [u8]>
+    ensures { option_map (λ b. b.now) result ≡ aim_bytes files.now aim.now }
 {
-    match path {
-        Some(path) => look(files, path.as_str()),
-        None => None,
+    match aim {
+        Aim::At(path) => look(files, path.as_str()),
+        Aim::Empty => Some(empty_database()),
+        Aim::Nowhere => None,
     }
 }
 
 impl<'a> MemorySite<'a> {
-    /// Returns a site without files. No side is pointed at a path yet. Takes no memory.
+    /// Returns a site without files. No side is pointed at anything yet. Takes no memory.
     pub fn new(alloc: Global) -> MemorySite<'a>
         ensures { result ≡ record {
           files = [];
           failures = 0;
           lookups = 0;
-          old_path = None;
-          new_path = None;
+          old_aim = Nowhere;
+          new_aim = Nowhere;
           old_openings = 0;
           new_openings = 0;
           old_given = false;
@@ -152,7 +155,7 @@ impl<'a> Sources for MemorySite<'a> {
 
     ghost lookups = { λ s. s.lookups };
 
-    // The opening is refused exactly if the side is not pointed at a file that is there.
+    // The opening is refused exactly if the side is not pointed at a file that is there or at the empty database.
     fn open(&mut self, side: Side) -> Result<&'a [u8], OpenFault>
         ensures missing { OnErr result (side_bytes self.old side ≡ None) }
         ensures there { OnOk result (IsSome (side_bytes self.old side)) }
@@ -168,7 +171,7 @@ impl<'a> Sources for MemorySite<'a> {
         ensures refused { OnErr result (HasRefused side_bytes (λ _. true) side_given
             (λ s. s.failures) side self.old self.new) }
     {
-        match look_side(self.files.as_slice(), self.sides.path(side)) {
+        match look_side(self.files.as_slice(), self.sides.aim(side)) {
             Some(bytes) => {
                 self.sides.count(side, true);
                 Ok(bytes)
@@ -223,5 +226,9 @@ impl<'a> Site for MemorySite<'a> {
 
     fn point(&mut self, alloc: Global, side: Side, path: &str) -> Result<(), Memory> {
         self.sides.point(alloc, side, path)
+    }
+
+    fn point_at_empty(&mut self, side: Side) {
+        self.sides.set(side, Aim::Empty);
     }
 }

@@ -3,6 +3,7 @@ ghost use Rattle.std.specs.Prelude.{◌≡◌, ◌≤◌, ℕ, true, List, Optio
 ghost use Rattle.aide_db.specs.Count.{one_more};
 ghost use Rattle.aide_session.specs.Files.{GivesFile};
 ghost use Rattle.aide_session.specs.Pointing.{KeepsFiles, KeepsOthers, KeepsSides, KeepsSite};
+ghost use Rattle.aide_session.specs.Trusted.{empty_database};
 
 use aide_db::{OpenFault, Reel, Side, Sources};
 use aide_words::Memory;
@@ -40,5 +41,13 @@ pub trait Site: Sources {
         ensures path { OnOk result (path_of self.new side ≡ Some path.now) }
         ensures others { KeepsOthers Self.Sources path_of side self.old self.new }
         ensures refused { OnErr result (KeepsSides Self.Sources path_of self.old self.new) }
+        ensures keeps { KeepsFiles Self.Sources self.old self.new };
+
+    /// Points a side at the empty database, a database without entries. It is no file, and opening it
+    /// never fails. Takes no memory.
+    fn point_at_empty(&mut self, side: Side)
+        ensures pointed { Self.bytes_of self.new side ≡ Some empty_database }
+        ensures path { path_of self.new side ≡ None }
+        ensures others { KeepsOthers Self.Sources path_of side self.old self.new }
         ensures keeps { KeepsFiles Self.Sources self.old self.new };
 }

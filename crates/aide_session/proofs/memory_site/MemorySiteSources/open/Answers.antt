@@ -5,27 +5,27 @@ use Rattle.aide_session.proofs.memory_site.MemorySiteSources.open.Goals as goal
 
 pub returns-in-Some-clause-there : goal.returns-in-Some-clause-there
 returns-in-Some-clause-there c =
-    subst IsSome (sym (found_on_side _ _ _ _ _ _ _ _ c.as_slice.ensures.value refl refl c.self.view_is c.path.ensures c.in-Some.ensures))
+    subst IsSome (sym (found_on_side _ _ _ _ _ _ _ _ c.as_slice.ensures.value refl refl c.self.view_is c.aim.ensures c.in-Some.ensures))
     refl
 
 pub returns-in-Some-clause-opened : goal.returns-in-Some-clause-opened
 returns-in-Some-clause-opened c = record {
-  refuses = ap is_none (found_on_side _ _ _ _ _ _ _ _ c.as_slice.ensures.value refl refl c.self.view_is c.path.ensures c.in-Some.ensures);
+  refuses = ap is_none (found_on_side _ _ _ _ _ _ _ _ c.as_slice.ensures.value refl refl c.self.view_is c.aim.ensures c.in-Some.ensures);
   ok = search rules;
 }
 
 pub returns-in-None-clause-refused : goal.returns-in-None-clause-refused
 returns-in-None-clause-refused c = record {
   refused = search rules;
-  gives_none = λ _. found_on_side _ _ _ _ _ _ _ _ c.as_slice.ensures.value refl refl c.self.view_is c.path.ensures c.in-None.ensures;
+  gives_none = λ _. found_on_side _ _ _ _ _ _ _ _ c.as_slice.ensures.value refl refl c.self.view_is c.aim.ensures c.in-None.ensures;
   fault = search rules;
 }
 
 pub returns-in-Some-clause-gives : goal.returns-in-Some-clause-gives
 returns-in-Some-clause-gives c =
     subst (λ (o : Option (List ℕ)). IfSome o (λ bytes. Some c.in-Some.bytes.now ≡ Some bytes))
-    (sym (found_on_side _ _ _ _ _ _ _ _ c.as_slice.ensures.value refl refl c.self.view_is c.path.ensures c.in-Some.ensures)) refl
+    (sym (found_on_side _ _ _ _ _ _ _ _ c.as_slice.ensures.value refl refl c.self.view_is c.aim.ensures c.in-Some.ensures)) refl
 
 pub returns-in-None-clause-missing : goal.returns-in-None-clause-missing
 returns-in-None-clause-missing c =
-    found_on_side _ _ _ _ _ _ _ _ c.as_slice.ensures.value refl refl c.self.view_is c.path.ensures c.in-None.ensures
+    found_on_side _ _ _ _ _ _ _ _ c.as_slice.ensures.value refl refl c.self.view_is c.aim.ensures c.in-None.ensures
