@@ -32,6 +32,7 @@ use Rattle.aide_session.specs.Closing.{Course, HasText}
 use Rattle.aide_session.specs.Files.{Files, is_too_large}
 use Rattle.aide_session.specs.Pointing.{KeepsFiles}
 use Rattle.aide_session.specs.Session.{view_between}
+use Rattle.aide_session.specs.Trusted.{trusted_at}
 use Rattle.aide_session.specs.code.BesideParts.{HasTextBeside, IsPointed, named_by}
 use Rattle.aide_session.specs.code.Config.{OpensOneFile}
 use Rattle.aide_session.proofs.AnswerSteps.{IsRead as IsReadFile}
@@ -92,6 +93,12 @@ pub pointed_later : (files later : Files) (wish : Asked) (bytes_of : Side → Op
 pointed_later files later wish bytes_of is_missing same pointed =
     subst (λ (f : Files). IsPointed f wish bytes_of is_missing) (sym same) pointed
 
+-- the same for the site of a trusted pair
+pub trusted_later : (files later : Files) (wish : Asked) (bytes_of : Side → Option (List ℕ)) (is_missing : Side → Bool)
+    → later ≡ files → IsPointed (trusted_at files) wish bytes_of is_missing → IsPointed (trusted_at later) wish bytes_of is_missing
+trusted_later files later wish bytes_of is_missing same pointed =
+    subst (λ (f : Files). IsPointed (trusted_at f) wish bytes_of is_missing) (sym same) pointed
+
 -- the same paths with equal options ask for the same
 pub same_wish : (config : List ℕ) (wish : Asked) (options : Options) → wish.options ≡ options
     → asked_by options (named_by config wish) ≡ wish
@@ -143,7 +150,7 @@ sound_behind A B (Err (Trusted fault)) f sound = f sound
 pub compares_pairs : {S R W E : Type 0} (src : AnySources S R) (w : AnySink W) (e : AnySink E) (x y p q : S) (out_old out_new : W)
     (err_old err_new : E) (d f u v : DeskView) (list : ListRead) (wish beside : Asked) (config : List ℕ) (result : Result Outcome PairFault)
     → IsPointed (src.file_at x) wish (src.bytes_of x) (src.is_missing x)
-    → IsPointed (src.file_at p) beside (src.bytes_of p) (src.is_missing p)
+    → IsPointed (trusted_at (src.file_at p)) beside (src.bytes_of p) (src.is_missing p)
     → beside.options ≡ wish.options → limits.line ≤ d.room → limits.line ≤ u.room
     → IsRunBeside limits list (pair_seen wish (seen src x) (seen src y) d f) (pair_seen beside (seen src p) (seen src q) u v)
     (sink_seen w out_old) (sink_seen w out_new) result
@@ -153,7 +160,7 @@ pub compares_pairs : {S R W E : Type 0} (src : AnySources S R) (w : AnySink W) (
 compares_pairs src w e x y p q out_old out_new err_old err_new d f u v list wish beside config result pointed beside_pointed same enough
     beside_enough ran =
     let tells = pointed_tells (src.file_at x) wish (src.bytes_of x) (src.is_missing x) pointed config in
-    let beside_tells = pointed_tells (src.file_at p) beside (src.bytes_of p) (src.is_missing p) beside_pointed config in
+    let beside_tells = pointed_tells (trusted_at (src.file_at p)) beside (src.bytes_of p) (src.is_missing p) beside_pointed config in
     let asks = same_wish config beside wish.options same in
     record {
       over = λ old new trusted_old trusted_new is_old is_new is_trusted_old is_trusted_new r runs.
@@ -167,7 +174,8 @@ compares_pairs src w e x y p q out_old out_new err_old err_new d f u v list wish
           (beside_tells Old trusted_old has_trusted_old, beside_tells New trusted_new has_trusted_new));
       unopened = ran.unopened;
       missing = missing_file (src.file_at x) wish (src.bytes_of x) (src.is_missing x) config _ pointed ran.missing;
-      trusted_missing = missing_file (src.file_at p) beside (src.bytes_of p) (src.is_missing p) config _ beside_pointed ran.trusted_missing;
+      trusted_missing = missing_file (trusted_at (src.file_at p)) beside (src.bytes_of p) (src.is_missing p) config _ beside_pointed
+          ran.trusted_missing;
       sound = on_ok_weaker result (λ sound side text has. sound side text (tells side text has)) ran.sound;
       trusted_sound = on_ok_weaker result (λ sound side text has. sound side text (beside_tells side text has)) ran.trusted_sound;
       behind = sound_behind _ _ result (λ sound side text has. sound side text (tells side text has)) ran.behind;
@@ -177,7 +185,7 @@ compares_pairs src w e x y p q out_old out_new err_old err_new d f u v list wish
       flushed = ran.flushed;
       flushes = ran.flushes;
       fault = IfErr-weaker result _ _ (λ fault means.
-          faults_mean (src.file_at x) (src.file_at p) (pair_seen wish (seen src x) (seen src y) d f)
+          faults_mean (src.file_at x) (trusted_at (src.file_at p)) (pair_seen wish (seen src x) (seen src y) d f)
           (pair_seen beside (seen src p) (seen src q) u v)
           (Rose (w.failures out_old) (w.failures out_new)) config (w.flushes out_old) (w.flushes out_new) (w.is_flushed out_new) fault
           pointed beside_pointed enough beside_enough means) ran.fault;

@@ -17,29 +17,18 @@ use Rattle.aide_report.specs.declared.run_fault.RunFault.{RunFault}
 use Rattle.aide_report.specs.declared.run_fault.RunFault.TheVariants.{Open, Database, Changed, Write}
 use Rattle.aide_session.specs.Answer.{Named, limits, need_of}
 use Rattle.aide_session.specs.Closing.{Asks, AsksAndReads, AsksToCompare, ClosesBy, Closing, Course, course_between}
-use Rattle.aide_session.specs.Closing.{ClosingCause, HasText, IsTold, IsUntold, RunCause, untold_config}
+use Rattle.aide_session.specs.Closing.{ClosingCause, ClosingOutput, HasText, IsTold, IsUntold, RunCause, untold_config}
 use Rattle.aide_session.specs.Closing.{no_job, no_memory, no_config, large_config, bad_config, good_config, bad_run}
 use Rattle.aide_session.specs.Closing.{good_run}
 use Rattle.aide_session.specs.Ends.{Sinks}
 use Rattle.aide_session.specs.Files.{Files, IsLarge}
-use Rattle.aide_session.specs.Writing.{Writing}
-use Rattle.aide_words.specs.Job.{JobText, job_of}
+use Rattle.aide_session.specs.Says.{Says}
+use Rattle.aide_words.specs.Job.{JobText}
 use Rattle.aide_session.specs.Lines.{usage_line, memory_line, unread_line, too_large_line, conf_line, write_line}
 use Rattle.aide_session.specs.code.Premises.{HasRead, ReadsOnlyAs}
 use Rattle.aide_session.specs.Put.{Put}
 use Rattle.aide_session.proofs.Endings.{rose_later, sinks}
 use Rattle.aide_session.proofs.PutLemmas.{appends_none, put_none, put_passed}
-
-abbrev course_of : (opened_before opened_after : Side → ℕ) → (Side → Bool) → (flushes_before flushes_after : ℕ) → Bool → Course
-course_of opened_before opened_after given_after flushes_before flushes_after is_flushed =
-    record {
-      opened_before = opened_before;
-      opened_after = opened_after;
-      given_after = given_after;
-      flushes_before = flushes_before;
-      flushes_after = flushes_after;
-      is_flushed = is_flushed;
-    }
 
 opens_none : (before after : Side → ℕ) (most : ℕ) → after ≡ before → OpensAtMost before after most
 opens_none before after most is = search rules
@@ -48,88 +37,84 @@ opens_none before after most is = search rules
 abbrev pub only_config : List ℕ → Named
 only_config config = record { config = config; old_path = []; new_path = [] }
 
-pub closes_misused : (w : Writing) (files : Files) (words : List (List ℕ)) (d e f : Option (List ℕ)) (m n : ℕ) (course : Course)
+pub closes_misused : (says : Says) (files : Files) (wanted : Option JobText) (d e f : Option (List ℕ)) (m n : ℕ) (course : Course)
     (site out : Type 0)
-    → job_of words ≡ None → Put usage_line e f m n
+    → wanted ≡ None → Put usage_line e f m n
     → course.opened_after ≡ course.opened_before → course.flushes_after ≡ course.flushes_before
-    → ClosesBy w files words 15 (sinks d d e f m n) course site out
-closes_misused w files words d e f m n course site out none put unopened unflushed =
+    → ClosesBy says files wanted 15 (sinks d d e f m n) course site out
+closes_misused says files wanted d e f m n course site out none put unopened unflushed =
     record {
       closing = no_job;
       named = only_config [];
       cause = none;
       status_is = refl;
       output = (appends_none d, unopened, unflushed);
-      cut = tt;
       opens = tt;
-      opens_some = opens_none course.opened_before course.opened_after w.most_openings unopened;
+      opens_some = opens_none course.opened_before course.opened_after 6 unopened;
       put = put;
     }
 
-pub closes_starved : (w : Writing) (files : Files) (words : List (List ℕ)) (d e f : Option (List ℕ)) (m n : ℕ) (course : Course)
+pub closes_starved : (says : Says) (files : Files) (wanted : Option JobText) (d e f : Option (List ℕ)) (m n : ℕ) (course : Course)
     (site out : Type 0)
     → Put memory_line e f m n
     → course.opened_after ≡ course.opened_before → course.flushes_after ≡ course.flushes_before
-    → ClosesBy w files words 22 (sinks d d e f m n) course site out
-closes_starved w files words d e f m n course site out put unopened unflushed =
+    → ClosesBy says files wanted 22 (sinks d d e f m n) course site out
+closes_starved says files wanted d e f m n course site out put unopened unflushed =
     record {
       closing = no_memory;
       named = only_config [];
       cause = tt;
       status_is = refl;
       output = (appends_none d, unopened, unflushed);
-      cut = tt;
       opens = tt;
-      opens_some = opens_none course.opened_before course.opened_after w.most_openings unopened;
+      opens_some = opens_none course.opened_before course.opened_after 6 unopened;
       put = put;
     }
 
-asks : (words : List (List ℕ)) (job : JobText) → job_of words ≡ Some job → Asks words (only_config job.config)
-asks words job is = record { job = job; job_is = is; config_is = refl }
+asks : (wanted : Option JobText) (job : JobText) → wanted ≡ Some job → Asks wanted (only_config job.config)
+asks wanted job is = record { job = job; job_is = is; config_is = refl }
 
-pub closes_unread : (w : Writing) (files : Files) (words : List (List ℕ)) (job : JobText) (d e f : Option (List ℕ)) (m n : ℕ)
+pub closes_unread : (says : Says) (files : Files) (wanted : Option JobText) (job : JobText) (d e f : Option (List ℕ)) (m n : ℕ)
     (course : Course) (site out : Type 0)
-    → job_of words ≡ Some job → site
+    → wanted ≡ Some job → site
     → Put (unread_line job.config) e f m n → course.opened_after ≡ course.opened_before
-    → course.flushes_after ≡ course.flushes_before → ClosesBy w files words 18 (sinks d d e f m n) course site out
-closes_unread w files words job d e f m n course site out is failed put unopened unflushed =
+    → course.flushes_after ≡ course.flushes_before → ClosesBy says files wanted 18 (sinks d d e f m n) course site out
+closes_unread says files wanted job d e f m n course site out is failed put unopened unflushed =
     record {
       closing = no_config;
       named = only_config job.config;
-      cause = (asks words job is, failed);
+      cause = (asks wanted job is, failed);
       status_is = refl;
       output = (appends_none d, unopened, unflushed);
-      cut = tt;
       opens = tt;
-      opens_some = opens_none course.opened_before course.opened_after w.most_openings unopened;
+      opens_some = opens_none course.opened_before course.opened_after 6 unopened;
       put = put;
     }
 
-pub closes_large : (w : Writing) (files : Files) (words : List (List ℕ)) (job : JobText) (d e f : Option (List ℕ)) (m n : ℕ)
+pub closes_large : (says : Says) (files : Files) (wanted : Option JobText) (job : JobText) (d e f : Option (List ℕ)) (m n : ℕ)
     (course : Course) (site out : Type 0)
-    → job_of words ≡ Some job
+    → wanted ≡ Some job
     → ((file : Option (List ℕ)) → files job.config ≡ Some file → IsLarge file) → Put too_large_line e f m n
     → course.opened_after ≡ course.opened_before → course.flushes_after ≡ course.flushes_before
-    → ClosesBy w files words 17 (sinks d d e f m n) course site out
-closes_large w files words job d e f m n course site out is large put unopened unflushed =
+    → ClosesBy says files wanted 17 (sinks d d e f m n) course site out
+closes_large says files wanted job d e f m n course site out is large put unopened unflushed =
     record {
       closing = large_config;
       named = only_config job.config;
-      cause = (asks words job is, large);
+      cause = (asks wanted job is, large);
       status_is = refl;
       output = (appends_none d, unopened, unflushed);
-      cut = tt;
       opens = tt;
-      opens_some = opens_none course.opened_before course.opened_after w.most_openings unopened;
+      opens_some = opens_none course.opened_before course.opened_after 6 unopened;
       put = put;
     }
 
 -- the configuration of a job was read, and reads as this
-pub asks_and_reads : (files : Files) (words : List (List ℕ)) (job : JobText) (text : List ℕ) (compare : Bool)
+pub asks_and_reads : (files : Files) (wanted : Option JobText) (job : JobText) (text : List ℕ) (compare : Bool)
     (read : Result Configured ConfFault)
-    → HasRead files words job text → job.compare ≡ compare → ReadsOnlyAs job text read
-    → AsksAndReads files words job.config compare read
-asks_and_reads files words job text compare read has compare_is only = record {
+    → HasRead files wanted job text → job.compare ≡ compare → ReadsOnlyAs job text read
+    → AsksAndReads files wanted job.config compare read
+asks_and_reads files wanted job text compare read has compare_is only = record {
   job = job;
   job_is = has.job_is;
   config_is = refl;
@@ -140,57 +125,54 @@ asks_and_reads files words job text compare read has compare_is only = record {
   reads = subst (λ (b : Bool). ReadsAs (need_of b) job.before text job.after read) compare_is only.reads;
 }
 
-pub closes_bad_config : (w : Writing) (files : Files) (words : List (List ℕ)) (config : List ℕ) (compare : Bool) (fault : ConfFault)
+pub closes_bad_config : (says : Says) (files : Files) (wanted : Option JobText) (config : List ℕ) (compare : Bool) (fault : ConfFault)
     (d e f : Option (List ℕ)) (m n : ℕ) (course : Course) (site out : Type 0)
-    → AsksAndReads files words config compare (Err fault) → Put (conf_line fault) e f m n
+    → AsksAndReads files wanted config compare (Err fault) → Put (conf_line fault) e f m n
     → course.opened_after ≡ course.opened_before → course.flushes_after ≡ course.flushes_before
-    → ClosesBy w files words 17 (sinks d d e f m n) course site out
-closes_bad_config w files words config compare fault d e f m n course site out read put unopened unflushed =
+    → ClosesBy says files wanted 17 (sinks d d e f m n) course site out
+closes_bad_config says files wanted config compare fault d e f m n course site out read put unopened unflushed =
     record {
       closing = bad_config fault;
       named = only_config config;
       cause = (compare, read);
       status_is = refl;
       output = (appends_none d, unopened, unflushed);
-      cut = tt;
       opens = tt;
-      opens_some = opens_none course.opened_before course.opened_after w.most_openings unopened;
+      opens_some = opens_none course.opened_before course.opened_after 6 unopened;
       put = put;
     }
 
-pub closes_told : (w : Writing) (files : Files) (words : List (List ℕ)) (config : List ℕ) (s : Configured) (c d e : Option (List ℕ))
+pub closes_told : (says : Says) (files : Files) (wanted : Option JobText) (config : List ℕ) (s : Configured) (c d e : Option (List ℕ))
     (m : ℕ) (course : Course) (site out : Type 0)
-    → AsksAndReads files words config false (Ok s)
-    → IsTold w.says s c d course.is_flushed course.flushes_before course.flushes_after
-    → course.opened_after ≡ course.opened_before → ClosesBy w files words 0 (sinks c d e e m m) course site out
-closes_told w files words config s c d e m course site out read told unopened =
+    → AsksAndReads files wanted config false (Ok s)
+    → IsTold says s c d course.is_flushed course.flushes_before course.flushes_after
+    → course.opened_after ≡ course.opened_before → ClosesBy says files wanted 0 (sinks c d e e m m) course site out
+closes_told says files wanted config s c d e m course site out read told unopened =
     record {
       closing = good_config s;
       named = only_config config;
       cause = read;
       status_is = refl;
       output = (told, unopened);
-      cut = tt;
       opens = tt;
-      opens_some = opens_none course.opened_before course.opened_after w.most_openings unopened;
+      opens_some = opens_none course.opened_before course.opened_after 6 unopened;
       put = put_none e m;
     }
 
-pub closes_untold : (w : Writing) (files : Files) (words : List (List ℕ)) (config : List ℕ) (s : Configured) (c d e f : Option (List ℕ))
+pub closes_untold : (says : Says) (files : Files) (wanted : Option JobText) (config : List ℕ) (s : Configured) (c d e f : Option (List ℕ))
     (m n : ℕ) (course : Course) (site out : Type 0)
-    → AsksAndReads files words config false (Ok s)
-    → IsUntold w.says s c d course.flushes_before course.flushes_after → out → Put write_line e f m n
-    → course.opened_after ≡ course.opened_before → ClosesBy w files words 18 (sinks c d e f m n) course site out
-closes_untold w files words config s c d e f m n course site out read untold rose put unopened =
+    → AsksAndReads files wanted config false (Ok s)
+    → IsUntold says s c d course.flushes_before course.flushes_after → out → Put write_line e f m n
+    → course.opened_after ≡ course.opened_before → ClosesBy says files wanted 18 (sinks c d e f m n) course site out
+closes_untold says files wanted config s c d e f m n course site out read untold rose put unopened =
     record {
       closing = untold_config s;
       named = only_config config;
       cause = (read, rose);
       status_is = refl;
       output = (untold, unopened);
-      cut = tt;
       opens = tt;
-      opens_some = opens_none course.opened_before course.opened_after w.most_openings unopened;
+      opens_some = opens_none course.opened_before course.opened_after 6 unopened;
       put = put;
     }
 
@@ -212,25 +194,25 @@ run_cause_by files named (Database fault) site more out then cause = (λ is. the
 run_cause_by files named (Changed side) site more out then cause = cause
 run_cause_by files named (Write written) site more out then cause = cause
 
-cause_by : (files : Files) (words : List (List ℕ)) (named : Named) (closing : Closing) (site more out : Type 0)
-    → (site → more) → ClosingCause files words named closing site out
-    → ClosingCause files words named closing more out
-cause_by files words named no_config site more out then cause = (cause.0, then cause.1)
-cause_by files words named (bad_run options fault) site more out then cause =
+cause_by : (files : Files) (wanted : Option JobText) (named : Named) (closing : Closing) (site more out : Type 0)
+    → (site → more) → ClosingCause files wanted named closing site out
+    → ClosingCause files wanted named closing more out
+cause_by files wanted named no_config site more out then cause = (cause.0, then cause.1)
+cause_by files wanted named (bad_run options fault) site more out then cause =
     (cause.0, run_cause_by files named fault site more out then cause.1)
-cause_by files words named no_job site more out then cause = cause
-cause_by files words named no_memory site more out then cause = cause
-cause_by files words named large_config site more out then cause = cause
-cause_by files words named (bad_config fault) site more out then cause = cause
-cause_by files words named (good_config s) site more out then cause = cause
-cause_by files words named (untold_config s) site more out then cause = cause
-cause_by files words named (good_run options outcome) site more out then cause = cause
+cause_by files wanted named no_job site more out then cause = cause
+cause_by files wanted named no_memory site more out then cause = cause
+cause_by files wanted named large_config site more out then cause = cause
+cause_by files wanted named (bad_config fault) site more out then cause = cause
+cause_by files wanted named (good_config s) site more out then cause = cause
+cause_by files wanted named (untold_config s) site more out then cause = cause
+cause_by files wanted named (good_run options outcome) site more out then cause = cause
 
 -- the same closing, for a cause that follows
-pub closes_by : (w : Writing) (files : Files) (words : List (List ℕ)) (status : ℕ) (s : Sinks) (course : Course) (site more out : Type 0)
-    → (site → more) → ClosesBy w files words status s course site out
-    → ClosesBy w files words status s course more out
-closes_by w files words status s course site more out then closes = search (rules, cause_by)
+pub closes_by : (says : Says) (files : Files) (wanted : Option JobText) (status : ℕ) (s : Sinks) (course : Course) (site more out : Type 0)
+    → (site → more) → ClosesBy says files wanted status s course site out
+    → ClosesBy says files wanted status s course more out
+closes_by says files wanted status s course site more out then closes = search (rules, cause_by)
 
 abbrev denies_old : Side → Type 0
 denies_old Old = ⊥
@@ -258,37 +240,37 @@ told_side there bytes is_missing None pointed gone is = gone is
 told_side there bytes is_missing (Some text) pointed gone is = pointed text is
 
 -- a comparison that closes over the same files, the same openings and the same count of failures
-pub closes_over : (w : Writing) (files later : Files) (words : List (List ℕ)) (status : ℕ) (s : Sinks) (course later_course : Course)
+pub closes_over : (says : Says) (files later : Files) (wanted : Option JobText) (status : ℕ) (s : Sinks) (course later_course : Course)
     (count later_count end : ℕ) (out : Type 0)
     → later ≡ files → later_course ≡ course → later_count ≡ count
-    → ClosesBy w later words status s later_course (Rose later_count end) out
-    → ClosesBy w files words status s course (Rose count end) out
-closes_over w files later words status s course later_course count later_count end out same same_course same_count closes =
+    → ClosesBy says later wanted status s later_course (Rose later_count end) out
+    → ClosesBy says files wanted status s course (Rose count end) out
+closes_over says files later wanted status s course later_course count later_count end out same same_course same_count closes =
     search (rules, same_course)
 
-pub asks_over : (files later : Files) (words : List (List ℕ)) (named : Named) → later ≡ files
-    → AsksToCompare files words named → AsksToCompare later words named
-asks_over files later words named same asks = record {
+pub asks_over : (files later : Files) (wanted : Option JobText) (named : Named) → later ≡ files
+    → AsksToCompare files wanted named → AsksToCompare later wanted named
+asks_over files later wanted named same asks = record {
   settings = asks.settings;
-  asks = subst (λ (f : Files). AsksAndReads f words named.config true (Ok asks.settings)) (sym same) asks.asks;
+  asks = subst (λ (f : Files). AsksAndReads f wanted named.config true (Ok asks.settings)) (sym same) asks.asks;
   old_is = asks.old_is;
   new_is = asks.new_is;
 }
 
 -- with the same options
-pub same_options : (files later : Files) (words : List (List ℕ)) (named : Named) (same : later ≡ files)
-    (asks : AsksToCompare files words named)
-    → (asks_over files later words named same asks).settings.options ≡ asks.settings.options
+pub same_options : (files later : Files) (wanted : Option JobText) (named : Named) (same : later ≡ files)
+    (asks : AsksToCompare files wanted named)
+    → (asks_over files later wanted named same asks).settings.options ≡ asks.settings.options
 unfolding asks_over
-same_options files later words named same asks = refl
+same_options files later wanted named same asks = refl
 
 -- a closing over the same files and openings, after a call that may have counted failures
-pub closes_later : (w : Writing) (files later : Files) (words : List (List ℕ)) (status : ℕ) (s : Sinks) (course later_course : Course)
+pub closes_later : (says : Says) (files later : Files) (wanted : Option JobText) (status : ℕ) (s : Sinks) (course later_course : Course)
     (count later_count end : ℕ) (out : Type 0)
     → later ≡ files → later_course ≡ course → count ≤ later_count
-    → ClosesBy w later words status s later_course (Rose later_count end) out
-    → ClosesBy w files words status s course (Rose count end) out
-closes_later w files later words status s course later_course count later_count end out same same_course more closes =
+    → ClosesBy says later wanted status s later_course (Rose later_count end) out
+    → ClosesBy says files wanted status s course (Rose count end) out
+closes_later says files later wanted status s course later_course count later_count end out same same_course more closes =
     search (rules, closes_by, rose_later, same_course)
 
 -- the sides were opened as often
@@ -300,9 +282,42 @@ pub same_course : {S W : Type 0} (openings : S → Side → ℕ) (was_given : S 
 same_course openings was_given flushes is_flushed before later after out_old out_new same = search rules
 
 -- the same closing once its lines are passed on
-pub closes_passed : (w : Writing) (files : Files) (words : List (List ℕ)) (status : ℕ) (c d e f g : Option (List ℕ)) (m n k : ℕ)
+pub closes_passed : (says : Says) (files : Files) (wanted : Option JobText) (status : ℕ) (c d e f g : Option (List ℕ)) (m n k : ℕ)
     (course : Course) (site out : Type 0)
     → Keeps f g → n ≤ k
-    → ClosesBy w files words status (sinks c d e f m n) course site out
-    → ClosesBy w files words status (sinks c d e g m k) course site out
-closes_passed w files words status c d e f g m n k course site out kept more closes = search (rules, put_passed)
+    → ClosesBy says files wanted status (sinks c d e f m n) course site out
+    → ClosesBy says files wanted status (sinks c d e g m k) course site out
+closes_passed says files wanted status c d e f g m n k course site out kept more closes = search (rules, put_passed)
+
+-- ---- if only a configuration is checked
+
+-- no comparison is asked for
+abbrev pub OnlyChecks : Option JobText → Type 0
+OnlyChecks wanted = (job : JobText) → wanted ≡ Some job → job.compare ≡ false
+
+never_compares : (files : Files) (wanted : Option JobText) (named : Named) → OnlyChecks wanted → AsksToCompare files wanted named → ⊥
+never_compares files wanted named checks asks =
+    let no = checks asks.asks.job asks.asks.job_is in
+    let yes = asks.asks.compare_is in cc
+
+unopened_by : (says : Says) (files : Files) (wanted : Option JobText) (named : Named) (closing : Closing) (course : Course)
+    (before after : Option (List ℕ)) (site out : Type 0) → OnlyChecks wanted → ClosingCause files wanted named closing site out
+    → ClosingOutput says named closing course before after → course.opened_after ≡ course.opened_before
+unopened_by says files wanted named (good_run options outcome) course before after site out checks cause output =
+    absurd (never_compares files wanted named checks cause.0.0)
+unopened_by says files wanted named (bad_run options fault) course before after site out checks cause output =
+    absurd (never_compares files wanted named checks cause.0.0)
+unopened_by says files wanted named no_job course before after site out checks cause output = output.1
+unopened_by says files wanted named no_memory course before after site out checks cause output = output.1
+unopened_by says files wanted named no_config course before after site out checks cause output = output.1
+unopened_by says files wanted named large_config course before after site out checks cause output = output.1
+unopened_by says files wanted named (bad_config fault) course before after site out checks cause output = output.1
+unopened_by says files wanted named (good_config s) course before after site out checks cause output = output.1
+unopened_by says files wanted named (untold_config s) course before after site out checks cause output = output.1
+
+-- no side is opened then
+pub closes_unopened : (says : Says) (files : Files) (wanted : Option JobText) (status : ℕ) (s : Sinks) (course : Course)
+    (site out : Type 0) → OnlyChecks wanted → ClosesBy says files wanted status s course site out
+    → course.opened_after ≡ course.opened_before
+closes_unopened says files wanted status s course site out checks closes =
+    unopened_by says files wanted closes.named closes.closing course s.out_old s.out_new site out checks closes.cause closes.output

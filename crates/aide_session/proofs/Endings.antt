@@ -1,7 +1,6 @@
 -- How a session ends.
 use Rattle.std.proofs.Common.{◌≡◌, ◌∙◌, ℕ, ◌≤◌, List, [], Option, Some, None, refl, sym, ap, arith, Bool, true, false}
 use Rattle.std.proofs.Common.{Ok, Err, inl, inr, ◌⊎◌, rules}
-use Rattle.std.proofs.lemmas.List.{append-nil}
 use Rattle.std.specs.Prelude.{Result, IsSome, unwrap_or}
 use Rattle.std.specs.Io.KnownBytes.{Appends, Keeps}
 use Rattle.std.proofs.Math.Path.{subst}
@@ -14,7 +13,8 @@ use Rattle.aide_conf.specs.Settings.{Configured}
 use Rattle.aide_conf.specs.declared.options.Options.{Options}
 use Rattle.aide_report.specs.Asked.{Asked}
 use Rattle.aide_report.specs.Failures.{Rose}
-use Rattle.aide_report.specs.Missing.{IsHindered, IsOfReliable, RunsOverBy, SendsWhole, StopsFor, TellsSide}
+use Rattle.aide_text.specs.Sent.{SendsPart}
+use Rattle.aide_report.specs.Missing.{IsHindered, IsOfReliable, RunsOver, SendsFront, SendsWhole, StopsFor, TellsSide}
 use Rattle.aide_report.specs.Missing.{run_answer}
 use Rattle.aide_report.specs.RunFaults.{IsCaused}
 use Rattle.aide_report.specs.Runs.{Report}
@@ -26,14 +26,12 @@ use Rattle.aide_report.specs.Report.{status_of}
 use Rattle.aide_report.specs.declared.outcome.Outcome.{Outcome}
 use Rattle.aide_report.specs.declared.run_fault.RunFault.{RunFault}
 use Rattle.aide_report.specs.declared.run_fault.RunFault.TheVariants.{Open, Database, Changed, Write}
-use Rattle.aide_session.specs.Answer.{Answer, Named, IsComparedBy, asked_by, limits, refused, answer_with, checked_by}
+use Rattle.aide_session.specs.Answer.{Answer, Named, IsCompared, asked_by, limits, refused, answer_of_run, checked_by}
 use Rattle.aide_session.specs.Closing.{IsTold, IsUntold}
 use Rattle.aide_session.specs.Ends.{Sinks, Failure, failure_line, FailureCause, HasFailed, Ends, Whole, Starved}
 use Rattle.aide_session.specs.Ends.{config_unread, unopened, unread, unwritten}
 use Rattle.aide_session.specs.Lines.{memory_line, open_line, database_line, kind_line, outcome_lines, run_fault_line, write_line}
-use Rattle.aide_session.specs.Output.{GoesOut, Output, StartsOut, all_of, start_of}
-use Rattle.aide_session.specs.Writing.{Writing}
-use Rattle.aide_session.specs.code.Comparing.{SendsFront, out_at_fault}
+use Rattle.aide_session.specs.Says.{Says}
 use Rattle.aide_session.specs.code.Premises.{ComparesSides}
 use Rattle.aide_session.specs.Put.{HasNoFailure, Put}
 use Rattle.aide_session.proofs.PutLemmas.{appends_none, put_none, put_passed}
@@ -42,15 +40,8 @@ abbrev pub sinks : (c d e f : Option (List ℕ)) → (m n : ℕ) → Sinks
 sinks c d e f m n = record { out_old = c; out_new = d; err_old = e; err_new = f; err_before = m; err_after = n }
 
 -- nothing is a beginning of anything
-pub none_starts : (sent : Output) (c d : Option (List ℕ)) → Appends c d [] → StartsOut sent c d
-none_starts (all_of text) c d bytes = record { front = []; rest = text; whole = refl; bytes = bytes }
-none_starts (start_of text) c d bytes = record { front = []; rest = text; whole = refl; bytes = bytes }
-
--- what has gone out is a beginning of itself
-goes_then_starts : (sent : Output) (c d : Option (List ℕ)) → GoesOut sent c d → StartsOut sent c d
-goes_then_starts (all_of text) c d bytes =
-    record { front = text; rest = []; whole = sym (append-nil text); bytes = bytes }
-goes_then_starts (start_of text) c d part = part
+pub none_starts : (text : List ℕ) (c d : Option (List ℕ)) → Appends c d [] → SendsPart text c d
+none_starts text c d bytes = record { front = []; rest = text; whole = refl; bytes = bytes }
 
 -- an answer that is a line and a status
 pub ends_refused : (a : Answer) (named : Named) (line : List ℕ) (status : ℕ) (d e f : Option (List ℕ)) (m n : ℕ) (site out : Type 0)
@@ -73,7 +64,7 @@ ends_broken a named failure d e f m n site out cause put =
     inr (inr (record { status_is = refl; output = none_starts a.output d d (appends_none d); failure = failure; cause = cause; put = put }))
 
 -- what is said of an accepted configuration has gone out
-pub ends_told : (says : Option (Configured → List ℕ)) (s : Configured) (a : Answer) (named : Named) (c d e : Option (List ℕ)) (m : ℕ)
+pub ends_told : (says : Says) (s : Configured) (a : Answer) (named : Named) (c d e : Option (List ℕ)) (m : ℕ)
     (is_flushed : Bool) (k l : ℕ) (site out : Type 0)
     → a ≡ checked_by says s → IsTold says s c d is_flushed k l
     → Ends a named 0 (sinks c d e e m m) site out
@@ -81,7 +72,7 @@ ends_told None s a named c d e m is_flushed k l site out is told = search (rules
 ends_told (Some says) s a named c d e m is_flushed k l site out is told = search (rules, put_none)
 
 -- it could not be written
-pub ends_untold : (says : Option (Configured → List ℕ)) (s : Configured) (a : Answer) (named : Named) (c d e f : Option (List ℕ))
+pub ends_untold : (says : Says) (s : Configured) (a : Answer) (named : Named) (c d e f : Option (List ℕ))
     (m n k l : ℕ) (site out : Type 0)
     → a ≡ checked_by says s → IsUntold says s c d k l → out → Put write_line e f m n
     → Ends a named 18 (sinks c d e f m n) site out
@@ -146,57 +137,55 @@ right_status (Database fault) = 24
 right_status fault = fault_status fault
 
 -- the answer of a run over what stands at both sides
-abbrev pub answer_by : Output → Named → Result Report RunFault → Answer
-answer_by sent named (Ok report) = answer_with sent (Ok report)
-answer_by sent named (Err fault) = record { output = sent; errors = right_line named fault; status = right_status fault }
+abbrev pub answer_by : Named → Result Report RunFault → Answer
+answer_by named (Ok report) = answer_of_run (Ok report)
+answer_by named (Err fault) = refused (right_line named fault) (right_status fault)
 
-given_answer : (sent : Output) (named : Named) (run : Result Report DbFault)
-    → answer_with sent run ≡ answer_by sent named (run_answer run)
-given_answer sent named (Ok report) = refl
-given_answer sent named (Err fault) = refl
+given_answer : (named : Named) (run : Result Report DbFault) → answer_of_run run ≡ answer_by named (run_answer run)
+given_answer named (Ok report) = refl
+given_answer named (Err fault) = refl
 
 -- an answer over what stands at both paths is that of a run
-pub compared_by : (w : Writing) (options : Options) (named : Named) (old new : Option (List ℕ)) (a : Answer)
-    → IsComparedBy w options named old new a
-    → (r : Result Report RunFault) × RunsOverBy limits (w.over (asked_by options named)) old new r
-    × (a ≡ answer_by (out_at_fault w (asked_by options named) old new) named r)
-compared_by w options named None new a is = (Err (Open Old), refl, is)
-compared_by w options named (Some old) None a is = elim is [
+pub compared_by : (options : Options) (named : Named) (old new : Option (List ℕ)) (a : Answer)
+    → IsCompared options named old new a
+    → (r : Result Report RunFault) × RunsOver limits (asked_by options named) old new r × (a ≡ answer_by named r)
+compared_by options named None new a is = (Err (Open Old), refl, is)
+compared_by options named (Some old) None a is = elim is [
   | inl refusal ↦ (Err (Open New), inl (refusal.0, refl), refusal.1)
   | inr bad ↦ (Err (Database bad.0), inr (bad.0, bad.1, refl), bad.2)
 ]
-compared_by w options named (Some old) (Some new) a is =
-    (run_answer is.0, (is.0, is.1, refl), is.2 ∙ given_answer (w.at_fault (asked_by options named) old new) named is.0)
+compared_by options named (Some old) (Some new) a is =
+    (run_answer is.0, (is.0, is.1, refl), is.2 ∙ given_answer named is.0)
 
 -- ---- how a run ends
 
 -- a good run
-pub ends_well : (sent : Output) (r : Result Report RunFault) (o : Outcome) (named : Named) (c d e f : Option (List ℕ)) (m n : ℕ)
+pub ends_well : (r : Result Report RunFault) (o : Outcome) (named : Named) (c d e f : Option (List ℕ)) (m n : ℕ)
     (site out : Type 0)
     → SendsWhole r o c d → Put (outcome_lines o) e f m n
-    → Ends (answer_by sent named r) named (status_of o.added o.removed o.changed) (sinks c d e f m n) site out
-ends_well sent (Ok report) o named c d e f m n site out well put = search rules
-ends_well sent (Err fault) o named c d e f m n site out well put = absurd well
+    → Ends (answer_by named r) named (status_of o.added o.removed o.changed) (sinks c d e f m n) site out
+ends_well (Ok report) o named c d e f m n site out well put = search rules
+ends_well (Err fault) o named c d e f m n site out well put = absurd well
 
-early_part : (sent : Output) (named : Named) (r : Result Report RunFault) (c d : Option (List ℕ)) → SendsFront sent r c d
-    → StartsOut (answer_by sent named r).output c d
-early_part sent named (Ok report) c d front = front
-early_part sent named (Err fault) c d front = goes_then_starts sent c d front
+early_part : (named : Named) (r : Result Report RunFault) (c d : Option (List ℕ)) → SendsFront r c d
+    → SendsPart (answer_by named r).output c d
+early_part named (Ok report) c d front = front
+early_part named (Err fault) c d front = none_starts [] c d front
 
-run_broken : (sent : Output) (r : Result Report RunFault) (named : Named) (failure : Failure) (c d e f : Option (List ℕ)) (m n : ℕ)
+run_broken : (r : Result Report RunFault) (named : Named) (failure : Failure) (c d e f : Option (List ℕ)) (m n : ℕ)
     (site out : Type 0)
-    → SendsFront sent r c d → FailureCause failure site out
-    → Put (failure_line named failure) e f m n → Ends (answer_by sent named r) named 18 (sinks c d e f m n) site out
-run_broken sent r named failure c d e f m n site out front cause put =
-    inr (inr (record { status_is = refl; output = early_part sent named r c d front; failure = failure; cause = cause; put = put }))
+    → SendsFront r c d → FailureCause failure site out
+    → Put (failure_line named failure) e f m n → Ends (answer_by named r) named 18 (sinks c d e f m n) site out
+run_broken r named failure c d e f m n site out front cause put =
+    inr (inr (record { status_is = refl; output = early_part named r c d front; failure = failure; cause = cause; put = put }))
 
 -- the fault is the answer
-run_right : (sent : Output) (r : Result Report RunFault) (fault : RunFault) (named : Named) (c d e f : Option (List ℕ)) (m n : ℕ)
+run_right : (r : Result Report RunFault) (fault : RunFault) (named : Named) (c d e f : Option (List ℕ)) (m n : ℕ)
     (site out : Type 0)
-    → SendsFront sent r c d
+    → SendsFront r c d
     → Put (right_line named fault) e f m n → r ≡ Err fault
-    → Ends (answer_by sent named r) named (right_status fault) (sinks c d e f m n) site out
-run_right sent r fault named c d e f m n site out front put is = search rules
+    → Ends (answer_by named r) named (right_status fault) (sinks c d e f m n) site out
+run_right r fault named c d e f m n site out front put is = search rules
 
 -- a run stops for the fault that is the answer, or for one that hindered it
 by_stop : (r : Result Report RunFault) (hindered : RunFault → Type 0) (fault : RunFault) (P : Type 0)
@@ -207,18 +196,18 @@ by_stop (Err right) hindered fault P f g stops = elim stops [ inl is ↦ f (ap (
 abbrev fault_at : Side → ℕ → DbFaultKind → DbFault
 fault_at side line kind = record { side = side; line = line; kind = kind }
 
-run_database : (sent : Output) (side : Side) (line : ℕ) (kind : DbFaultKind) (r : Result Report RunFault) (named : Named)
+run_database : (side : Side) (line : ℕ) (kind : DbFaultKind) (r : Result Report RunFault) (named : Named)
     (reliable : Bool) (rose out : Type 0) (old new c d e f : Option (List ℕ)) (m n : ℕ)
-    → SendsFront sent r c d → StopsFor r (IsHindered old new rose out) (Database (fault_at side line kind))
+    → SendsFront r c d → StopsFor r (IsHindered old new rose out) (Database (fault_at side line kind))
     → is_memory kind ≡ false → (kind ≡ db.Read → rose)
     → (reliable ≡ true → kind ≡ db.Read → ⊥) → Put (kind_line (fault_at side line kind) kind) e f m n
-    → Ends (answer_by sent named r) named (kind_status kind) (sinks c d e f m n) ((reliable ≡ false) × rose) out
-run_database sent side line db.Read r named reliable rose out old new c d e f m n front stops fed cause unfailed put =
-    run_broken sent r named (unread (fault_at side line db.Read)) c d e f m n ((reliable ≡ false) × rose) out front
+    → Ends (answer_by named r) named (kind_status kind) (sinks c d e f m n) ((reliable ≡ false) × rose) out
+run_database side line db.Read r named reliable rose out old new c d e f m n front stops fed cause unfailed put =
+    run_broken r named (unread (fault_at side line db.Read)) c d e f m n ((reliable ≡ false) × rose) out front
     (refl, (never_true reliable (λ is. unfailed is refl), cause refl)) put
-run_database sent side line db.Memory r named reliable rose out old new c d e f m n front stops fed cause unfailed put =
+run_database side line db.Memory r named reliable rose out old new c d e f m n front stops fed cause unfailed put =
     absurd (true_is_not_false fed)
-run_database sent side line kind r named reliable rose out old new c d e f m n front stops fed cause unfailed put =
+run_database side line kind r named reliable rose out old new c d e f m n front stops fed cause unfailed put =
     search (rules, by_stop, run_right)
 
 -- a side that is there gives its bytes
@@ -236,35 +225,35 @@ there_given bytes_of is_missing old new New told_old told_new there none =
     told_given (bytes_of New) (is_missing New) new told_new there none
 
 -- a run that was given up
-pub ends_fault : (sent : Output) (fault : RunFault) (r : Result Report RunFault) (named : Named) (reliable : Bool) (rose out : Type 0)
+pub ends_fault : (fault : RunFault) (r : Result Report RunFault) (named : Named) (reliable : Bool) (rose out : Type 0)
     (bytes_of : Side → Option (List ℕ)) (is_missing : Side → Bool) (old new c d e f : Option (List ℕ)) (m n : ℕ)
     → TellsSide (bytes_of Old) (is_missing Old) old → TellsSide (bytes_of New) (is_missing New) new
-    → StopsFor r (IsHindered old new rose out) fault × SendsFront sent r c d → IsNotOfMemory fault
+    → StopsFor r (IsHindered old new rose out) fault × SendsFront r c d → IsNotOfMemory fault
     → IsCaused rose out fault → (reliable ≡ true → IsOfReliable bytes_of fault)
     → Put (run_fault_line named.old_path named.new_path fault) e f m n
-    → Ends (answer_by sent named r) named (fault_status fault) (sinks c d e f m n) ((reliable ≡ false) × rose) out
-ends_fault sent (Open side) r named reliable rose out bytes_of is_missing old new c d e f m n told_old told_new ends fed cause
+    → Ends (answer_by named r) named (fault_status fault) (sinks c d e f m n) ((reliable ≡ false) × rose) out
+ends_fault (Open side) r named reliable rose out bytes_of is_missing old new c d e f m n told_old told_new ends fed cause
     unfailed put =
     by_stop r (IsHindered old new rose out) (Open side)
-    (Ends (answer_by sent named r) named 18 (sinks c d e f m n) ((reliable ≡ false) × rose) out)
-    (run_right sent r (Open side) named c d e f m n ((reliable ≡ false) × rose) out ends.1 put)
-    (λ hindered. run_broken sent r named (unopened side) c d e f m n ((reliable ≡ false) × rose) out ends.1
+    (Ends (answer_by named r) named 18 (sinks c d e f m n) ((reliable ≡ false) × rose) out)
+    (run_right r (Open side) named c d e f m n ((reliable ≡ false) × rose) out ends.1 put)
+    (λ hindered. run_broken r named (unopened side) c d e f m n ((reliable ≡ false) × rose) out ends.1
     (never_true reliable (λ is. there_given bytes_of is_missing old new side told_old told_new hindered.0 (unfailed is)), hindered.1) put)
     ends.0
-ends_fault sent (Database fault) r named reliable rose out bytes_of is_missing old new c d e f m n told_old told_new ends fed cause
+ends_fault (Database fault) r named reliable rose out bytes_of is_missing old new c d e f m n told_old told_new ends fed cause
     unfailed put =
-    run_database sent fault.side fault.line fault.kind r named reliable rose out old new c d e f m n ends.1 ends.0 fed cause unfailed put
-ends_fault sent (Changed side) r named reliable rose out bytes_of is_missing old new c d e f m n told_old told_new ends fed cause
+    run_database fault.side fault.line fault.kind r named reliable rose out old new c d e f m n ends.1 ends.0 fed cause unfailed put
+ends_fault (Changed side) r named reliable rose out bytes_of is_missing old new c d e f m n told_old told_new ends fed cause
     unfailed put =
     by_stop r (IsHindered old new rose out) (Changed side)
-    (Ends (answer_by sent named r) named 18 (sinks c d e f m n) ((reliable ≡ false) × rose) out)
-    (run_right sent r (Changed side) named c d e f m n ((reliable ≡ false) × rose) out ends.1 put) (λ hindered. absurd hindered) ends.0
-ends_fault sent (Write written) r named reliable rose out bytes_of is_missing old new c d e f m n told_old told_new ends fed cause
+    (Ends (answer_by named r) named 18 (sinks c d e f m n) ((reliable ≡ false) × rose) out)
+    (run_right r (Changed side) named c d e f m n ((reliable ≡ false) × rose) out ends.1 put) (λ hindered. absurd hindered) ends.0
+ends_fault (Write written) r named reliable rose out bytes_of is_missing old new c d e f m n told_old told_new ends fed cause
     unfailed put =
     by_stop r (IsHindered old new rose out) (Write written)
-    (Ends (answer_by sent named r) named 18 (sinks c d e f m n) ((reliable ≡ false) × rose) out)
-    (run_right sent r (Write written) named c d e f m n ((reliable ≡ false) × rose) out ends.1 put)
-    (λ hindered. run_broken sent r named unwritten c d e f m n ((reliable ≡ false) × rose) out ends.1 hindered put) ends.0
+    (Ends (answer_by named r) named 18 (sinks c d e f m n) ((reliable ≡ false) × rose) out)
+    (run_right r (Write written) named c d e f m n ((reliable ≡ false) × rose) out ends.1 put)
+    (λ hindered. run_broken r named unwritten c d e f m n ((reliable ≡ false) × rose) out ends.1 hindered put) ends.0
 
 pub same_some : (o : Option (List ℕ)) (x y : List ℕ) → o ≡ Some x → o ≡ Some y → x ≡ y
 same_some o x y p q =
@@ -281,11 +270,10 @@ same_asked options wish old_path old_task new_path new_task o p q i =
     record { options = o i; old_path = p i; new_path = q i }
 
 -- the answer of a comparison of both sides is that of a run
-pub run_of : (w : Writing) (bytes_of : Side → Option (List ℕ)) (is_missing : Side → Bool) (asked : Asked) (named : Named) (a : Answer)
-    (is : ComparesSides w bytes_of is_missing asked named a)
-    → (r : Result Report RunFault) × RunsOverBy limits (w.over asked) is.old_file is.new_file r
-    × (a ≡ answer_by (out_at_fault w asked is.old_file is.new_file) named r)
-run_of w bytes_of is_missing asked named a is = search (rules, compared_by, same_asked)
+pub run_of : (bytes_of : Side → Option (List ℕ)) (is_missing : Side → Bool) (asked : Asked) (named : Named) (a : Answer)
+    (is : ComparesSides bytes_of is_missing asked named a)
+    → (r : Result Report RunFault) × RunsOver limits asked is.old_file is.new_file r × (a ≡ answer_by named r)
+run_of bytes_of is_missing asked named a is = search (rules, compared_by, same_asked)
 
 -- the line of a run's fault over the paths that are named
 pub put_paths : (fault : RunFault) (named : Named) (old_path new_path : List ℕ) (e f : Option (List ℕ)) (m n : ℕ)

@@ -12,41 +12,40 @@ use Rattle.aide_conf.proofs.Laws.{every_configuration_has_an_answer, what_is_com
 use Rattle.aide_db.specs.declared.fault.DbFault.{DbFault}
 use Rattle.aide_db.specs.declared.side.Side.TheVariants.{Old, New}
 use Rattle.aide_db.proofs.FaultExists.{sound_or_fault}
-use Rattle.aide_report.specs.Runs.{Report, RunsBy}
-use Rattle.aide_session.specs.Answer.{Answer, Named, ComparesBy, IsComparedBy, IsFileAnswerBy, IsJobAnswerBy, IsReadAnswerBy}
-use Rattle.aide_session.specs.Answer.{IsSizedAnswerBy, IsWordsAnswerBy, answer_with, asked_by, checked_by, limits, need_of}
+use Rattle.aide_report.specs.Asked.{Asked}
+use Rattle.aide_report.specs.Runs.{Report, Runs, report_over}
+use Rattle.aide_session.specs.Answer.{Answer, Named, Compares, IsCompared, IsFileAnswerBy, IsJobAnswerBy, IsReadAnswerBy}
+use Rattle.aide_session.specs.Answer.{IsSizedAnswerBy, answer_of_run, asked_by, checked_by, limits, need_of}
 use Rattle.aide_session.specs.Answer.{refused}
 use Rattle.aide_session.specs.Closing.{AsksToCompare}
 use Rattle.aide_session.specs.Existence.{HasSessionAnswerBy, TellsNamed}
 use Rattle.aide_session.specs.Files.{Files, is_too_large}
-use Rattle.aide_session.specs.Writing.{Writing}
-use Rattle.aide_words.specs.Job.{JobText, job_of}
+use Rattle.aide_session.specs.Says.{Says}
+use Rattle.aide_words.specs.Job.{JobText}
 use Rattle.aide_session.specs.Lines.{usage_line, too_large_line, unread_line, conf_line, open_line, database_line}
 use Rattle.aide_session.proofs.Closings.{only_config}
 
--- two texts have a right answer, whatever is to be written of them
-run_of : (over : List ℕ → List ℕ → Report) (old new : List ℕ) → (run : Result Report DbFault) × RunsBy limits over old new run
-run_of over old new = elim (sound_or_fault limits old (omega arith)) [
+-- two texts have a right answer
+run_of : (wish : Asked) (old new : List ℕ) → (run : Result Report DbFault) × Runs limits wish old new run
+run_of wish old new = elim (sound_or_fault limits old (omega arith)) [
   | inr bad ↦ (Err (record { side = Old; line = bad.0; kind = bad.1 }), inl (refl, bad.2))
   | inl sound_old ↦ elim (sound_or_fault limits new (omega arith)) [
     | inr bad ↦ (Err (record { side = New; line = bad.0; kind = bad.1 }), inr (sound_old, (refl, bad.2)))
-    | inl sound_new ↦ (Ok (over old new), (sound_old, sound_new, refl))
+    | inl sound_new ↦ (Ok (report_over wish old new), (sound_old, sound_new, refl))
   ]
 ]
 
 -- what stands at both paths has an answer
-compared : (w : Writing) (options : Options) (named : Named) (old new : Option (List ℕ))
-    → (a : Answer) × IsComparedBy w options named old new a
-compared w options named None new = (refused (open_line Old named.old_path) 18, refl)
-compared w options named (Some old) None = elim (sound_or_fault limits old (omega arith)) [
+compared : (options : Options) (named : Named) (old new : Option (List ℕ)) → (a : Answer) × IsCompared options named old new a
+compared options named None new = (refused (open_line Old named.old_path) 18, refl)
+compared options named (Some old) None = elim (sound_or_fault limits old (omega arith)) [
   | inr bad ↦
       let fault : DbFault = record { side = Old; line = bad.0; kind = bad.1 } in
       (refused (database_line fault) 24, inr (fault, (refl, bad.2), refl))
   | inl sound ↦ (refused (open_line New named.new_path) 18, inl (sound, refl))
 ]
-compared w options named (Some old) (Some new) =
-    let run = run_of (w.over (asked_by options named)) old new in
-    (answer_with (w.at_fault (asked_by options named) old new) run.0, (run.0, run.1, refl))
+compared options named (Some old) (Some new) =
+    let run = run_of (asked_by options named) old new in (answer_of_run run.0, (run.0, run.1, refl))
 
 value_of : (path : Option (List ℕ)) → IsSome path → (value : List ℕ) × (path ≡ Some value)
 value_of None some = cc
@@ -58,14 +57,14 @@ one_file : (there : Option (Option (List ℕ))) (one other : Option (List ℕ)) 
 one_file there one other p q = cc
 
 -- an answer to a job, and the paths that are named on the way there
-abbrev Answered : Writing → Files → JobText → Type 0
-Answered w files job = (named : Named) × (a : Answer) × IsJobAnswerBy w files job named a
+abbrev Answered : Says → Files → JobText → Type 0
+Answered says files job = (named : Named) × (a : Answer) × IsJobAnswerBy says files job named a
 
-module _ (w : Writing) (files : Files) (words : List (List ℕ)) (tells : TellsNamed files words) (job : JobText)
-    (job_is : job_of words ≡ Some job) where
+module _ (says : Says) (files : Files) (wanted : Option JobText) (tells : TellsNamed files wanted) (job : JobText)
+    (job_is : wanted ≡ Some job) where
   module _ (text : List ℕ) (known : files job.config ≡ Some (Some text)) (small : is_too_large text ≡ false) where
     abbrev Read : Bool → Result Configured ConfFault → Type 0
-    Read compare read = (named : Named) × (a : Answer) × (named.config ≡ job.config) × IsReadAnswerBy w files compare read named a
+    Read compare read = (named : Named) × (a : Answer) × (named.config ≡ job.config) × IsReadAnswerBy says files compare read named a
 
     of_settings : (s : Configured) → job.compare ≡ true → ReadsAs Compare job.before text job.after (Ok s)
         → Read true (Ok s)
@@ -74,7 +73,7 @@ module _ (w : Writing) (files : Files) (words : List (List ℕ)) (tells : TellsN
         let old_path = value_of s.old_path both.0 in
         let new_path = value_of s.new_path both.1 in
         let named : Named = record { config = job.config; old_path = old_path.0; new_path = new_path.0 } in
-        let asks : AsksToCompare files words named = record {
+        let asks : AsksToCompare files wanted named = record {
           settings = s;
           asks = record {
             job = job;
@@ -91,8 +90,8 @@ module _ (w : Writing) (files : Files) (words : List (List ℕ)) (tells : TellsN
         } in
         let old = tells.databases named asks Old in
         let new = tells.databases named asks New in
-        let answer = compared w s.options named old.0 new.0 in
-        let compares : ComparesBy w files s named answer.0 = record {
+        let answer = compared s.options named old.0 new.0 in
+        let compares : Compares files s named answer.0 = record {
           old_is = old_path.1;
           new_is = new_path.1;
           old_file = old.0;
@@ -106,30 +105,30 @@ module _ (w : Writing) (files : Files) (words : List (List ℕ)) (tells : TellsN
     of_read : (compare : Bool) (read : Result Configured ConfFault) → job.compare ≡ compare
         → ReadsAs (need_of compare) job.before text job.after read → Read compare read
     of_read true (Ok s) compare_is reads = of_settings s compare_is reads
-    of_read false (Ok s) compare_is reads = (only_config job.config, checked_by w.says s, refl, refl)
+    of_read false (Ok s) compare_is reads = (only_config job.config, checked_by says s, refl, refl)
     of_read true (Err fault) compare_is reads = (only_config job.config, refused (conf_line fault) 17, refl, refl)
     of_read false (Err fault) compare_is reads = (only_config job.config, refused (conf_line fault) 17, refl, refl)
 
-    of_text : Answered w files job
+    of_text : Answered says files job
     of_text =
         let read = every_configuration_has_an_answer (need_of job.compare) job.before text job.after in
         let answer = of_read job.compare read.0 refl read.1 in
-        let of_size : IsFileAnswerBy w files job (Some text) answer.0 answer.1 =
-        subst (λ (b : Bool). IsSizedAnswerBy w files job b text answer.0 answer.1) (sym small)
+        let of_size : IsFileAnswerBy says files job (Some text) answer.0 answer.1 =
+        subst (λ (b : Bool). IsSizedAnswerBy says files job b text answer.0 answer.1) (sym small)
         (record { read = read.0; reads = read.1; then_is = answer.3 }) in
         (answer.0, answer.1, record { config_is = answer.2; file = Some text; known = known; then_is = of_size })
 
   of_size : (text : List ℕ) → files job.config ≡ Some (Some text) → (large : Bool) → is_too_large text ≡ large
-      → Answered w files job
+      → Answered says files job
   of_size text known true large =
       let answer = refused too_large_line 17 in
       let named = only_config job.config in
-      let of_large : IsFileAnswerBy w files job (Some text) named answer =
-      subst (λ (b : Bool). IsSizedAnswerBy w files job b text named answer) (sym large) refl in
+      let of_large : IsFileAnswerBy says files job (Some text) named answer =
+      subst (λ (b : Bool). IsSizedAnswerBy says files job b text named answer) (sym large) refl in
       (named, answer, record { config_is = refl; file = Some text; known = known; then_is = of_large })
   of_size text known false small = of_text text known small
 
-  of_file : (file : Option (List ℕ)) → files job.config ≡ Some file → Answered w files job
+  of_file : (file : Option (List ℕ)) → files job.config ≡ Some file → Answered says files job
   of_file None known = (
     only_config job.config,
     refused (unread_line job.config) 18,
@@ -137,19 +136,9 @@ module _ (w : Writing) (files : Files) (words : List (List ℕ)) (tells : TellsN
   )
   of_file (Some text) known = of_size text known (is_too_large text) refl
 
-of_words : (w : Writing) (files : Files) (words : List (List ℕ)) → TellsNamed files words → (job : Option JobText)
-    → job_of words ≡ job → HasSessionAnswerBy w files words
-of_words w files words tells None is = (
-  only_config [],
-  refused usage_line 15,
-  subst
-      (λ (o : Option JobText). IsWordsAnswerBy w files o (only_config []) (refused usage_line 15)) (sym is) refl,
-)
-of_words w files words tells (Some job) is =
-    let config = tells.config job is in
-    let answer = of_file w files words tells job is config.0 config.1 in
-    (answer.0, answer.1, subst (λ (o : Option JobText). IsWordsAnswerBy w files o answer.0 answer.1) (sym is) answer.2)
-
--- words have an answer where it is told what stands at the paths that are named
-pub answered : (w : Writing) (files : Files) (words : List (List ℕ)) → TellsNamed files words → HasSessionAnswerBy w files words
-answered w files words tells = of_words w files words tells (job_of words) refl
+-- what the arguments ask for has an answer where it is told what stands at the paths that are named
+pub answered : (says : Says) (files : Files) (wanted : Option JobText) → TellsNamed files wanted
+    → HasSessionAnswerBy says files wanted
+answered says files None tells = (only_config [], refused usage_line 15, refl)
+answered says files (Some job) tells =
+    let config = tells.config job refl in of_file says files (Some job) tells job refl config.0 config.1

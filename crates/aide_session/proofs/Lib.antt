@@ -5,6 +5,7 @@ mod Readings
 mod AnswerSteps
 mod PutLemmas
 mod Closings
+mod CheckJobs
 mod Comparisons
 mod Existence
 mod Uniqueness

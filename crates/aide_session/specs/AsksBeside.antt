@@ -1,4 +1,4 @@
--- What arguments ask for, if the answer is that of a comparison with a trusted pair.
+-- What arguments ask for, if the answer is that of a comparison that writes lines of JSON.
 use Rattle.std.specs.Prelude.{ℕ, ◌≡◌, Some, List, Ok, false}
 use Rattle.aide_conf.specs.Settings.{Configured}
 use Rattle.aide_conf.specs.ReadResult.{ReadsAs}
@@ -12,7 +12,8 @@ use Rattle.aide_words.specs.BesideJob.{BesideText, beside_job_of}
 -- The arguments ask for this job, and this is read of the list that they give: its rules, and the
 -- digest of its text. The configuration is at the path that they name, and is accepted with these
 -- settings. At each of the two paths that it names, and at each of those of the trusted pair, there
--- is a text.
+-- is a text. `trusted_files` is `trusted_at` of what the second site tells, so that the empty database
+-- is at an empty path.
 pub record AsksBeside (files trusted_files : Files) (words : List (List ℕ)) (job : BesideText)
     (list : ListRead) (named : Named) (settings : Configured)
     (old new trusted_old trusted_new : List ℕ) : Type 0 where

@@ -1,5 +1,6 @@
--- What a session promises whose arguments may name a trusted pair.
-use Rattle.std.specs.Prelude.{◌≡◌, ◌≤◌, ◌⊎◌, ℕ, true, List, Some, None, max}
+-- What a session promises that writes lines of JSON.
+use Rattle.std.specs.Prelude.{◌≡◌, ◌≤◌, ◌⊎◌, ℕ, true, List, Option, Some, None, max}
+use Rattle.std.specs.Prelude.{if◌then◌else◌, option_and_then}
 use Rattle.aide_db.specs.Count.{one_more}
 use Rattle.aide_patterns.specs.List.{HasFirstFault}
 use Rattle.aide_patterns.specs.declared.fault.ListFault.{ListFault}
@@ -12,9 +13,11 @@ use Rattle.aide_session.specs.BesideEnds.{StarvedBeside, WholeBeside}
 use Rattle.aide_session.specs.Ends.{HasFailed}
 use Rattle.aide_session.specs.Held.{HoldsWithin, most_held}
 use Rattle.aide_session.specs.Put.{HasNoFailure}
-use Rattle.aide_session.specs.Session.{HoldsBy, IsSessionBy, SessionView}
-use Rattle.aide_session.specs.Writing.{the_lines}
+use Rattle.aide_session.specs.Says.{settings_told}
+use Rattle.aide_session.specs.Session.{IsSessionBy, SessionView}
+use Rattle.aide_session.specs.Trusted.{trusted_at}
 use Rattle.aide_words.specs.BesideJob.{BesideText, beside_job_of}
+use Rattle.aide_words.specs.Job.{JobText, job_of}
 
 -- The most that both desks have ever held, before and after.
 pub record DeskPeaks : Type 0 where
@@ -27,7 +30,7 @@ pub record DeskPeaks : Type 0 where
 abbrev pub beside_view : (s t : SessionView) → DeskPeaks → BesideView
 beside_view s t desks = record {
   files = s.files;
-  trusted_files = t.files;
+  trusted_files = trusted_at t.files;
   is_reliable = s.is_reliable;
   trusted_reliable = t.is_reliable;
   site_after = s.site_after;
@@ -44,8 +47,8 @@ beside_view s t desks = record {
   trusted_peak_after = desks.trusted_after;
 }
 
--- A session of a job with a trusted pair, with this status. `s` is what is seen of the first
--- site, `t` of the site of the trusted pair.
+-- A session of a comparison, with this status. `s` is what is seen of the first site, `t` of the site of the trusted
+-- pair. If the job names no trusted pair, the empty database is at both of its paths, which are empty.
 pub record IsSessionBeside (job : BesideText) (status : ℕ) (s t : SessionView)
     (desks : DeskPeaks) : Type 0 where
   -- The session ends in one of three ways:
@@ -53,24 +56,28 @@ pub record IsSessionBeside (job : BesideText) (status : ℕ) (s t : SessionView)
   -- - out of memory, with no output;
   -- - with a failure that was counted, after the first bytes of the answer's output (none, some or all). Only the
   --   output or a site that is not reliable can fail so.
-  pub ends : (named : Named) (a : AnswerBeside) → IsAnswerBeside s.files t.files job named a
+  pub ends : (named : Named) (a : AnswerBeside)
+      → IsAnswerBeside s.files (trusted_at t.files) job named a
       → EndsWithin a named (trusted_of job) status s.sinks
       (HasFailed s.is_reliable s.site_before s.site_after)
       (HasFailed t.is_reliable t.site_before t.site_after) (Rose s.out_before s.out_after)
   -- If no failure was counted, the session ends with the answer to the job or out of memory.
-  pub exact : (named : Named) (a : AnswerBeside) → IsAnswerBeside s.files t.files job named a
+  pub exact : (named : Named) (a : AnswerBeside)
+      → IsAnswerBeside s.files (trusted_at t.files) job named a
       → HasNoFailure s.site_before s.site_after → HasNoFailure t.site_before t.site_after
       → HasNoFailure s.out_before s.out_after
       → WholeBeside a status s.sinks ⊎ StarvedBeside status s.sinks
   -- Over reliable sites, if the output counts no failure, the session ends with the answer to the
   -- job or out of memory.
-  pub reliable : (named : Named) (a : AnswerBeside) → IsAnswerBeside s.files t.files job named a
+  pub reliable : (named : Named) (a : AnswerBeside)
+      → IsAnswerBeside s.files (trusted_at t.files) job named a
       → s.is_reliable ≡ true → t.is_reliable ≡ true → HasNoFailure s.out_before s.out_after
       → WholeBeside a status s.sinks ⊎ StarvedBeside status s.sinks
   -- If standard error counts no failure, the lines have been passed on.
   pub passed_on : HasNoFailure s.sinks.err_before s.sinks.err_after → s.is_passed_on ≡ true
   -- If it is known what is at the paths of the named files, there is an answer.
-  pub answered : TellsBeside s.files t.files job → HasAnswerBeside s.files t.files job
+  pub answered : TellsBeside s.files (trusted_at t.files) job
+      → HasAnswerBeside s.files (trusted_at t.files) job
   -- Over any sites: the session stops before it opens a database, or compares the databases, and
   -- why.
   pub closes : EndsBesideBy job status s.site_before (beside_view s t desks)
@@ -86,21 +93,28 @@ pub record IsSessionBeside (job : BesideText) (status : ℕ) (s t : SessionView)
   pub trusted_peak : desks.trusted_before ≤ desks.trusted_after
   pub trusted_below : desks.trusted_after ≤ max desks.trusted_before most_held
   -- If the texts of a pair are known, the peak of its desk rises at most to three of their lines.
-  pub bound : (named : Named) (a : AnswerBeside) → IsAnswerBeside s.files t.files job named a
+  pub bound : (named : Named) (a : AnswerBeside)
+      → IsAnswerBeside s.files (trusted_at t.files) job named a
       → HoldsWithin s.files named desks.before desks.after
   pub trusted_bound : (named : Named) (a : AnswerBeside)
-      → IsAnswerBeside s.files t.files job named a
-      → HoldsWithin t.files (trusted_of job) desks.trusted_before desks.trusted_after
+      → IsAnswerBeside s.files (trusted_at t.files) job named a
+      → HoldsWithin (trusted_at t.files) (trusted_of job) desks.trusted_before desks.trusted_after
 
--- A session that writes lines of JSON, whose arguments may name a trusted pair. If they name none,
--- it is a session of today over the first site alone.
+-- the check of a configuration alone that the arguments ask for, if they ask for one
+abbrev pub check_job_of : List (List ℕ) → Option JobText
+check_job_of words = option_and_then (λ job. if job.compare then None else Some job) (job_of words)
+
+-- A session that writes lines of JSON. If the arguments ask for a comparison, it is one of this job. Otherwise they may
+-- ask for a check of a configuration; no database is opened then, and neither desk holds more than before.
 pub record IsLineSession (words : List (List ℕ)) (status : ℕ) (s t : SessionView)
     (desks : DeskPeaks) : Type 0 where
-  pub alone : beside_job_of words ≡ None → IsSessionBy the_lines words status s
-  pub held : beside_job_of words ≡ None → HoldsBy the_lines s.files words desks.before desks.after
-  -- the site and the desk of the trusted pair are left alone then
-  pub unopened : beside_job_of words ≡ None → t.course.opened_after ≡ t.course.opened_before
-  pub still : beside_job_of words ≡ None → desks.trusted_after ≡ desks.trusted_before
+  pub alone : beside_job_of words ≡ None
+      → IsSessionBy (Some settings_told) (check_job_of words) status s
+  pub unopened : beside_job_of words ≡ None → s.course.opened_after ≡ s.course.opened_before
+  pub still : beside_job_of words ≡ None → desks.after ≡ desks.before
+  pub trusted_unopened : beside_job_of words ≡ None
+      → t.course.opened_after ≡ t.course.opened_before
+  pub trusted_still : beside_job_of words ≡ None → desks.trusted_after ≡ desks.trusted_before
   pub beside : (job : BesideText) → beside_job_of words ≡ Some job
       → IsSessionBeside job status s t desks
 

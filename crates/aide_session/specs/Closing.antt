@@ -12,8 +12,12 @@ use Rattle.aide_db.specs.Side.{by_side}
 use Rattle.aide_entry.specs.declared.fault_kind.DbFaultKind.TheVariants.{Read}
 use Rattle.aide_db.specs.declared.side.Side.{Side}
 use Rattle.aide_db.specs.declared.side.Side.TheVariants.{Old, New}
+use Rattle.aide_report.specs.Agreement.{IsOfOutcome, OpensByOutcome}
 use Rattle.aide_report.specs.FaultStatus.{fault_status}
 use Rattle.aide_report.specs.Openings.{IsNotGiven, IsRefusedThere, OpensAtMost, OpensExactly}
+use Rattle.aide_report.specs.Openings.{OpensFirst}
+use Rattle.aide_report.specs.RunFaults.{HasSentNothing}
+use Rattle.aide_report.specs.Runs.{openings_over}
 use Rattle.aide_report.specs.Standing.{IsFaultOf}
 use Rattle.aide_report.specs.Room.{IsNotMemory}
 use Rattle.aide_report.specs.Failures.{one_more}
@@ -26,10 +30,10 @@ use Rattle.aide_report.specs.declared.run_fault.RunFault.TheVariants.{Write}
 use Rattle.aide_session.specs.Answer.{Named, asked_by, limits, need_of}
 use Rattle.aide_session.specs.Ends.{Sinks, Puts}
 use Rattle.aide_session.specs.Files.{Files, IsLarge, is_too_large}
-use Rattle.aide_words.specs.Job.{JobText, job_of}
+use Rattle.aide_words.specs.Job.{JobText}
 use Rattle.aide_session.specs.Lines.{usage_line, memory_line, unread_line, too_large_line}
 use Rattle.aide_session.specs.Lines.{conf_line, run_fault_line, outcome_lines, write_line}
-use Rattle.aide_session.specs.Writing.{Writing}
+use Rattle.aide_session.specs.Says.{Says}
 
 -- the result of a session
 pub data Closing : Type 0 where
@@ -91,7 +95,7 @@ course_between openings was_given flushes is_flushed site_old site_new out_old o
 
 -- What has been written of an accepted configuration that is only checked: nothing if nothing is said about
 -- it, otherwise the text, which was flushed once, after its last byte.
-abbrev pub IsTold : Option (Configured → List ℕ) → Configured → (before after : Option (List ℕ))
+abbrev pub IsTold : Says → Configured → (before after : Option (List ℕ))
     → (is_flushed : Bool) → (flushes_before flushes_after : ℕ) → Type 0
 IsTold None s before after is_flushed flushes_before flushes_after =
     Appends before after [] × (flushes_after ≡ flushes_before)
@@ -100,50 +104,49 @@ IsTold (Some says) s before after is_flushed flushes_before flushes_after =
 
 -- Only the beginning of the text has been written, or it was not flushed. If nothing is said, nothing
 -- can be missing.
-abbrev pub IsUntold : Option (Configured → List ℕ) → Configured → (before after : Option (List ℕ))
+abbrev pub IsUntold : Says → Configured → (before after : Option (List ℕ))
     → (flushes_before flushes_after : ℕ) → Type 0
 IsUntold None s before after flushes_before flushes_after = ⊥
 IsUntold (Some says) s before after flushes_before flushes_after =
     SendsPart (says s) before after × (flushes_after ≡ flushes_before)
 
 -- What a session sends, opens and flushes. A good run sends what its outcome determines: a report begins with the head
--- and the summary of the outcome, and is only these two if the options and the outcome call for no more; lines begin
--- with the paths and end with what was read and the numbers of the outcome. A good run flushes the output once, after
--- its last byte. A run that ends with a fault flushes nothing, and has sent nothing where what is written says so. If
--- it could not open a side, that side was the last one opened. Every other closing opens no side. An accepted
--- configuration that is only checked may have a text, which is sent and flushed; without a text it has only a good
--- closing. Every other closing sends and flushes nothing.
-abbrev pub ClosingOutput : Writing → Named → Closing → Course → Option (List ℕ) → Option (List ℕ)
+-- and the summary of the outcome, and is only these two if the options and the outcome call for no more. It flushes the
+-- output once, after its last byte. A run that ends with a fault flushes nothing, and before both databases were read
+-- whole and counted it has sent nothing. If it could not open a side, that side was the last one opened. Every other
+-- closing opens no side. An accepted configuration that is only checked may have a text, which is sent and flushed;
+-- without a text it has only a good closing. Every other closing sends and flushes nothing.
+abbrev pub ClosingOutput : Says → Named → Closing → Course → Option (List ℕ) → Option (List ℕ)
     → Type 0
-ClosingOutput w named (good_run options outcome) course before after =
-    w.IsOf (asked_by options named) outcome before after
+ClosingOutput says named (good_run options outcome) course before after =
+    IsOfOutcome options outcome before after
     × (course.is_flushed ≡ true) × (course.flushes_after ≡ one_more course.flushes_before)
-ClosingOutput w named (bad_run options fault) course before after =
-    w.KeepsBack course.opened_before course.opened_after before after fault
+ClosingOutput says named (bad_run options fault) course before after =
+    HasSentNothing 2 (course.opened_before Old) (course.opened_after Old) before after fault
     × IsRefusedThere course.opened_before course.opened_after fault
     × (course.flushes_after ≡ course.flushes_before)
-ClosingOutput w named (good_config s) course before after =
-    IsTold w.says s before after course.is_flushed course.flushes_before course.flushes_after
+ClosingOutput says named (good_config s) course before after =
+    IsTold says s before after course.is_flushed course.flushes_before course.flushes_after
     × (course.opened_after ≡ course.opened_before)
-ClosingOutput w named (untold_config s) course before after =
-    IsUntold w.says s before after course.flushes_before course.flushes_after
+ClosingOutput says named (untold_config s) course before after =
+    IsUntold says s before after course.flushes_before course.flushes_after
     × (course.opened_after ≡ course.opened_before)
-ClosingOutput w named _ course before after = Appends before after []
+ClosingOutput says named _ course before after = Appends before after []
     × (course.opened_after ≡ course.opened_before)
     × (course.flushes_after ≡ course.flushes_before)
 
 -- the arguments ask for a job, and its configuration is the one that is named
-pub record Asks (words : List (List ℕ)) (named : Named) : Type 0 where
+pub record Asks (wanted : Option JobText) (named : Named) : Type 0 where
   pub job : JobText
-  pub job_is : job_of words ≡ Some job
+  pub job_is : wanted ≡ Some job
   pub config_is : named.config ≡ job.config
 
 -- The arguments ask for a job with this configuration, which reads as `read`. If the file is known,
 -- the text that was read is the file's.
-pub record AsksAndReads (files : Files) (words : List (List ℕ)) (config : List ℕ) (compare : Bool)
+pub record AsksAndReads (files : Files) (wanted : Option JobText) (config : List ℕ) (compare : Bool)
     (read : Result Configured ConfFault) : Type 0 where
   pub job : JobText
-  pub job_is : job_of words ≡ Some job
+  pub job_is : wanted ≡ Some job
   pub config_is : config ≡ job.config
   pub compare_is : job.compare ≡ compare
   pub text : List ℕ
@@ -152,9 +155,9 @@ pub record AsksAndReads (files : Files) (words : List (List ℕ)) (config : List
   pub reads : ReadsAs (need_of compare) job.before text job.after read
 
 -- the arguments ask for a comparison of the databases at the paths that are named
-pub record AsksToCompare (files : Files) (words : List (List ℕ)) (named : Named) : Type 0 where
+pub record AsksToCompare (files : Files) (wanted : Option JobText) (named : Named) : Type 0 where
   pub settings : Configured
-  pub asks : AsksAndReads files words named.config true (Ok settings)
+  pub asks : AsksAndReads files wanted named.config true (Ok settings)
   pub old_is : settings.old_path ≡ Some named.old_path
   pub new_is : settings.new_path ≡ Some named.new_path
 
@@ -182,64 +185,53 @@ AreBothSound files named =
 
 -- The cause of each closing. `site` and `out` mean that the site or the output has counted a
 -- failure.
-abbrev pub ClosingCause : Files → List (List ℕ) → Named → Closing → (site out : Type 0) → Type 0
-ClosingCause files words named no_job site out = job_of words ≡ None
-ClosingCause files words named no_memory site out = ⊤
-ClosingCause files words named no_config site out = Asks words named × site
-ClosingCause files words named large_config site out = Asks words named
+abbrev pub ClosingCause : Files → Option JobText → Named → Closing → (site out : Type 0) → Type 0
+ClosingCause files wanted named no_job site out = wanted ≡ None
+ClosingCause files wanted named no_memory site out = ⊤
+ClosingCause files wanted named no_config site out = Asks wanted named × site
+ClosingCause files wanted named large_config site out = Asks wanted named
     × ((file : Option (List ℕ)) → files named.config ≡ Some file → IsLarge file)
-ClosingCause files words named (bad_config fault) site out = (compare : Bool)
-    × AsksAndReads files words named.config compare (Err fault)
-ClosingCause files words named (good_config s) site out =
-    AsksAndReads files words named.config false (Ok s)
-ClosingCause files words named (untold_config s) site out =
-    AsksAndReads files words named.config false (Ok s) × out
-ClosingCause files words named (bad_run options fault) site out =
-    ((asks : AsksToCompare files words named) × (asks.settings.options ≡ options))
+ClosingCause files wanted named (bad_config fault) site out = (compare : Bool)
+    × AsksAndReads files wanted named.config compare (Err fault)
+ClosingCause files wanted named (good_config s) site out =
+    AsksAndReads files wanted named.config false (Ok s)
+ClosingCause files wanted named (untold_config s) site out =
+    AsksAndReads files wanted named.config false (Ok s) × out
+ClosingCause files wanted named (bad_run options fault) site out =
+    ((asks : AsksToCompare files wanted named) × (asks.settings.options ≡ options))
     × RunCause files named fault site out
-ClosingCause files words named (good_run options outcome) site out =
-    ((asks : AsksToCompare files words named) × (asks.settings.options ≡ options))
+ClosingCause files wanted named (good_run options outcome) site out =
+    ((asks : AsksToCompare files wanted named) × (asks.settings.options ≡ options))
     × AreBothSound files named
 
--- How often the sides were opened. In a good run that writes a report each side is opened to be read whole, to count,
--- and once for each section of entries; one that writes lines opens each side once. The outcome gives this number, and
--- so do both texts if they are known. A run with a fault opens no side more often than this, if both texts are known
--- and sound. In a run that ends with the first fault of a text, no side is opened more than once. In a run that could
--- not open a side, the last opening of that side was refused.
-abbrev pub ClosingOpens : Writing → Files → Named → Closing → Course → Type 0
-ClosingOpens w files named (good_run options outcome) course =
-    w.OpensBy options outcome course.opened_before course.opened_after
+-- How often the sides were opened. In a good run each side is opened to be read whole, to count, and once for each
+-- section of entries. The outcome gives this number, and so do both texts if they are known. A run with a fault opens
+-- no side more often than this, if both texts are known and sound. In a run that ends with the first fault of a text,
+-- no side is opened more than once. In a run that could not open a side, the last opening of that side was refused.
+abbrev pub ClosingOpens : Files → Named → Closing → Course → Type 0
+ClosingOpens files named (good_run options outcome) course =
+    OpensByOutcome options outcome course.opened_before course.opened_after
     × ((old new : List ℕ) → HasText files named Old old → HasText files named New new
     → OpensExactly course.opened_before course.opened_after
-    (w.openings (asked_by options named) old new))
-ClosingOpens w files named (bad_run options fault) course =
-    w.OpensAtFault course.opened_before course.opened_after fault
+    (openings_over (asked_by options named) old new))
+ClosingOpens files named (bad_run options fault) course =
+    OpensFirst course.opened_before course.opened_after fault
     × IsNotGiven course.given_after fault
     × ((old new : List ℕ) → HasText files named Old old → HasText files named New new
     → IsSound limits old → IsSound limits new
     → OpensAtMost course.opened_before course.opened_after
-    (w.openings (asked_by options named) old new))
-ClosingOpens w files named _ course = ⊤
-
--- What has been written at the fault of a run over two known texts: of lines never a byte of the last one, unless both
--- texts are sound and a write has failed.
-abbrev pub ClosingCut : Writing → Files → Named → Closing → (before after : Option (List ℕ))
-    → Type 0
-ClosingCut w files named (bad_run options fault) before after = (old new : List ℕ)
-    → HasText files named Old old → HasText files named New new
-    → w.IsCut limits (asked_by options named) old new before after fault
-ClosingCut w files named _ before after = ⊤
+    (openings_over (asked_by options named) old new))
+ClosingOpens files named _ course = ⊤
 
 -- The status, the lines on standard error and the output are those of one closing, whose cause
 -- holds.
-pub record ClosesBy (w : Writing) (files : Files) (words : List (List ℕ)) (status : ℕ)
+pub record ClosesBy (says : Says) (files : Files) (wanted : Option JobText) (status : ℕ)
     (sinks : Sinks) (course : Course) (site out : Type 0) : Type 0 where
   pub closing : Closing
   pub named : Named
-  pub cause : ClosingCause files words named closing site out
+  pub cause : ClosingCause files wanted named closing site out
   pub status_is : status ≡ closing_status closing
-  pub output : ClosingOutput w named closing course sinks.out_old sinks.out_new
-  pub cut : ClosingCut w files named closing sinks.out_old sinks.out_new
-  pub opens : ClosingOpens w files named closing course
-  pub opens_some : OpensAtMost course.opened_before course.opened_after w.most_openings
+  pub output : ClosingOutput says named closing course sinks.out_old sinks.out_new
+  pub opens : ClosingOpens files named closing course
+  pub opens_some : OpensAtMost course.opened_before course.opened_after 6
   pub put : Puts (closing_line named closing) sinks

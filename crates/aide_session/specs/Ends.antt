@@ -8,8 +8,8 @@ use Rattle.aide_db.specs.Side.{by_side}
 use Rattle.aide_report.specs.Failures.{Rose}
 use Rattle.aide_session.specs.Answer.{Answer, Named}
 use Rattle.aide_session.specs.Lines.{memory_line, unread_line, open_line, database_line, write_line}
-use Rattle.aide_session.specs.Output.{GoesOut, StartsOut}
 use Rattle.aide_session.specs.Put.{Put}
+use Rattle.aide_text.specs.Sent.{SendsPart}
 
 -- What was written, by the sinks before and after: the bytes of the output, the bytes of standard
 -- error, and the failures that standard error has counted.
@@ -66,7 +66,7 @@ FailureCause unwritten site out = out
 -- the session ends with the whole answer
 pub record Whole (a : Answer) (status : ℕ) (sinks : Sinks) : Type 0 where
   pub status_is : status ≡ a.status
-  pub output : GoesOut a.output sinks.out_old sinks.out_new
+  pub output : Appends sinks.out_old sinks.out_new a.output
   pub put : Puts a.errors sinks
 
 -- The session ends out of memory, without any output. What a comparison may hold is reserved before
@@ -81,7 +81,7 @@ pub record Starved (a : Answer) (status : ℕ) (sinks : Sinks) : Type 0 where
 pub record Broken (a : Answer) (named : Named) (status : ℕ) (sinks : Sinks)
     (site out : Type 0) : Type 0 where
   pub status_is : status ≡ 18
-  pub output : StartsOut a.output sinks.out_old sinks.out_new
+  pub output : SendsPart a.output sinks.out_old sinks.out_new
   pub failure : Failure
   pub cause : FailureCause failure site out
   pub put : Puts (failure_line named failure) sinks

@@ -8,8 +8,7 @@ pub mod Trusted
 pub mod Pointing
 pub mod Sites
 pub mod Reels
-pub mod Output
-pub mod Writing
+pub mod Says
 pub mod Answer
 pub mod BesideAnswer
 pub mod Asks

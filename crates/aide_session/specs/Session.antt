@@ -1,5 +1,5 @@
--- What a session promises over any site, by what it writes. Every call that runs one promises this.
-use Rattle.std.specs.Prelude.{◌≡◌, ◌≤◌, ◌⊎◌, ℕ, Bool, true, List, max}
+-- What a session promises over any site. Every call that runs one promises this.
+use Rattle.std.specs.Prelude.{◌≡◌, ◌≤◌, ◌⊎◌, ℕ, Bool, true, List, Option, None, max}
 use Rattle.aide_db.specs.Count.{one_more}
 use Rattle.aide_db.specs.declared.sources.Sources.{Ghosts as AnySources}
 use Rattle.aide_report.specs.Failures.{Rose}
@@ -10,8 +10,9 @@ use Rattle.aide_session.specs.Existence.{HasSessionAnswerBy, TellsNamed}
 use Rattle.aide_session.specs.Files.{Files}
 use Rattle.aide_session.specs.Held.{HoldsWithin, most_held}
 use Rattle.aide_session.specs.Put.{HasNoFailure}
-use Rattle.aide_session.specs.Writing.{Writing}
+use Rattle.aide_session.specs.Says.{Says}
 use Rattle.aide_text.specs.declared.sink.Sink.{Ghosts as AnySink}
+use Rattle.aide_words.specs.Job.{JobText, job_of}
 
 -- What contracts see of a session, or of a part of one: how its devices were before, and how they are after it.
 pub record SessionView : Type 0 where
@@ -53,48 +54,49 @@ view_between s w e site_old site_new out_old out_new err_old err_new = record {
       out_old out_new;
 }
 
--- A session of these arguments with this status, by what it writes.
-pub record IsSessionBy (w : Writing) (words : List (List ℕ)) (status : ℕ)
+-- A session with this status. `wanted` is what the arguments ask for, and `says` what is said of a configuration that
+-- is only checked. A comparison writes the report.
+pub record IsSessionBy (says : Says) (wanted : Option JobText) (status : ℕ)
     (s : SessionView) : Type 0 where
   -- The session ends in one of three ways:
   -- - with the answer to the arguments;
   -- - out of memory, with no output;
   -- - with a failure that was counted, after the first bytes of the answer's output (none, some or all). Only the
   --   output or a site that is not reliable can fail so.
-  pub ends : (named : Named) (a : Answer) → IsAnswerBy w s.files words named a
+  pub ends : (named : Named) (a : Answer) → IsAnswerBy says s.files wanted named a
       → Ends a named status s.sinks (HasFailed s.is_reliable s.site_before s.site_after)
       (Rose s.out_before s.out_after)
   -- If no failure was counted, the session ends with the answer to the arguments or out of memory.
-  pub exact : (named : Named) (a : Answer) → IsAnswerBy w s.files words named a
+  pub exact : (named : Named) (a : Answer) → IsAnswerBy says s.files wanted named a
       → HasNoFailure s.site_before s.site_after → HasNoFailure s.out_before s.out_after
       → Whole a status s.sinks ⊎ Starved a status s.sinks
   -- Over a reliable site, if the output counts no failure, the session ends with the answer to the arguments or out
   -- of memory. On such a site a file that is not there counts as a failure, but is an answer.
-  pub reliable : (named : Named) (a : Answer) → IsAnswerBy w s.files words named a
+  pub reliable : (named : Named) (a : Answer) → IsAnswerBy says s.files wanted named a
       → s.is_reliable ≡ true → HasNoFailure s.out_before s.out_after
       → Whole a status s.sinks ⊎ Starved a status s.sinks
   -- If standard error counts no failure, the lines have been passed on.
   pub passed_on : HasNoFailure s.sinks.err_before s.sinks.err_after → s.is_passed_on ≡ true
-  -- If the site shows what is at the paths of the named files, there is an answer.
-  pub answered : TellsNamed s.files words → HasSessionAnswerBy w s.files words
+  -- If the site tells what is at the paths of the named files, there is an answer.
+  pub answered : TellsNamed s.files wanted → HasSessionAnswerBy says s.files wanted
   -- Over any site: the lines, the status and the output are those of one closing, whose cause holds.
-  pub closes : ClosesBy w s.files words status s.sinks s.course
+  pub closes : ClosesBy says s.files wanted status s.sinks s.course
       (Rose s.site_before s.site_after) (Rose s.out_before s.out_after)
   -- Besides the databases at most one file is opened, at most once.
   pub lookups : s.lookups_after ≤ one_more s.lookups_before
 
 -- What the desk of such a session has held, by the most bytes that it had ever held before and after.
-pub record HoldsBy (w : Writing) (files : Files) (words : List (List ℕ))
+pub record HoldsBy (says : Says) (files : Files) (wanted : Option JobText)
     (before after : ℕ) : Type 0 where
   -- The peak does not fall.
   pub peak : before ≤ after
   -- It rises at most to three lines as long as the limit.
   pub below : after ≤ max before most_held
   -- If the texts of both databases are known, it rises at most to three of their lines.
-  pub bound : (named : Named) (a : Answer) → IsAnswerBy w files words named a
+  pub bound : (named : Named) (a : Answer) → IsAnswerBy says files wanted named a
       → HoldsWithin files named before after
 
--- A program that writes this has ended with this status: after a session, or because memory ran out before one.
-abbrev pub HasRunBy : Writing → ℕ → Type 0
-HasRunBy w status = (status ≡ 22)
-    ⊎ ((words : List (List ℕ)) × (s : SessionView) × IsSessionBy w words status s)
+-- A program that writes the report has ended with this status: after a session, or because memory ran out before one.
+abbrev pub HasRun : ℕ → Type 0
+HasRun status = (status ≡ 22)
+    ⊎ ((words : List (List ℕ)) × (s : SessionView) × IsSessionBy None (job_of words) status s)

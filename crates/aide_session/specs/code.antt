@@ -1,6 +1,5 @@
 -- Definitions for steps inside the code. No clause of a public call cites them.
 pub mod Config
-pub mod Comparing
 pub mod Parts
 pub mod Premises
 pub mod BesideParts

@@ -1,20 +1,22 @@
-//! Comparing the two databases that the settings name, beside the two of a trusted pair.
-ghost use Rattle.std.specs.Prelude.{◌≡◌, ◌≤◌, ◌⊎◌, ℕ, List, OnOk};
+//! Comparing the two databases that the settings name and the two of a trusted pair.
+ghost use Rattle.std.specs.Prelude.{◌≡◌, ◌≤◌, ◌⊎◌, ℕ, true, List, Some, None, OnOk};
 ghost use Rattle.aide_report.specs.Asked.{asked};
 ghost use Rattle.aide_report.specs.Failures.{Rose};
 ghost use Rattle.aide_session.specs.BesideEnds.{ClosesCompared, StopsWith};
 ghost use Rattle.aide_session.specs.Lines.{memory_line};
-ghost use Rattle.aide_session.specs.Pointing.{KeepsFiles};
+ghost use Rattle.aide_session.specs.Pointing.{KeepsFiles, KeepsOthers};
+ghost use Rattle.aide_session.specs.Trusted.{trusted_at};
 ghost use Rattle.aide_session.specs.code.BesideParts.{IsPointed, beside_between, named_by};
 ghost use Rattle.aide_session.specs.code.Parts.{AreSame};
 ghost use Rattle.aide_trusted.specs.ListView.{list_read};
 ghost use Rattle.aide_trusted.specs.SamePair.{AreSamePair};
 
-use crate::comparison::{AsLines, LIMITS, LONGEST};
+use crate::databases::{LIMITS, LONGEST};
 use crate::devices::Devices;
 use crate::lines::{put_memory_line, put_outcome_lines};
 use crate::site::Site;
 use crate::status::Status;
+use crate::telling::AsLine;
 use crate::trusted_lines::{pair_status, put_pair_fault};
 use aide_conf::Task;
 use aide_db::{Desk, Side};
@@ -48,10 +50,55 @@ fn prepare<S: Site>(
     Ok(())
 }
 
+/// Points a side of the trusted pair's site at its database: at the empty one if its path is the
+/// empty text.
+#[tactic(auto, unfolding(crate::specs::Trusted::trusted_at))]
+fn point_trusted<S: Site>(alloc: Global, site: &mut S, side: Side, path: &str) -> Result<(), Memory>
+    ensures pointed { OnOk result ((bytes : List ℕ)
+        → trusted_at (S.file_at site.old) path.now ≡ Some (Some bytes)
+        → S.bytes_of site.new side ≡ Some bytes) }
+    ensures gone { OnOk result (trusted_at (S.file_at site.old) path.now ≡ Some None
+        → S.is_missing site.new side ≡ true) }
+    ensures others { OnOk result (KeepsOthers S.Sources S.path_of side site.old site.new) }
+    ensures keeps { KeepsFiles S.Sources site.old site.new }
+{
+    if path.is_empty() {
+        site.point_at_empty(side);
+        return Ok(());
+    }
+    site.point(alloc, side, path)
+}
+
+/// Points a site at the databases of the trusted pair, and reserves what a comparison may hold of
+/// them.
+fn prepare_trusted<S: Site>(
+    alloc: Global,
+    desk: &mut Desk<Global>,
+    site: &mut S,
+    task: &Task<'_>,
+) -> Result<(), Memory>
+    ensures keeps { KeepsFiles S.Sources site.old site.new }
+    ensures peak { desk.new.peak ≡ desk.old.peak }
+    ensures room { OnOk result (1048576 ≤ desk.new.room) }
+    ensures pointed { OnOk result (IsPointed (trusted_at (S.file_at site.old)) (asked task.now)
+        (S.bytes_of site.new) (S.is_missing site.new)) }
+{
+    if let Err(Memory) = point_trusted(alloc, site, Side::Old, task.old_path) {
+        return Err(Memory);
+    }
+    if let Err(Memory) = point_trusted(alloc, site, Side::New, task.new_path) {
+        return Err(Memory);
+    }
+    let Ok(()) = desk.reserve(LONGEST) else {
+        return Err(Memory);
+    };
+    Ok(())
+}
+
 /// Compares the databases that both sites are pointed at. Each desk has room for any line.
 fn compare_pairs<S: Site, W: Sink, E: Sink>(
     tasks: &Tasks<'_>,
-    devices: &mut Devices<'_, AsLines, S, W, E>,
+    devices: &mut Devices<'_, AsLine, S, W, E>,
     pair: &mut TrustedPair<'_, S, Global>,
 ) -> u8
     requires room { 1048576 ≤ devices.old.desk.now.room }
@@ -61,7 +108,7 @@ fn compare_pairs<S: Site, W: Sink, E: Sink>(
     ensures closes { (config : List ℕ)
         → IsPointed (S.file_at devices.old.site.now) (asked tasks.now.compared.now)
         (S.bytes_of devices.old.site.now) (S.is_missing devices.old.site.now)
-        → IsPointed (S.file_at pair.old.sources.now) (asked tasks.now.trusted.now)
+        → IsPointed (trusted_at (S.file_at pair.old.sources.now)) (asked tasks.now.trusted.now)
         (S.bytes_of pair.old.sources.now) (S.is_missing pair.old.sources.now)
         → tasks.now.trusted.now.options ≡ tasks.now.compared.now.options
         → ClosesCompared (list_read tasks.now.list)
@@ -88,7 +135,7 @@ fn compare_pairs<S: Site, W: Sink, E: Sink>(
 /// Compares the databases of both tasks, which the sites are pointed at.
 fn run_pairs<S: Site, W: Sink, E: Sink>(
     tasks: &Tasks<'_>,
-    devices: &mut Devices<'_, AsLines, S, W, E>,
+    devices: &mut Devices<'_, AsLine, S, W, E>,
     trusted_desk: &mut Desk<Global>,
     trusted: &mut S,
 ) -> u8
@@ -98,7 +145,7 @@ fn run_pairs<S: Site, W: Sink, E: Sink>(
     ensures closes { (config : List ℕ)
         → IsPointed (S.file_at devices.old.site.now) (asked tasks.now.compared.now)
         (S.bytes_of devices.old.site.now) (S.is_missing devices.old.site.now)
-        → IsPointed (S.file_at trusted.old) (asked tasks.now.trusted.now)
+        → IsPointed (trusted_at (S.file_at trusted.old)) (asked tasks.now.trusted.now)
         (S.bytes_of trusted.old) (S.is_missing trusted.old)
         → tasks.now.trusted.now.options ≡ tasks.now.compared.now.options
         → ClosesCompared (list_read tasks.now.list)
@@ -121,7 +168,7 @@ fn run_pairs<S: Site, W: Sink, E: Sink>(
 /// databases.
 pub(crate) fn compare_beside<S: Site, W: Sink, E: Sink>(
     tasks: &Tasks<'_>,
-    devices: &mut Devices<'_, AsLines, S, W, E>,
+    devices: &mut Devices<'_, AsLine, S, W, E>,
     trusted_desk: &mut Desk<Global>,
     trusted: &mut S,
 ) -> u8
@@ -144,7 +191,7 @@ pub(crate) fn compare_beside<S: Site, W: Sink, E: Sink>(
         put_memory_line(devices.err);
         return Status::Memory as u8;
     }
-    if let Err(Memory) = prepare(devices.alloc, trusted_desk, trusted, tasks.trusted) {
+    if let Err(Memory) = prepare_trusted(devices.alloc, trusted_desk, trusted, tasks.trusted) {
         put_memory_line(devices.err);
         return Status::Memory as u8;
     }

@@ -1,9 +1,9 @@
 //! Comparing the two databases that the settings name.
-ghost use Rattle.std.specs.Prelude.{◌≡◌, ◌≤◌, ℕ, List, Some, IsSome, Ok, true};
+ghost use Rattle.std.specs.Prelude.{◌≡◌, ◌≤◌, ℕ, List, Option, Some, IsSome, Ok, true};
 ghost use Rattle.aide_db.specs.Side.{by_side};
 ghost use Rattle.aide_db.specs.declared.side.Side.{Side};
 ghost use Rattle.aide_report.specs.Asked.{asked};
-ghost use Rattle.aide_session.specs.Answer.{ComparesBy};
+ghost use Rattle.aide_session.specs.Answer.{Compares};
 ghost use Rattle.aide_session.specs.Closing.{AsksAndReads};
 ghost use Rattle.aide_session.specs.code.Parts.{AreSame, ClosesFor, EndsWith, HoldsWith};
 ghost use Rattle.aide_session.specs.code.Parts.{KeepsPeak, part_between};
@@ -11,8 +11,8 @@ ghost use Rattle.aide_session.specs.Held.{IsPeakOf};
 ghost use Rattle.aide_session.specs.Lines.{run_fault_line};
 ghost use Rattle.aide_session.specs.code.Premises.{AsksForSides, ComparesSides};
 ghost use Rattle.aide_session.specs.Put.{PutOn};
+ghost use Rattle.aide_words.specs.Job.{JobText};
 
-use crate::comparison::{Comparison, LONGEST};
 use crate::devices::Devices;
 use crate::lines::{
     put_changed_line, put_database_line, put_memory_line, put_open_line, put_outcome_lines,
@@ -20,10 +20,20 @@ use crate::lines::{
 };
 use crate::site::Site;
 use crate::status::Status;
+use crate::telling::Telling;
 use aide_conf::{Settings, Task};
-use aide_db::{DbFaultKind, Side, Sources};
-use aide_report::{RunFault, Sink};
+use aide_db::{DbFaultKind, Limits, Side, Sources};
+use aide_report::{RunFault, Sink, run};
 use aide_words::Memory;
+
+/// The most bytes of a line of a database, without its newline.
+pub(crate) const LONGEST: u32 = 1_048_576;
+
+/// The limits of a database: its longest line, and at most 2^40 bytes in all.
+pub(crate) const LIMITS: Limits = Limits {
+    line: LONGEST,
+    bytes: 1_099_511_627_776,
+};
 
 /// Returns the configured path of a side.
 pub(crate) fn path_of<'a>(task: &Task<'a>, side: Side) -> &'a str
@@ -52,20 +62,20 @@ pub(crate) fn put_run_fault<E: Sink>(err: &mut E, task: &Task<'_>, fault: RunFau
 }
 
 /// Compares the databases that the sides of a site are pointed at. The desk has room for any line.
-fn compare_sides<C: Comparison, S: Site, W: Sink, E: Sink>(
+fn compare_sides<T: Telling, S: Site, W: Sink, E: Sink>(
     task: &Task<'_>,
-    devices: &mut Devices<'_, C, S, W, E>,
+    devices: &mut Devices<'_, T, S, W, E>,
 ) -> u8
     requires room { 1048576 ≤ devices.old.desk.now.room }
     ensures same { AreSame devices.old devices.new }
-    ensures ends { EndsWith (λ files. ComparesSides C.writing
+    ensures ends { EndsWith (λ files. ComparesSides
         (S.bytes_of devices.old.site.now) (S.is_missing devices.old.site.now) (asked task.now))
         result
         (part_between S.Sources W.Sink E.Sink devices.old devices.new) }
-    ensures closes { (words : List (List ℕ))
-        → AsksForSides (S.file_at devices.old.site.now) (S.bytes_of devices.old.site.now) words
+    ensures closes { (wanted : Option JobText)
+        → AsksForSides (S.file_at devices.old.site.now) (S.bytes_of devices.old.site.now) wanted
         (asked task.now)
-        → ClosesFor C.writing words result
+        → ClosesFor T.says wanted result
         (part_between S.Sources W.Sink E.Sink devices.old devices.new) }
     ensures site_never_falls { S.failures devices.old.site.now ≤ S.failures devices.new.site.now }
     ensures lookups { S.lookups devices.new.site.now ≡ S.lookups devices.old.site.now }
@@ -74,7 +84,7 @@ fn compare_sides<C: Comparison, S: Site, W: Sink, E: Sink>(
         → S.bytes_of devices.old.site.now Side.New ≡ Some new
         → IsPeakOf old new devices.old.desk.now.peak devices.new.desk.now.peak }
 {
-    match C::run(task, devices.desk, devices.site, devices.out) {
+    match run(task, LIMITS, devices.desk, devices.site, devices.out) {
         Ok(outcome) => {
             put_outcome_lines(devices.err, &outcome);
             outcome.status()
@@ -88,22 +98,22 @@ fn compare_sides<C: Comparison, S: Site, W: Sink, E: Sink>(
 
 /// Points a site at the databases that the settings name, reserves what a comparison may hold, and
 /// compares the databases.
-pub(crate) fn compare<C: Comparison, S: Site, W: Sink, E: Sink>(
+pub(crate) fn compare<T: Telling, S: Site, W: Sink, E: Sink>(
     settings: &Settings,
-    devices: &mut Devices<'_, C, S, W, E>,
+    devices: &mut Devices<'_, T, S, W, E>,
 ) -> u8
     requires { IsSome settings.now.old_path × IsSome settings.now.new_path }
     ensures same { AreSame devices.old devices.new }
-    ensures ends { EndsWith (λ files. ComparesBy C.writing files settings.now) result
+    ensures ends { EndsWith (λ files. Compares files settings.now) result
         (part_between S.Sources W.Sink E.Sink devices.old devices.new) }
-    ensures closes { (words : List (List ℕ)) (config : List ℕ)
-        → AsksAndReads (S.file_at devices.old.site.now) words config true (Ok settings.now)
-        → ClosesFor C.writing words result
+    ensures closes { (wanted : Option JobText) (config : List ℕ)
+        → AsksAndReads (S.file_at devices.old.site.now) wanted config true (Ok settings.now)
+        → ClosesFor T.says wanted result
         (part_between S.Sources W.Sink E.Sink devices.old devices.new) }
     ensures site_never_falls { S.failures devices.old.site.now ≤ S.failures devices.new.site.now }
     ensures lookups { S.lookups devices.new.site.now ≡ S.lookups devices.old.site.now }
     ensures peak { KeepsPeak devices.old devices.new }
-    ensures bound { HoldsWith (λ files. ComparesBy C.writing files settings.now)
+    ensures bound { HoldsWith (λ files. Compares files settings.now)
         (S.file_at devices.old.site.now) devices.old devices.new }
 {
     let Some(task) = settings.task() else {

@@ -2,7 +2,6 @@
 #![tactic(auto)]
 
 mod beside;
-mod comparison;
 mod config_check;
 mod config_file;
 mod databases;

@@ -1,4 +1,4 @@
-//! The program that writes lines of JSON. Its arguments may name a trusted pair.
+//! The program that writes lines of JSON.
 ghost use Rattle.std.specs.Prelude.{◌≡◌, ◌≢◌, ◌≤◌, ℕ, List, Some, None, Ok, Err, IfOk, IfErr};
 ghost use Rattle.std.specs.Prelude.{IsSome};
 ghost use Rattle.aide_conf.specs.ReadResult.{ReadsAs};
@@ -8,34 +8,38 @@ ghost use Rattle.aide_db.specs.Count.{one_more};
 ghost use Rattle.aide_patterns.specs.List.{HasFirstFault, HasRules};
 ghost use Rattle.aide_patterns.specs.declared.fault.ListFault.{ListFault};
 ghost use Rattle.aide_session.specs.BesideEnds.{EndsBesideBy, HasReadBeside};
-ghost use Rattle.aide_session.specs.BesideSession.{IsLineSession};
+ghost use Rattle.aide_session.specs.Answer.{IsAnswerBy};
+ghost use Rattle.aide_session.specs.BesideSession.{IsLineSession, check_job_of};
 ghost use Rattle.aide_session.specs.GivenList.{IsListOf};
+ghost use Rattle.aide_session.specs.Says.{settings_told};
 ghost use Rattle.aide_session.specs.Session.{view_between};
 ghost use Rattle.aide_session.specs.code.BesideParts.{HasTextBeside, RunsAlone, beside_between};
 ghost use Rattle.aide_session.specs.code.BesideParts.{peaks_between, trusted_between};
-ghost use Rattle.aide_session.specs.code.Parts.{AreSame, part_between};
+ghost use Rattle.aide_session.specs.code.Parts.{AreSame, ClosesFor, EndsWith, part_between};
 ghost use Rattle.aide_trusted.specs.ListView.{list_read};
 ghost use Rattle.aide_words.specs.BesideJob.{BesideText, beside_job_of, text_of_beside};
 
 use crate::beside::compare_beside;
-use crate::comparison::AsLines;
 use crate::config_file::{ConfigFault, read_config};
 use crate::devices::Devices;
 use crate::given_list::{digest_of, put_list_line};
-use crate::lines::{put_conf_line, put_memory_line, put_too_large_line, put_unread_line};
-use crate::program::run_words;
+use crate::lines::{
+    put_conf_line, put_memory_line, put_too_large_line, put_unread_line, put_usage_line,
+};
+use crate::program::run_job;
 use crate::put::pass_on;
 use crate::site::Site;
 use crate::status::Status;
+use crate::telling::AsLine;
 use aide_conf::{ConfFault, ConfFaultKind, Need, Settings, Task};
 use aide_db::Desk;
 use aide_patterns::{Exclusions, ListFaultKind};
 use aide_report::Sink;
 use aide_trusted::{LeftOutList, Tasks};
-use aide_words::{BesideJob, Words, WordsFault, read_beside_words};
+use aide_words::{BesideJob, Words, WordsFault, read_beside_words, read_words};
 use std::alloc::Global;
 
-/// Reads the settings of a job with a trusted pair from its three texts.
+/// Reads the settings of a comparison from its three texts.
 fn read_settings_beside(alloc: Global, job: &BesideJob, text: &[u8]) -> Result<Settings, ConfFault>
     ensures ok { IfOk result (λ settings. ReadsAs Compare job.now.before text.now job.now.after
         (Ok settings)) }
@@ -48,13 +52,13 @@ fn read_settings_beside(alloc: Global, job: &BesideJob, text: &[u8]) -> Result<S
     Settings::read(alloc, before, text, after, Need::Compare)
 }
 
-/// Compares the databases that the settings name, using the trusted pair of a job, whose list has
-/// been read.
+/// Compares the databases that the settings name and those of the trusted pair of a job, whose list
+/// has been read.
 fn compare_settings<S: Site, W: Sink, E: Sink>(
     job: &BesideJob,
     list: LeftOutList<'_>,
     settings: &Settings,
-    devices: &mut Devices<'_, AsLines, S, W, E>,
+    devices: &mut Devices<'_, AsLine, S, W, E>,
     trusted_desk: &mut Desk<Global>,
     trusted: &mut S,
 ) -> u8
@@ -86,12 +90,12 @@ fn compare_settings<S: Site, W: Sink, E: Sink>(
     compare_beside(&tasks, devices, trusted_desk, trusted)
 }
 
-/// Runs the session of a job with a trusted pair, whose list and configuration have been read.
+/// Runs the session of a comparison, whose list and configuration have been read.
 fn run_text_beside<S: Site, W: Sink, E: Sink>(
     job: &BesideJob,
     list: LeftOutList<'_>,
     text: &[u8],
-    devices: &mut Devices<'_, AsLines, S, W, E>,
+    devices: &mut Devices<'_, AsLine, S, W, E>,
     trusted_desk: &mut Desk<Global>,
     trusted: &mut S,
 ) -> u8
@@ -120,11 +124,11 @@ fn run_text_beside<S: Site, W: Sink, E: Sink>(
     }
 }
 
-/// Runs the session of a job with a trusted pair, whose list has been read.
+/// Runs the session of a comparison, whose list has been read.
 fn run_listed<S: Site, W: Sink, E: Sink>(
     job: &BesideJob,
     list: LeftOutList<'_>,
-    devices: &mut Devices<'_, AsLines, S, W, E>,
+    devices: &mut Devices<'_, AsLine, S, W, E>,
     trusted_desk: &mut Desk<Global>,
     trusted: &mut S,
 ) -> u8
@@ -155,11 +159,11 @@ fn run_listed<S: Site, W: Sink, E: Sink>(
     }
 }
 
-/// Runs the session of a job with a trusted pair, whose list has these rules.
+/// Runs the session of a comparison, whose list has these rules.
 fn run_ruled<S: Site, W: Sink, E: Sink>(
     job: &BesideJob,
     rules: &Exclusions<'_>,
-    devices: &mut Devices<'_, AsLines, S, W, E>,
+    devices: &mut Devices<'_, AsLine, S, W, E>,
     trusted_desk: &mut Desk<Global>,
     trusted: &mut S,
 ) -> u8
@@ -180,10 +184,10 @@ fn run_ruled<S: Site, W: Sink, E: Sink>(
     run_listed(job, list, devices, trusted_desk, trusted)
 }
 
-/// Runs the session of a job with a trusted pair.
+/// Runs the session of a comparison.
 fn run_job_beside<S: Site, W: Sink, E: Sink>(
     job: &BesideJob,
-    devices: &mut Devices<'_, AsLines, S, W, E>,
+    devices: &mut Devices<'_, AsLine, S, W, E>,
     trusted_desk: &mut Desk<Global>,
     trusted: &mut S,
 ) -> u8
@@ -213,11 +217,44 @@ fn run_job_beside<S: Site, W: Sink, E: Sink>(
     }
 }
 
-/// Runs the session of these arguments, which may name a trusted pair. Its lines may still wait
-/// in standard error afterwards.
+/// Runs the session of arguments that ask for no comparison. They may ask for a check of a
+/// configuration.
+fn run_check_words<S: Site, W: Sink, E: Sink>(
+    words: &Words,
+    devices: &mut Devices<'_, AsLine, S, W, E>,
+) -> u8
+    ensures same { AreSame devices.old devices.new }
+    ensures ends { EndsWith
+        (λ files. IsAnswerBy (Some settings_told) files (check_job_of words.now))
+        result (part_between S.Sources W.Sink E.Sink devices.old devices.new) }
+    ensures closes { ClosesFor (Some settings_told) (check_job_of words.now) result
+        (part_between S.Sources W.Sink E.Sink devices.old devices.new) }
+    ensures lookups { S.lookups devices.new.site.now ≤ one_more (S.lookups devices.old.site.now) }
+    ensures still { devices.new.desk.now.peak ≡ devices.old.desk.now.peak }
+{
+    match read_words(devices.alloc, words) {
+        Ok(job) => {
+            if job.compare {
+                put_usage_line(devices.err);
+                return Status::Usage as u8;
+            }
+            run_job(&job, devices)
+        }
+        Err(WordsFault::Usage) => {
+            put_usage_line(devices.err);
+            Status::Usage as u8
+        }
+        Err(WordsFault::Memory) => {
+            put_memory_line(devices.err);
+            Status::Memory as u8
+        }
+    }
+}
+
+/// Runs the session of these arguments. Its lines may still wait in standard error afterwards.
 fn run_line_words<S: Site, W: Sink, E: Sink>(
     words: &Words,
-    devices: &mut Devices<'_, AsLines, S, W, E>,
+    devices: &mut Devices<'_, AsLine, S, W, E>,
     trusted_desk: &mut Desk<Global>,
     trusted: &mut S,
 ) -> u8
@@ -238,7 +275,7 @@ fn run_line_words<S: Site, W: Sink, E: Sink>(
 {
     match read_beside_words(devices.alloc, words) {
         Ok(job) => run_job_beside(&job, devices, trusted_desk, trusted),
-        Err(WordsFault::Usage) => run_words(words, devices),
+        Err(WordsFault::Usage) => run_check_words(words, devices),
         Err(WordsFault::Memory) => {
             put_memory_line(devices.err);
             Status::Memory as u8
@@ -249,7 +286,7 @@ fn run_line_words<S: Site, W: Sink, E: Sink>(
 /// Runs the session of these arguments, and passes its lines on.
 fn run_lines_and_pass_on<S: Site, W: Sink, E: Sink>(
     words: &Words,
-    devices: &mut Devices<'_, AsLines, S, W, E>,
+    devices: &mut Devices<'_, AsLine, S, W, E>,
     trusted_desk: &mut Desk<Global>,
     trusted: &mut S,
 ) -> u8
@@ -268,9 +305,10 @@ fn run_lines_and_pass_on<S: Site, W: Sink, E: Sink>(
 /// JSON in place of the report. Of a configuration that is only checked it writes one line, which says what the
 /// configuration sets.
 ///
-/// The arguments may name a trusted pair of databases too, which are then read from the second site, and beside it
-/// give a list of what is left out. A fault of the list ends the session before any file is opened. If they name no
-/// trusted pair, the second site and its desk are left alone.
+/// The arguments of a comparison may name a trusted pair of databases, which are then read from the second site. If
+/// they name none, the empty database stands for both, and no file of the second site is opened. The arguments may give
+/// a list of what is left out too. A fault of the list ends the session before any file is opened. If the arguments ask
+/// for no comparison, the second site and both desks are left alone.
 pub fn lines_session_on<S: Site, W: Sink, E: Sink>(
     alloc: Global,
     words: &Words,
@@ -292,6 +330,6 @@ pub fn lines_session_on<S: Site, W: Sink, E: Sink>(
           trusted_after = trusted_desk.new.peak;
         }) }
 {
-    let mut devices = Devices::new(AsLines, alloc, desk, site, out, err);
+    let mut devices = Devices::new(AsLine, alloc, desk, site, out, err);
     run_lines_and_pass_on(words, &mut devices, trusted_desk, trusted)
 }

@@ -1,15 +1,12 @@
 //! A session on the machine: its arguments, its files and its streams.
 ghost use Rattle.std.specs.Prelude.{IfOk};
 ghost use Rattle.aide_session.specs.BesideSession.{HasRunLines};
-ghost use Rattle.aide_session.specs.Session.{HasRunBy};
-ghost use Rattle.aide_session.specs.Writing.{the_report};
+ghost use Rattle.aide_session.specs.Session.{HasRun};
 
-use crate::comparison::{AsReport, Comparison};
-use crate::devices::Devices;
 use crate::file_site::FileSite;
 use crate::lines_program::lines_session_on;
 use crate::paged_sink::PagedSink;
-use crate::program::run_and_pass_on;
+use crate::program::session;
 use crate::site::Site;
 use crate::status::Status;
 use aide_db::Desk;
@@ -30,42 +27,42 @@ fn take_words(rt: &HostRuntime, alloc: Global) -> Result<Words, Memory> {
     Ok(words)
 }
 
-/// Runs a session whose output and lines each go through a page, on a desk of its own. Memory for
-/// both pages is reserved before any file is opened.
-fn run_paged<C: Comparison, S: Site, W: Sink + Drop, E: Sink + Drop>(
-    comparison: C,
+/// Runs a session that writes the report. Its output and lines each go through a page, and the desk
+/// is its own. Memory for both pages is reserved before any file is opened.
+fn run_paged<S: Site, W: Sink + Drop, E: Sink + Drop>(
     alloc: Global,
     words: &Words,
     site: &mut S,
     out: W,
     err: E,
 ) -> Result<u8, Memory>
-    ensures { IfOk result (HasRunBy C.writing) }
+    ensures { IfOk result HasRun }
 {
     let mut out = PagedSink::new(alloc, out)?;
     let mut err = PagedSink::new(alloc, err)?;
-    let mut desk = Desk::new(alloc);
-    let mut devices = Devices::new(comparison, alloc, &mut desk, site, &mut out, &mut err);
-    let status = run_and_pass_on(words, &mut devices);
+    let status = session(alloc, words, site, &mut out, &mut err);
     Ok(status)
 }
 
 /// Runs the session of the command line over the machine's files.
-fn run_session<C: Comparison>(comparison: C, rt: &HostRuntime, alloc: Global) -> Result<u8, Memory>
-    ensures { IfOk result (HasRunBy C.writing) }
+fn run_session(rt: &HostRuntime, alloc: Global) -> Result<u8, Memory>
+    ensures { IfOk result HasRun }
 {
     let words = take_words(rt, alloc)?;
     let mut site = FileSite::new(rt);
     let out = WriteSink::new(rt.stdout());
     let err = WriteSink::new(rt.stderr());
-    run_paged(comparison, alloc, &words, &mut site, out, err)
+    run_paged(alloc, &words, &mut site, out, err)
 }
 
-/// Runs the session of the command line, or says that memory ran out.
-fn start_as<C: Comparison>(comparison: C, rt: &HostRuntime) -> u8
-    ensures { HasRunBy C.writing result }
+/// Runs the session of the command line over the machine's files. The report goes to standard
+/// output, and the lines go to standard error. Returns the exit status. The status is 22 if the
+/// arguments cannot be taken, for example because one is not UTF-8, or if a page cannot be
+/// allocated.
+pub fn start(rt: &HostRuntime) -> u8
+    ensures { HasRun result }
 {
-    match run_session(comparison, rt, rt.alloc()) {
+    match run_session(rt, rt.alloc()) {
         Ok(status) => status,
         Err(Memory) => {
             let _ = eprintln!(rt; "aide: out of memory");
@@ -74,19 +71,8 @@ fn start_as<C: Comparison>(comparison: C, rt: &HostRuntime) -> u8
     }
 }
 
-/// Runs the session of the command line over the machine's files. The report goes to standard
-/// output, and the lines go to standard error. Returns the exit status. The status is 22 if the
-/// arguments cannot be taken, for example because one is not UTF-8, or if a page cannot be
-/// allocated.
-pub fn start(rt: &HostRuntime) -> u8
-    ensures { HasRunBy the_report result }
-{
-    start_as(AsReport, rt)
-}
-
-/// Runs a session that writes lines of JSON and may have a trusted pair. Its output and lines
-/// each go through a page, and both desks are its own. Memory for both pages is reserved before
-/// any file is opened.
+/// Runs a session that writes lines of JSON. Its output and lines each go through a page, and both
+/// desks are its own. Memory for both pages is reserved before any file is opened.
 fn run_lines_paged<S: Site, W: Sink + Drop, E: Sink + Drop>(
     alloc: Global,
     words: &Words,
@@ -127,7 +113,7 @@ fn run_lines_session(rt: &HostRuntime, alloc: Global) -> Result<u8, Memory>
 }
 
 /// Runs the session of the command line like [`start`], but writes the changes as lines of JSON
-/// to standard output in place of the report. The arguments may name a trusted pair.
+/// to standard output in place of the report.
 pub fn start_lines(rt: &HostRuntime) -> u8
     ensures { HasRunLines result }
 {

@@ -1,17 +1,15 @@
 //! The whole program over any site.
-ghost use Rattle.std.specs.Prelude.{◌≡◌, ◌≢◌, ◌≤◌, ℕ, List, Some, Ok, Err, true, IfOk, IfErr};
-ghost use Rattle.std.specs.Prelude.{IsSome};
+ghost use Rattle.std.specs.Prelude.{◌≡◌, ◌≢◌, ◌≤◌, ℕ, List, Option, Some, None, Ok, Err, true};
+ghost use Rattle.std.specs.Prelude.{IsSome, IfOk, IfErr, false};
 ghost use Rattle.aide_conf.specs.declared.fault.ConfFaultKind.TheVariants.{Memory};
 ghost use Rattle.aide_db.specs.Count.{one_more};
 ghost use Rattle.aide_session.specs.Answer.{IsAnswerBy, IsJobAnswerBy, IsTextAnswerBy, need_of};
 ghost use Rattle.aide_session.specs.Session.{HoldsBy, IsSessionBy, view_between};
-ghost use Rattle.aide_session.specs.Writing.{the_report};
 ghost use Rattle.aide_session.specs.code.Parts.{AreSame, ClosesFor, EndsWith, HoldsWith};
 ghost use Rattle.aide_session.specs.code.Parts.{KeepsPeak, part_between};
 ghost use Rattle.aide_session.specs.code.Premises.{HasRead, ReadsOnlyAs};
-ghost use Rattle.aide_words.specs.Job.{job_of, text_of_job};
+ghost use Rattle.aide_words.specs.Job.{JobText, job_of, text_of_job};
 
-use crate::comparison::{AsReport, Comparison};
 use crate::config_check::check;
 use crate::config_file::{ConfigFault, read_config};
 use crate::databases::compare;
@@ -22,6 +20,7 @@ use crate::lines::{
 use crate::put::pass_on;
 use crate::site::Site;
 use crate::status::Status;
+use crate::telling::{Silent, Telling};
 use aide_conf::{ConfFault, ConfFaultKind, Need, Settings};
 use aide_db::{Desk, Sources};
 use aide_report::Sink;
@@ -58,25 +57,27 @@ fn read_settings(alloc: Global, prepared: &PreparedJob<'_>) -> Result<Settings, 
 }
 
 /// Runs the session of a job whose configuration has been read.
-fn run_prepared<C: Comparison, S: Site, W: Sink, E: Sink>(
+fn run_prepared<T: Telling, S: Site, W: Sink, E: Sink>(
     prepared: &PreparedJob<'_>,
-    devices: &mut Devices<'_, C, S, W, E>,
+    devices: &mut Devices<'_, T, S, W, E>,
 ) -> u8
     ensures same { AreSame devices.old devices.new }
     ensures ends { EndsWith
-        (λ files. IsTextAnswerBy C.writing files (text_of_job prepared.now.job.now)
+        (λ files. IsTextAnswerBy T.says files (text_of_job prepared.now.job.now)
         prepared.now.text.now)
         result (part_between S.Sources W.Sink E.Sink devices.old devices.new) }
-    ensures closes { (words : List (List ℕ))
-        → HasRead (S.file_at devices.old.site.now) words (text_of_job prepared.now.job.now)
+    ensures closes { (wanted : Option JobText)
+        → HasRead (S.file_at devices.old.site.now) wanted (text_of_job prepared.now.job.now)
         prepared.now.text.now
-        → ClosesFor C.writing words result
+        → ClosesFor T.says wanted result
         (part_between S.Sources W.Sink E.Sink devices.old devices.new) }
     ensures site_never_falls { S.failures devices.old.site.now ≤ S.failures devices.new.site.now }
     ensures lookups { S.lookups devices.new.site.now ≡ S.lookups devices.old.site.now }
     ensures peak { KeepsPeak devices.old devices.new }
+    ensures still { prepared.now.job.now.compare ≡ false
+        → devices.new.desk.now.peak ≡ devices.old.desk.now.peak }
     ensures bound { HoldsWith
-        (λ files. IsTextAnswerBy C.writing files (text_of_job prepared.now.job.now)
+        (λ files. IsTextAnswerBy T.says files (text_of_job prepared.now.job.now)
         prepared.now.text.now)
         (S.file_at devices.old.site.now) devices.old devices.new }
 {
@@ -102,19 +103,21 @@ fn run_prepared<C: Comparison, S: Site, W: Sink, E: Sink>(
 }
 
 /// Runs the session of a job.
-fn run_job<C: Comparison, S: Site, W: Sink, E: Sink>(
+pub(crate) fn run_job<T: Telling, S: Site, W: Sink, E: Sink>(
     job: &Job,
-    devices: &mut Devices<'_, C, S, W, E>,
+    devices: &mut Devices<'_, T, S, W, E>,
 ) -> u8
     ensures same { AreSame devices.old devices.new }
-    ensures ends { EndsWith (λ files. IsJobAnswerBy C.writing files (text_of_job job.now)) result
+    ensures ends { EndsWith (λ files. IsJobAnswerBy T.says files (text_of_job job.now)) result
         (part_between S.Sources W.Sink E.Sink devices.old devices.new) }
-    ensures closes { (words : List (List ℕ)) → job_of words ≡ Some (text_of_job job.now)
-        → ClosesFor C.writing words result
+    ensures closes { (wanted : Option JobText) → wanted ≡ Some (text_of_job job.now)
+        → ClosesFor T.says wanted result
         (part_between S.Sources W.Sink E.Sink devices.old devices.new) }
     ensures lookups { S.lookups devices.new.site.now ≤ one_more (S.lookups devices.old.site.now) }
     ensures peak { KeepsPeak devices.old devices.new }
-    ensures bound { HoldsWith (λ files. IsJobAnswerBy C.writing files (text_of_job job.now))
+    ensures still { job.now.compare ≡ false
+        → devices.new.desk.now.peak ≡ devices.old.desk.now.peak }
+    ensures bound { HoldsWith (λ files. IsJobAnswerBy T.says files (text_of_job job.now))
         (S.file_at devices.old.site.now) devices.old devices.new }
 {
     let path = job.config.as_str();
@@ -140,18 +143,18 @@ fn run_job<C: Comparison, S: Site, W: Sink, E: Sink>(
 
 /// Runs the session of these arguments. Its lines may still wait in standard error
 /// afterwards.
-pub(crate) fn run_words<C: Comparison, S: Site, W: Sink, E: Sink>(
+pub(crate) fn run_words<S: Site, W: Sink, E: Sink>(
     words: &Words,
-    devices: &mut Devices<'_, C, S, W, E>,
+    devices: &mut Devices<'_, Silent, S, W, E>,
 ) -> u8
     ensures same { AreSame devices.old devices.new }
-    ensures ends { EndsWith (λ files. IsAnswerBy C.writing files words.now) result
+    ensures ends { EndsWith (λ files. IsAnswerBy None files (job_of words.now)) result
         (part_between S.Sources W.Sink E.Sink devices.old devices.new) }
-    ensures closes { ClosesFor C.writing words.now result
+    ensures closes { ClosesFor None (job_of words.now) result
         (part_between S.Sources W.Sink E.Sink devices.old devices.new) }
     ensures lookups { S.lookups devices.new.site.now ≤ one_more (S.lookups devices.old.site.now) }
     ensures peak { KeepsPeak devices.old devices.new }
-    ensures bound { HoldsWith (λ files. IsAnswerBy C.writing files words.now)
+    ensures bound { HoldsWith (λ files. IsAnswerBy None files (job_of words.now))
         (S.file_at devices.old.site.now) devices.old devices.new }
 {
     match read_words(devices.alloc, words) {
@@ -168,14 +171,14 @@ pub(crate) fn run_words<C: Comparison, S: Site, W: Sink, E: Sink>(
 }
 
 /// Runs the session of these arguments, and passes its lines on.
-pub(crate) fn run_and_pass_on<C: Comparison, S: Site, W: Sink, E: Sink>(
+pub(crate) fn run_and_pass_on<S: Site, W: Sink, E: Sink>(
     words: &Words,
-    devices: &mut Devices<'_, C, S, W, E>,
+    devices: &mut Devices<'_, Silent, S, W, E>,
 ) -> u8
     ensures same { AreSame devices.old devices.new }
-    ensures session { IsSessionBy C.writing words.now result
+    ensures session { IsSessionBy None (job_of words.now) result
         (part_between S.Sources W.Sink E.Sink devices.old devices.new) }
-    ensures desk { HoldsBy C.writing (S.file_at devices.old.site.now) words.now
+    ensures desk { HoldsBy None (S.file_at devices.old.site.now) (job_of words.now)
         devices.old.desk.now.peak devices.new.desk.now.peak }
 {
     let status = run_words(words, devices);
@@ -206,11 +209,13 @@ pub fn session_on<S: Site, W: Sink, E: Sink>(
     out: &mut W,
     err: &mut E,
 ) -> u8
-    ensures session { IsSessionBy the_report words.now result (view_between S.Sources W.Sink E.Sink
+    ensures session { IsSessionBy None (job_of words.now) result
+        (view_between S.Sources W.Sink E.Sink
         site.old site.new out.old out.new err.old err.new) }
-    ensures desk { HoldsBy the_report (S.file_at site.old) words.now desk.old.peak desk.new.peak }
+    ensures desk { HoldsBy None (S.file_at site.old) (job_of words.now)
+        desk.old.peak desk.new.peak }
 {
-    let mut devices = Devices::new(AsReport, alloc, desk, site, out, err);
+    let mut devices = Devices::new(Silent, alloc, desk, site, out, err);
     run_and_pass_on(words, &mut devices)
 }
 
@@ -223,7 +228,8 @@ pub fn session<S: Site, W: Sink, E: Sink>(
     out: &mut W,
     err: &mut E,
 ) -> u8
-    ensures session { IsSessionBy the_report words.now result (view_between S.Sources W.Sink E.Sink
+    ensures session { IsSessionBy None (job_of words.now) result
+        (view_between S.Sources W.Sink E.Sink
         site.old site.new out.old out.new err.old err.new) }
 {
     let mut desk = Desk::new(alloc);

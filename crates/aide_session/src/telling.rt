@@ -1,8 +1,8 @@
-//! The line that says what an accepted configuration sets.
+//! What a session says of an accepted configuration that is only checked.
 ghost use Rattle.std.specs.Prelude.{◌≡◌, Some, OnOk, OnErr, option_map};
 ghost use Rattle.aide_report.specs.Failures.{Rose};
 ghost use Rattle.aide_session.specs.Closing.{IsTold, IsUntold};
-ghost use Rattle.aide_session.specs.Writing.{settings_told};
+ghost use Rattle.aide_session.specs.Says.{settings_told};
 
 use aide_conf::Settings;
 use aide_db::DeviceFault;
@@ -12,6 +12,52 @@ use aide_text::{Pen, Sink};
 /// The output was not written.
 #[derive(Clone, Copy)]
 pub(crate) struct Unwritten;
+
+/// What is said of an accepted configuration that is only checked.
+pub(crate) trait Telling: Copy {
+    ghost use Rattle.aide_session.specs.Says.{Says};
+
+    /// The text that is written, if any.
+    ghost says: { Says };
+
+    /// Writes what there is to say, and flushes it.
+    fn tell<W: Sink>(settings: &Settings, out: &mut W) -> Result<(), Unwritten>
+        ensures told { OnOk result (IsTold says settings.now
+            (W.delivered out.old) (W.delivered out.new)
+            (W.is_flushed out.new) (W.flushes out.old) (W.flushes out.new)) }
+        ensures untold { OnErr result (IsUntold says settings.now
+            (W.delivered out.old) (W.delivered out.new) (W.flushes out.old) (W.flushes out.new)) }
+        ensures rose { OnErr result (Rose (W.failures out.old) (W.failures out.new)) };
+}
+
+/// Nothing is said.
+#[derive(Clone, Copy)]
+pub(crate) struct Silent;
+
+impl Telling for Silent {
+    ghost use Rattle.std.specs.Prelude.{None};
+
+    ghost says = { None };
+
+    fn tell<W: Sink>(_settings: &Settings, _out: &mut W) -> Result<(), Unwritten> {
+        Ok(())
+    }
+}
+
+/// One line says what the configuration sets.
+#[derive(Clone, Copy)]
+pub(crate) struct AsLine;
+
+impl Telling for AsLine {
+    ghost use Rattle.std.specs.Prelude.{Some};
+    ghost use Rattle.aide_session.specs.Says.{settings_told};
+
+    ghost says = { Some settings_told };
+
+    fn tell<W: Sink>(settings: &Settings, out: &mut W) -> Result<(), Unwritten> {
+        tell_settings(settings, out)
+    }
+}
 
 /// Returns the bytes of a path.
 fn bytes_of<'a>(path: Option<&'a str>) -> Option<&'a [u8]>
@@ -24,7 +70,7 @@ fn bytes_of<'a>(path: Option<&'a str>) -> Option<&'a [u8]>
 }
 
 /// Writes the line, and flushes it.
-pub(crate) fn tell_settings<W: Sink>(settings: &Settings, out: &mut W) -> Result<(), Unwritten>
+fn tell_settings<W: Sink>(settings: &Settings, out: &mut W) -> Result<(), Unwritten>
     ensures told { OnOk result (IsTold (Some settings_told) settings.now
         (W.delivered out.old) (W.delivered out.new)
         (W.is_flushed out.new) (W.flushes out.old) (W.flushes out.new)) }

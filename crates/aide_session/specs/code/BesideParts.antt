@@ -1,18 +1,17 @@
--- What contracts say about a part of a session with a trusted pair.
-use Rattle.std.specs.Prelude.{◌≡◌, ◌≤◌, ℕ, Bool, false, List, Option, Some, max}
+-- What contracts say of a part of a session beside a trusted pair.
+use Rattle.std.specs.Prelude.{◌≡◌, ℕ, Bool, false, List, Option, Some}
 use Rattle.aide_db.specs.DeskView.{DeskView}
 use Rattle.aide_db.specs.declared.side.Side.{Side}
 use Rattle.aide_db.specs.declared.side.Side.TheVariants.{Old, New}
 use Rattle.aide_db.specs.declared.sources.Sources.{Ghosts as AnySources}
 use Rattle.aide_report.specs.Asked.{Asked}
 use Rattle.aide_report.specs.Missing.{TellsSide}
-use Rattle.aide_session.specs.Answer.{Answer, IsAnswerBy, Named}
+use Rattle.aide_session.specs.Answer.{IsAnswerBy, Named}
 use Rattle.aide_session.specs.BesideEnds.{BesideView}
-use Rattle.aide_session.specs.BesideSession.{DeskPeaks, beside_view}
+use Rattle.aide_session.specs.BesideSession.{DeskPeaks, beside_view, check_job_of}
 use Rattle.aide_session.specs.Files.{Files, is_too_large}
-use Rattle.aide_session.specs.Held.{HoldsWithin, most_held}
 use Rattle.aide_session.specs.Session.{SessionView, view_between}
-use Rattle.aide_session.specs.Writing.{the_lines}
+use Rattle.aide_session.specs.Says.{settings_told}
 use Rattle.aide_session.specs.code.Parts.{ClosesFor, EndsWith, part_between}
 use Rattle.aide_session.specs.declared.devices.Devices.{Devices}
 use Rattle.aide_text.specs.declared.sink.Sink.{Ghosts as AnySink}
@@ -60,15 +59,13 @@ pub record HasTextBeside (files : Files) (job : BesideText) (text : List ℕ) : 
   pub text_is : (file : Option (List ℕ)) → files job.config ≡ Some file → file ≡ Some text
   pub small : is_too_large text ≡ false
 
--- A part of a session whose arguments name no trusted pair: it is one of a session over the first
--- site alone.
+-- A part of a session whose arguments ask for no comparison: it is one that may check a configuration
+-- and opens no database.
 pub record RunsAlone (words : List (List ℕ)) (status : ℕ) (s t : SessionView)
     (desks : DeskPeaks) : Type 0 where
-  pub ends : EndsWith (λ files. IsAnswerBy the_lines files words) status s
-  pub closes : ClosesFor the_lines words status s
-  pub peak : desks.before ≤ desks.after
-  pub below : desks.after ≤ max desks.before most_held
-  pub bound : (named : Named) (a : Answer) → IsAnswerBy the_lines s.files words named a
-      → HoldsWithin s.files named desks.before desks.after
-  pub unopened : t.course.opened_after ≡ t.course.opened_before
-  pub still : desks.trusted_after ≡ desks.trusted_before
+  pub ends : EndsWith (λ files. IsAnswerBy (Some settings_told) files (check_job_of words)) status s
+  pub closes : ClosesFor (Some settings_told) (check_job_of words) status s
+  pub unopened : s.course.opened_after ≡ s.course.opened_before
+  pub still : desks.after ≡ desks.before
+  pub trusted_unopened : t.course.opened_after ≡ t.course.opened_before
+  pub trusted_still : desks.trusted_after ≡ desks.trusted_before

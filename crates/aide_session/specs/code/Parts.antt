@@ -1,5 +1,5 @@
--- What contracts say about a part of a session: what it did with the site, the output and standard error.
-use Rattle.std.specs.Prelude.{◌≡◌, ℕ, ◌≤◌, List, max}
+-- What contracts say of a part of a session: what it did with the site, the output and standard error.
+use Rattle.std.specs.Prelude.{◌≡◌, ℕ, ◌≤◌, Option, max}
 use Rattle.aide_db.specs.declared.sources.Sources.{Ghosts as AnySources}
 use Rattle.aide_report.specs.Failures.{Rose}
 use Rattle.aide_session.specs.Answer.{Answer, Named}
@@ -8,9 +8,10 @@ use Rattle.aide_session.specs.Ends.{Ends, HasFailed}
 use Rattle.aide_session.specs.Files.{Files}
 use Rattle.aide_session.specs.Held.{HoldsWithin, most_held}
 use Rattle.aide_session.specs.Session.{SessionView, view_between}
-use Rattle.aide_session.specs.Writing.{Writing}
+use Rattle.aide_session.specs.Says.{Says}
 use Rattle.aide_session.specs.declared.devices.Devices.{Devices}
 use Rattle.aide_text.specs.declared.sink.Sink.{Ghosts as AnySink}
+use Rattle.aide_words.specs.Job.{JobText}
 
 -- the view of a part of a session, by its devices
 abbrev pub part_between : {C S R W E : Type 0} → AnySources S R → AnySink W → AnySink E
@@ -31,9 +32,9 @@ EndsWith is_answer status s = (named : Named) (a : Answer) → is_answer s.files
     → Ends a named status s.sinks (HasFailed s.is_reliable s.site_before s.site_after)
     (Rose s.out_before s.out_after)
 
--- the session of these arguments ends by one closing, whose cause holds
-abbrev pub ClosesFor : Writing → List (List ℕ) → ℕ → SessionView → Type 0
-ClosesFor w words status s = ClosesBy w s.files words status s.sinks s.course
+-- the session of what the arguments ask for ends by one closing, whose cause holds
+abbrev pub ClosesFor : Says → Option JobText → ℕ → SessionView → Type 0
+ClosesFor says wanted status s = ClosesBy says s.files wanted status s.sinks s.course
     (Rose s.site_before s.site_after) (Rose s.out_before s.out_after)
 
 -- What a part of a session leaves of the desk's peak.

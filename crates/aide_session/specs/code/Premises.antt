@@ -7,17 +7,16 @@ use Rattle.aide_db.specs.declared.side.Side.{Side}
 use Rattle.aide_db.specs.declared.side.Side.TheVariants.{Old, New}
 use Rattle.aide_report.specs.Asked.{Asked}
 use Rattle.aide_report.specs.Missing.{TellsSide}
-use Rattle.aide_session.specs.Answer.{Answer, IsComparedBy, Named, need_of}
+use Rattle.aide_session.specs.Answer.{Answer, IsCompared, Named, need_of}
 use Rattle.aide_session.specs.Closing.{AsksToCompare, HasText}
 use Rattle.aide_session.specs.Files.{Files, is_too_large}
-use Rattle.aide_session.specs.Writing.{Writing}
-use Rattle.aide_words.specs.Job.{JobText, job_of}
+use Rattle.aide_words.specs.Job.{JobText}
 
 -- The arguments ask for this job, and this is the text of its configuration. If the file is known,
 -- the text is the file's.
-pub record HasRead (files : Files) (words : List (List ℕ)) (job : JobText)
+pub record HasRead (files : Files) (wanted : Option JobText) (job : JobText)
     (text : List ℕ) : Type 0 where
-  pub job_is : job_of words ≡ Some job
+  pub job_is : wanted ≡ Some job
   pub text_is : (file : Option (List ℕ)) → files job.config ≡ Some file → file ≡ Some text
   pub small : is_too_large text ≡ false
 
@@ -28,9 +27,9 @@ pub record ReadsOnlyAs (job : JobText) (text : List ℕ)
   pub only : (other : Result Configured ConfFault)
       → ReadsAs (need_of job.compare) job.before text job.after other → other ≡ read
 
--- The comparison that is asked for, of what is known of the sides of a site. `ComparesBy` says the
+-- The comparison that is asked for, of what is told of the sides of a site. `Compares` says the
 -- same of what is at the paths.
-pub record ComparesSides (w : Writing) (bytes_of : Side → Option (List ℕ))
+pub record ComparesSides (bytes_of : Side → Option (List ℕ))
     (is_missing : Side → Bool) (asked : Asked) (named : Named) (a : Answer) : Type 0 where
   pub old_is : named.old_path ≡ asked.old_path
   pub new_is : named.new_path ≡ asked.new_path
@@ -38,16 +37,16 @@ pub record ComparesSides (w : Writing) (bytes_of : Side → Option (List ℕ))
   pub new_file : Option (List ℕ)
   pub old_told : TellsSide (bytes_of Old) (is_missing Old) old_file
   pub new_told : TellsSide (bytes_of New) (is_missing New) new_file
-  pub then_is : IsComparedBy w asked.options named old_file new_file a
+  pub then_is : IsCompared asked.options named old_file new_file a
 
 -- The arguments ask for this comparison. The sides of the site give the databases at the paths that
 -- are named, if their texts are known.
 pub record AsksForSides (files : Files) (bytes_of : Side → Option (List ℕ))
-    (words : List (List ℕ)) (asked : Asked) : Type 0 where
+    (wanted : Option JobText) (asked : Asked) : Type 0 where
   pub named : Named
   pub old_is : named.old_path ≡ asked.old_path
   pub new_is : named.new_path ≡ asked.new_path
-  pub asks : AsksToCompare files words named
+  pub asks : AsksToCompare files wanted named
   pub options_are : asks.settings.options ≡ asked.options
   pub gives : (side : Side) (text : List ℕ) → HasText files named side text
       → bytes_of side ≡ Some text

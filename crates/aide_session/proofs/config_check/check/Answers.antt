@@ -1,28 +1,20 @@
 use Rattle.std.proofs.Common.{refl, rules}
 use Rattle.aide_session.proofs.Closings.{closes_told, closes_untold}
 use Rattle.aide_session.proofs.Endings.{ends_told, ends_untold}
-use Rattle.aide_session.proofs.HeldLemmas.{same_held}
 use Rattle.aide_session.proofs.config_check.check.Goals as goal
 
 pub returns-in-Ok-clause-ends : goal.returns-in-Ok-clause-ends
 returns-in-Ok-clause-ends g c = λ named a is.
-    ends_told g.C.Comparison.writing.says c.args.settings.now a named _ _ _ _ _ _ _ _ _ is c.in-Ok.ensures.told
+    ends_told g.T.Telling.says c.args.settings.now a named _ _ _ _ _ _ _ _ _ is c.in-Ok.ensures.told
 
 pub returns-in-Ok-clause-closes : goal.returns-in-Ok-clause-closes
-returns-in-Ok-clause-closes g c = λ words config read.
-    closes_told g.C.Comparison.writing _ words config c.args.settings.now _ _ _ _ _ _ _ read c.in-Ok.ensures.told refl
-
-pub returns-in-Ok-clause-bound : goal.returns-in-Ok-clause-bound
-returns-in-Ok-clause-bound g c = λ named. same_held (g.S.Sources.file_at c.args.devices.now.site.now) named c.args.devices.now.desk.now.peak
+returns-in-Ok-clause-closes g c = λ wanted config read.
+    closes_told g.T.Telling.says _ wanted config c.args.settings.now _ _ _ _ _ _ _ read c.in-Ok.ensures.told refl
 
 pub returns-in-Err-clause-ends : goal.returns-in-Err-clause-ends
 returns-in-Err-clause-ends g c = search (rules, ends_untold)
 
 pub returns-in-Err-clause-closes : goal.returns-in-Err-clause-closes
-returns-in-Err-clause-closes g c = λ words config read.
-    closes_untold g.C.Comparison.writing _ words config c.args.settings.now _ _ _ _ _ _ _ _ _ read c.in-Err.ensures.untold
+returns-in-Err-clause-closes g c = λ wanted config read.
+    closes_untold g.T.Telling.says _ wanted config c.args.settings.now _ _ _ _ _ _ _ _ _ read c.in-Err.ensures.untold
     c.in-Err.ensures.rose c.put_write_line.ensures refl
-
-pub returns-in-Err-clause-bound : goal.returns-in-Err-clause-bound
-returns-in-Err-clause-bound g c = λ named. same_held (g.S.Sources.file_at c.args.devices.now.site.now) named
-    c.args.devices.now.desk.now.peak

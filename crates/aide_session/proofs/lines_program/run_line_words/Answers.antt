@@ -1,11 +1,13 @@
-use Rattle.std.proofs.Common.{◌∙◌, ap, Err, rules}
+use Rattle.std.proofs.Common.{◌∙◌, ap, refl, Some, Err, rules}
 use Rattle.std.proofs.Math.Path.{subst}
 use Rattle.aide_patterns.specs.List.{HasFirstFault}
-use Rattle.aide_words.specs.BesideJob.{BesideText}
+use Rattle.aide_words.specs.BesideJob.{BesideText, text_of_beside}
 use Rattle.aide_session.proofs.BesideParts.{ends_for, is_none_and_some, same_job}
-use Rattle.aide_session.proofs.Closings.{closes_starved}
+use Rattle.aide_session.specs.BesideSession.{check_job_of}
+use Rattle.aide_session.specs.Says.{settings_told}
+use Rattle.aide_session.proofs.CheckJobs.{only_checks}
+use Rattle.aide_session.proofs.Closings.{closes_starved, closes_unopened}
 use Rattle.aide_session.proofs.Endings.{ends_starved}
-use Rattle.aide_session.proofs.HeldLemmas.{same_held}
 use Rattle.aide_session.proofs.PutLemmas.{appends_none}
 use Rattle.aide_session.proofs.lines_program.run_line_words.Goals as goal
 
@@ -13,7 +15,8 @@ pub returns-in-Ok-clause-alone : goal.returns-in-Ok-clause-alone
 returns-in-Ok-clause-alone g c = λ none. absurd (is_none_and_some _ _ none c.in-Ok.ensures.ok)
 
 pub returns-in-Ok-clause-beside : goal.returns-in-Ok-clause-beside
-returns-in-Ok-clause-beside g c = search (rules, ends_for, same_job)
+returns-in-Ok-clause-beside g c = λ job is.
+    ends_for (text_of_beside c.in-Ok.job) job _ _ _ (same_job _ _ _ c.in-Ok.ensures.ok is) c.run_job_beside.ensures.closes
 
 pub returns-in-Ok-clause-unlooked : goal.returns-in-Ok-clause-unlooked
 returns-in-Ok-clause-unlooked g c = λ job is fault has.
@@ -25,14 +28,29 @@ returns-in-Err-Usage-clause-unlooked g c = λ job is.
     absurd (is_none_and_some _ _ (c.read_beside_words.ensures.usage (c.in-Err-Usage.is ∙ ap Err c.in-Err-Usage.field-0-is)) is)
 
 pub returns-in-Err-Usage-clause-alone : goal.returns-in-Err-Usage-clause-alone
-returns-in-Err-Usage-clause-alone g c = search rules
+returns-in-Err-Usage-clause-alone g c = λ none. record {
+  ends = c.run_check_words.ensures.ends;
+  closes = c.run_check_words.ensures.closes;
+  unopened = closes_unopened (Some settings_told) _ (check_job_of c.args.words.now) _ _ _ _ _ (only_checks c.args.words.now)
+      c.run_check_words.ensures.closes;
+  still = c.run_check_words.ensures.still;
+  trusted_unopened = refl;
+  trusted_still = refl;
+}
 
 pub returns-in-Err-Usage-clause-beside : goal.returns-in-Err-Usage-clause-beside
 returns-in-Err-Usage-clause-beside g c = λ job is.
     absurd (is_none_and_some _ _ (c.read_beside_words.ensures.usage (c.in-Err-Usage.is ∙ ap Err c.in-Err-Usage.field-0-is)) is)
 
 pub returns-in-Err-Memory-clause-alone : goal.returns-in-Err-Memory-clause-alone
-returns-in-Err-Memory-clause-alone g c = search (rules, ends_starved, closes_starved, same_held)
+returns-in-Err-Memory-clause-alone g c = λ none. record {
+  ends = λ named a is. ends_starved a named _ _ _ _ _ _ _ c.put_memory_line.ensures;
+  closes = closes_starved (Some settings_told) _ (check_job_of c.args.words.now) _ _ _ _ _ _ _ _ c.put_memory_line.ensures refl refl;
+  unopened = refl;
+  still = refl;
+  trusted_unopened = refl;
+  trusted_still = refl;
+}
 
 pub returns-in-Err-Memory-clause-beside : goal.returns-in-Err-Memory-clause-beside
 returns-in-Err-Memory-clause-beside g c = search (rules, appends_none)

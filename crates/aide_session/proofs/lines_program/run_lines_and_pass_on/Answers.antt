@@ -1,6 +1,7 @@
-use Rattle.std.proofs.Common.{◌∙◌, arith, sym}
+use Rattle.std.proofs.Common.{◌∙◌, Some, arith, sym}
 use Rattle.aide_session.specs.BesideAnswer.{trusted_of}
-use Rattle.aide_session.specs.Writing.{the_lines}
+use Rattle.aide_session.specs.BesideSession.{check_job_of}
+use Rattle.aide_session.specs.Says.{settings_told}
 use Rattle.aide_session.specs.code.BesideParts.{beside_between}
 use Rattle.aide_session.proofs.BesideEndings.{bound_beside, ends_beside, passed_beside, passed_view, peaks_beside, put_rises}
 use Rattle.aide_session.proofs.BesideEndings.{true_is_not_false, trusted_bound_beside, unfailed_beside}
@@ -36,15 +37,14 @@ returns-clause-session g c =
                 (g.S.Sources.failures ran.new.devices.site.now) _ _ reliable unfailed_out
                 (ends_passed a named _ _ _ _ _ _ _ _ _ _ _ kept after (alone.ends named a is));
             passed_on = λ unfailed. c.pass_on.ensures.flushed (omega (arith, before, after, unfailed.0), unfailed.1);
-            answered = answered the_lines _ c.args.words.now;
-            closes = closes_passed the_lines _ c.args.words.now _ _ _ _ _ _ _ _ _ _ _ _ kept after alone.closes;
+            answered = answered (Some settings_told) _ (check_job_of c.args.words.now);
+            closes = closes_passed (Some settings_told) _ (check_job_of c.args.words.now) _ _ _ _ _ _ _ _ _ _ _ _ kept after alone.closes;
             lookups = ran.ensures.lookups;
           };
-      held = λ none.
-          let alone = ran.ensures.alone none in
-          record { peak = alone.peak; below = alone.below; bound = alone.bound };
       unopened = λ none. (ran.ensures.alone none).unopened;
       still = λ none. (ran.ensures.alone none).still;
+      trusted_unopened = λ none. (ran.ensures.alone none).trusted_unopened;
+      trusted_still = λ none. (ran.ensures.alone none).trusted_still;
       beside = λ job is.
           let ends = passed_beside view bytes count kept after job ran.result failed (ran.ensures.beside job is) in
           let before = put_rises job ran.result failed view (ran.ensures.beside job is) in

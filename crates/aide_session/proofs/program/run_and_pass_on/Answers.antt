@@ -1,4 +1,5 @@
-use Rattle.std.proofs.Common.{arith}
+use Rattle.std.proofs.Common.{None, arith}
+use Rattle.aide_words.specs.Job.{job_of}
 use Rattle.aide_session.proofs.Closings.{closes_passed}
 use Rattle.aide_session.proofs.Endings.{ends_exactly, ends_passed, ends_reliably}
 use Rattle.aide_session.proofs.Existence.{answered}
@@ -21,8 +22,8 @@ returns-clause-session g c =
           (ends_passed a named _ _ _ _ _ _ _ _ _ _ _ kept after (c.run_words-status.ensures.ends named a is));
       passed_on = λ unfailed.
           c.pass_on.ensures.flushed (omega (arith, before, after, unfailed.0), unfailed.1);
-      answered = answered g.C.Comparison.writing _ c.args.words.now;
-      closes = closes_passed g.C.Comparison.writing _ c.args.words.now _ _ _ _ _ _ _ _ _ _ _ _
+      answered = answered None _ (job_of c.args.words.now);
+      closes = closes_passed None _ (job_of c.args.words.now) _ _ _ _ _ _ _ _ _ _ _ _
           kept after c.run_words-status.ensures.closes;
       lookups = c.run_words-status.ensures.lookups;
     }

@@ -12,7 +12,16 @@ pub returns-in-Ok-clause-ends : goal.returns-in-Ok-clause-ends
 returns-in-Ok-clause-ends g c = search (rules, ends_by, failed_later, read_is)
 
 pub returns-in-Ok-clause-closes : goal.returns-in-Ok-clause-closes
-returns-in-Ok-clause-closes g c = search (rules, closes_later, same_course, has_read)
+returns-in-Ok-clause-closes g c = λ wanted is.
+    let devices = c.args.devices.now in
+    let opens = c.read_config.ensures.opens in
+    let ran = c.run_prepared.new.devices in
+    closes_later g.T.Telling.says _ _ wanted _ _ _ _ _ _ _ _ opens.files
+    (same_course g.S.Sources.openings g.S.Sources.was_given g.W.Sink.flushes g.W.Sink.is_flushed devices.site.now c.read_config.new.site
+    ran.site.now devices.out.now ran.out.now opens.openings) opens.never_falls
+    (c.run_prepared.ensures.closes wanted
+    (has_read _ _ wanted (text_of_job c.args.job.now) _ _ _ c.as_str-path.ensures c.as_slice-text.ensures.value opens.files
+    c.in-Ok.ensures.ok c.in-Ok.ensures.small is))
 
 pub returns-in-Ok-clause-bound : goal.returns-in-Ok-clause-bound
 returns-in-Ok-clause-bound g c = search (rules, held_over, read_is)
@@ -31,9 +40,9 @@ pub returns-in-Err-Unread-clause-ends : goal.returns-in-Err-Unread-clause-ends
 returns-in-Err-Unread-clause-ends g c = search (rules, put_as, by_reliable, ends_refused, unread_is, same_file, ends_broken)
 
 pub returns-in-Err-Unread-clause-closes : goal.returns-in-Err-Unread-clause-closes
-returns-in-Err-Unread-clause-closes g c = λ words is.
+returns-in-Err-Unread-clause-closes g c = λ wanted is.
     let cause = c.read_config.ensures.unread (c.in-Err-Unread.is ∙ ap Err c.in-Err-Unread.field-0-is) in
-    closes_unread g.C.Comparison.writing _ words (text_of_job c.args.job.now) _ _ _ _ _ _ _ _ is cause
+    closes_unread g.T.Telling.says _ wanted (text_of_job c.args.job.now) _ _ _ _ _ _ _ _ is cause
     (put_as _ _ (ap unread_line c.as_str-path.ensures) c.put_unread_line.ensures) c.read_config.ensures.opens.openings refl
 
 pub returns-in-Err-Unread-clause-bound : goal.returns-in-Err-Unread-clause-bound
@@ -44,7 +53,7 @@ pub returns-in-Err-Memory-clause-ends : goal.returns-in-Err-Memory-clause-ends
 returns-in-Err-Memory-clause-ends g c = λ named a is. ends_starved a named _ _ _ _ _ _ _ c.put_memory_line.ensures
 
 pub returns-in-Err-Memory-clause-closes : goal.returns-in-Err-Memory-clause-closes
-returns-in-Err-Memory-clause-closes g c = λ words is. closes_starved g.C.Comparison.writing _ words _ _ _ _ _ _ _ _
+returns-in-Err-Memory-clause-closes g c = λ wanted is. closes_starved g.T.Telling.says _ wanted _ _ _ _ _ _ _ _
     c.put_memory_line.ensures c.read_config.ensures.opens.openings refl
 
 pub returns-in-Err-Memory-clause-bound : goal.returns-in-Err-Memory-clause-bound

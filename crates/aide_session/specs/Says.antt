@@ -1,0 +1,12 @@
+-- What a session says of an accepted configuration that is only checked.
+use Rattle.std.specs.Prelude.{ℕ, List, Option}
+use Rattle.aide_conf.specs.Settings.{Configured}
+use Rattle.aide_settings_text.specs.Settings.{settings_line}
+
+-- the text that is written of such a configuration, if anything is
+abbrev pub Says : Type 0
+Says = Option (Configured → List ℕ)
+
+-- the line that says what a configuration sets
+abbrev pub settings_told : Configured → List ℕ
+settings_told s = settings_line s.options s.old_path s.new_path
