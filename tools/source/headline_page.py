@@ -55,14 +55,11 @@ JSON = ("aide_line_laws", "JsonLine", "AreJsonLines")
 VALUES = [("aide_entry", "Values", "value_of"), ("aide_entry", "Numbers", "bits_of")]
 # The records of a run, and what contracts see of devices: HEADLINE_JSON.md has them.
 RUNS = [
-    ("aide_report", "LinesRun", "IsLinesRun"),
     ("aide_trusted", "RunBeside", "IsRunBeside"),
     ("aide_trusted", "PairSeen", "PairSeen"),
     ("aide_trusted", "PairSeen", "Gives"),
-    ("aide_report", "Seen", "Seen"),
     ("aide_report", "Seen", "SinkSeen"),
     ("aide_report", "Asked", "Asked"),
-    DESK,
 ]
 
 
@@ -177,7 +174,7 @@ def theorem(definitions, known):
     """The page of what lines say of the databases, and each definition that its laws rest on; what
     is `known` from the page of the report is not explained again."""
     text = read(texts.LAWS)
-    laws = [law_of(text, name) for name in ("a_run_says_all", "a_trusted_run_says_all")]
+    laws = [law_of(text, name) for name in ("a_trusted_run_says_all", "a_run_says_all")]
     made = Page(definitions, texts.INTRO_OF_THEOREM, examples=examples_of(ENTRIES))
     made.add("", "## The theorem", "", *texts.OF_LAWS.split("\n"), "")
     made.block("text", "\n\n".join(laws))

@@ -105,8 +105,8 @@ gives a right, stays as it is without a list. An empty list changes nothing. A
 longer list changes no account that there was. The status is that of the report."""
 OF_LAWS = f"""\
 Both laws (`{LAWS}`) are proved of the
-record that the public call promises: for two databases, and for two databases
-with a trusted pair."""
+record that the public call promises. The second is the first for a trusted pair
+of two databases without entries, which has nothing at any path:"""
 OF_VALUES = """\
 [HEADLINE.md](HEADLINE.md) says what a field means by its form (`value_of`), and
 which number digits write (`bits_of`)."""

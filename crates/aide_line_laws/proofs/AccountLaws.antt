@@ -15,13 +15,14 @@ use Rattle.aide_attr.specs.declared.delta.Ignore.{Ignore}
 use Rattle.aide_conf.specs.declared.options.Options.{Options}
 use Rattle.aide_db.specs.Map.{Database}
 use Rattle.aide_entry.specs.Attributes.{sides_between}
-use Rattle.aide_line_text.specs.Account.{account_as}
 use Rattle.aide_line_text.specs.declared.account.Account.TheVariants.{Trusted}
 use Rattle.aide_report.specs.Changed.{differ_by}
-use Rattle.aide_report.specs.ChangeLines.{by_old}
 use Rattle.aide_report.specs.Sections.{all_listed, is_in}
 use Rattle.aide_trusted.specs.BesideLines.{by_trusted}
 use Rattle.aide_trusted.specs.Listed.{Leaves, account_by}
+use Rattle.aide_line_laws.specs.OverMaps.{no_entries}
+use Rattle.aide_line_laws.proofs.ListLaws.{by_pairs}
+use Rattle.aide_line_laws.proofs.NoEntries.{no_entries_are_none}
 
 -- options ignore no attribute
 pub record IgnoresNothing (ignore : Ignore) : Type 0 where
@@ -57,12 +58,15 @@ is_same (Some same.Old) line e = cc
 is_same (Some same.Trusted) line e = refl
 
 -- At each path for which a trusted pair accounts, the lines of its own two databases list a change if the options ignore
--- nothing, and nothing accounts for it there.
+-- nothing. Without a trusted pair of their own and without a list nothing accounts for it there.
 pub trusted_is_listed : (options : Options) (leaves : Leaves) (trusted_old trusted_new : Database) (path : List ℕ) (found : Pair)
     → IgnoresNothing options.ignore → by_trusted leaves trusted_old trusted_new (path, found) ≡ Some Trusted
     → (is_in options all_listed (path, (get trusted_old path, get trusted_new path)) ≡ true)
-    × (by_old (path, (get trusted_old path, get trusted_new path)) ≡ None)
+    × (by_pairs no_entries no_entries (path, (get trusted_old path, get trusted_new path)) ≡ None)
 trusted_is_listed options leaves trusted_old trusted_new path found nothing e =
     let there : Pair = (get trusted_old path, get trusted_new path) in
     let own = trusted_changed found there (is_same (same_as found there) (leaves (path, found)) e) in
-    (listed options path there nothing own.changed, ap account_as own.alone)
+    let none = no_entries_are_none path in (
+      listed options path there nothing own.changed,
+      (λ i. account_by (same_as there (none i, none i)) None) ∙ ap (λ same_one. account_by same_one None) own.alone,
+    )

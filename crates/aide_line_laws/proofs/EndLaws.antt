@@ -1,5 +1,5 @@
 -- The first and the last line are objects of JSON, and each is one line.
-use Rattle.std.proofs.Common.{◌≡◌, ℕ, Bool, true, false, List, [], ◌∷◌, ◌++◌, map, refl, arith}
+use Rattle.std.proofs.Common.{◌≡◌, ℕ, true, List, [], ◌∷◌, ◌++◌, map, refl, arith}
 use Rattle.std.specs.Prelude.{codes}
 use Rattle.std.specs.List.{filter}
 use Rattle.hex.specs.Hex.{encode_lower}
@@ -9,37 +9,21 @@ use Rattle.aide_json.specs.Member.{member}
 use Rattle.aide_json.specs.Number.{json_count}
 use Rattle.aide_line_text.specs.Ends
 use Rattle.aide_line_text.specs.Ends.{count_member, is_skipped, numbers, skipped_array}
-use Rattle.aide_line_text.specs.Frame.{ReadFacts, closing_line, closing_line_trusted, list_member, opening_line, opening_line_trusted}
-use Rattle.aide_line_text.specs.Frame.{read_object}
+use Rattle.aide_line_text.specs.Frame.{ReadFacts, closing_line_trusted, list_member, opening_line_trusted, read_object}
 use Rattle.aide_line_text.specs.declared.counts.LineCounts.{LineCounts}
 use Rattle.aide_line_laws.specs.ByteValues.{AreBytes}
-use Rattle.aide_line_laws.specs.Field.{Field, count_field, count_json, items_of}
-use Rattle.aide_line_laws.specs.Fields.{closing_fields, closing_fields_trusted, list_field, number_fields, object_field}
-use Rattle.aide_line_laws.specs.Fields.{opening_fields, opening_fields_trusted, read_fields, status_fields, trusted_fields}
+use Rattle.aide_line_laws.specs.Field.{Field, count_json, items_of}
+use Rattle.aide_line_laws.specs.Fields.{closing_fields_trusted, list_field, number_fields, object_field}
+use Rattle.aide_line_laws.specs.Fields.{opening_fields_trusted, read_fields, status_fields}
 use Rattle.aide_line_laws.specs.JsonLine.{IsJsonLine}
 use Rattle.aide_line_laws.proofs.Strings.{are_plain}
 use Rattle.aide_line_laws.proofs.Values.{IsMember, hex_value, count_value, truth_value, member_of, text_member_of}
 use Rattle.aide_line_laws.proofs.Objects.{AreMembers, array_of, object_of, line_of}
 use Rattle.aide_line_laws.proofs.Members.{all_mapped, flat_member, count_member_of}
 
-accounts_of : (most : ℕ) (has_trusted : Bool) (counts : LineCounts) (texts : List (List ℕ)) (behind : List Field)
-    → AreMembers most texts behind
-    → AreMembers most ((Ends.trusted_members has_trusted counts ++ count_member (codes "others") counts.others ∷ []) ++ texts)
-    (trusted_fields has_trusted counts ++ count_field (codes "others") counts.others ∷ behind)
-accounts_of most false counts texts behind h = (count_member_of most (codes "others") counts.others refl, h)
-accounts_of most true counts texts behind h = (
-  count_member_of most (codes "same_as_trusted") counts.same_as_trusted refl,
-  (
-    count_member_of most (codes "left_out") counts.left_out refl,
-    (count_member_of most (codes "others") counts.others refl, h),
-  ),
-)
-
-numbers_of : (most : ℕ) (has_trusted : Bool) (counts : LineCounts) (texts : List (List ℕ)) (behind : List Field)
-    → AreMembers most texts behind
-    → AreMembers most (Ends.count_members counts ++ (Ends.account_members has_trusted counts ++ texts))
-    (number_fields has_trusted counts behind)
-numbers_of most has_trusted counts texts behind h = (
+numbers_of : (most : ℕ) (counts : LineCounts) (texts : List (List ℕ)) (behind : List Field) → AreMembers most texts behind
+    → AreMembers most (Ends.count_members counts ++ (Ends.account_members true counts ++ texts)) (number_fields counts behind)
+numbers_of most counts texts behind h = (
   count_member_of most (codes "total") counts.total refl,
   (
     count_member_of most (codes "added") counts.added refl,
@@ -49,7 +33,13 @@ numbers_of most has_trusted counts texts behind h = (
         count_member_of most (codes "changed") counts.changed refl,
         (
           count_member_of most (codes "same_as_old") counts.same_as_old refl,
-          accounts_of most has_trusted counts texts behind h,
+          (
+            count_member_of most (codes "same_as_trusted") counts.same_as_trusted refl,
+            (
+              count_member_of most (codes "left_out") counts.left_out refl,
+              (count_member_of most (codes "others") counts.others refl, h),
+            ),
+          ),
         ),
       ),
     ),
@@ -77,33 +67,6 @@ read_member_of name facts e digest =
     (flat_member 1 (codes "sha256") (hex_string facts.digest) _ refl (hex_value facts.digest digest), (skipped_of facts.skipped, tt)))
 
 -- The first line is one, if the paths are of bytes.
-pub opening_line_is_json : (old_path new_path : List ℕ) → AreBytes old_path → AreBytes new_path
-    → IsJsonLine (opening_line old_path new_path) (opening_fields old_path new_path)
-unfolding opening_line
-opening_line_is_json old_path new_path h k =
-    line_of 0 _ _ (omega arith) (
-      count_member_of 0 (codes "format") 4 refl,
-      (text_member_of (codes "old") old_path refl h, (text_member_of (codes "new") new_path refl k, tt)),
-    )
-
--- The last line is one, for every number, if the digests are of bytes.
-pub closing_line_is_json : (old new : ReadFacts) (has_trusted : Bool) (counts : LineCounts) (status : ℕ)
-    → AreBytes old.digest → AreBytes new.digest
-    → IsJsonLine (closing_line old new has_trusted counts status) (closing_fields old new has_trusted counts status)
-unfolding closing_line
-closing_line_is_json old new has_trusted counts status h k =
-    line_of 2 _ _ (omega arith) (
-      end_of 2,
-      (
-        read_member_of (codes "old") old refl h,
-        (
-          read_member_of (codes "new") new refl k,
-          numbers_of 2 has_trusted counts _ (status_fields status) (status_of 2 status),
-        ),
-      ),
-    )
-
--- So are those beside a trusted pair.
 pub opening_line_trusted_is_json : (old_path new_path trusted_old trusted_new : List ℕ) → AreBytes old_path
     → AreBytes new_path → AreBytes trusted_old → AreBytes trusted_new
     → IsJsonLine (opening_line_trusted old_path new_path trusted_old trusted_new)
@@ -129,6 +92,7 @@ list_member_of digest bytes =
     member_of 2 (codes "list") _ _ refl (object_of 1 _ ((codes "sha256", string (encode_lower digest)) ∷ [])
     (flat_member 1 (codes "sha256") (hex_string digest) _ refl (hex_value digest bytes), tt))
 
+-- The last line is one, for every number, if the digests are of bytes.
 pub closing_line_trusted_is_json : (old new trusted_old trusted_new : ReadFacts) (list : List ℕ) (counts : LineCounts)
     (status : ℕ)
     → AreBytes old.digest → AreBytes new.digest → AreBytes trusted_old.digest → AreBytes trusted_new.digest → AreBytes list
@@ -148,7 +112,7 @@ closing_line_trusted_is_json old new trusted_old trusted_new list counts status 
             read_member_of (codes "trusted_old") trusted_old refl l,
             (
               read_member_of (codes "trusted_new") trusted_new refl m,
-              numbers_of 2 true counts texts (list_field list ∷ status_fields status) behind,
+              numbers_of 2 counts texts (list_field list ∷ status_fields status) behind,
             ),
           ),
         ),

@@ -20,6 +20,7 @@ pub mod BesideLaws
 pub mod AccountLaws
 pub mod ListLaws
 pub mod MapLaws
+pub mod NoEntries
 pub mod RunMapLaws
 pub mod Examples
 pub mod ListExamples

@@ -11,7 +11,6 @@ use Rattle.std.specs.FinMap.{entries_sorted, get, get-entries}
 use Rattle.std.specs.FinMap.Entries.{below_all, find, is_sorted}
 use Rattle.aide_agreement.specs.Account.{Pair, is_as_old, is_as_trusted, same_as}
 use Rattle.aide_agreement.specs.Agreement.{agree}
-use Rattle.aide_agreement.specs.declared.account.SameAs.{SameAs}
 use Rattle.aide_agreement.specs.declared.account.SameAs.TheVariants as same
 use Rattle.aide_agreement.proofs.Laws.{agree_from_meaning, meaning_of_agree}
 use Rattle.aide_attr.specs.declared.delta.Ignore.{Ignore}
@@ -24,11 +23,10 @@ use Rattle.aide_entry.specs.Path.{path_cmp}
 use Rattle.aide_entry.proofs.PathLaws.{path_cmp_total, path_cmp-IsAntisymmetric}
 use Rattle.aide_left_out.specs.Meaning.{IsLeftOut}
 use Rattle.aide_left_out.proofs.Laws.{left_out_from, left_out_means}
-use Rattle.aide_line_text.specs.Account.{account_as}
 use Rattle.aide_line_text.specs.declared.account.Account.{Account}
 use Rattle.aide_line_text.specs.declared.account.Account.TheVariants.{LeftOut, Old, Trusted}
 use Rattle.aide_report.specs.Asked.{Asked}
-use Rattle.aide_report.specs.ChangeLines.{Accounts, by_old, listed_changes}
+use Rattle.aide_report.specs.ChangeLines.{Accounts, listed_changes}
 use Rattle.aide_report.specs.Compare.{changes, compared}
 use Rattle.aide_report.specs.Entries.{PathChange}
 use Rattle.aide_report.specs.Sections.{all_listed, is_in}
@@ -38,8 +36,8 @@ use Rattle.aide_trusted.specs.Listed.{ListRead, account_by, left_by, measures_be
 use Rattle.aide_line_laws.specs.ByteValues.{AreBytes}
 use Rattle.aide_line_laws.specs.Field.{Field}
 use Rattle.aide_line_laws.specs.OverMaps.{AreApart, HappenedThere, IsAbout, IsAccount, IsFramed, IsOneOf, LeavesOut, SayAll}
-use Rattle.aide_line_laws.specs.OverMaps.{SaysOne, StayedAsOld, differ_beyond, left_out_of, nothing_left_out}
-use Rattle.aide_line_laws.specs.TextFields.{change_fields, fields_beside, fields_read}
+use Rattle.aide_line_laws.specs.OverMaps.{SaysOne, StayedAsOld, differ_beyond, left_out_of}
+use Rattle.aide_line_laws.specs.TextFields.{change_fields, fields_beside}
 use Rattle.aide_line_laws.proofs.ReadingLaws.{account_is_read_back, path_is_read_back}
 use Rattle.aide_line_laws.proofs.TextLaws.{IsChangeOfBytes, changes_bytes}
 
@@ -151,16 +149,6 @@ account_by_is_account found trusted line leaves means from =
       from_left_out = λ number is apart others.
           rw (not_stayed found apart, not_happened found trusted others, from number is) refl;
     }
-
-without_a_line : (found : Option SameAs) → account_by found None ≡ account_as found
-without_a_line None = refl
-without_a_line (Some one) = refl
-
--- Without a trusted machine and without a list the old entry alone accounts for a change.
-pub old_is_account : (change : PathChange) → IsAccount change.1 (None, None) (λ line. ⊥) (by_old change)
-old_is_account change =
-    subst (IsAccount change.1 (None, None) (λ line. ⊥)) (without_a_line (same_as change.1 (None, None)))
-    (account_by_is_account change.1 (None, None) None (λ line. ⊥) (λ number e. cc e) (λ number is. absurd is))
 
 -- ---- each change has what both databases have at its path
 
@@ -346,18 +334,6 @@ module _ (options : Options) (old new : Database) (there : List ℕ → Pair) (l
       }
 
 -- ---- texts
-
--- The lines over two sound texts of bytes say all, without a trusted machine and without a list.
-pub lines_read_say_all : (limits : Limits) (wish : Asked) (old new : List ℕ) → IsSound limits old → IsSound limits new
-    → AreBytes old → AreBytes new
-    → (lines : List (List Field)) × IsFramed lines (fields_read wish old new)
-    × SayAll wish.options.ignore (database_of old) (database_of new) (λ path. (None, None)) nothing_left_out lines
-lines_read_say_all limits wish old new old_sound new_sound old_bytes new_bytes = (
-  _,
-  record { first = _; last = _; parts = refl },
-  lines_say_all wish.options (database_of old) (database_of new) (λ path. (None, None)) nothing_left_out by_old
-      old_is_account (changes_bytes limits old new old_sound new_sound old_bytes new_bytes),
-)
 
 -- What is said beside a trusted pair and a list to account for a change does, and is said if it does.
 pub by_texts_is_account : (list : ListRead) (old new trusted_old trusted_new : List ℕ) (change : PathChange)

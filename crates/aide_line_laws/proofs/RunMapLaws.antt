@@ -1,55 +1,22 @@
 -- What a run has written after `Ok` says all: a path has a line exactly if the databases differ there.
-use Rattle.std.proofs.Common.{◌≡◌, ℕ, List, Some, None, Ok, refl}
+use Rattle.std.proofs.Common.{ℕ, List, Some, None, Ok, refl, subst}
 use Rattle.std.specs.FinMap.{get}
-use Rattle.aide_db.specs.DeskView.{DeskView}
 use Rattle.aide_db.specs.Map.{database_of}
 use Rattle.aide_db.specs.declared.limits.Limits.{Limits}
 use Rattle.aide_db.specs.declared.side.Side.TheVariants.{Old, New}
-use Rattle.aide_report.specs.Asked.{Asked}
-use Rattle.aide_report.specs.LinesRead.{lines_read}
-use Rattle.aide_report.specs.LinesRun.{IsLinesRun}
 use Rattle.aide_report.specs.Runs.{report_over}
-use Rattle.aide_report.specs.Seen.{Seen, SinkSeen}
+use Rattle.aide_report.specs.Seen.{SinkSeen}
 use Rattle.aide_report.specs.declared.outcome.Outcome.{Outcome}
 use Rattle.aide_trusted.specs.BesideLines.{lines_beside}
 use Rattle.aide_trusted.specs.Listed.{ListRead}
 use Rattle.aide_trusted.specs.PairSeen.{Gives, PairSeen}
 use Rattle.aide_trusted.specs.RunBeside.{IsRunBeside}
 use Rattle.aide_line_laws.specs.ByteValues.{AreBytes}
-use Rattle.aide_line_laws.specs.OverMaps.{HasSaidAll, left_out_of, nothing_left_out}
-use Rattle.aide_line_laws.specs.TextFields.{fields_beside, fields_read}
+use Rattle.aide_line_laws.specs.OverMaps.{HasSaidAll, left_out_of, no_entries}
+use Rattle.aide_line_laws.specs.TextFields.{fields_beside}
 use Rattle.aide_line_laws.proofs.BesideLaws.{ArePathsOfBytes, lines_beside_are_complete, lines_beside_are_json}
-use Rattle.aide_line_laws.proofs.CompleteLaws.{lines_read_are_complete}
-use Rattle.aide_line_laws.proofs.MapLaws.{lines_beside_say_all, lines_read_say_all}
-use Rattle.aide_line_laws.proofs.TextLaws.{lines_read_are_json}
-
--- After `Ok` a run over two texts of bytes has written lines that say all of their maps.
-pub a_run_says_all : (limits : Limits) (wish : Asked) (a b : Seen) (d e : DeskView) (o p : SinkSeen) (old new : List ℕ)
-    → a.bytes_of Old ≡ Some old → a.bytes_of New ≡ Some new → AreBytes old → AreBytes new → ArePathsOfBytes wish
-    → (outcome : Outcome) → IsLinesRun limits wish a b d e o p (Ok outcome)
-    → HasSaidAll wish.options.ignore (database_of old) (database_of new) (λ path. (None, None)) nothing_left_out
-    o.delivered p.delivered
-a_run_says_all limits wish a b d e o p old new told_old told_new old_bytes new_bytes paths outcome run =
-    let old_sound = run.sound Old old told_old in
-    let new_sound = run.sound New new told_new in
-    let ends =
-    run.over (Some old) (Some new) told_old told_new (Ok (lines_read wish old new)) (
-      Ok (lines_read wish old new),
-      (old_sound, new_sound, refl),
-      refl,
-    )
-    in
-    let says = lines_read_say_all limits wish old new old_sound new_sound old_bytes new_bytes in
-    record {
-      text = (lines_read wish old new).text;
-      bytes = ends.1;
-      all = fields_read wish old new;
-      are_lines = lines_read_are_json limits wish old new old_sound new_sound old_bytes new_bytes paths.0 paths.1;
-      complete = lines_read_are_complete wish old new;
-      lines = says.0;
-      framed = says.1;
-      say = says.2;
-    }
+use Rattle.aide_line_laws.proofs.MapLaws.{lines_beside_say_all}
+use Rattle.aide_line_laws.proofs.NoEntries.{no_entries_are_none}
 
 -- After `Ok` a run over four texts of bytes has written lines that say all of the first two maps, by what the trusted two
 -- have at each path and by what the list leaves out.
@@ -93,3 +60,17 @@ a_trusted_run_says_all limits list p q o s old new trusted_old trusted_new gives
       framed = says.1;
       say = says.2;
     }
+
+-- After `Ok` a run over two texts of bytes has written lines that say all of their maps, by what the list leaves out, if both
+-- trusted texts are that of a database without entries: such a pair has nothing at any path.
+pub a_run_says_all : (limits : Limits) (list : ListRead) (p q : PairSeen) (o s : SinkSeen) (old new : List ℕ)
+    → Gives p old new → Gives q no_entries no_entries → AreBytes old → AreBytes new
+    → ArePathsOfBytes p.asked → ArePathsOfBytes q.asked → AreBytes list.digest
+    → (outcome : Outcome) → IsRunBeside limits list p q o s (Ok outcome)
+    → HasSaidAll p.asked.options.ignore (database_of old) (database_of new) (λ path. (None, None)) (left_out_of list old new)
+    o.delivered s.delivered
+a_run_says_all limits list p q o s old new gives none_gives old_bytes new_bytes paths others digest outcome run =
+    subst (λ there. HasSaidAll p.asked.options.ignore (database_of old) (database_of new) there (left_out_of list old new)
+    o.delivered s.delivered) (λ i path. (no_entries_are_none path i, no_entries_are_none path i))
+    (a_trusted_run_says_all limits list p q o s old new no_entries no_entries gives none_gives old_bytes new_bytes paths others
+    digest outcome run)

@@ -1,4 +1,4 @@
--- The lines over two texts of bytes are lines of JSON.
+-- The changes of two texts of bytes are of bytes, and so their lines are lines of JSON.
 use Rattle.std.proofs.Common.{ℕ, zero, suc, ◌/◌, ◌%◌, ◌^◌, ◌<◌, true, false, if◌then◌else◌, List, [], ◌∷◌, ◌++◌, map, Some, None}
 use Rattle.std.proofs.Common.{slice_index, ◌∙◌, refl, sym, ap, subst, arith, append_assoc, append-nil}
 use Rattle.std.specs.Prelude.{drop}
@@ -20,23 +20,18 @@ use Rattle.aide_entry.specs.Path.{path_cmp}
 use Rattle.aide_entry.specs.Text.{lines, is_newline, is_filled, without_empty_last}
 use Rattle.aide_entry.specs.declared.column.Column.{Column}
 use Rattle.aide_entry.proofs.PathLaws.{path_cmp_total, path_cmp-IsAntisymmetric}
-use Rattle.aide_report.specs.Asked.{Asked}
-use Rattle.aide_report.specs.ChangeLines.{Accounts, by_old, change_line, change_lines}
+use Rattle.aide_report.specs.ChangeLines.{Accounts, change_line, change_lines}
 use Rattle.aide_report.specs.Compare.{changes}
 use Rattle.aide_report.specs.Entries.{PathChange}
-use Rattle.aide_report.specs.LineCounts.{line_counts, status_by}
-use Rattle.aide_report.specs.LinesRead.{framed_lines, lines_begun, lines_read, read_of}
 use Rattle.aide_report.specs.Sections.{all_listed, is_in}
 use Rattle.aide_report.specs.Merged.{merged, weave}
 use Rattle.aide_report.proofs.MergeLemmas.{changes-merged}
 use Rattle.aide_line_laws.specs.ByteValues.{AreBytes, AreOfForms, AreOfFormsIfAny}
 use Rattle.aide_line_laws.specs.Field.{Field}
-use Rattle.aide_line_laws.specs.Fields.{opening_fields}
 use Rattle.aide_line_laws.specs.JsonLine.{IsJsonLine, AreJsonLines}
-use Rattle.aide_line_laws.specs.TextFields.{change_fields, fields_begun, fields_of_lines, fields_read}
+use Rattle.aide_line_laws.specs.TextFields.{change_fields, fields_begun, fields_of_lines}
 use Rattle.aide_line_laws.proofs.Base64.{both_bytes}
 use Rattle.aide_line_laws.proofs.Bytes.{AreAllBytes, split_bytes, filter_keeps, path_bytes, forms_of_attributes}
-use Rattle.aide_line_laws.proofs.EndLaws.{closing_line_is_json, opening_line_is_json}
 use Rattle.aide_line_laws.proofs.Laws.{change_line_is_json}
 
 -- ---- digests
@@ -208,25 +203,3 @@ pub all_lines_are_json : (options : Options) (account : Accounts) (all : List Pa
 all_lines_are_json options account all first last opened closed h k l =
     lines_both (first ++ change_lines options account all) last (fields_begun options account opened all) (closed ∷ [])
     (first_lines_are_json options account all first opened h k) (one_line last closed l)
-
--- The lines over two sound texts of bytes are lines of JSON, whatever is asked: each has the members that belong to the
--- changes of the two databases, in their order.
-pub lines_read_are_json : (limits : Limits) (wish : Asked) (old new : List ℕ) → IsSound limits old → IsSound limits new
-    → AreBytes old → AreBytes new → AreBytes wish.old_path → AreBytes wish.new_path
-    → AreJsonLines (lines_read wish old new).text (fields_read wish old new)
-unfolding lines_read framed_lines
-lines_read_are_json limits wish old new old_sound new_sound old_bytes new_bytes old_path new_path =
-    let found = line_counts wish.options by_old (database_of old) (database_of new) in
-    all_lines_are_json wish.options by_old (changes (database_of old) (database_of new)) _ _ _ _
-    (changes_bytes limits old new old_sound new_sound old_bytes new_bytes)
-    (opening_line_is_json wish.old_path wish.new_path old_path new_path)
-    (closing_line_is_json (read_of old) (read_of new) false found (status_by found) (sha256_bytes old) (sha256_bytes new))
-
--- What goes out before the last line is lines of JSON over any two texts of bytes, sound or not.
-pub lines_begun_are_json : (wish : Asked) (old new : List ℕ) → AreBytes old → AreBytes new → AreBytes wish.old_path
-    → AreBytes wish.new_path
-    → AreJsonLines (lines_begun wish old new) (fields_begun wish.options by_old (opening_fields wish.old_path wish.new_path)
-    (merged path_cmp (entries_of old) (entries_of new)))
-lines_begun_are_json wish old new old_bytes new_bytes old_path new_path =
-    first_lines_are_json wish.options by_old (merged path_cmp (entries_of old) (entries_of new)) _ _
-    (begun_bytes old new old_bytes new_bytes) (opening_line_is_json wish.old_path wish.new_path old_path new_path)

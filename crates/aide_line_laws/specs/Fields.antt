@@ -1,5 +1,5 @@
 -- The members of each line of a comparison: what a reader of JSON gets of it.
-use Rattle.std.specs.Prelude.{ℕ, Bool, true, false, List, [], ◌∷◌, ◌++◌, map, Option, Some, None}
+use Rattle.std.specs.Prelude.{ℕ, Bool, true, List, [], ◌∷◌, ◌++◌, map, Option, Some, None}
 use Rattle.std.specs.Prelude.{codes}
 use Rattle.std.specs.List.{filter, flat_map}
 use Rattle.hex.specs.Hex.{encode_lower}
@@ -76,13 +76,6 @@ path_fields path letters account shows found =
 -- ---- the first and the last line
 
 -- the members of the first line
-abbrev pub opening_fields : (old_path new_path : List ℕ) → List Field
-opening_fields old_path new_path =
-    count_field (codes "format") 4
-    ∷ text_field (codes "old") old_path
-    ∷ text_field (codes "new") new_path ∷ []
-
--- the same with a trusted pair
 abbrev pub opening_fields_trusted : (old_path new_path trusted_old trusted_new : List ℕ)
     → List Field
 opening_fields_trusted old_path new_path trusted_old trusted_new =
@@ -101,43 +94,28 @@ read_fields facts =
       array (items_of (map count_json (filter (is_skipped facts.skipped) (numbers 1 64)))),
     ) ∷ []
 
--- for how many lines a trusted machine accounts, and how many a list leaves out, if there is such a machine
-abbrev pub trusted_fields : (has_trusted : Bool) → LineCounts → List Field
-trusted_fields false counts = []
-trusted_fields true counts =
-    count_field (codes "same_as_trusted") counts.same_as_trusted
-    ∷ count_field (codes "left_out") counts.left_out ∷ []
-
 -- the numbers of entries and of what accounts for them, and what follows these
-abbrev pub number_fields : (has_trusted : Bool) → LineCounts → (behind : List Field) → List Field
-number_fields has_trusted counts behind =
+abbrev pub number_fields : LineCounts → (behind : List Field) → List Field
+number_fields counts behind =
     count_field (codes "total") counts.total
     ∷ count_field (codes "added") counts.added
     ∷ count_field (codes "removed") counts.removed
     ∷ count_field (codes "changed") counts.changed
     ∷ count_field (codes "same_as_old") counts.same_as_old
-    ∷ (trusted_fields has_trusted counts
-    ++ count_field (codes "others") counts.others ∷ behind)
+    ∷ count_field (codes "same_as_trusted") counts.same_as_trusted
+    ∷ count_field (codes "left_out") counts.left_out
+    ∷ count_field (codes "others") counts.others ∷ behind
 
 -- the status
 abbrev pub status_fields : ℕ → List Field
 status_fields status = count_field (codes "status") status ∷ []
-
--- the members of the last line
-abbrev pub closing_fields : (old new : ReadFacts) → (has_trusted : Bool) → LineCounts → ℕ
-    → List Field
-closing_fields old new has_trusted counts status =
-    (codes "end", boolean true)
-    ∷ object_field (codes "old") (read_fields old)
-    ∷ object_field (codes "new") (read_fields new)
-    ∷ number_fields has_trusted counts (status_fields status)
 
 -- the SHA-256 of a list that says what is left out
 abbrev pub list_field : List ℕ → Field
 list_field digest =
     object_field (codes "list") ((codes "sha256", string (encode_lower digest)) ∷ [])
 
--- the same with a trusted pair, with the list
+-- the members of the last line
 abbrev pub closing_fields_trusted : (old new trusted_old trusted_new : ReadFacts)
     → (list : List ℕ) → LineCounts → ℕ
     → List Field
@@ -147,4 +125,4 @@ closing_fields_trusted old new trusted_old trusted_new list counts status =
     ∷ object_field (codes "new") (read_fields new)
     ∷ object_field (codes "trusted_old") (read_fields trusted_old)
     ∷ object_field (codes "trusted_new") (read_fields trusted_new)
-    ∷ number_fields true counts (list_field list ∷ status_fields status)
+    ∷ number_fields counts (list_field list ∷ status_fields status)

@@ -48,10 +48,6 @@ HappenedThere _ _ = ⊥
 abbrev pub LeavesOut : Type 1
 LeavesOut = (path : List ℕ) → Pair → (line : ℕ) → Type 0
 
--- no line leaves a change out, because there is no list
-abbrev pub nothing_left_out : LeavesOut
-nothing_left_out path pair line = ⊥
-
 -- the lines of a list that leave a change out; the texts say whether they have the column of
 -- capabilities
 abbrev pub left_out_of : ListRead → (old new : List ℕ) → LeavesOut
@@ -71,6 +67,10 @@ pub record IsAccount (found there : Pair) (leaves : (line : ℕ) → Type 0)
       × (StayedAsOld found → ⊥) × (HappenedThere found there → ⊥)
   pub from_left_out : (line : ℕ) → leaves line → (StayedAsOld found → ⊥)
       → (HappenedThere found there → ⊥) → account ≡ Some (LeftOut line)
+
+-- the text of a database without entries
+abbrev pub no_entries : List ℕ
+no_entries = codes "@@begin_db\n@@db_spec name attr\n@@end_db\n"
 
 -- ---- lines
 

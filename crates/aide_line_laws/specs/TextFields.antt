@@ -1,9 +1,9 @@
 -- The members of the lines of changes, line by line.
-use Rattle.std.specs.Prelude.{ℕ, List, [], ◌∷◌, ◌++◌, map, false}
+use Rattle.std.specs.Prelude.{ℕ, List, [], ◌∷◌, ◌++◌, map}
 use Rattle.aide_conf.specs.declared.options.Options.{Options}
 use Rattle.aide_db.specs.Map.{database_of}
 use Rattle.aide_report.specs.Asked.{Asked}
-use Rattle.aide_report.specs.ChangeLines.{Accounts, by_old, listed_changes, widest}
+use Rattle.aide_report.specs.ChangeLines.{Accounts, listed_changes, widest}
 use Rattle.aide_report.specs.Compare.{changes}
 use Rattle.aide_report.specs.Entries.{PathChange, letters_of, shows_at}
 use Rattle.aide_report.specs.LineCounts.{line_counts, status_by}
@@ -11,8 +11,7 @@ use Rattle.aide_report.specs.LinesRead.{read_of}
 use Rattle.aide_trusted.specs.BesideLines.{by_texts}
 use Rattle.aide_trusted.specs.Listed.{ListRead}
 use Rattle.aide_line_laws.specs.Field.{Field}
-use Rattle.aide_line_laws.specs.Fields.{closing_fields, closing_fields_trusted, opening_fields}
-use Rattle.aide_line_laws.specs.Fields.{opening_fields_trusted, path_fields}
+use Rattle.aide_line_laws.specs.Fields.{closing_fields_trusted, opening_fields_trusted, path_fields}
 
 -- the members of the line of a change
 abbrev pub change_fields : Options → Accounts → PathChange → List Field
@@ -30,14 +29,6 @@ abbrev pub fields_of_lines : Options → Accounts → (first last : List Field) 
     → List (List Field)
 fields_of_lines options account first last changes =
     fields_begun options account first changes ++ last ∷ []
-
--- those of the lines over two texts
-abbrev pub fields_read : Asked → (old new : List ℕ) → List (List Field)
-fields_read asked old new =
-    let counts = line_counts asked.options by_old (database_of old) (database_of new) in
-    fields_of_lines asked.options by_old (opening_fields asked.old_path asked.new_path)
-    (closing_fields (read_of old) (read_of new) false counts (status_by counts))
-    (changes (database_of old) (database_of new))
 
 -- those of the lines over two texts with a trusted pair and a list
 abbrev pub fields_beside : ListRead → (asked trusted : Asked)
