@@ -12,6 +12,7 @@ use Rattle.aide_db.specs.declared.side.Side.{Side}
 use Rattle.aide_db.specs.declared.side.Side.TheVariants.{Old, New}
 use Rattle.aide_db.proofs.MapLaws.{first_fault_unsound}
 use Rattle.aide_report.specs.code.LaterFault.{later_by, later_of}
+use Rattle.aide_report.specs.LinesRun.{ComesOf}
 use Rattle.aide_report.specs.Missing.{IsOfReliable}
 use Rattle.aide_report.specs.Openings.{OpensFirst, opened_first}
 use Rattle.aide_report.specs.Standing.{IsFaultOf}
@@ -164,3 +165,12 @@ rose_later first second sink (Open side) f p = f p
 rose_later first second sink (Database fault) f p = λ e. f (p e)
 rose_later first second sink (Changed side) f p = tt
 rose_later first second sink (Write written) f p = p
+
+-- ---- a run that reads each database once
+
+pub comes_of : (sources sink : Type 0) (fault : RunFault) (first : DbFault → Type 0) (untold : Side → Type 0)
+    → ((side : Side) → fault ≡ Changed side → ⊥) → HasCause fault sources sink first untold → ComesOf fault sources sink first
+comes_of sources sink (Open side) first untold unchanged cause = cause
+comes_of sources sink (Database fault) first untold unchanged cause = cause
+comes_of sources sink (Changed side) first untold unchanged cause = unchanged side refl
+comes_of sources sink (Write written) first untold unchanged cause = cause

@@ -36,5 +36,4 @@ pub mod CallLemmas
 pub mod PassLemmas
 pub mod ReadingLemmas
 pub mod OneReadingLemmas
-pub mod LinesRunLemmas
 pub mod ColumnLemmas

@@ -1,6 +1,6 @@
 -- How a run that reads each database once comes to its promise.
-use Rattle.std.proofs.Common.{◌≡◌, ◌∙◌, ◌<◌, ◌≤◌, ℕ, List, Option, ap, refl, subst, sym, arith, inl, inr}
-use Rattle.std.specs.Prelude.{true, false, Some, Ok, Err}
+use Rattle.std.proofs.Common.{◌≡◌, ◌∙◌, ◌<◌, ◌≤◌, ℕ, List, Option, ap, subst, sym, arith, inl, inr}
+use Rattle.std.specs.Prelude.{true, false, Some, Ok}
 use Rattle.aide_db.specs.Answer.{Stands, StandsAtStage, StandsIn}
 use Rattle.aide_db.specs.CursorView.{CursorView}
 use Rattle.aide_db.specs.Database.{IsSound}
@@ -14,32 +14,26 @@ use Rattle.aide_db.specs.declared.reel.Reel.{Ghosts as Reels}
 use Rattle.aide_db.specs.declared.side.Side.{Side}
 use Rattle.aide_db.specs.declared.side.Side.TheVariants.{Old, New}
 use Rattle.aide_db.specs.declared.stage.Stage.TheVariants.{Ended as AtEnd}
-use Rattle.aide_report.specs.Bound.{FitsAfter, FitsAfterBoth}
+use Rattle.aide_report.specs.Bound.{FitsAfterBoth}
 use Rattle.aide_report.specs.Missing.{IsHindered, IsOfReliable}
 use Rattle.aide_report.specs.Openings.{IsNotGiven, IsRefusedThere, OpensExactly}
 use Rattle.aide_report.specs.Room.{IsNotOfMemory}
-use Rattle.aide_report.specs.RunFaults.{HasPenWritten, IsCaused, IsFirst}
+use Rattle.aide_report.specs.RunFaults.{IsCaused, IsFirst}
 use Rattle.aide_report.specs.Seen.{KeepsSources, Seen}
 use Rattle.aide_report.specs.Standing.{IsFaultOf}
 use Rattle.aide_report.specs.code.MergeCalls.{IsMergeFault, IsOpened, KeepsMerge}
 use Rattle.aide_report.specs.code.Merging.{IsEnded, StandsAt, cursor_at, limits_at, reels_failed}
-use Rattle.aide_report.specs.code.OneReading.{AreReadAt, IsFirstOfBoth, IsLinesStop, IsReadFault, IsSettled, IsStopped, Reads}
-use Rattle.aide_report.specs.code.OneReading.{UnlessOpen, stop_of}
+use Rattle.aide_report.specs.code.OneReading.{AreReadAt, IsFirstOfBoth, IsReadFault, IsSettled, IsStopped, Reads}
 use Rattle.aide_report.specs.code.Readings.{AreRead}
 use Rattle.aide_report.specs.declared.finding.Readings.{Readings}
-use Rattle.aide_text.specs.Sheet.{Sheet}
 use Rattle.aide_report.specs.code.Passes.{KeepsDesk}
-use Rattle.aide_report.specs.declared.change_writer.PassFault.{PassFault}
 use Rattle.aide_report.specs.declared.change_writer.PassFault.TheVariants as passes
 use Rattle.aide_report.specs.declared.merge.Merge.{Merge}
 use Rattle.aide_report.specs.declared.run_fault.RunFault.{RunFault}
 use Rattle.aide_report.specs.declared.run_fault.RunFault.TheVariants.{Open, Database, Changed, Write}
 use Rattle.aide_text.specs.Failures.{Rose}
-use Rattle.aide_text.specs.declared.pen.Pen.{Pen}
-use Rattle.aide_report.proofs.BoundLemmas.{within_at}
 use Rattle.aide_report.proofs.FaultLemmas.{answer_new, answer_old, none_failed, right_first, rose_since}
 use Rattle.aide_report.proofs.MissingLemmas.{first_over, hindered_by, second_over, stops_by, stops_hindered}
-use Rattle.aide_report.proofs.PassLemmas.{desk_then, sources_then}
 use Rattle.aide_report.proofs.ReportLemmas.{caused_as}
 use Rattle.aide_report.proofs.RoomLemmas.{still_fits}
 
@@ -56,11 +50,6 @@ pub reel_of_both : {R : Type 0} (failures : R → ℕ) (m : Merge R) (side : Sid
     → 0 < reels_failed failures m
 reel_of_both failures m Old some = omega (arith, some)
 reel_of_both failures m New some = omega (arith, some)
-
-pub fits_old : {R : Type 0} (to_come : R → Option (List ℕ)) (m : Merge R) (d e : DeskView) → m.old_cursor.side ≡ Old
-    → FitsAfter to_come m.old_cursor d e → FitsAfterBoth to_come m d e
-fits_old to_come m d e is_old first old_line new_line before within_old within_new fits =
-    first old_line new_line before (within_at to_come m.old_cursor d old_line new_line Old is_old within_old) fits
 
 -- the fault that comes first, after all that the merge has passed on
 pub settled_first : {R : Type 0} {r : Reels R} {m k n : Merge R} {d e f : DeskView} {fault first : DbFault}
@@ -163,35 +152,6 @@ fault_of_write limits a b room {sink} written holds = record {
 opens_kept : {a b c : Side → ℕ} → c ≡ b → OpensExactly a b 1 → OpensExactly a c 1
 opens_kept {a} {b} {c} same opens = subst (λ (new : Side → ℕ). OpensExactly a new 1) (sym same) opens
 
--- both were read to their ends, and closed
-pub reads_done : {T U : Type 0} {limits : Limits} {a b c : Seen} {d e f : DeskView} {sink next : Type 0} {opened : T} {done : U}
-    → Reads limits a b d e sink (Ok opened) → KeepsDesk limits a.bytes_of e f → KeepsSources b c → c.openings ≡ b.openings
-    → Reads limits a c d f next (Ok done)
-reads_done {a = a} {b = b} {c = c} p desk closes same =
-    let opens = opens_kept same p.opens in
-    record {
-      sources = sources_then p.sources closes;
-      desk = desk_then refl p.desk desk;
-      opens = opens;
-      opens_some = record { of_old = omega (arith, opens.of_old); of_new = omega (arith, opens.of_new) };
-      fault = tt;
-    }
-
--- the reading was broken off
-pub reads_stop : {T U : Type 0} {limits : Limits} {a b c : Seen} {d e f : DeskView} {sink next : Type 0} {opened : T} {fault : RunFault}
-    → Reads limits a b d e sink (Ok opened) → KeepsDesk limits a.bytes_of e f → KeepsSources b c → c.openings ≡ b.openings
-    → IsReadFault limits a c d.room next fault
-    → Reads {T = U} limits a c d f next (Err fault)
-reads_stop {a = a} {b = b} {c = c} p desk closes same is =
-    let opens = opens_kept same p.opens in
-    record {
-      sources = sources_then p.sources closes;
-      desk = desk_then refl p.desk desk;
-      opens = tt;
-      opens_some = record { of_old = omega (arith, opens.of_old); of_new = omega (arith, opens.of_new) };
-      fault = is;
-    }
-
 hindered_as : (old new : Option (List ℕ)) (sources sink next : Type 0) (fault : RunFault) → (sink → next)
     → IsHindered old new sources sink fault → IsHindered old new sources next fault
 hindered_as old new sources sink next (Open side) f h = h
@@ -219,23 +179,9 @@ fault_as {a = a} {b = b} {sink = sink} {next = next} {fault = fault} f p =
       memory = p.memory;
     }
 
-pub reads_err : {T U : Type 0} {limits : Limits} {a b : Seen} {d e : DeskView} {sink next : Type 0} {fault : RunFault} → (sink → next)
-    → Reads {T = T} limits a b d e sink (Err fault) → Reads {T = U} limits a b d e next (Err fault)
-reads_err f p = record { sources = p.sources; desk = p.desk; opens = tt; opens_some = p.opens_some; fault = fault_as f p.fault }
-
 pub reads_same : {T U : Type 0} {limits : Limits} {a b : Seen} {d e : DeskView} {sink next : Type 0} {answer : T} {done : U}
     → Reads limits a b d e sink (Ok answer) → Reads limits a b d e next (Ok done)
 reads_same p = record { sources = p.sources; desk = p.desk; opens = p.opens; opens_some = p.opens_some; fault = tt }
-
-pub reads_broken : {T U : Type 0} {limits : Limits} {a b : Seen} {d e : DeskView} {sink broken : Type 0} {answer : T} (written : ℕ)
-    → Reads limits a b d e sink (Ok answer) → broken → Reads {T = U} limits a b d e broken (Err (Write written))
-reads_broken {limits = limits} {a = a} {b = b} {d = d} written p holds = record {
-  sources = p.sources;
-  desk = p.desk;
-  opens = tt;
-  opens_some = p.opens_some;
-  fault = fault_of_write limits a b d.room written holds;
-}
 
 -- a merge was begun, and has kept the desk
 pub desk_read : {R : Type 0} {r : Reels R} {limits : Limits} {bytes_of : Side → Option (List ℕ)} {m : Merge R} {d e f : DeskView}
@@ -276,18 +222,6 @@ module _ {R : Type 0} {r : Reels R} {limits : Limits} {a b c : Seen} {e : DeskVi
       (λ reliable read. none_failed (reels_failed r.failures n) (unfailed (sources.reliable_same ∙ reliable)) (is.read read))
       (λ le. is.memory (λ side. still_fits limits (limits_at m side) before e.room (opened.limits_of side) room le))
 
--- why the pass over both sides was broken off
-pub stops_pass : {R : Type 0} {r : Reels R} {limits : Limits} {a b c : Seen} {e : DeskView} {m : Merge R} {before : ℕ}
-    (n : Merge R) (fault : PassFault) (sent : ℕ) (pen : Pen) → KeepsSources a b → KeepsSources b c
-    → ((side : Side) → a.is_missing side ≡ false)
-    → IsOpened r limits a.bytes_of m e → e.room ≡ before
-    → (0 < reels_failed r.failures n → Rose b.failures c.failures) → (b.is_reliable ≡ true → reels_failed r.failures n ≡ 0)
-    → IsLinesStop r m n e pen fault → IsReadFault limits a c before (pen.failed ≡ true) (stop_of fault sent)
-stops_pass n (passes.Database fault) sent pen sources closes there opened room rose unfailed is =
-    stops_at sources closes there opened room fault.side fault refl rose unfailed is.1
-stops_pass {limits = limits} {a = a} {c = c} {before = before} n passes.Write sent pen sources closes there opened room rose unfailed is =
-    fault_of_write limits a c before sent is
-
 pub rose_more : (before middle after : ℕ) → Rose before middle → middle ≤ after → Rose before after
 rose_more before middle after rose le below = let risen = rose (omega (arith, le, below)) in omega (arith, le, risen)
 
@@ -313,19 +247,3 @@ are_read {r = r} {n = n} {f = f} there opened keeps ended read = record {
   skipped_new = λ text told. read.skipped_new text (keeps.stands New text (opened.stands New text told));
   digests = λ side text told. read.digests side text (keeps.stands side text (opened.stands side text told));
 }
-
--- a pass that stops has told what was written
-pub lines_stop_written : {R : Type 0} (r : Reels R) (m n : Merge R) (d : DeskView) (pen : Pen) (fault : PassFault)
-    → IsLinesStop r m n d pen fault → HasPenWritten pen (stop_of fault pen.sent)
-lines_stop_written r m n d pen (passes.Database fault) is = is.0
-lines_stop_written r m n d pen passes.Write is = (is, refl)
-
-pub stop_unopened : (a b : Sheet) (fault : PassFault) (sent : ℕ) → UnlessOpen a b (stop_of fault sent)
-stop_unopened a b (passes.Database fault) sent = tt
-stop_unopened a b passes.Write sent = tt
-
-pub unopened_same : (a : Sheet) (fault : RunFault) → UnlessOpen a a fault
-unopened_same a (Open side) = refl
-unopened_same a (Database fault) = tt
-unopened_same a (Changed side) = tt
-unopened_same a (Write written) = tt

@@ -1,9 +1,9 @@
 -- The numbers of the last line, one change after another.
-use Rattle.std.proofs.Common.{◌≡◌, ℕ, ◌+◌, ◌<◌, ◌∙◌, Bool, true, false, refl, sym, ap, List, [], ◌∷◌, ◌++◌}
+use Rattle.std.proofs.Common.{◌≡◌, ℕ, ◌+◌, ◌∙◌, Bool, true, false, refl, sym, ap, List, [], ◌∷◌, ◌++◌}
 use Rattle.std.proofs.Common.{arith, length}
 use Rattle.std.specs.Prelude.{count_by, cond, ◌&&◌, ◌||◌, Option, Some, None}
 use Rattle.std.specs.List.{flat_map}
-use Rattle.std.proofs.lemmas.List.Sums.{count_by-le-length, length-filter, sum_by-append}
+use Rattle.std.proofs.lemmas.List.Sums.{length-filter, sum_by-append}
 use Rattle.aide_line_text.specs.declared.account.Account.{Account}
 use Rattle.aide_line_text.specs.declared.account.Account.TheVariants.{LeftOut, Old, Trusted}
 use Rattle.aide_conf.specs.declared.options.Options.{Options}
@@ -16,7 +16,7 @@ use Rattle.aide_report.specs.Entries.{PathChange}
 use Rattle.aide_report.specs.LineCounts.{account_count, entry_count, is_left_out, is_line_with, is_old, is_other, is_trusted}
 use Rattle.aide_report.specs.Sections.{all_listed, is_in}
 use Rattle.aide_report.specs.code.ChangeView.{alike_of}
-use Rattle.aide_report.specs.code.LineTally.{AreLinesBelow, sum_of_counts, tally, with_account, with_entry, with_kind}
+use Rattle.aide_report.specs.code.LineTally.{sum_of_counts, tally, with_account, with_entry, with_kind}
 use Rattle.aide_report.proofs.SameEntries.{in_none}
 use Rattle.aide_report.proofs.SectionLaws.{first_counted}
 
@@ -52,11 +52,6 @@ module _ (options : Options) (account : Accounts) where
     left_out = counted_more (line_with is_left_out) done change i;
     others = counted_more (line_with is_other) done change i;
   })
-
-  -- one change is counted by what accounts for it
-  pub tally_as : (change : PathChange) (a : Option Account) → a ≡ account change
-      → tally options (λ any. a) (change ∷ []) ≡ tally options account (change ∷ [])
-  tally_as change a is = ap (λ b. tally options (λ any. b) (change ∷ [])) is
 
   -- ---- a change that has no line
 
@@ -168,21 +163,6 @@ module _ (options : Options) (account : Accounts) where
       ≡ sum_of_counts c (tally options account (change ∷ []))
   listed c change is =
       ap (λ counts. with_account counts (account change)) (kinds c change is) ∙ accounted (account change) _ change is refl
-
-  -- ---- no count passes the number of changes
-
-  pub tally_below : (done : List PathChange) (limit : ℕ) → length done < limit
-      → AreLinesBelow (tally options account done) limit
-  tally_below done limit less = record {
-    total = omega (arith, less, count_by-le-length is_of_new done);
-    added = omega (arith, less, count_by-le-length is_added done);
-    removed = omega (arith, less, count_by-le-length is_removed done);
-    changed = omega (arith, less, count_by-le-length differs done);
-    same_as_old = omega (arith, less, count_by-le-length (line_with is_old) done);
-    same_as_trusted = omega (arith, less, count_by-le-length (line_with is_trusted) done);
-    left_out = omega (arith, less, count_by-le-length (line_with is_left_out) done);
-    others = omega (arith, less, count_by-le-length (line_with is_other) done);
-  }
 
   -- ---- each line is of one kind, and one thing accounts for its change, or nothing
 

@@ -1,11 +1,9 @@
 -- The lines of JSON about the changes of two databases.
-use Rattle.std.specs.Prelude.{ℕ, if◌then◌else◌, List, [], Option, None}
+use Rattle.std.specs.Prelude.{ℕ, if◌then◌else◌, List, [], Option}
 use Rattle.std.specs.List.{flat_map, filter}
-use Rattle.aide_agreement.specs.Account.{same_as}
 use Rattle.aide_line_text.specs.declared.account.Account.{Account}
 use Rattle.aide_attr.specs.declared.level.Level.TheVariants.{AddedRemovedEntries}
 use Rattle.aide_conf.specs.declared.options.Options.{Options}
-use Rattle.aide_line_text.specs.Account.{account_as}
 use Rattle.aide_line_text.specs.Entry.{entry_line}
 use Rattle.aide_report.specs.Entries.{PathChange, letters_of, shows_at}
 use Rattle.aide_report.specs.Sections.{all_listed, is_in}
@@ -17,10 +15,6 @@ widest options = record options { level = AddedRemovedEntries }
 -- what accounts for each change, if anything does
 abbrev pub Accounts : Type 0
 Accounts = PathChange → Option Account
-
--- the old entry, if the new one agrees with it; no machine is trusted
-abbrev pub by_old : Accounts
-by_old change = account_as (same_as change.1 (None, None))
 
 -- the line of a change: its summary string, what accounts for it, and the attributes that a report of the highest level
 -- shows

@@ -1,9 +1,14 @@
-//! What was found of both databases before the report or the lines are written.
+//! What was found of both databases.
 ghost use Rattle.std.specs.Prelude.{◌≡◌};
+ghost use Rattle.aide_db.specs.DeskView.{DeskView};
 ghost use Rattle.aide_report.specs.Report.{outcome_by};
+ghost use Rattle.aide_report.specs.code.Merging.{IsEnded};
+ghost use Rattle.aide_report.specs.code.OneReading.{AreReadAt};
 
-use crate::digests::Digests;
+use crate::digests::{Digests, digest_of};
+use crate::merge::Merge;
 use crate::outcome::Outcome;
+use aide_db::Reel;
 use aide_text::Counts;
 
 /// What the readings and the counting pass have found.
@@ -39,5 +44,20 @@ impl Finding {
             skipped_old: self.skipped_old,
             skipped_new: self.skipped_new,
         }
+    }
+}
+
+/// What is known of both databases at their ends.
+pub fn readings_of<R: Reel>(merge: &Merge<R>) -> Readings
+    requires { IsEnded merge.now }
+    ensures { (desk : DeskView) → AreReadAt R.Reel merge.now desk result }
+{
+    Readings {
+        digests: Digests {
+            of_old: digest_of(&merge.old_cursor),
+            of_new: digest_of(&merge.new_cursor),
+        },
+        skipped_old: merge.old_cursor.skipped(),
+        skipped_new: merge.new_cursor.skipped(),
     }
 }

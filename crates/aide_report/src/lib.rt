@@ -1,4 +1,4 @@
-//! Two databases compared: the report or the lines of JSON, byte by byte, and the status of a run.
+//! Two databases compared: the report, byte by byte, and the status of a run; and what lines of JSON need of both.
 #![tactic(auto)]
 
 mod change;
@@ -15,9 +15,8 @@ mod finding;
 mod first_fault;
 mod flush;
 mod line_counts;
-mod lines;
-mod lines_run;
 mod merge;
+mod opening;
 mod outcome;
 mod pass;
 mod plan;
@@ -30,12 +29,11 @@ pub use change::{AtPath, Change};
 pub use change_lines::put_counted;
 pub use comparison::run;
 pub use digests::Digests;
-pub use finding::Readings;
+pub use finding::{Readings, readings_of};
 pub use first_fault::settled;
 pub use line_counts::{no_counts, outcome_of};
-pub use lines::{open_in_order, readings_of};
-pub use lines_run::run_lines;
 pub use merge::Merge;
+pub use opening::open_in_order;
 pub use outcome::Outcome;
 pub use pass::{clear, close_both};
 pub use run_fault::RunFault;

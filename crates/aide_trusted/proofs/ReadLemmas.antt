@@ -24,7 +24,7 @@ use Rattle.aide_report.specs.declared.run_fault.RunFault.{RunFault}
 use Rattle.aide_report.specs.declared.run_fault.RunFault.TheVariants.{Open, Database, Changed, Write}
 use Rattle.aide_report.proofs.BoundLemmas.{fits_limit, fits_within}
 use Rattle.aide_report.proofs.FaultLemmas.{cause_by}
-use Rattle.aide_report.proofs.LinesRunLemmas.{comes_of}
+use Rattle.aide_report.proofs.FaultLemmas.{comes_of}
 use Rattle.aide_report.proofs.OneReadingLemmas.{desk_read, fault_as, fault_of_write, stops_at}
 use Rattle.aide_report.proofs.PassLemmas.{desk_then, sources_then}
 use Rattle.aide_report.proofs.ReadingLemmas.{clears_then}

@@ -28,9 +28,14 @@ pub struct TrustedPair<'a, S: Sources, A: Allocator + Copy> {
 /// the change. The list is asked where no entry accounts for a change. Each of the four databases is
 /// opened and read once.
 ///
-/// What [`aide_report::run_lines`] says about its lines holds of these, over four databases: the first fault counts, in
-/// the order old, new, trusted old, trusted new. What comes before it is read to its end. Nothing is written before all
-/// four databases are open, and the last line only when all of them were read to their ends and are sound.
+/// Nothing is written before all four databases are open, and the last line only when all of them were read to their
+/// ends and are sound. Without it the lines are not complete.
+///
+/// - After `Ok` exactly the lines have been written, and were flushed after their last byte. The outcome is that of the
+///   report.
+/// - After a fault other than a failed write the last line has not been written.
+/// - The first fault counts, in the order old, new, trusted old, trusted new. What comes before it is read to its end.
+///   No fault is [`RunFault::Changed`](aide_report::RunFault::Changed).
 ///
 /// `limits.line` has to be at least 14, and `limits.bytes` at most 2^60. What is promised is the fields of
 /// `IsRunBeside`.

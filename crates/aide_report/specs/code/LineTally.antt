@@ -1,16 +1,15 @@
 -- The numbers of the last line, one change after another.
-use Rattle.std.specs.Prelude.{◌≡◌, ℕ, ◌+◌, ◌<◌, Option, Some, None, List, count_by}
+use Rattle.std.specs.Prelude.{ℕ, ◌+◌, ◌<◌, Option, Some, None, List, count_by}
 use Rattle.aide_agreement.specs.Account.{Pair}
 use Rattle.aide_line_text.specs.declared.account.Account.{Account}
 use Rattle.aide_line_text.specs.declared.account.Account.TheVariants.{LeftOut, Old, Trusted}
 use Rattle.aide_conf.specs.declared.options.Options.{Options}
 use Rattle.aide_line_text.specs.declared.counts.LineCounts.{LineCounts}
-use Rattle.aide_report.specs.ChangeLines.{Accounts, by_old, change_lines}
+use Rattle.aide_report.specs.ChangeLines.{Accounts}
 use Rattle.aide_report.specs.Changed.{differ_by}
 use Rattle.aide_report.specs.Changes.{is_added, is_removed, is_changed, is_of_new}
 use Rattle.aide_report.specs.Entries.{PathChange}
 use Rattle.aide_report.specs.LineCounts.{is_left_out, is_line_with, is_old, is_other, is_trusted}
-use Rattle.aide_text.specs.Sheet.{Sheet, Wrote}
 
 -- the numbers of a list of changes
 abbrev pub tally : Options → Accounts → List PathChange → LineCounts
@@ -56,14 +55,6 @@ with_account counts (Some Old) = record counts { same_as_old = counts.same_as_ol
 with_account counts (Some Trusted) = record counts { same_as_trusted = counts.same_as_trusted + 1 }
 with_account counts (Some (LeftOut number)) = record counts { left_out = counts.left_out + 1 }
 with_account counts None = record counts { others = counts.others + 1 }
-
--- Some changes were written and counted, and of them this is true.
-pub record HasWritten (options : Options) (counts : LineCounts) (AreAll : List PathChange → Type 0)
-    (a b : Sheet) : Type 0 where
-  pub done : List PathChange
-  pub all : AreAll done
-  pub counted : counts ≡ tally options by_old done
-  pub wrote : Wrote (change_lines options by_old done) a b
 
 -- each count is below a limit
 pub record AreLinesBelow (counts : LineCounts) (limit : ℕ) : Type 0 where

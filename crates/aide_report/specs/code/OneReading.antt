@@ -1,7 +1,6 @@
 -- What the calls of a run over both databases promise that reads each of them once.
-use Rattle.std.specs.Prelude.{◌≡◌, ◌<◌, ◌≤◌, ℕ, ◌⊎◌, true, false, ⊤, List, Some, Option, Result}
+use Rattle.std.specs.Prelude.{◌≡◌, ◌<◌, ◌≤◌, ℕ, ◌⊎◌, true, List, Some, Option, Result}
 use Rattle.std.specs.Prelude.{IfErr, OnOk}
-use Rattle.std.specs.Io.KnownBytes.{Appends}
 use Rattle.sha2.specs.Sha256.{sha256}
 use Rattle.aide_entry.specs.Skipped.{skipped_in}
 use Rattle.aide_db.specs.Giving.{columns_of_text}
@@ -15,12 +14,8 @@ use Rattle.aide_db.specs.declared.side.Side.{Side}
 use Rattle.aide_db.specs.declared.side.Side.TheVariants.{Old, New}
 use Rattle.aide_entry.specs.declared.fault_kind.DbFaultKind.TheVariants.{Read}
 use Rattle.aide_line_text.specs.Frame.{ReadFacts}
-use Rattle.aide_line_text.specs.declared.counts.LineCounts.{LineCounts}
 use Rattle.aide_report.specs.Asked.{Asked}
 use Rattle.aide_report.specs.Bound.{FitsAfterBoth}
-use Rattle.aide_report.specs.ChangeLines.{by_old}
-use Rattle.aide_report.specs.Entries.{PathChange}
-use Rattle.aide_report.specs.LinesRead.{begun_lines, framed_lines, read_of}
 use Rattle.aide_report.specs.Missing.{IsHindered, IsOfReliable, RunsOver, StopsFor, TellsSide}
 use Rattle.aide_report.specs.Openings.{IsNotGiven, IsRefusedThere, OpensAtMost, OpensExactly}
 use Rattle.aide_report.specs.Room.{IsNotMemory, IsNotOfMemory}
@@ -28,23 +23,14 @@ use Rattle.aide_report.specs.RunFaults.{IsCaused, IsRight}
 use Rattle.aide_report.specs.Runs.{IsRunFault, Report}
 use Rattle.aide_report.specs.Seen.{KeepsSources, Seen}
 use Rattle.aide_report.specs.Standing.{IsFaultOf, IsUnfailed}
-use Rattle.aide_report.specs.code.Finding.{pass_of}
-use Rattle.aide_report.specs.code.LineTally.{tally}
 use Rattle.aide_report.specs.code.MergeCalls.{IsCursorFault}
 use Rattle.aide_report.specs.code.Merging.{StandsAt, cursor_at, limits_at, reels_failed}
 use Rattle.aide_report.specs.code.Passes.{KeepsDesk}
-use Rattle.aide_report.specs.declared.change_writer.PassFault.{PassFault}
-use Rattle.aide_report.specs.declared.change_writer.PassFault.TheVariants.{Database, Write}
 use Rattle.aide_report.specs.declared.finding.Readings.{Readings}
 use Rattle.aide_report.specs.declared.merge.Merge.{Merge}
 use Rattle.aide_report.specs.declared.run_fault.RunFault.{RunFault}
-use Rattle.aide_report.specs.declared.run_fault.RunFault.TheVariants.{Changed, Open}
-use Rattle.aide_report.specs.declared.run_fault.RunFault.TheVariants.{Database as OfDatabase}
-use Rattle.aide_report.specs.declared.run_fault.RunFault.TheVariants.{Write as OfWrite}
+use Rattle.aide_report.specs.declared.run_fault.RunFault.TheVariants.{Changed}
 use Rattle.aide_text.specs.Failures.{Rose}
-use Rattle.aide_text.specs.Sent.{SendsPart}
-use Rattle.aide_text.specs.Sheet.{Sheet, WritesPart, Wrote}
-use Rattle.aide_text.specs.declared.pen.Pen.{Pen}
 
 -- ---- a merge that has stopped
 
@@ -54,11 +40,6 @@ pub record IsStopped {R : Type 0} (r : Reels R) (n : Merge R) (fault : DbFault) 
   pub unfailed : fault.side ≡ New → IsUnfailed n.old_cursor.stage
   -- at a failed read the reel of its side has failed
   pub read : fault.kind ≡ Read → 0 < r.failures (cursor_at n fault.side).reel
-
--- a merge at the end of a pass that stopped
-abbrev pub IsPassStopped : {R : Type 0} → Reels R → Merge R → PassFault → Type 0
-IsPassStopped r n (Database fault) = IsStopped r n fault
-IsPassStopped r n Write = ⊤
 
 -- The fault stays the first one: it is the old side's, or the old text is sound.
 pub record StaysFirst {R : Type 0} (r : Reels R) (m n : Merge R) (d : DeskView)
@@ -88,17 +69,6 @@ pub record IsFirstOfBoth {R : Type 0} (r : Reels R) (m n : Merge R) (d : DeskVie
   pub read : fault.kind ≡ Read → 0 < reels_failed r.failures n
   -- no allocation fails if the longest allowed line fits into the reserved room
   pub memory : ((side : Side) → (limits_at m side).line ≤ d.room) → IsNotMemory fault
-
--- why the writing of the changes stopped
-abbrev pub IsLinesStop : {R : Type 0} → Reels R → Merge R → Merge R → DeskView → Pen → PassFault
-    → Type 0
-IsLinesStop r m n d pen (Database fault) = (pen.failed ≡ false) × IsFirstOfBoth r m n d fault
-IsLinesStop r m n d pen Write = pen.failed ≡ true
-
--- the fault that the run returns
-abbrev pub stop_of : PassFault → ℕ → RunFault
-stop_of (Database fault) sent = OfDatabase fault
-stop_of Write sent = OfWrite sent
 
 -- What is known of both databases, of which a merge has come to its end.
 pub record AreReadAt {R : Type 0} (r : Reels R) (m : Merge R) (d : DeskView)
@@ -164,54 +134,3 @@ old_read readings = record { digest = readings.digests.of_old; skipped = reading
 
 abbrev pub new_read : Readings → ReadFacts
 new_read readings = record { digest = readings.digests.of_new; skipped = readings.skipped_new }
-
--- all lines as the code writes them, over two texts
-unfoldable pub told_lines : Asked → (old new : List ℕ) → List ℕ
-told_lines asked old new = framed_lines asked (read_of old) (read_of new)
-    (tally asked.options by_old (pass_of old new)) (pass_of old new)
-
--- The first line and the lines of some changes were written and counted, and of them this is true.
-pub record HasBegun (asked : Asked) (counts : LineCounts) (AreAll : List PathChange → Type 0)
-    (a b : Sheet) : Type 0 where
-  pub done : List PathChange
-  pub all : AreAll done
-  pub counted : counts ≡ tally asked.options by_old done
-  pub wrote : Wrote (begun_lines asked done) a b
-
--- All lines were written, with these counts and facts.
-pub record HasFramed (asked : Asked) (counts : LineCounts) (readings : Readings)
-    (AreAll : List PathChange → Type 0) (a b : Sheet) : Type 0 where
-  pub done : List PathChange
-  pub all : AreAll done
-  pub counted : counts ≡ tally asked.options by_old done
-  pub wrote : Wrote (framed_lines asked (old_read readings) (new_read readings) counts done) a b
-
--- before a fault other than of writing the last line is not begun
-abbrev pub WritesBegun : Limits → Asked → (old new : List ℕ) → (a b : Sheet) → RunFault → Type 0
-WritesBegun limits asked old new a b (OfWrite written) =
-    (IsSound limits old → IsSound limits new → ⊥)
-    → WritesPart (begun_lines asked (pass_of old new)) a b
-WritesBegun limits asked old new a b _ = WritesPart (begun_lines asked (pass_of old new)) a b
-
--- before both sides are open nothing is written
-abbrev pub UnlessOpen : (a b : Sheet) → RunFault → Type 0
-UnlessOpen a b (Open side) = b ≡ a
-UnlessOpen a b _ = ⊤
-
--- All lines have been written, with these counts and facts.
-pub record HasSent (asked : Asked) (counts : LineCounts) (readings : Readings)
-    (AreAll : List PathChange → Type 0) (before after : Option (List ℕ)) : Type 0 where
-  pub done : List PathChange
-  pub all : AreAll done
-  pub counted : counts ≡ tally asked.options by_old done
-  pub bytes : Appends before after
-      (framed_lines asked (old_read readings) (new_read readings) counts done)
-
--- before a fault other than of writing the last line is not begun
-abbrev pub SendsBegun : Limits → Asked → (old new : List ℕ) → (before after : Option (List ℕ))
-    → RunFault → Type 0
-SendsBegun limits asked old new before after (OfWrite written) =
-    (IsSound limits old → IsSound limits new → ⊥)
-    → SendsPart (begun_lines asked (pass_of old new)) before after
-SendsBegun limits asked old new before after _ =
-    SendsPart (begun_lines asked (pass_of old new)) before after

@@ -1,5 +1,5 @@
-//! Runs that write lines of JSON, of two databases and of two with a trusted pair and a list. Each database is opened
-//! once. The lines are those of the plain program in `tests/oracle`.
+//! Runs that write lines of JSON, of two databases beside a trusted pair and a list. Each database is opened once. The
+//! lines are those of the plain program in `tests/oracle`.
 mod faults;
 mod given;
 mod listed;
@@ -12,7 +12,7 @@ use aide_db::Desk;
 use aide_faults::{PACES, Pace};
 use aide_report::{Outcome, WriteSink};
 use aide_trusted::PairFault;
-use given::{GIVEN, Given};
+use given::{GIVEN, Given, openings};
 use runs::{Both, Plans, openings_of, run_over};
 use std::alloc::{Allocator, Global};
 use std::process::Abort;
@@ -43,7 +43,7 @@ fn assert_written<A: Allocator + Copy>(
     let answer = run_over(alloc, given, desks, &mut sources, &mut out);
     assert!(rt; out.into_inner().is_done_with(given.lines), "{pace:?}");
     assert_well(rt, answer);
-    assert!(rt; openings_of(&sources) == given.openings(4));
+    assert!(rt; openings_of(&sources) == openings(4));
 }
 
 #[test]

@@ -50,11 +50,10 @@ pub(super) fn once(has_happened: bool) -> u64 {
     if has_happened { 1 } else { 0 }
 }
 
-/// Two databases, a trusted pair and a list beside it if it is among the places, the most bytes that a desk may hold of
-/// the two, which is three lines as long as their longest one, and what is written of their changes.
+/// Two databases, a trusted pair and a list, the most bytes that a desk may hold of the two, which is three lines as
+/// long as their longest one, and what is written of their changes.
 #[derive(Clone, Copy)]
 pub(super) struct Given<'a> {
-    pub(super) places: &'a [Place],
     old: &'a [u8],
     new: &'a [u8],
     trusted_old: &'a [u8],
@@ -68,7 +67,6 @@ impl<'a> Given<'a> {
     /// Two databases with a trusted pair without entries, and a list.
     pub(super) fn listed(old: &'a [u8], new: &'a [u8], list: &'a [u8]) -> Given<'a> {
         Given {
-            places: FOUR,
             old,
             new,
             trusted_old: EMPTY,
@@ -89,22 +87,6 @@ impl<'a> Given<'a> {
         }
     }
 
-    /// Whether there is a trusted pair.
-    pub(super) fn has_trusted(self) -> bool {
-        self.places.len() > 2
-    }
-
-    /// How often each database is opened in a run that opens this many.
-    pub(super) fn openings(self, opened: usize) -> [u64; 4] {
-        let opened = opened.min(self.places.len());
-        [
-            once(opened > 0),
-            once(opened > 1),
-            once(opened > 2),
-            once(opened > 3),
-        ]
-    }
-
     /// What comes before the last line.
     pub(super) fn begun(self) -> &'a [u8] {
         let bytes = bytes_before(self.lines, b"{\"end\":true");
@@ -112,37 +94,48 @@ impl<'a> Given<'a> {
     }
 }
 
-/// The places of two databases, and of two with a trusted pair.
-const TWO: &[Place] = &[Place::Old, Place::New];
+/// All places, in the order in which their faults count.
+pub(super) const PLACES: [Place; 4] = [
+    Place::Old,
+    Place::New,
+    Place::TrustedOld,
+    Place::TrustedNew,
+];
 
-const FOUR: &[Place] = &[Place::Old, Place::New, Place::TrustedOld, Place::TrustedNew];
+/// How often each database is opened in a run that opens this many.
+pub(super) fn openings(opened: usize) -> [u64; 4] {
+    [
+        once(opened > 0),
+        once(opened > 1),
+        once(opened > 2),
+        once(opened > 3),
+    ]
+}
 
-/// Two databases that differ, one of them with a column that is skipped; the same database twice; and two beside a
-/// trusted pair, of which the same changes are known but one. Then two with a trusted pair and a list: each rule leaves
-/// one change out, the trusted pair accounts for another that a rule names, and a program with a set-ID bit stays.
+/// Two databases that differ, one of them with a column that is skipped, and the same database twice, each beside a
+/// trusted pair without entries. Then two beside a trusted pair, of which the same changes are known but one, and two
+/// beside a trusted pair and a list: each rule leaves one change out, the trusted pair accounts for another that a rule
+/// names, and a program with a set-ID bit stays.
 pub(super) const GIVEN: [Given<'static>; 4] = [
     Given {
-        places: TWO,
         old: OLD,
         new: SKIPPING,
-        trusted_old: b"",
-        trusted_new: b"",
+        trusted_old: EMPTY,
+        trusted_new: EMPTY,
         list: b"",
         most_held: 3 * 36,
         lines: DIFFERENT,
     },
     Given {
-        places: TWO,
         old: SKIPPING,
         new: SKIPPING,
-        trusted_old: b"",
-        trusted_new: b"",
+        trusted_old: EMPTY,
+        trusted_new: EMPTY,
         list: b"",
         most_held: 3 * 36,
         lines: SAME,
     },
     Given {
-        places: FOUR,
         old: BEFORE,
         new: AFTER,
         trusted_old: TRUSTED_BEFORE,
@@ -152,7 +145,6 @@ pub(super) const GIVEN: [Given<'static>; 4] = [
         lines: BESIDE,
     },
     Given {
-        places: FOUR,
         old: LISTED_BEFORE,
         new: LISTED_AFTER,
         trusted_old: b"@@begin_db\n@@db_spec name perm\n/b 40700\n/z 40700\n@@end_db\n",
@@ -168,7 +160,8 @@ const EMPTY: &[u8] = b"@@begin_db\n@@db_spec name\n@@end_db\n";
 const SKIPPING: &[u8] = b"@@begin_db\n@@db_spec name attr colour perm size\n/a 36 7 100644 5\n\
 /c 36 8 100600 7\n@@end_db\n";
 
-const DIFFERENT: &[u8] = b"{\"format\":4,\"old\":\"/old\",\"new\":\"/new\"}\n\
+const DIFFERENT: &[u8] = b"{\"format\":4,\"old\":\"/old\",\"new\":\"/new\",\
+\"trusted_old\":\"/trusted_old\",\"trusted_new\":\"/trusted_new\"}\n\
 {\"kind\":\"added\",\"path\":\"/a\",\"summary\":\"f+++++++++++++++++\",\"type\":\"File\",\
 \"new\":{\"Type\":\"File\",\"Size\":5,\"Perm\":\"0644\"}}\n\
 {\"kind\":\"removed\",\"path\":\"/b\",\"summary\":\"d-----------------\",\"type\":\"Directory\",\
@@ -180,15 +173,30 @@ const DIFFERENT: &[u8] = b"{\"format\":4,\"old\":\"/old\",\"new\":\"/new\"}\n\
 \"skipped\":[]},\
 \"new\":{\"sha256\":\"e026a9336ec97af4ec9e3f6e7881370ec8f0a6651b44c58e76a28b11d68f8625\",\
 \"skipped\":[3]},\
-\"total\":2,\"added\":1,\"removed\":1,\"changed\":1,\"same_as_old\":0,\"others\":3,\"status\":7}\n";
+\"trusted_old\":{\"sha256\":\"a257fef5c197783a310852d2c6a8fc02ff51e18555faa70056396c2b8ea775d9\",\
+\"skipped\":[]},\
+\"trusted_new\":{\"sha256\":\"a257fef5c197783a310852d2c6a8fc02ff51e18555faa70056396c2b8ea775d9\",\
+\"skipped\":[]},\
+\"total\":2,\"added\":1,\"removed\":1,\"changed\":1,\"same_as_old\":0,\
+\"same_as_trusted\":0,\"left_out\":0,\"others\":3,\
+\"list\":{\"sha256\":\"e3b0c44298fc1c149afbf4c8996fb92427ae41e4649b934ca495991b7852b855\"},\
+\"status\":7}\n";
 
-const SAME: &[u8] = b"{\"format\":4,\"old\":\"/old\",\"new\":\"/new\"}\n\
+const SAME: &[u8] = b"{\"format\":4,\"old\":\"/old\",\"new\":\"/new\",\
+\"trusted_old\":\"/trusted_old\",\"trusted_new\":\"/trusted_new\"}\n\
 {\"end\":true,\
 \"old\":{\"sha256\":\"e026a9336ec97af4ec9e3f6e7881370ec8f0a6651b44c58e76a28b11d68f8625\",\
 \"skipped\":[3]},\
 \"new\":{\"sha256\":\"e026a9336ec97af4ec9e3f6e7881370ec8f0a6651b44c58e76a28b11d68f8625\",\
 \"skipped\":[3]},\
-\"total\":2,\"added\":0,\"removed\":0,\"changed\":0,\"same_as_old\":0,\"others\":0,\"status\":0}\n";
+\"trusted_old\":{\"sha256\":\"a257fef5c197783a310852d2c6a8fc02ff51e18555faa70056396c2b8ea775d9\",\
+\"skipped\":[]},\
+\"trusted_new\":{\"sha256\":\"a257fef5c197783a310852d2c6a8fc02ff51e18555faa70056396c2b8ea775d9\",\
+\"skipped\":[]},\
+\"total\":2,\"added\":0,\"removed\":0,\"changed\":0,\"same_as_old\":0,\
+\"same_as_trusted\":0,\"left_out\":0,\"others\":0,\
+\"list\":{\"sha256\":\"e3b0c44298fc1c149afbf4c8996fb92427ae41e4649b934ca495991b7852b855\"},\
+\"status\":0}\n";
 
 const BEFORE: &[u8] = b"@@begin_db\n@@db_spec name attr perm size sha256\n\
 /a 536870956 100644 5 dpLDrTVAu4A8Ags67mbNiIcSMjTqDG5xQ8Ct1z/0Me0=\n\

@@ -1,6 +1,6 @@
 //! Runs in which each allocation fails in turn, and runs on desks with room, which need no other memory.
 use super::super::trial::{database, line_at};
-use super::given::{GIVEN, Given, once};
+use super::given::{GIVEN, Given, PLACES, once};
 use super::runs::{Both, Plans, run_over};
 use super::{assert_well, assert_written, desks};
 use aide_db::{DbFaultKind, Desk};
@@ -13,7 +13,7 @@ use std::process::Abort;
 
 /// The fault of a run that is out of memory. All databases before the one at fault were read to their ends.
 fn starved(given: &Given<'_>, journals: &Both<Journal>) -> Option<PairFault> {
-    for place in given.places {
+    for place in &PLACES {
         let journal = if place.is_trusted() {
             &journals.trusted
         } else {
@@ -151,6 +151,6 @@ fn lines_on_desks_with_room(rt: HostRuntime) {
         let mut desks = Both { compared, trusted };
         assert_roomy(&rt, rt.alloc(), given, &mut desks);
         assert_held(&rt, given, &desks.compared);
-        assert!(rt; !given.has_trusted() || desks.trusted.peak() > 0);
+        assert!(rt; desks.trusted.peak() > 0);
     }
 }

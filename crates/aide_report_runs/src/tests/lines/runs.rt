@@ -4,7 +4,7 @@ use aide_conf::{Options, Task};
 use aide_db::{Desk, Limits, Side, Sources};
 use aide_faults::{Pace, PlannedSources, SidePlan};
 use aide_patterns::Exclusions;
-use aide_report::{Outcome, RunFault, Sink, run_lines};
+use aide_report::{Outcome, RunFault, Sink};
 use aide_trusted::{LeftOutList, PairFault, Tasks, TrustedPair, run_lines_beside};
 use sha2::{Digest, Sha256};
 use std::alloc::{Allocator, Global};
@@ -164,22 +164,8 @@ pub(super) fn run_over<S: Sources, W: Sink, A: Allocator + Copy>(
     sources: &mut Both<S>,
     out: &mut W,
 ) -> Result<Outcome, PairFault> {
-    if given.has_trusted() {
-        return match Exclusions::read(alloc, given.list) {
-            Ok(rules) => run_ruled(given.list, &rules, desks, sources, out),
-            Err(_) => Err(NO_RUN),
-        };
-    }
-    let task = task_of("/old", "/new");
-    let answer = run_lines(
-        &task,
-        LIMITS,
-        &mut desks.compared,
-        &mut sources.compared,
-        out,
-    );
-    match answer {
-        Ok(outcome) => Ok(outcome),
-        Err(fault) => Err(PairFault::Compared(fault)),
+    match Exclusions::read(alloc, given.list) {
+        Ok(rules) => run_ruled(given.list, &rules, desks, sources, out),
+        Err(_) => Err(NO_RUN),
     }
 }

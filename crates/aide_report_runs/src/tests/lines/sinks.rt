@@ -1,7 +1,7 @@
 //! Sinks that fail at each byte or at the flush, once or for good.
 use super::super::stumbling::{STUMBLES, StumblingWriter};
 use super::desks;
-use super::given::{GIVEN, Given};
+use super::given::{GIVEN, Given, openings};
 use super::runs::{Plans, openings_of, run_over};
 use aide_faults::{PACES, Pace, PlannedSink};
 use aide_report::{MemorySink, RunFault, Sink, WriteSink};
@@ -21,7 +21,7 @@ fn assert_unwritten<W: Sink>(
     let answer = run_over(alloc, given, &mut desks(alloc), &mut sources, out);
     let wanted = PairFault::Compared(RunFault::Write { written });
     assert!(rt; answer == Err(wanted), "{answer:?}");
-    assert!(rt; openings_of(&sources) == given.openings(4));
+    assert!(rt; openings_of(&sources) == openings(4));
 }
 
 /// Writes to this sink, which fails after these first bytes of the lines or at the flush after them. Nothing is tried

@@ -6,7 +6,7 @@ use Rattle.aide_report.specs.code.Digests.{digest_on}
 use Rattle.aide_report.specs.code.Merging.{StandsAt}
 use Rattle.aide_report.proofs.OneReadingLemmas.{ended_at}
 use Rattle.aide_report.proofs.SideLemmas.{of_sides}
-use Rattle.aide_report.proofs.lines.readings_of.Goals as goal
+use Rattle.aide_report.proofs.finding.readings_of.Goals as goal
 
 pub returns : goal.returns
 returns g c desk =

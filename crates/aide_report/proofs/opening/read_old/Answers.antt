@@ -7,7 +7,7 @@ use Rattle.aide_report.proofs.BoundLemmas.{within_at}
 use Rattle.aide_report.proofs.FaultLemmas.{none_failed}
 use Rattle.aide_report.proofs.ReportLemmas.{rose_by}
 use Rattle.aide_report.proofs.RoomLemmas.{still_fits}
-use Rattle.aide_report.proofs.lines.read_old.Goals as goal
+use Rattle.aide_report.proofs.opening.read_old.Goals as goal
 
 pub returns-in-Err-clause-fault : goal.returns-in-Err-clause-fault
 returns-in-Err-clause-fault g c =

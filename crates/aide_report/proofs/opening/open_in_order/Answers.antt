@@ -7,7 +7,7 @@ use Rattle.aide_report.proofs.OneReadingLemmas.{fault_of_new, fault_of_old, rose
 use Rattle.aide_report.proofs.OpeningLemmas.{refused_first}
 use Rattle.aide_report.proofs.PassLemmas.{desk_none, desk_then}
 use Rattle.aide_report.proofs.ReportLemmas.{rose_by_one}
-use Rattle.aide_report.proofs.lines.open_in_order.Goals as goal
+use Rattle.aide_report.proofs.opening.open_in_order.Goals as goal
 
 true_false : true ≡ false → ⊥
 true_false e = cc
