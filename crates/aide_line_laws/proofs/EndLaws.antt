@@ -22,7 +22,7 @@ use Rattle.aide_line_laws.proofs.Objects.{AreMembers, array_of, object_of, line_
 use Rattle.aide_line_laws.proofs.Members.{all_mapped, flat_member, count_member_of}
 
 numbers_of : (most : ℕ) (counts : LineCounts) (texts : List (List ℕ)) (behind : List Field) → AreMembers most texts behind
-    → AreMembers most (Ends.count_members counts ++ (Ends.account_members true counts ++ texts)) (number_fields counts behind)
+    → AreMembers most (Ends.count_members counts ++ (Ends.account_members counts ++ texts)) (number_fields counts behind)
 numbers_of most counts texts behind h = (
   count_member_of most (codes "total") counts.total refl,
   (

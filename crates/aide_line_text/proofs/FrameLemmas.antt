@@ -20,25 +20,6 @@ joined_one first last members =
     append_assoc first (behind members) ((44 ∷ []) ++ last)
     ∙ ap (λ l. first ++ l) (ap (λ l. behind members ++ l) (behind_one last) ∙ sym (behind_append members (last ∷ [])))
 
-assemble_closing : (e x y t a r c o b s : List ℕ)
-    → (123 ∷ []) ++ (e ++ ((44 ∷ x) ++ ((44 ∷ y) ++ ((44 ∷ []) ++ (joined (t ∷ a ∷ r ∷ c ∷ []) ++ ((44 ∷ []) ++ ((o ++ b)
-    ++ ((44 ∷ []) ++ (s ++ (125 ∷ 10 ∷ []))))))))))
-    ≡ (123 ∷ ((e ++ ((44 ∷ x) ++ ((44 ∷ y) ++ ((44 ∷ t) ++ ((44 ∷ a) ++ ((44 ∷ r) ++ ((44 ∷ c) ++ ((44 ∷ o) ++ (b ++ (44 ∷ s))))))))))
-    ++ (125 ∷ []))) ++ 10 ∷ []
-assemble_closing e x y t a r c o b s = grind (arith, append_assoc)
-
--- the last line: both databases, four numbers, those of what accounts for the lines, and the status
-pub closing_parts : (e x y t a r c o s : List ℕ) (more : List (List ℕ))
-    → (123 ∷ []) ++ (e ++ ((44 ∷ x) ++ ((44 ∷ y) ++ ((44 ∷ []) ++ (joined (t ∷ a ∷ r ∷ c ∷ []) ++ ((44 ∷ [])
-    ++ (joined (o ∷ more) ++ ((44 ∷ []) ++ (s ++ (125 ∷ 10 ∷ []))))))))))
-    ≡ line (e ∷ x ∷ y ∷ t ∷ a ∷ r ∷ c ∷ o ∷ (more ++ s ∷ []))
-unfolding line object
-closing_parts e x y t a r c o s more =
-    assemble_closing e x y t a r c o (behind more) s
-    ∙ ap (λ l. (123 ∷ ((e ++ ((44 ∷ x) ++ ((44 ∷ y) ++ ((44 ∷ t) ++ ((44 ∷ a) ++ ((44 ∷ r) ++ ((44 ∷ c) ++ ((44 ∷ o) ++ l))))))))
-    ++ (125 ∷ []))) ++ 10 ∷ [])
-    (ap (λ l. behind more ++ l) (behind_one s) ∙ sym (behind_append more (s ∷ [])))
-
 assemble_trusted : (e x y z w t a r c o b s : List ℕ)
     → (123 ∷ []) ++ (e ++ ((44 ∷ x) ++ ((44 ∷ y) ++ ((44 ∷ z) ++ ((44 ∷ w) ++ ((44 ∷ []) ++ (joined (t ∷ a ∷ r ∷ c ∷ [])
     ++ ((44 ∷ []) ++ ((o ++ b) ++ ((44 ∷ []) ++ (s ++ (125 ∷ 10 ∷ []))))))))))))
@@ -57,12 +38,6 @@ closing_trusted_parts e x y z w t a r c o s more =
     ∙ ap (λ l. (123 ∷ ((e ++ ((44 ∷ x) ++ ((44 ∷ y) ++ ((44 ∷ z) ++ ((44 ∷ w) ++ ((44 ∷ t) ++ ((44 ∷ a) ++ ((44 ∷ r) ++ ((44 ∷ c)
     ++ ((44 ∷ o) ++ l)))))))))) ++ (125 ∷ []))) ++ 10 ∷ [])
     (ap (λ l. behind more ++ l) (behind_one s) ∙ sym (behind_append more (s ∷ [])))
-
-pub opening_parts : (f x y : List ℕ)
-    → (123 ∷ []) ++ (f ++ ((44 ∷ []) ++ (x ++ ((44 ∷ []) ++ (y ++ (125 ∷ 10 ∷ []))))))
-    ≡ line (f ∷ x ∷ y ∷ [])
-unfolding line object
-opening_parts f x y = grind (arith, append_assoc)
 
 pub opening_trusted_parts : (f x y z w : List ℕ)
     → (123 ∷ []) ++ (f ++ ((44 ∷ x) ++ ((44 ∷ y) ++ ((44 ∷ z) ++ ((44 ∷ w) ++ (125 ∷ 10 ∷ []))))))

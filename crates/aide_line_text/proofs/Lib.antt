@@ -1,5 +1,4 @@
 pub mod FormLemmas
 pub mod LineLemmas
 pub mod ColumnLemmas
-pub mod EndLemmas
 pub mod FrameLemmas

@@ -1,6 +1,6 @@
 -- What the last line says about both databases at once: numbers, and columns that were skipped.
-use Rattle.std.specs.Prelude.{ℕ, zero, suc, ◌+◌, ◌-◌, ◌==◌, Bool, true, false, List, [], ◌∷◌}
-use Rattle.std.specs.Prelude.{◌++◌, map, codes}
+use Rattle.std.specs.Prelude.{ℕ, zero, suc, ◌+◌, ◌-◌, ◌==◌, Bool, List, [], ◌∷◌}
+use Rattle.std.specs.Prelude.{map, codes}
 use Rattle.std.specs.Int.{bit_at}
 use Rattle.std.specs.List.{filter}
 use Rattle.aide_json.specs.Member.{member}
@@ -33,15 +33,11 @@ is_skipped columns column = bit_at columns (column - 1) == 1
 unfoldable pub skipped_array : ℕ → List ℕ
 skipped_array columns = array (map json_count (filter (is_skipped columns) (numbers 1 64)))
 
--- for how many lines a trusted machine accounts, and how many a list leaves out, if there is such a machine
-abbrev pub trusted_members : (has_trusted : Bool) → LineCounts → List (List ℕ)
-trusted_members false counts = []
-trusted_members true counts =
-    count_member (codes "same_as_trusted") counts.same_as_trusted
-    ∷ count_member (codes "left_out") counts.left_out ∷ []
-
--- for how many lines the old entries account, for how many a trusted machine or a list, and for how many nothing
-abbrev pub account_members : (has_trusted : Bool) → LineCounts → List (List ℕ)
-account_members has_trusted counts =
+-- for how many lines the old entries account, for how many a trusted machine, for how many a list, and for how many
+-- nothing
+abbrev pub account_members : LineCounts → List (List ℕ)
+account_members counts =
     count_member (codes "same_as_old") counts.same_as_old
-    ∷ (trusted_members has_trusted counts ++ count_member (codes "others") counts.others ∷ [])
+    ∷ count_member (codes "same_as_trusted") counts.same_as_trusted
+    ∷ count_member (codes "left_out") counts.left_out
+    ∷ count_member (codes "others") counts.others ∷ []

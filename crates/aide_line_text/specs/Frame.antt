@@ -1,5 +1,5 @@
 -- The first and the last line of lines that are written while the databases are read.
-use Rattle.std.specs.Prelude.{ℕ, Bool, true, List, [], ◌∷◌, ◌++◌, codes}
+use Rattle.std.specs.Prelude.{ℕ, List, [], ◌∷◌, ◌++◌, codes}
 use Rattle.aide_json.specs.Json.{hex_string}
 use Rattle.aide_json.specs.Member.{member, text_member}
 use Rattle.aide_json.specs.Object.{line, object}
@@ -17,24 +17,7 @@ read_object facts =
     object (member (codes "sha256") (hex_string facts.digest)
     ∷ member (codes "skipped") (skipped_array facts.skipped) ∷ [])
 
--- the first line: the format's number, and the configured paths
-unfoldable pub opening_line : (old_path new_path : List ℕ) → List ℕ
-opening_line old_path new_path =
-    line (count_member (codes "format") 4
-    ∷ text_member (codes "old") old_path
-    ∷ text_member (codes "new") new_path ∷ [])
-
--- the last line, without which the lines were cut: what was read of both databases, the numbers of entries and of what
--- accounts for them, and the exit status
-unfoldable pub closing_line : (old new : ReadFacts) → (has_trusted : Bool) → LineCounts → ℕ → List ℕ
-closing_line old new has_trusted counts status =
-    line (member (codes "end") (codes "true")
-    ∷ member (codes "old") (read_object old)
-    ∷ member (codes "new") (read_object new)
-    ∷ (count_members counts
-    ++ (account_members has_trusted counts ++ count_member (codes "status") status ∷ [])))
-
--- the first line of a comparison that has a trusted pair: the format's number, and all four configured paths
+-- the first line: the format's number, and the paths of the two databases and of the trusted pair
 unfoldable pub opening_line_trusted : (old_path new_path trusted_old trusted_new : List ℕ) → List ℕ
 opening_line_trusted old_path new_path trusted_old trusted_new =
     line (count_member (codes "format") 4
@@ -48,7 +31,8 @@ abbrev pub list_member : List ℕ → List ℕ
 list_member digest =
     member (codes "list") (object (member (codes "sha256") (hex_string digest) ∷ []))
 
--- the last line then: what was read of all four databases, the same numbers, and the list
+-- the last line, without which the lines were cut: what was read of all four databases, the numbers of entries and of
+-- what accounts for them, the list, and the exit status
 unfoldable pub closing_line_trusted : (old new trusted_old trusted_new : ReadFacts)
     → (list : List ℕ) → LineCounts → ℕ
     → List ℕ
@@ -59,5 +43,5 @@ closing_line_trusted old new trusted_old trusted_new list counts status =
     ∷ member (codes "trusted_old") (read_object trusted_old)
     ∷ member (codes "trusted_new") (read_object trusted_new)
     ∷ (count_members counts
-    ++ (account_members true counts
+    ++ (account_members counts
     ++ list_member list ∷ count_member (codes "status") status ∷ [])))

@@ -1,6 +1,6 @@
 //! Writes the numbers of the last line.
-ghost use Rattle.aide_json.specs.Object.{behind, joined};
-ghost use Rattle.aide_line_text.specs.Ends.{account_members, count_members, trusted_members};
+ghost use Rattle.aide_json.specs.Object.{joined};
+ghost use Rattle.aide_line_text.specs.Ends.{account_members, count_members};
 ghost use Rattle.aide_text.specs.PenSheet.{on_sheet};
 ghost use Rattle.aide_text.specs.Sheet.{Wrote};
 
@@ -22,32 +22,17 @@ pub(crate) fn put_counts<W: Sink>(out: &mut W, pen: &mut Pen, counts: &LineCount
     put_count_member(out, pen, b"changed", counts.changed as u128);
 }
 
-/// Writes how many lines a trusted machine accounts for, and how many a list leaves out, if there is such a machine.
-fn put_trusted<W: Sink>(out: &mut W, pen: &mut Pen, counts: &LineCounts, has_trusted: bool)
-    ensures { Wrote (behind (trusted_members has_trusted counts.now))
-        (on_sheet W.Sink out.old pen.old) (on_sheet W.Sink out.new pen.new) }
-{
-    if has_trusted {
-        put(out, pen, b",");
-        put_count_member(out, pen, b"same_as_trusted", counts.same_as_trusted as u128);
-        put(out, pen, b",");
-        put_count_member(out, pen, b"left_out", counts.left_out as u128);
-    }
-}
-
-/// Writes for how many lines the old entries account, for how many a trusted machine or a list, and for how many
-/// nothing.
-pub(crate) fn put_accounts<W: Sink>(
-    out: &mut W,
-    pen: &mut Pen,
-    counts: &LineCounts,
-    has_trusted: bool,
-)
-    ensures { Wrote (joined (account_members has_trusted counts.now))
+/// Writes for how many lines the old entries account, for how many a trusted machine, for how many a list, and for how
+/// many nothing.
+pub(crate) fn put_accounts<W: Sink>(out: &mut W, pen: &mut Pen, counts: &LineCounts)
+    ensures { Wrote (joined (account_members counts.now))
         (on_sheet W.Sink out.old pen.old) (on_sheet W.Sink out.new pen.new) }
 {
     put_count_member(out, pen, b"same_as_old", counts.same_as_old as u128);
-    put_trusted(out, pen, counts, has_trusted);
+    put(out, pen, b",");
+    put_count_member(out, pen, b"same_as_trusted", counts.same_as_trusted as u128);
+    put(out, pen, b",");
+    put_count_member(out, pen, b"left_out", counts.left_out as u128);
     put(out, pen, b",");
     put_count_member(out, pen, b"others", counts.others as u128);
 }

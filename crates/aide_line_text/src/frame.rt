@@ -1,8 +1,8 @@
 //! Writes the first and the last line of lines that are written while the databases are read.
 ghost use Rattle.std.specs.Prelude.{◌∷◌, codes};
 ghost use Rattle.aide_json.specs.Member.{member, text_member};
-ghost use Rattle.aide_line_text.specs.Frame.{closing_line, closing_line_trusted, opening_line};
-ghost use Rattle.aide_line_text.specs.Frame.{list_member, opening_line_trusted, read_object};
+ghost use Rattle.aide_line_text.specs.Frame.{closing_line_trusted, list_member};
+ghost use Rattle.aide_line_text.specs.Frame.{opening_line_trusted, read_object};
 ghost use Rattle.aide_line_text.specs.ReadView.{facts_read};
 ghost use Rattle.aide_text.specs.PenSheet.{on_sheet};
 ghost use Rattle.aide_text.specs.Sheet.{Wrote};
@@ -56,20 +56,6 @@ fn put_read<W: Sink>(out: &mut W, pen: &mut Pen, read: &Read<'_>)
     put(out, pen, b"}");
 }
 
-/// Writes the first line.
-pub fn put_opening_line<W: Sink>(out: &mut W, pen: &mut Pen, old_path: &[u8], new_path: &[u8])
-    ensures { Wrote (opening_line old_path.now new_path.now)
-        (on_sheet W.Sink out.old pen.old) (on_sheet W.Sink out.new pen.new) }
-{
-    put(out, pen, b"{");
-    put_count_member(out, pen, b"format", 4);
-    put(out, pen, b",");
-    put_text_member(out, pen, b"old", SliceFeed::of(old_path));
-    put(out, pen, b",");
-    put_text_member(out, pen, b"new", SliceFeed::of(new_path));
-    put(out, pen, b"}\n");
-}
-
 /// Writes a path with this name, after another member.
 fn put_path_behind<W: Sink>(out: &mut W, pen: &mut Pen, name: &[u8], path: &[u8])
     ensures { Wrote (44 ∷ text_member name.now path.now)
@@ -79,7 +65,7 @@ fn put_path_behind<W: Sink>(out: &mut W, pen: &mut Pen, name: &[u8], path: &[u8]
     put_text_member(out, pen, name, SliceFeed::of(path));
 }
 
-/// Writes the first line of a comparison that has a trusted pair.
+/// Writes the first line.
 pub fn put_opening_line_trusted<W: Sink>(
     out: &mut W,
     pen: &mut Pen,
@@ -110,32 +96,6 @@ fn put_read_behind<W: Sink>(out: &mut W, pen: &mut Pen, name: &[u8], read: &Read
     put_read(out, pen, read);
 }
 
-/// Writes the last line. Without a trusted machine it has no number for it.
-pub fn put_closing_line<W: Sink>(
-    out: &mut W,
-    pen: &mut Pen,
-    pair: &ReadPair<'_>,
-    counts: &LineCounts,
-    has_trusted: bool,
-    status: u8,
-)
-    ensures { Wrote (closing_line (facts_read pair.now.old) (facts_read pair.now.new)
-        has_trusted counts.now status)
-        (on_sheet W.Sink out.old pen.old) (on_sheet W.Sink out.new pen.new) }
-{
-    put(out, pen, b"{");
-    put_literal_member(out, pen, b"end", b"true");
-    put_read_behind(out, pen, b"old", &pair.old);
-    put_read_behind(out, pen, b"new", &pair.new);
-    put(out, pen, b",");
-    put_counts(out, pen, counts);
-    put(out, pen, b",");
-    put_accounts(out, pen, counts, has_trusted);
-    put(out, pen, b",");
-    put_count_member(out, pen, b"status", status as u128);
-    put(out, pen, b"}\n");
-}
-
 /// Writes the SHA-256 of a list.
 fn put_list<W: Sink>(out: &mut W, pen: &mut Pen, digest: &[u8; 32])
     ensures { Wrote (list_member digest.now)
@@ -147,7 +107,7 @@ fn put_list<W: Sink>(out: &mut W, pen: &mut Pen, digest: &[u8; 32])
     put(out, pen, b"}");
 }
 
-/// Writes the last line of a comparison that has a trusted pair.
+/// Writes the last line.
 pub fn put_closing_line_trusted<W: Sink>(
     out: &mut W,
     pen: &mut Pen,
@@ -170,7 +130,7 @@ pub fn put_closing_line_trusted<W: Sink>(
     put(out, pen, b",");
     put_counts(out, pen, counts);
     put(out, pen, b",");
-    put_accounts(out, pen, counts, true);
+    put_accounts(out, pen, counts);
     put(out, pen, b",");
     put_list(out, pen, read.list);
     put(out, pen, b",");

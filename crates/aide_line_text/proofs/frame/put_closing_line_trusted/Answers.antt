@@ -1,7 +1,7 @@
-use Rattle.std.proofs.Common.{codes, [], ◌∷◌, ◌++◌, true}
+use Rattle.std.proofs.Common.{codes, [], ◌∷◌, ◌++◌}
 use Rattle.aide_json.specs.Member.{member}
 use Rattle.aide_line_text.proofs.FrameLemmas.{closing_trusted_parts, joined_one}
-use Rattle.aide_line_text.specs.Ends.{count_member, trusted_members}
+use Rattle.aide_line_text.specs.Ends.{count_member}
 use Rattle.aide_line_text.specs.Frame.{closing_line_trusted, list_member, read_object}
 use Rattle.aide_line_text.specs.ReadView.{facts_read}
 use Rattle.aide_text.proofs.Sheets.{wrote_more, wrote_as}
@@ -13,7 +13,8 @@ returns g c =
     let n = c.args.counts.now in
     let r = c.args.read.now in
     let old_ones = count_member (codes "same_as_old") n.same_as_old in
-    let others = trusted_members true n ++ count_member (codes "others") n.others ∷ [] in
+    let others = count_member (codes "same_as_trusted") n.same_as_trusted ∷ count_member (codes "left_out") n.left_out
+        ∷ count_member (codes "others") n.others ∷ [] in
     let list = list_member r.list.now in
     wrote_as (closing_trusted_parts (member (codes "end") (codes "true"))
     (member (codes "old") (read_object (facts_read r.compared.old)))
