@@ -13,7 +13,7 @@ from aide_compare.base.files import in_memory
 from aide_compare.base.processes import Taker
 from aide_compare.base.program import CONFIGURATION, DATABASES, DESCRIPTORS, LINES, Answer, Drain
 from aide_compare.base.program import find_installed, run_program
-from aide_compare.base.words import SIDES, TRUSTED_SIDES
+from aide_compare.base.words import TRUSTED_SIDES
 from aide_compare.compare.configuration import NONE, Texts
 from aide_compare.lines.rights import RIGHTS
 
@@ -24,8 +24,6 @@ MAX_SETTINGS = 1 << 16
 FORMAT = 3  # Of the line that says what a configuration means.
 FORCE_NAME = b"report_force_attrs"
 FORCE = FORCE_NAME + b"="
-# As a trusted pair it accounts for nothing. A list needs a pair beside which it is asked.
-EMPTY = b"@@begin_db\n@@db_spec name attr\n@@end_db\n"
 
 
 def odd_answer(program: str, answer: Answer) -> Fault:
@@ -101,19 +99,6 @@ def ask_for_changes(
     return _ask(program, words, texts, places, take, first)
 
 
-@contextmanager
-def _beside_pair(databases: Mapping[str, int]) -> Iterator[Mapping[str, int]]:
-    """The databases, with an empty trusted pair if they have none."""
-    if TRUSTED_SIDES[0] in databases:
-        yield databases
-        return
-    descriptor = in_memory(EMPTY)
-    try:
-        yield {**databases, **dict.fromkeys(TRUSTED_SIDES, descriptor)}
-    finally:
-        os.close(descriptor)
-
-
 def ask_for_lines(
     texts: Texts, databases: Mapping[str, int], without: bytes, take: Taker
 ) -> Answer:
@@ -123,22 +108,15 @@ def ask_for_lines(
     forced = set(RIGHTS)
     if any(FORCE_NAME in text for text in texts):
         forced.update((settings_of(texts) or {}).get(FORCE_NAME.decode(), ()))
-    if not without:
-        return ask_for_changes(program, texts, databases, take, sorted(forced))
-    with _beside_pair(databases) as pair:
-        return ask_for_changes(program, texts, pair, take, sorted(forced), without)
+    return ask_for_changes(program, texts, databases, take, sorted(forced), without)
 
 
 def errors_of_list(text: bytes) -> bytes:
-    """What the program says of a list over empty databases: nothing if the list has no fault."""
-    descriptor = in_memory(EMPTY)
-    sides = dict.fromkeys((*SIDES, *TRUSTED_SIDES), descriptor)
+    """What the program says of a list, which it reads before it looks for a database: nothing if the
+    list has no fault."""
     take = Drain(0, bytearray().extend).take
-    program, texts = find_installed(LINES), Texts(b"", b"")
-    try:
-        return ask_for_changes(program, texts, sides, take, without=text).errors
-    finally:
-        os.close(descriptor)
+    answer = ask_for_changes(find_installed(LINES), Texts(b"", b""), {}, take, without=text)
+    return answer.errors if answer.status == Status.CONFIGURATION else b""
 
 
 def settings_of(texts: Texts) -> Settings | None:

@@ -90,17 +90,14 @@ class EndCounts(NamedTuple):
 
 # What a stream says whose last line was not read yet: fewer changes than it has.
 NOTHING_COUNTED = EndCounts(0, 0, 0, 0, 0, 0, 0, 0)
-# The counts that a last line has only beside a trusted pair.
-BESIDE_PAIR = ("same_as_trusted", LEFT_OUT)
 
 
 def end_of(fields: Fields) -> EndCounts:
     """The counts of the object of a last line; one of ODD if it is none."""
-    for side in sides_of(fields):
+    for side in (*SIDES, *TRUSTED_SIDES):
         if not _is_read(fields[side]):
             raise ValueError("a database that was not read")
-    numbers = {name: fields[name] for name in EndCounts._fields if name not in BESIDE_PAIR}
-    numbers.update((name, fields.get(name, 0)) for name in BESIDE_PAIR)
+    numbers = {name: fields[name] for name in EndCounts._fields}
     if not all(type(number) is int and number >= 0 for number in numbers.values()):
         raise ValueError("a count that is no number")
     end = EndCounts(**numbers)
@@ -108,14 +105,6 @@ def end_of(fields: Fields) -> EndCounts:
     if fields["end"] is not True or fields["status"] != end.status or accounted != end.changes:
         raise ValueError("counts that do not fit one another")
     return end
-
-
-def sides_of(fields: Fields) -> Tuple[str, ...]:
-    """The databases that the object of a first or a last line has to name: a trusted pair if it has
-    one of it."""
-    if any(name in fields for side in TRUSTED_SIDES for name in (side, side + HEX)):
-        return (*SIDES, *TRUSTED_SIDES)
-    return tuple(SIDES)
 
 
 def _is_read(fields: Fields) -> bool:

@@ -33,8 +33,8 @@ def summary_of(summary: Fields, comparison: Comparison) -> Fields:
 
 
 def end_of(reader: Reader, comparison: Comparison, judged: Optional[Judged]) -> Fields:
-    """The last line, without the pair beside which a list is asked if there is no other, and with
-    the names of the columns that were not compared, if there are any."""
+    """The last line, without a trusted pair if none was named, and with the names of the columns that
+    were not compared, if there are any."""
     end = dict(reader.end)
     if TRUSTED_SIDES[0] not in comparison.copies:
         for name in (*TRUSTED_SIDES, "same_as_trusted"):
