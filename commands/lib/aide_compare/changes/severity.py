@@ -1,8 +1,6 @@
 """How much a change matters, by what it gives to whom: the table of severities and its tests."""
 from __future__ import annotations
 
-import base64
-import binascii
 import os
 import stat
 from collections.abc import Callable, Iterator
@@ -71,52 +69,11 @@ def gains_capabilities(old: Side, new: Side) -> bool:
     return old is None or old.capability_sets != new.capability_sets
 
 
-def rights_in(text: bytes, prefix: bytes) -> dict[bytes, bytes]:
-    """The rights in an access list by whom they are for, such as `user:anna`, as the list's mask
-    leaves them."""
-    rights = {}
-    for line in text.split():
-        whom, _, bits = line.rpartition(b":")
-        rights[whom] = bits
-    mask = rights.pop(b"mask:", b"rwx")
-    return {
-        prefix + whom: bytes(bit for bit in bits if bit in mask and bit != ord("-"))
-        for whom, bits in rights.items()
-    }
-
-
-def list_in(part: bytes) -> bytes:
-    """The text of an access list; one that is not there has none."""
-    if part in (b"", b"0"):
-        return b""
-    return base64.b64decode(part, validate=True)
-
-
-def listed_rights(rights: Side) -> dict[bytes, bytes]:
-    """Whom the access lists of an entry give rights, and which ones; without those that its mode
-    has too."""
-    if rights is None or rights.is_link or rights.acl is None:
-        return {}
-    field = rights.acl
-    try:
-        _, own, inherited = field.split(b",")
-        listed = rights_in(list_in(own), b"")
-        inherited_rights = rights_in(list_in(inherited), b"default:")
-    except (ValueError, binascii.Error):
-        return {field: b"rwx"}  # An unknown form is one that was not there before.
-    for whom in (b"user:", b"group:", b"other:"):
-        listed.pop(whom, None)
-    listed.update(inherited_rights)
-    listed.pop(b"default:user:", None)
-    return listed
-
-
 def gains_acl(old: Side, new: Side) -> bool:
-    """Whether an access list gives somebody a right that it did not give before."""
-    if old is not None and new is not None and old.acl == new.acl:
+    """Whether an access list gives rights beyond the mode now, and was not the same before."""
+    if new is None or not new.has_access_list:
         return False
-    before = listed_rights(old)
-    return any(set(bits) - set(before.get(whom, b"")) for whom, bits in listed_rights(new).items())
+    return old is None or old.acl != new.acl
 
 
 def may_be_device_of_another(rights: Rights) -> bool:
