@@ -60,32 +60,16 @@ class HintsTest(CommandTest):
             self.assertNotIn(b"line 1:", told)
 
     def test_configuration_hints(self) -> None:
-        left_out = b"aide: config:1: left out of this profile\n"
-        misspelt = [
-            b"aide: config:2: unknown attribute\n",
-            b"the configuration is odd conf\n",
-            b"line 2:  report_lvel=minimal\n",
-            b"report_lvel is not an option",
-        ]
-        level = [b"aide: config:1: bad value\n", b"a level is minimal, summary"]
-        unknown = [
-            b"aide: config:2: unknown directive\n",
-            b"line 2: @@odd\n",
-            b"aide-compare does not support it",
-        ]
+        """The line is quoted, with the file that it is in."""
         for text, errors in (
-            ("\n report_lvel=minimal", misspelt),
-            ("report_level=minmal", level),
-            ("report_format=json", [left_out, b"for JSON: aide-compare json OLD NEW\n"]),
-            ("report_ignore_changed_attrs=xyz", [b"line 1: report_ignore_changed_attrs=xyz\n"]),
-            ("@@ifhost x", [left_out, b"leave AIDE's own configuration as it is"]),
-            ("\n@@odd", unknown),
-            ("@@include /etc/x", [left_out, b"leave AIDE's own configuration as it is"]),
+            (
+                "\n report_lvel=minimal",
+                [b"config:2: unknown attribute\n", b"odd conf\n", b"line 2:  r"],
+            ),
+            ("@@ifhost x", [b"config:1: left out of this profile\n", b"line 1: @@ifhost x\n"]),
             ("a\x1b[1m\x80", [b"line 1: a\\033[1m"]),
         ):
             self.write("odd conf", text)
-            answer = self.refused(17, errors, TOOL, "-c", "odd conf", "old.db", "new.db")
-            if "lvel" not in text:
-                self.assertNotRegex(answer.errors, b"(lvel|attrs) is not an option")
+            self.refused(17, errors, TOOL, "-c", "odd conf", "old.db", "new.db")
         told = [b"aide: after:2: bad value\n", b"the text of -A", b"line 2: report_level=x\n"]
         self.refused(17, told, TOOL, "old.db", "new.db", "-A", "\nreport_level=x")

@@ -98,27 +98,6 @@ class TextsTest(MailTest):
             title = SUBJECT + "the list of what is left out was changed" if is_said else None
             self.assertEqual((subject(message), path in body(message)), (title, is_said))
 
-    def test_hint(self) -> None:
-        """Of a database that only root can read, the mail names the command that mends it, also for
-        a user without a name."""
-        self.needs_root()
-        os.mkdir(self.path("out"))
-        os.chmod(self.path("out"), 0o777)
-        self.stub("sendmail", 'cat > "%s"' % self.path("out/mail"))
-        self.write("secret.db", OLD, 0o600)
-        for user, name in ((NOBODY, pwd.getpwuid(NOBODY).pw_name), (UNNAMED, str(UNNAMED))):
-            for words, what in (
-                (("secret.db", "new.db"), "baseline"),
-                (("old.db", "secret.db"), "new database"),
-            ):
-                self.write("out/mail", b"", 0o666)
-                answer = call(self, *words, before=as_user(user))
-                self.expect("%s reads no %s" % (name, what), answer, 18, b"", b"")
-                hint = f"the {what} is not readable for this user, as aideinit leaves it."
-                hint += f" As root: chown {name}: secret.db"
-                text = body(email.message_from_bytes(self.read("out/mail")))
-                self.assertIn(hint, words_of(text))
-
     def test_test(self) -> None:
         self.assertEqual(subject(self.mail("--test", status=0)), SUBJECT + "test")
 

@@ -10,7 +10,6 @@ from aide_compare.base.escapes import guarded
 from aide_compare.changes.judged import Judged
 from aide_compare.commands.mail_request import NAME, MailRequest
 from aide_compare.compare.comparison import Comparison
-from aide_compare.compare.hints import hint_for_owner
 from aide_compare.lines.reader import Outline, Reader, Refused, reader_over
 from aide_compare.mail.message import build, clean, subject_of
 from aide_compare.mail.text import Mail, fault_lines, note_lines, text_of_changes, text_of_unjudged
@@ -52,8 +51,6 @@ def notes_of(request: MailRequest, comparison: Comparison) -> list[str]:
     with the defaults."""
     warnings = {f"aide-compare: {guarded(warning)}" for warning in comparison.warnings}
     notes = [line for line in told_of(comparison).split("\n") if line and line not in warnings]
-    if comparison.fault:
-        notes += [f"{NAME}: {hint}" for hint in hint_for_owner(comparison.fault.text)]
     return notes + [f"{NAME}: {note}" for note in request.notes]
 
 

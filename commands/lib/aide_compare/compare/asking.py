@@ -2,11 +2,11 @@
 from __future__ import annotations
 
 import json
-import os
-from collections.abc import Collection, Iterator, Mapping
-from contextlib import contextmanager, suppress
+from collections.abc import Collection, Mapping
+from contextlib import suppress
 from typing import Any
 
+from aide_compare.base.directories import closed_after
 from aide_compare.base.ending import Fault, Status
 from aide_compare.base.escapes import shown
 from aide_compare.base.files import in_memory
@@ -14,7 +14,7 @@ from aide_compare.base.processes import Taker
 from aide_compare.base.program import CONFIGURATION, DATABASES, DESCRIPTORS, LINES, Answer, Drain
 from aide_compare.base.program import find_installed, run_program
 from aide_compare.base.words import TRUSTED_SIDES
-from aide_compare.compare.configuration import NONE, Texts
+from aide_compare.compare.configuration import Texts
 from aide_compare.lines.rights import RIGHTS
 
 # What the program says of a configuration: the values of its options by their names.
@@ -36,19 +36,6 @@ def odd_answer(program: str, answer: Answer) -> Fault:
     return Fault(Status.DEVICE, f"{shown(program)} {why}")
 
 
-@contextmanager
-def _configuration_places(text: bytes) -> Iterator[dict[int, int]]:
-    """The descriptor of a configuration by its number in the program; none for an empty one."""
-    if not text:
-        yield {}
-        return
-    descriptor = in_memory(text)
-    try:
-        yield {CONFIGURATION: descriptor}
-    finally:
-        os.close(descriptor)
-
-
 def _ask(
     program: str,
     words: list[bytes],
@@ -61,13 +48,9 @@ def _ask(
     before all of them."""
     if first:
         words = [*words, b"--before=" + first]
-    with _configuration_places(texts.config) as configuration:
-        name = NONE
-        if configuration:
-            name = f"/proc/self/fd/{CONFIGURATION}"
-        return run_program(
-            program, [*words, b"-c", name.encode()], {**places, **configuration}, take
-        )
+    with closed_after(in_memory(texts.config)) as configuration:
+        words = [*words, b"-c", b"/proc/self/fd/%d" % CONFIGURATION]
+        return run_program(program, words, {**places, CONFIGURATION: configuration}, take)
 
 
 def ask_for_changes(

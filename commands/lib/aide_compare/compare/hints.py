@@ -9,27 +9,16 @@ from collections.abc import Iterator, Mapping
 from aide_compare.base.database import MAX_LINE, Kind, Layout
 from aide_compare.base.escapes import shown
 from aide_compare.base.files import reopened
-from aide_compare.base.rights import entry_of
 from aide_compare.compare.configuration import Texts
 from aide_compare.compare.unpack import Copy
 
 LINE = rb"aide: ((?:trusted )?(?:old|new) database|config|after):(\d+): (.*)"
-OPENING = (
-    rb"aide: (?:cannot open the ((?:trusted )?(?:old|new)) database"
-    rb"|the ((?:trusted )?(?:old|new)) database changed)"
-)
 SKIPPED = rb"(?m)^aide: (old|new) database: column ([0-9]{1,2}) skipped$"
-UNREADABLE = r"(?a)cannot open the (old|new) database ([\w/.+-]+): Permission denied"
 # The comment in which AIDE dates a database, before its first entry; the zone since 0.19.
 DATED = rb"(?m)^# Time of generation was ([0-9: -]{19})(| [+-][0-9]{4})$"
-ATTRIBUTES = "report_ignore_[a-z]+_attrs|report_force_attrs"
 BLOCK = 1 << 20
 MAX_HEAD = 1 << 16
 MAX_NAME = 40
-LEVELS = (
-    "a level is minimal, summary, database_attributes, list_entries, changed_attributes, "
-    "added_removed_attributes or added_removed_entries"
-)
 # How files begin that are no plain databases.
 BEGINNINGS = (
     (b"\x1f\x8b", "it is compressed twice"),
@@ -53,11 +42,6 @@ CAUSES = {
         "find out why if a path is there twice",
     ),
 }
-NOT_SUPPORTED = (
-    "aide-compare does not support it, AIDE may: leave AIDE's own configuration as it is, and name "
-    "OLD and NEW (no configuration is needed then), or write a short one, as in "
-    "aide-compare.conf(5)"
-)
 # Bytes that no text has, and how packed ones begin, which would hide the lines around them.
 BINARY = (
     rb"[\x00-\x08\x0b\x0c\x0e-\x1a\x1c-\x1f]"
@@ -98,35 +82,10 @@ def _database_hints(side: str, number: int, words: bytes, copy: Copy) -> Iterato
     yield from CAUSES.get(words, ())
 
 
-def _configuration_hints(number: int, words: bytes, text: bytes) -> Iterator[str]:
+def _configuration_hints(number: int, text: bytes) -> Iterator[str]:
     line = dict(enumerate(text.split(b"\n"), 1)).get(number, b"")
     if line.strip():
         yield f"line {number}: {shown(line, 200)}"
-    name = shown(line.partition(b"=")[0].strip(b" \t"), 200)
-    if name == "report_format":
-        yield "for JSON: aide-compare json OLD NEW"
-    elif words in (b"unknown attribute", b"bad expression"):
-        if not re.fullmatch(ATTRIBUTES, name):
-            yield (
-                f"{name} is not an option, so the line defines a group of attributes; "
-                "is it a misspelt option?"
-            )
-    elif words in (b"left out of this profile", b"unknown directive"):
-        yield NOT_SUPPORTED
-    elif words == b"bad value" and name == "report_level":
-        yield LEVELS
-
-
-def _opening_hints(errors: bytes, copies: Mapping[str, Copy]) -> list[str]:
-    """Which database could not be opened, or changed while it was read."""
-    match = re.match(OPENING, errors)
-    if match is None:
-        return []
-    words = (match.group(1) or match.group(2)).decode()
-    copy = copies.get(words.replace(" ", "_"))
-    if copy is None:
-        return []
-    return [f"the {words} database is {shown(copy.name)}"]
 
 
 def hints_of(errors: bytes, texts: Texts, path: str, copies: Mapping[str, Copy]) -> list[str]:
@@ -134,7 +93,7 @@ def hints_of(errors: bytes, texts: Texts, path: str, copies: Mapping[str, Copy])
     the copies that were made."""
     match = re.match(LINE, errors)
     if match is None:
-        return _opening_hints(errors, copies)
+        return []
     where = match.group(1).decode()
     number = int(match.group(2))
     words = match.group(3)
@@ -148,18 +107,7 @@ def hints_of(errors: bytes, texts: Texts, path: str, copies: Mapping[str, Copy])
         "config": (f"the configuration is {shown(path)}", texts.config),
     }
     name, text = places[where]
-    return [name, *_configuration_hints(number, words, text)]
-
-
-def hint_for_owner(text: str) -> Iterator[str]:
-    """The command that mends a database that aideinit, as root, has left for root only, by the
-    words of a Fault."""
-    match = re.search(UNREADABLE, text)
-    if match is None or os.geteuid() == 0:
-        return
-    what = "baseline" if match.group(1) == "old" else "new database"
-    command = f"chown {entry_of(os.geteuid()).pw_name}: {match.group(2)}"
-    yield f"the {what} is not readable for this user, as aideinit leaves it. As root: {command}"
+    return [name, *_configuration_hints(number, text)]
 
 
 def skipped_in(errors: bytes, databases: Mapping[str, int]) -> dict[str, list[str]]:

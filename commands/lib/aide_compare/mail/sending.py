@@ -15,7 +15,7 @@ import time
 from collections.abc import Callable
 from contextlib import suppress
 from functools import partial
-from typing import NamedTuple, Optional
+from typing import Optional
 
 from aide_compare.base.directories import LISTING, Directory, closed_after, open_directory
 from aide_compare.base.ending import Fault, Status, failing, say
@@ -36,7 +36,6 @@ MAX_ANSWER = 1 << 16
 LOG_SECONDS = 5
 MAX_WAITING = 64
 MAX_BYTES = 64 << 20  # Of a mail that waits.
-TIMED_OUT = 1
 
 Way = Callable[[bytes], object]
 
@@ -56,24 +55,10 @@ def way_out(seconds: int) -> Way:
     return partial(by_sendmail, find_mailer(), seconds)
 
 
-class MailerEnd(NamedTuple):
-    """How sendmail has ended, and what it has said."""
-
-    status: int
-    words: str
-    answer: bytes
-
-
-def status_of_shell(code: int) -> int:
-    """The status by which a shell tells an end: a signal, which is negative here, is above 128."""
-    if code < 0:
-        return 128 - code
-    return code
-
-
-def run_mailer(path: str, seconds: int, message: bytes) -> MailerEnd:
-    """Runs sendmail, which lives on if this process is ended: a mail that is on its way should
-    go."""
+def by_sendmail(path: str, seconds: int, message: bytes) -> None:
+    """Hands a message to sendmail, which lives on if this process is ended: a mail that is on its
+    way should go. Postfix's one tries for ever if it cannot write to the spool, so it gets a time
+    limit."""
     sealed = os.MFD_CLOEXEC | os.MFD_ALLOW_SEALING
     with closed_after(in_memory(message)) as source:
         with closed_after(os.memfd_create("answer", sealed)) as answer:
@@ -81,23 +66,15 @@ def run_mailer(path: str, seconds: int, message: bytes) -> MailerEnd:
             os.ftruncate(answer, MAX_ANSWER)  # What sendmail says cannot grow beyond that.
             fcntl.fcntl(answer, fcntl.F_ADD_SEALS, fcntl.F_SEAL_GROW)
             code = run_on([path, "-oi", "-t"], {0: source, 1: answer, 2: answer}, seconds)
-            status = TIMED_OUT
-            words = f"sendmail did not end within {seconds} seconds"
-            if code is not None:
-                status = status_of_shell(code)
-                words = f"status {status} of sendmail"
-            return MailerEnd(status, words, os.pread(answer, MAX_ANSWER, 0).strip(b"\0"))
-
-
-def by_sendmail(path: str, seconds: int, message: bytes) -> None:
-    """Hands a message to sendmail. Postfix's one tries for ever if it cannot write to the spool, so
-    it gets a time limit."""
-    end = run_mailer(path, seconds, message)
-    if end.status == 0:
+            said = os.pread(answer, MAX_ANSWER, 0).strip(b"\0")
+    if code == 0:
         return
-    lines = [line for line in end.answer.split(b"\n") if line.strip()]
+    how = f"sendmail did not end within {seconds} seconds"
+    if code is not None:
+        how = f"status {code if code > 0 else 128 - code} of sendmail"
+    lines = [line for line in said.split(b"\n") if line.strip()]
     why = shown(lines[-1], 300) if lines else "it gave no reason"
-    raise Fault(Status.DEVICE, f"{end.words}: {why}")
+    raise Fault(Status.DEVICE, f"{how}: {why}")
 
 
 def alert(text: str) -> bool:
