@@ -96,14 +96,13 @@ class FrontTest(CommandTest):
         self.answered(18, text, b"", TOOL, "hosts", "report", "-q", *store, "hosts")
 
     def test_misspelt(self) -> None:
-        """What is no subcommand or option ends with 15 and the nearest one, and compares
-        nothing."""
+        """What is no subcommand ends with 15, and so does what is no option, with the nearest one;
+        nothing is compared."""
         for words, near in (
-            ("jsno", b": aide-compare json\n"),
-            ("stauts --max-age 1h", b": aide-compare status\n"),
-            ("hosts fecth www", b": aide-compare hosts fetch\n"),
-            ("help acept", b": aide-compare help accept\n"),
-            ("quite-another", b": aide-compare --help\n"),
+            ("jsno", b"try: aide-compare --help\n"),
+            ("stauts --max-age=1h", b"try: aide-compare --help\n"),
+            ("hosts fecth www", b"try: aide-compare hosts --help\n"),
+            ("help acept", b"try: aide-compare help --help\n"),
             ("diff old.db new.db", b": aide-compare --help\n"),
             ("report old.db new.db", b": aide-compare --help\n"),
             ("hosts --nonsense", b": aide-compare hosts --help\n"),

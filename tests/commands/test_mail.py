@@ -2,19 +2,16 @@
 from __future__ import annotations
 
 import base64
-import email
 import hashlib
 import os
-import pwd
 import time
 from typing import Any
 
 from .mail import COUNTS, SUBJECT, MailTest, body, call, check_size, sent, subject, words_of
-from .sandbox import NEW, NOBODY, OLD, as_user, sha256
+from .sandbox import NEW, OLD, sha256
 from .test_without import list_database
 from tests.commands.viewers.pages import data_in, heads_in
 
-UNNAMED = 12345  # A user that the system has no name for.
 CHANGES = b"""
 Open, severity medium:
   removed  /b: drwxr-xr-x

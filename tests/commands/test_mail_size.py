@@ -73,7 +73,7 @@ class SizesTest(MailTest):
             if limit > 1 << 20:
                 self.assertIn("60000 open", subject(message))
         self.assertIn(b"60000 added", text)
-        self.assertIn(b"its lines have more than 1048576 bytes", text, "why it was not judged")
+        self.assertIn(b"the changes have more than 1048576", text, "why it was not judged")
 
     def test_low(self) -> None:
         """Of severity low a few are listed of each directory, and the others are counted."""

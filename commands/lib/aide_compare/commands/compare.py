@@ -83,7 +83,7 @@ class Printer:
 
             return changes_with_values(comparison, judged, self.request.only)
         if self.form == BRIEF and judged is not None:
-            from aide_compare.show.judgement import brief_of
+            from aide_compare.show.brief import brief_of
 
             text = brief_of(judged)
             return [coloured(text) if wants_colours(self.request.color) else text]

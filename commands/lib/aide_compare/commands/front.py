@@ -4,7 +4,7 @@ from __future__ import annotations
 
 import os
 import re
-from collections.abc import Callable, Iterable, Sequence
+from collections.abc import Callable, Sequence
 from typing import NoReturn
 
 from aide_compare.base.ending import Fault, Status, called, failing, write_all
@@ -82,19 +82,9 @@ def become_program(arguments: Sequence[str]) -> NoReturn:
     raise AssertionError("the program has taken the place of this process")
 
 
-def nearest(word: str, names: Iterable[str]) -> list[str]:
-    """The name that a word is like, in a list; an empty one if there is none."""
-    import difflib
-
-    return difflib.get_close_matches(word, list(names), 1, 0.65)
-
-
-def refuse(word: str, names: Iterable[str], command: str) -> NoReturn:
-    """A Fault that names the nearest one of what there is."""
-    hint = f"try: {command} --help"
-    for name in nearest(word, names):
-        hint = f"did you mean: {command} {name}"
-    raise Fault(Status.USAGE, f"there is no {command} {shown(word, 100)}", hint)
+def refuse(word: str, command: str) -> NoReturn:
+    text = f"there is no {command} {shown(word, 100)}"
+    raise Fault(Status.USAGE, text, f"try: {command} --help")
 
 
 def print_usage(text: str) -> int:
@@ -116,7 +106,7 @@ def run_hosts(arguments: Sequence[str]) -> int:
         return print_usage(HOSTS_USAGE)
     word = arguments[0]
     if word not in HOSTS:
-        refuse(word, HOSTS, "aide-compare hosts")
+        refuse(word, "aide-compare hosts")
     called(f"aide-compare hosts {word}")
     return loaded(f"hosts_{word}")(arguments[1:])
 
@@ -126,7 +116,7 @@ def print_help(words: Sequence[str]) -> int:
     if not words or words[0] in HELP:
         return print_usage(USAGE)
     if words[0] not in WORDS:
-        refuse(words[0], WORDS, "aide-compare help")
+        refuse(words[0], "aide-compare help")
     if words[0] == "hosts":
         return main([*words[:2], "--help"])
     return main([words[0], "--help"])
@@ -143,7 +133,7 @@ def is_misspelt(arguments: Sequence[str]) -> bool:
     if not re.fullmatch(COMMAND_NAME, word) or os.path.lexists(word):
         return False
     operands = [each for each in arguments if not each.startswith("-")]
-    return len(arguments) == 1 or len(operands) > 2 or bool(nearest(word, WORDS))
+    return len(operands) != 2
 
 
 def main(arguments: Sequence[str]) -> int:
@@ -161,7 +151,7 @@ def main(arguments: Sequence[str]) -> int:
     if word in COMMANDS:
         return run_command(word, arguments[1:])
     if is_misspelt(arguments):
-        refuse(word, WORDS, "aide-compare")
+        refuse(word, "aide-compare")
     return run_command("compare", arguments)
 
 

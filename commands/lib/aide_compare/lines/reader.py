@@ -6,9 +6,11 @@ from __future__ import annotations
 import json
 import os
 import re
+from collections import Counter
 from contextlib import suppress
-from typing import Any, BinaryIO, Dict, Iterator, NamedTuple, Optional, Tuple
+from typing import Any, BinaryIO, Iterator, NamedTuple, Optional, Tuple
 
+from aide_compare.base.ending import Fault, Status
 from aide_compare.base.files import BLOCK
 from aide_compare.base.paths import key_of_path
 from aide_compare.base.words import KINDS, SIDES, TRUSTED_SIDES, status_of_counts
@@ -20,7 +22,6 @@ FORMAT = 4
 # them in base 16 too.
 LINE_LIMIT = 1 << 25
 DIGEST_BYTES = 32
-MAX_COLUMN = 64
 HEX = "_hex"  # At the end of the name of a text in base 16.
 NO_END = "this ends too early: the last line is missing"
 # What a member of another type, or one that is missing, raises.
@@ -41,14 +42,12 @@ COUNTED = {
 }
 
 
-class Refused(Exception):
+class Refused(Fault):
     """What is wrong with a line, so that the whole is no stream of lines."""
 
-    def __init__(self, number: int, words: object) -> None:
-        if number:
-            super().__init__(f"line {number}: {words}")
-        else:
-            super().__init__(str(words))
+    def __init__(self, number: int, words: str) -> None:
+        text = f"line {number}: {words}" if number else words
+        super().__init__(Status.DEVICE, text)
 
 
 class Outline(NamedTuple):
@@ -95,7 +94,7 @@ NOTHING_COUNTED = EndCounts(0, 0, 0, 0, 0, 0, 0, 0)
 def end_of(fields: Fields) -> EndCounts:
     """The counts of the object of a last line; one of ODD if it is none."""
     for side in (*SIDES, *TRUSTED_SIDES):
-        if not _is_read(fields[side]):
+        if len(bytes.fromhex(fields[side]["sha256"])) != DIGEST_BYTES:
             raise ValueError("a database that was not read")
     numbers = {name: fields[name] for name in EndCounts._fields}
     if not all(type(number) is int and number >= 0 for number in numbers.values()):
@@ -107,15 +106,6 @@ def end_of(fields: Fields) -> EndCounts:
     return end
 
 
-def _is_read(fields: Fields) -> bool:
-    """Whether this is what the last line says of a database."""
-    columns = fields["skipped"]
-    has_columns = isinstance(columns, list) and all(
-        type(column) is int and 0 < column <= MAX_COLUMN for column in columns
-    )
-    return has_columns and len(bytes.fromhex(fields["sha256"])) == DIGEST_BYTES
-
-
 class Reader:
     """The lines of a file: the `summary` of the first one; each change as an outline, once; then
     what the last line says, as `end`, its object, and `counts`."""
@@ -125,7 +115,7 @@ class Reader:
         self.number = 0
         self.end: Fields = {}
         self.counts = NOTHING_COUNTED
-        self._counts: Dict[Tuple[str, Optional[Standing]], int] = {}  # By kind and by account.
+        self._counted: Counter[object] = Counter()  # By kind, and by account.
         self.summary = self._object_of(self._line("nothing was given: was nothing compared?"))
         if self.summary.get("format") != FORMAT:
             raise Refused(self.number, f"the first line is the summary, of format {FORMAT}")
@@ -158,29 +148,23 @@ class Reader:
                 path = change.path
                 left_out = left_out_by(fields)
             last = self._key_after(last, path)
-            self._counts[kind, account] = self._counts.get((kind, account), 0) + 1
+            self._counted[kind] += 1
+            self._counted[account] += 1
             yield Outline(kind, path, silent_by(account, path), last, line, left_out)
 
     def _read_end(self, fields: Fields) -> None:
         """Takes the last line, of which all counts are those of the lines before it."""
         try:
-            self.counts = end_of(fields)
-            for kind in KINDS:
-                if self._counted(0, kind) != getattr(self.counts, kind):
-                    raise ValueError
-            for account, name in COUNTED.items():
-                if self._counted(1, account) != getattr(self.counts, name):
+            counts = end_of(fields)
+            for key, name in (*zip(KINDS, KINDS), *COUNTED.items()):
+                if self._counted[key] != getattr(counts, name):
                     raise ValueError
         except ODD:
-            text = "the end does not fit the lines before it"
-            raise Refused(self.number, text) from None
+            raise Refused(self.number, "the end does not fit the lines before it") from None
         if self.file.read(1):
             raise Refused(self.number + 1, "this is after the end")
+        self.counts = counts
         self.end = fields
-
-    def _counted(self, place: int, wanted: object) -> int:
-        """How many changes have this kind, or this account."""
-        return sum(count for key, count in self._counts.items() if key[place] == wanted)
 
     def _line(self, missing: str = NO_END) -> bytes:
         line = self.file.readline(LINE_LIMIT)

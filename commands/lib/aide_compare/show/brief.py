@@ -9,7 +9,7 @@ from aide_compare.base.escapes import guarded
 from aide_compare.base.words import SEVERITIES
 from aide_compare.changes.judged import Judged
 from aide_compare.lines.change import Counts, Standing
-from aide_compare.show.digest import Room, digest, entry_line, in_directory
+from aide_compare.show.digest import SCREEN, Room, digest, entry_line, in_directory
 from aide_compare.show.groups import group_lines
 
 WIDTH = 100  # Of lines with names, if lines have no limit.
@@ -69,3 +69,11 @@ def brief(judged: Judged, room: Room, warnings: Sequence[str] = (), height: int 
         if part:
             lines += ["", *part]
     return lines
+
+
+def brief_of(judged: Judged | None) -> bytes:
+    """The bytes of what people read first; nothing if the changes were not judged."""
+    if judged is None:
+        return b""
+    text = "\n".join([*brief(judged, SCREEN), "", ""])
+    return text.encode("utf-8", "backslashreplace")

@@ -1,4 +1,4 @@
-"""The changes of a comparison, judged and written for people and for programs."""
+"""The changes of a comparison, judged."""
 from __future__ import annotations
 
 from aide_compare.base import progress
@@ -7,9 +7,7 @@ from aide_compare.base.words import TRUSTED_SIDES
 from aide_compare.changes.judged import Judged
 from aide_compare.changes.rpm import records_of_host
 from aide_compare.compare.comparison import Comparison
-from aide_compare.lines.reader import Refused, reader_over
-from aide_compare.show.brief import brief
-from aide_compare.show.digest import SCREEN
+from aide_compare.show.outputs import all_lines
 
 
 def judge(comparison: Comparison) -> tuple[Comparison, Judged | None]:
@@ -17,26 +15,13 @@ def judge(comparison: Comparison) -> tuple[Comparison, Judged | None]:
     says why: the comparison is left as it is, and without standings every change is an alarm.
     Packages' records of this machine group its changes."""
     try:
-        judged = _judged(comparison)
-    except Refused as refused:
-        why = str(refused)
+        judged = Judged(all_lines(comparison))
     except Exception as error:  # A fault here must not cost the alarm.
-        why = why_of(error)
-    else:
-        if len(judged.table):
-            comparison = _grouped(judged, comparison)
-        progress.note_step("the changes are judged")
-        known = comparison._replace(standings=judged.counts, left_out=judged.left_out)
-        return known, judged
-    return comparison.doubtful(f"the changes are not judged: {why}"), None
-
-
-def _judged(comparison: Comparison) -> Judged:
-    lines = comparison.known_lines()
-    if lines.is_cut:
-        limit = comparison.request.max_report
-        raise Refused(0, f"its lines have more than {limit} bytes")
-    return Judged(reader_over(lines.fd))
+        return comparison.doubtful(f"the changes are not judged: {why_of(error)}"), None
+    if len(judged.table):
+        comparison = _grouped(judged, comparison)
+    progress.note_step("the changes are judged")
+    return comparison._replace(standings=judged.counts, left_out=judged.left_out), judged
 
 
 def _grouped(judged: Judged, comparison: Comparison) -> Comparison:
@@ -49,11 +34,3 @@ def _grouped(judged: Judged, comparison: Comparison) -> Comparison:
     except Exception as error:
         return comparison.doubtful(f"no package groups the changes: {why_of(error)}")
     return comparison
-
-
-def brief_of(judged: Judged | None) -> bytes:
-    """The bytes of what people read first; nothing if the changes were not judged."""
-    if judged is None:
-        return b""
-    text = "\n".join([*brief(judged, SCREEN), "", ""])
-    return text.encode("utf-8", "backslashreplace")

@@ -28,7 +28,7 @@ from aide_compare.lines.change import (
 from aide_compare.lines.decoded import NOTED_BESIDE_TIMES, texts_of
 from aide_compare.lines.reader import ENCODE, Reader
 from aide_compare.show.json_lines import marked_lines
-from aide_compare.show.judgement import brief_of
+from aide_compare.show.brief import brief_of
 
 if TYPE_CHECKING:
     from aide_compare.changes.judged import Judged
