@@ -43,20 +43,12 @@ class HintsTest(CommandTest):
     def test_whole_files(self) -> None:
         self.hinted(NEW[:-9], b"no @@end_db\n", b"ends too early")
         self.hinted(b"", b"no @@begin_db\n", b"it is empty: does AIDE run now?")
-        self.hinted(b"\xef\xbb\xbf" + NEW, b"byte order mark")
-        self.hinted(NEW.decode().encode("utf-16"), b"UTF-16")
-        self.hinted(NEW.replace(b"\n", b"\r\n"), b"lines end with a carriage return")
 
     def test_packed(self) -> None:
-        """The cause is told with the name of the file, and nothing is quoted."""
-        for hint, text in (
-            (b"compressed by xz", b"\xfd7zXZ\0" + NEW),
-            (b"compressed by zstd", b"\x28\xb5\x2f\xfd" + NEW),
-            (b"compressed by bzip2", b"BZh9" + NEW),
-            (b"compressed twice", gzip.compress(gzip.compress(NEW))),
-        ):
+        """What does not begin as a database may be packed, and is not quoted then."""
+        for text in (b"\xfd7zXZ\0" + NEW, gzip.compress(gzip.compress(NEW)), b"\xef\xbb\xbf" + NEW):
             told = self.hinted(text)
-            self.assertIn(SHOWN + b"; it is " + hint, told.splitlines()[1])
+            self.assertIn(SHOWN + b"; it is not an AIDE database, ", told.splitlines()[1])
             self.assertNotIn(b"line 1:", told)
 
     def test_configuration_hints(self) -> None:

@@ -19,19 +19,10 @@ DATED = rb"(?m)^# Time of generation was ([0-9: -]{19})(| [+-][0-9]{4})$"
 BLOCK = 1 << 20
 MAX_HEAD = 1 << 16
 MAX_NAME = 40
-# How files begin that are no plain databases.
-BEGINNINGS = (
-    (b"\x1f\x8b", "it is compressed twice"),
-    (b"\x1f\x9d", "it is compressed twice"),
-    (b"\xfd7zXZ", "it is compressed by xz: unpack it first"),
-    (b"\x28\xb5\x2f\xfd", "it is compressed by zstd: unpack it first"),
-    (b"BZh", "it is compressed by bzip2: unpack it first"),
-    (b"\xef\xbb\xbf", "it begins with a byte order mark, which AIDE does not write"),
-    (b"@@begin_db\r", "its lines end with a carriage return, which AIDE does not write"),
-    (b"\xff\xfe", "it is UTF-16, which AIDE does not write"),
-    (b"\xfe\xff", "it is UTF-16, which AIDE does not write"),
+UNKNOWN_BEGINNING = (
+    "it is not an AIDE database, its beginning is missing, or it is packed by another program than "
+    "gzip"
 )
-UNKNOWN_BEGINNING = "it is not an AIDE database, or its beginning is missing"
 # What the words of a refusal mean, where they say too little.
 CAUSES = {
     b"no @@end_db": ("it ends too early: was the disk full, or is AIDE still writing it?",),
@@ -61,18 +52,10 @@ def _start_of_line(descriptor: int, number: int) -> bytes:
     return b""
 
 
-def _beginning_hint(head: bytes) -> str:
-    """What a file is that does not begin as a database."""
-    for beginning, text in BEGINNINGS:
-        if head.startswith(beginning):
-            return text
-    return UNKNOWN_BEGINNING
-
-
 def _database_hints(side: str, number: int, words: bytes, copy: Copy) -> Iterator[str]:
     name = f"the {side} is {shown(copy.name)}"
     if words == b"no @@begin_db" and copy.size:
-        name += f"; {_beginning_hint(os.pread(copy.fd, 16, 0))}"
+        name += f"; {UNKNOWN_BEGINNING}"
     yield name
     if not copy.size:
         yield "it is empty: does AIDE run now? It fills its new database at its end"
