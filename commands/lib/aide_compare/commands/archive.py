@@ -4,7 +4,6 @@ from __future__ import annotations
 import io
 import os
 from collections.abc import Collection, Container, Iterable, Sequence
-from typing import Optional
 
 from aide_compare.base.ending import Fault, Status, say
 from aide_compare.base.escapes import shown
@@ -60,13 +59,13 @@ class ArchiveRequest(Asked):
         "FILE",
         is_repeated=True,
     )
-    output: Optional[str] = option(
+    output: str | None = option(
         "--output",
         "write to FILE, which is a copy of OLD if nothing can be applied, and OLD to FILE.old",
         "FILE",
     )
     max_size: int = field(MAX_SIZE)
-    user: Optional[str] = field(USER)
+    user: str | None = field(USER)
 
 
 # Entries of a database, by their paths or by the names of packages.

@@ -5,7 +5,7 @@ from __future__ import annotations
 import os
 from collections.abc import Callable, Iterable, Sequence
 from contextlib import suppress
-from typing import TYPE_CHECKING, Optional
+from typing import TYPE_CHECKING
 
 from aide_compare.base.ending import Fault, Status, say
 from aide_compare.base.escapes import shown
@@ -62,7 +62,7 @@ def comparison_defaults(
 
 def exclusions_of(
     paths: Sequence[str], patterns: Sequence[str], reads_defaults: bool = True
-) -> Optional[Exclusions]:
+) -> Exclusions | None:
     """The list of what is left out: that of the options, or that of the administrator."""
     if not paths and reads_defaults:
         usual = administrators_file("without")

@@ -23,7 +23,6 @@ from aide_compare.base.processes import limit_memory
 from aide_compare.commands import accept
 from aide_compare.commands.accept_work import AcceptRequest
 from aide_compare.hosts.first_baseline import MAX_BASELINE, first_database, keep_first
-from aide_compare.hosts.host_comparison import MISSING
 from aide_compare.hosts.store import BASELINE, MAX_MEMORY, NEW, HostDirectory
 
 NAME = "aide-compare hosts accept"
@@ -104,7 +103,7 @@ def main(arguments: Sequence[str]) -> int:
     limit_memory(MAX_MEMORY)
     directory = HostDirectory(request.store, request.host, request.seconds)
     if not directory.has(NEW):
-        raise directory.fault(MISSING[NEW])
+        raise directory.fault("nothing was fetched yet; see aide-compare hosts fetch --help")
     if request.digest:
         return accept_next(directory, request, request.digest)
     return accept_first(directory, request.max_size, request.is_quiet)

@@ -159,10 +159,10 @@ def print_changes(name: str, store: str, seconds: int) -> None:
         write_all(1, text.encode("utf-8", "backslashreplace"))
     with closed_after(open_regular(f"{store}/hosts/{name}/{ERRORS}")) as errors:
         copy_file(errors, 2)
-    if host.differs:
+    if host.differs and host.state:
         if host.report in WHY:
             say(not_listed(host))
-        say(f"to accept it: aide-compare hosts accept --sha256 {host.new_sha256} {name}")
+        say(f"to accept it: aide-compare hosts accept --sha256 {host.state.new_sha256} {name}")
 
 
 def request_of(arguments: Sequence[str]) -> HostsCompareRequest:

@@ -7,8 +7,9 @@ from aide_compare.base.ending import Status, tell
 from aide_compare.base.escapes import guarded
 from aide_compare.base.options import HOST_STORE, HOST_TIME, HOSTS_OPERAND, RESULT_AGE, Asked, field
 from aide_compare.base.parser import read
+from aide_compare.base.words import date_of
 from aide_compare.hosts.hosts_file import hosts_of
-from aide_compare.hosts.hosts_read import read_host
+from aide_compare.hosts.hosts_read import read_host, words_of
 from aide_compare.hosts.reported import Host
 
 NAME = "aide-compare hosts list"
@@ -29,8 +30,8 @@ class ListRequest(Asked):
 
 def line_of(host: Host) -> str:
     text = host.error
-    if host.status <= 7:
-        text = f"{host.words}, {host.date}"
+    if host.state and host.status <= 7:
+        text = f"{words_of(host.state)}, {date_of(host.state.time)}"
     return guarded(f"{host.name} {host.status} {text}")
 
 

@@ -159,7 +159,7 @@ class HostsReport:
 
     def _count_quiet_run(self, request: ReportRequest, address: str, way: Way) -> None:
         """Counts a run without an alarm, and sends a heartbeat if one is due."""
-        silent = sum(sum(host.counts or ()) for host in self.hosts if host.is_silent)
+        silent = sum(host.counts.total for host in self.hosts if host.is_silent and host.counts)
         hosts = counted(self.summary.counts.hosts, "host")
 
         def send(subject: str, text: str) -> None:

@@ -158,7 +158,7 @@ def is_in_report(run: Run, hosts: Sequence[Host]) -> bool:
     if not run.sha256:
         return True
     for host in hosts:
-        if host.name == run.host and host.new_sha256 == run.sha256:
+        if host.name == run.host and host.state and host.state.new_sha256 == run.sha256:
             return not host.differs or host.report == WHOLE
     return False
 

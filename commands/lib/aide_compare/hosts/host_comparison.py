@@ -31,10 +31,6 @@ GROWTH = 4
 MAX_JUDGED = 256 << 20
 MAX_KEPT = 4 << 20
 MAX_AHEAD = 600
-MISSING = {
-    NEW: "nothing was fetched yet; see aide-compare hosts fetch --help",
-    BASELINE: "there is no baseline yet; see aide-compare hosts add --help",
-}
 
 
 class Settings(NamedTuple):
@@ -90,7 +86,7 @@ def age_fault(directory: HostDirectory, settings: Settings) -> str:
     """Why what was fetched is not the database of today; "" if it is."""
     cause = directory.fetch_cause()
     if cause:
-        return f"it was not fetched the last time: {cause.removeprefix(directory.host + ': ')}"
+        return f"it was not fetched the last time: {cause}"
     age = time.time() - os.stat(NEW, dir_fd=directory.fd).st_mtime
     if not settings.same_for or -MAX_AHEAD <= age <= settings.same_for:
         return ""
@@ -106,27 +102,17 @@ def as_not_compared(directory: HostDirectory, state: State, why: str) -> State:
     if state.status and state.counts:
         text += f"; it differs: added {state.added}, removed {state.removed}"
         text += f", changed {state.changed}"
-    return State(
-        int(Status.DEVICE),
-        state.time,
-        old_sha256=state.old_sha256,
-        new_sha256=state.new_sha256,
-        old=state.old,
-        new=state.new,
-        error=text,
-    )
+    no_counts = state._replace(added=None, removed=None, changed=None, standings=None)
+    return no_counts._replace(status=int(Status.DEVICE), error=text)
 
 
 def keep_comparison(directory: HostDirectory, settings: Settings) -> State:
     """Compares, keeps lines and errors, and returns the State."""
-    for name, text in MISSING.items():
-        if directory.has(name):
-            continue
-        cause = ""
-        if name == NEW:
-            cause = directory.fetch_cause()
-        if cause:
-            text = "nothing was fetched yet: " + cause.removeprefix(f"{directory.host}: ")
+    if not directory.has(NEW):
+        cause = directory.fetch_cause() or "see aide-compare hosts fetch --help"
+        raise Fault(Status.DEVICE, f"nothing was fetched yet: {cause}")
+    if not directory.has(BASELINE):
+        text = "there is no baseline yet; see aide-compare hosts add --help"
         raise Fault(Status.DEVICE, text)
     with closing(NewFile(directory.fd)) as part:
         comparison = run_comparison(directory, settings, part)

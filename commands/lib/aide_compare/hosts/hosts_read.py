@@ -11,7 +11,7 @@ from aide_compare.base.ending import Fault, Status, reason
 from aide_compare.base.escapes import shown
 from aide_compare.base.files import open_regular
 from aide_compare.base.directories import closed_after
-from aide_compare.base.words import SEVERITIES, age_in_words, date_of
+from aide_compare.base.words import age_in_words
 from aide_compare.compare.state import State, read_state
 from aide_compare.hosts.kept_lines import KeptLines
 from aide_compare.hosts.reported import CUT, UNREADABLE, WHOLE, Host
@@ -38,20 +38,8 @@ def words_of(state: State) -> str:
 
 
 def host_of(name: str, status: int, error: str, state: State | None = None) -> Host:
-    """A host with its status, and why it was not compared or what its state says, if there is
-    one."""
-    host = Host(shown(name, 200), int(status))
-    if state:
-        host = host._replace(date=date_of(state.time))
-    if status > 7:
-        return host._replace(error=error.removeprefix(f"{name}: "))
-    assert state is not None  # A host is compared only where a state says so.
-    host = host._replace(counts=state.counts, new_sha256=state.new_sha256, words=words_of(state))
-    counts = state.standings
-    if counts is None:
-        return host
-    high = counts.of_severity(SEVERITIES[0])
-    return host._replace(open=counts.told, high=high, left_out=counts.left_out)
+    """A host with its status, its state if there is one, and why it was not compared."""
+    return Host(shown(name, 200), int(status), error.removeprefix(f"{name}: "), state)
 
 
 def state_in(directory: HostDirectory) -> State:

@@ -11,6 +11,7 @@ from typing import NamedTuple
 from aide_compare.base.escapes import guarded
 from aide_compare.base.words import SEVERITIES, counted
 from aide_compare.changes.table import Row, Table
+from aide_compare.hosts.hosts_read import words_of
 from aide_compare.hosts.reported import CUT, UNREADABLE, Host, SharedChange, Summary
 from aide_compare.lines.attributes import word_of
 from aide_compare.lines.change import Change
@@ -78,8 +79,8 @@ def host_lists(hosts: Iterable[Host]) -> dict[str, list[str]]:
     for host in hosts:
         if host.status > 7:
             missing.append(f"{host.name}: {host.error}")
-        elif host.differs:
-            differ.append(f"{host.name}: {host.words}")
+        elif host.differs and host.state:
+            differ.append(f"{host.name}: {words_of(host.state)}")
             if host.report in WHY:
                 cut.append(not_listed(host))
     return {

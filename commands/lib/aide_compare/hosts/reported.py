@@ -6,8 +6,9 @@ from collections.abc import Collection, Sequence
 from functools import cached_property
 from typing import NamedTuple
 
-from aide_compare.base.words import KINDS, counted
-from aide_compare.lines.change import Change, Fields, change_of
+from aide_compare.base.words import KINDS, SEVERITIES, counted, date_of
+from aide_compare.compare.state import State
+from aide_compare.lines.change import Change, Counts, Fields, change_of
 
 FORMAT = 4
 # What the lines are that were kept of a host.
@@ -73,21 +74,30 @@ class Host(NamedTuple):
 
     name: str  # As it may be shown.
     status: int  # That of what is not silent.
-    date: str = ""  # When it was compared; "" if it never was.
-    error: str = ""  # Why it was not compared; "" if it was.
-    words: str = ""  # What its comparison has counted.
-    counts: tuple[int, int, int] | None = None  # By KINDS; None if they are not known.
-    new_sha256: str = ""
-    open: int | None = None  # How many changes are not silent; None if nobody has judged.
-    high: int | None = None  # How many of them have the severity high.
-    left_out: int | None = None  # How many changes the list leaves out.
+    error: str  # Why it was not compared.
+    state: State | None  # None if it never was.
     report: str = ""  # What its lines are: one of the words above; "" if they were not read.
     listed: int = 0  # How many changes these have.
 
     @property
     def is_silent(self) -> bool:
         """Whether it differs, but only by changes that nobody has to read."""
-        return self.status == 0 and any(self.counts or ())
+        return self.status == 0 and self.state is not None and self.state.status > 0
+
+    @property
+    def counts(self) -> Counts | None:
+        """The counts of its standings; None if nobody has judged its changes."""
+        return self.state.standings if self.state else None
+
+    @property
+    def open(self) -> int | None:
+        """How many of its changes are not silent."""
+        return self.counts.told if self.counts else None
+
+    @property
+    def high(self) -> int | None:
+        """How many of these have the severity high."""
+        return self.counts.of_severity(SEVERITIES[0]) if self.counts else None
 
     @property
     def differs(self) -> bool:
@@ -97,14 +107,14 @@ class Host(NamedTuple):
     def fields(self) -> Fields:
         """Its object."""
         fields: Fields = {"record": "host", "host": self.name, "status": self.status}
-        if self.date:
-            fields["time"] = self.date
-        if self.status > 7:
+        if self.state:
+            fields["time"] = date_of(self.state.time)
+        if self.state is None or self.status > 7:
             fields["error"] = self.error
             return fields
-        fields.update(zip(KINDS, self.counts or (None, None, None)))
-        fields.update(new_sha256=self.new_sha256, open=self.open, high=self.high)
-        fields["left_out"] = self.left_out
+        fields.update({kind: getattr(self.state, kind) for kind in KINDS})
+        fields.update(new_sha256=self.state.new_sha256, open=self.open, high=self.high)
+        fields["left_out"] = self.counts.left_out if self.counts else None
         if self.report:
             fields.update(report=self.report, listed=self.listed)
         return fields

@@ -122,7 +122,8 @@ class HostDirectory:
         if not self.has(CAUSE):
             return ""
         with suppress(Fault):
-            return str(read_file(self.file(CAUSE), MAX_CAUSE).decode("utf-8", "replace"))
+            text = read_file(self.file(CAUSE), MAX_CAUSE).decode("utf-8", "replace")
+            return text.removeprefix(f"{self.host}: ")
         return "its cause cannot be read"
 
     def not_compared(self, text: str, status: int = Status.DEVICE) -> None:
