@@ -12,13 +12,6 @@ from tests.lib.waiting import until, waits
 
 from .accepting import DIGEST, DONE, FILES, OLDER, TOOL, AcceptingTest, contents, fresh
 from .sandbox import AS_NOBODY, END, HEAD, NEW, NOBODY, OLD, UMASK, sha256
-from .states import state_text
-
-
-def state_of(old: bytes, new: bytes) -> bytes:
-    """The state of a comparison of two databases."""
-    counts = {"status": 7, "added": 1, "removed": 1, "changed": 2}
-    return state_text(**counts, time=1764000000, old_sha256=sha256(old), new_sha256=sha256(new))
 
 
 class AcceptTest(AcceptingTest):
@@ -61,18 +54,8 @@ class AcceptTest(AcceptingTest):
         self.assertEqual(contents(self), DONE)
 
     def test_told(self) -> None:
-        """The counts of the comparison that the state is of, and what is not known."""
-        date = b"compared 2025-11-24T16:00:00Z: added 1, removed 1, changed 2\n"
-        digests = [sha256(OLD).encode(), DIGEST.encode()]
-        other = b"changed 2, beside another baseline than this one\n"
-        for old, new, told in (
-            (OLD, NEW, [date, *digests]),
-            (OLDER, NEW, [other]),
-            (OLD, OLDER, [b"no counts are known", b", written 20"]),
-        ):
-            fresh(self)
-            self.write("state", state_of(old, new))
-            self.accepts(told, DIGEST, "--state", "state")
+        """Both digests, and when the new database was written."""
+        self.accepts([sha256(OLD).encode(), DIGEST.encode(), b", written 20"])
 
     def test_unreadable(self) -> None:
         """A former baseline that is damaged, or that the caller may not read, is kept."""
@@ -86,15 +69,11 @@ class AcceptTest(AcceptingTest):
     def test_refusals(self) -> None:
         told = [sha256(OLD).encode(), DIGEST.encode(), b"refused: base/aide.db.new"]
         self.refuses(24, told, sha256(OLD))
-        self.write("state", state_of(OLD, NEW))
-        self.refused(15, b"--sha256", TOOL, "--state", "state", *FILES)
-        self.write("odd", "format=1\nstatus=0\nnew_sha256=%s\n" % DIGEST)
         name = b"aide-compare accept: "
         for digest in (DIGEST[:15], "x" * 64, "", DIGEST + "0", "A" * 42 + "B="):
             self.refuses(15, name, digest)
         for status, words in (
-            (18, "--state odd"),
-            (18, "--state missing"),
+            (15, "--state odd"),
             (15, "--odd"),
             (18, "--max-size 20"),
             (15, "--max-size x"),

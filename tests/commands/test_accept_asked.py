@@ -24,7 +24,6 @@ class AcceptAskedTest(AcceptingTest):
             place = text.find(b"SHA-256 %s\nMake it" % DIGEST.encode())
             changes = text.find(b"  changed  /c: ")
             self.assertTrue(0 < changes < place < text.find(PROMPT), text)
-            self.assertIn(b"added 1, removed 1, changed 2\n", text, "of this comparison")
 
     def test_no(self) -> None:
         before = contents(self)
@@ -64,9 +63,8 @@ class AcceptAskedTest(AcceptingTest):
         nothing to accept."""
         self.refused(15, b"give --sha256 DIGEST", TOOL, *FILES, text=b"y\n")
         self.refused(15, b"unrecognized arguments: --yes", TOOL, "--yes", *FILES)
-        for words in (["-q"], ["--state", "state"]):
-            status, text = self.asked(b"y\n", (*words, *FILES))
-            self.assertEqual((status, PROMPT in text), (15, False), text)
+        status, text = self.asked(b"y\n", ("-q", *FILES))
+        self.assertEqual((status, PROMPT in text), (15, False), text)
         for new in (HEAD + b"/a\n" + END, b""):
             self.write("base/aide.db.new", new, 0o600)
             status, text = self.asked(b"y\n")

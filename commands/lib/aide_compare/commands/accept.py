@@ -3,7 +3,6 @@ whole, or but for what stays open."""
 from __future__ import annotations
 
 from collections.abc import Iterator, Sequence
-from typing import NamedTuple
 
 from aide_compare.base.ending import Fault, Status, say, tell
 from aide_compare.base.escapes import shown
@@ -12,7 +11,6 @@ from aide_compare.base.options import (
     MAX_SIZE,
     QUIET,
     SHA256,
-    STATE,
     Asked,
     Operand,
     field,
@@ -22,8 +20,7 @@ from aide_compare.base.paths import Pattern
 from aide_compare.base.words import KINDS, date_of
 from aide_compare.commands.accept_question import can_ask, wanted_after_question
 from aide_compare.commands.accept_work import Accepted, AcceptRequest, accept
-from aide_compare.commands.defaults import comparison_defaults, machines_databases
-from aide_compare.compare.state import DAILY, State, read_state
+from aide_compare.commands.defaults import machines_databases
 
 NAME = "aide-compare accept"
 DESCRIPTION = """\
@@ -45,11 +42,6 @@ class AcceptOptions(Asked):
 
     is_quiet: bool = field(QUIET, help="do not print what was done")
     digest: str | None = field(SHA256)
-    state: str | None = field(
-        STATE,
-        help="print the time and the counts of the comparison from this file"
-        f" ({DAILY}); it decides nothing",
-    )
     max_size: int = field(MAX_SIZE)
     keep_open: Sequence[Pattern] = field(KEEP_OPEN)
     files: Sequence[str] = field(
@@ -69,23 +61,6 @@ class AcceptOptions(Asked):
         if not self.digest and (self.is_quiet or not can_ask()):
             why = "give --sha256 DIGEST, or run this on a terminal to be asked"
             raise Fault(Status.USAGE, why, HINT)
-        if self.state and not self.digest:
-            raise Fault(Status.USAGE, "--state goes with --sha256", HINT)
-
-
-def counts_line(state: State, accepted: Accepted) -> str:
-    """What the state says of the comparison of this database."""
-    if state.new_sha256 != accepted.new.sha256:
-        return "no counts are known: the last run compared another database"
-    text = "no counts are known"
-    if state.counts:
-        added, removed, changed = state.counts
-        text = f"added {added}, removed {removed}, changed {changed}"
-    line = f"compared {date_of(state.time)}: {text}"
-    former = accepted.former
-    if former and former.sha256 not in ("", accepted.sha256, state.old_sha256):
-        line += ", beside another baseline than this one"
-    return line
 
 
 def title_line(request: AcceptRequest, accepted: Accepted) -> str:
@@ -96,7 +71,7 @@ def title_line(request: AcceptRequest, accepted: Accepted) -> str:
     return f"{line}: {shown(request.baseline)}"
 
 
-def lines_of(request: AcceptRequest, accepted: Accepted, counts: str) -> Iterator[str]:
+def lines_of(request: AcceptRequest, accepted: Accepted) -> Iterator[str]:
     """The lines that say what was done."""
     yield title_line(request, accepted)
     written = accepted.new.copy.written
@@ -106,7 +81,6 @@ def lines_of(request: AcceptRequest, accepted: Accepted, counts: str) -> Iterato
         kinds = ", ".join(f"{kind} {accepted.merged.counts[kind]}" for kind in KINDS)
         former_entries = f"it has the former entries of what stays open: {kinds}"
         yield f"baseline: SHA-256 {accepted.sha256}; {former_entries}"
-    yield counts
     former = accepted.former
     if former is None:
         yield "former: none, this is the first baseline"
@@ -119,32 +93,12 @@ def lines_of(request: AcceptRequest, accepted: Accepted, counts: str) -> Iterato
         yield f"it belongs to {names}; the former one belongs to {former.owner.names()}"
 
 
-class Reported(NamedTuple):
-    """What is known of the comparison that was read: its state, or why there is none."""
-
-    state: State | None
-    why_unknown: str = ""
-
-
-def reported_in(path: str | None, usual: str = DAILY) -> Reported:
-    """What the state file of a comparison says, or the one of each day, which may be missing."""
-    try:
-        return Reported(read_state(path or usual))
-    except Fault as fault:
-        if path:
-            raise
-        return Reported(None, f"no counts are known: {fault.text}")
-
-
-def run(request: AcceptRequest, reported: Reported, is_quiet: bool) -> int:
+def run(request: AcceptRequest, is_quiet: bool) -> int:
     """Accepts, and says what was done. Returns the status."""
     accepted = accept(request)
-    counts = reported.why_unknown
-    if reported.state:
-        counts = counts_line(reported.state, accepted)
     try:
         if not is_quiet:
-            tell(*lines_of(request, accepted, counts))
+            tell(*lines_of(request, accepted))
     except OSError:
         say(f"{shown(request.new)} is the baseline, but that could not be printed")
         return Status.DEVICE
@@ -156,13 +110,6 @@ def main(arguments: Sequence[str]) -> int:
     asked = read(AcceptOptions, arguments, NAME, DESCRIPTION, EPILOG, usage)
     asked.check()
     new, baseline = asked.files or reversed(machines_databases(arguments))
-    if asked.digest:
-        defaults = comparison_defaults((baseline, new), arguments, (STATE,))
-        reported = reported_in(asked.state, defaults.get(STATE.attribute, DAILY))
-        digest = asked.digest
-    else:
-        state = wanted_after_question(new, baseline)
-        reported = Reported(state)
-        digest = state.new_sha256
+    digest = asked.digest or wanted_after_question(new, baseline)
     request = AcceptRequest(new, baseline, digest, asked.keep_open, asked.max_size)
-    return run(request, reported, asked.is_quiet)
+    return run(request, asked.is_quiet)

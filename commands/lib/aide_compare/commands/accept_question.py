@@ -30,8 +30,8 @@ def compare_and_print(new: str, baseline: str) -> State:
     return ended.state()
 
 
-def wanted_after_question(new: str, baseline: str) -> State:
-    """The State of a comparison whose new database a person wants who has seen its changes."""
+def wanted_after_question(new: str, baseline: str) -> str:
+    """The SHA-256 of a new database that a person wants who has seen its changes."""
     state = compare_and_print(new, baseline)
     line = f"New database: {shown(new)}"
     if state.new_written is not None:
@@ -39,4 +39,4 @@ def wanted_after_question(new: str, baseline: str) -> State:
     tell("", line, f"SHA-256 {state.new_sha256}")
     if answer_to(f"Make it the baseline {shown(baseline)}? [y/N] ") not in YES:
         raise Fault(Status.DATABASE, "nothing is accepted")
-    return state
+    return state.new_sha256

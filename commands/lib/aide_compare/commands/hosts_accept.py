@@ -1,7 +1,6 @@
 """aide-compare hosts accept: what was fetched from a host becomes its baseline."""
 from __future__ import annotations
 
-import os
 from collections.abc import Sequence
 
 from aide_compare.base.ending import Fault, Status, tell
@@ -75,10 +74,7 @@ def accept_first(directory: HostDirectory, max_size: int, is_quiet: bool) -> int
 
 
 def accept_next(directory: HostDirectory, request: HostAcceptRequest, digest: str) -> int:
-    """The command aide-compare accept does the work. The state of the host knows when it was
-    compared."""
-    has_state = os.path.lexists(directory.state_path)
-    reported = accept.reported_in(directory.state_path if has_state else None)
+    """The command aide-compare accept does the work."""
     next_baseline = AcceptRequest(
         new=directory.file(NEW),
         baseline=directory.file(BASELINE),
@@ -86,7 +82,7 @@ def accept_next(directory: HostDirectory, request: HostAcceptRequest, digest: st
         keep_open=request.keep_open,
         max_size=request.max_size,
     )
-    return accept.run(next_baseline, reported, request.is_quiet)
+    return accept.run(next_baseline, request.is_quiet)
 
 
 def request_of(arguments: Sequence[str]) -> HostAcceptRequest:
