@@ -203,6 +203,16 @@ class FleetTest(CommandTest):
             self.assertIn("error=%s: had not sent" % host, self.fleet.state(host))
             self.assertLess(time.monotonic() - begun, 40)
 
+    def test_late(self) -> None:
+        """A comparison that takes too long is ended, and the state says so."""
+        self.set_names("hosts.workers", GRACE=1)
+        self.after_import("hosts.host_comparison", "def keep_comparison(*_):\n    time.sleep(60)\n")
+        begun = time.monotonic()
+        self.fleet.put("good1", OLD)
+        said = self.fleet.compare_one("good1", "--time", "1s")
+        self.fleet.not_compared("was not compared within 1 seconds", said, "good1")
+        self.assertLess(time.monotonic() - begun, 40)
+
     def test_ended(self) -> None:
         """A signal ends the command at once, and ssh with it."""
         hosts = self.fleet.list_hosts("silent", "good1")

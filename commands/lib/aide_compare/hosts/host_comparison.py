@@ -3,7 +3,6 @@ and keeps the changes."""
 from __future__ import annotations
 
 import os
-import signal
 import time
 from collections.abc import Mapping
 from contextlib import closing
@@ -130,18 +129,8 @@ def keep_comparison(directory: HostDirectory, settings: Settings) -> State:
 
 
 def compare(directory: HostDirectory, settings: Settings) -> State:
-    """Compares, and keeps lines, errors and the state, which says so too if that fails or takes too
-    long.
-
-    The program ends with this process.
-    """
-
-    def over(*_: object) -> None:
-        raise Fault(Status.DEVICE, f"was not compared within {settings.seconds} seconds")
-
-    signal.signal(signal.SIGALRM, over)
-    # Again after some seconds: Python drops an exception that comes while it takes an object away.
-    signal.setitimer(signal.ITIMER_REAL, max(directory.deadline - time.monotonic(), 0.001), 2)
+    """Compares, and keeps lines, errors and the state, which says so too if that fails. The program
+    ends with this process."""
     try:
         state = keep_comparison(directory, settings)
         replace(directory.state_path, state.text(), what="the state")
@@ -152,7 +141,5 @@ def compare(directory: HostDirectory, settings: Settings) -> State:
         fault = directory.fault("what it sent needs too much memory", Status.MEMORY)
     except Fault as error:
         fault = directory.fault(error.text, error.status)
-    finally:
-        signal.setitimer(signal.ITIMER_REAL, 0)
     directory.not_compared(fault.text, fault.status)
     raise fault

@@ -23,7 +23,7 @@ from aide_compare.hosts.store import MAX_MEMORY, HostDirectory
 from aide_compare.show.told import RED, YELLOW, in_colour
 
 MAX_TEXT = 300
-GRACE = 15
+GRACE = 5  # Seconds after those of a host, so that a transfer ends by itself.
 PAUSE = 0.2  # A process that was ended may go on, in a call that does not return.
 
 
@@ -74,6 +74,7 @@ class Worker:
         self.host = host
         self.settings = settings
         self.deadline = time.monotonic() + settings.seconds + GRACE
+        self.is_late = False
         self.fd, writing = os.pipe()
         self.child = start_child(partial(self._write_result, writing))
         os.close(writing)
@@ -100,6 +101,8 @@ class Worker:
         if answer and ended == 0:
             return HostResult(self.host, *json.loads(answer))
         text = f"ended without an answer ({ended})"
+        if self.is_late:
+            text = f"was not compared within {self.settings.seconds} seconds"
         # The state says so. Another run may have the lock by now, and writes a state of its own.
         with suppress(Fault, OSError):
             directory = HostDirectory(self.settings.store, self.host, PAUSE)
@@ -120,4 +123,5 @@ def results(hosts: Sequence[str], settings: Settings) -> Iterator[HostResult]:
             yield workers.pop(descriptor).result()
         for worker in workers.values():
             if worker.deadline < time.monotonic():
+                worker.is_late = True
                 os.kill(worker.child, signal.SIGKILL)
