@@ -206,9 +206,9 @@ def compare(settings: Settings, files: Files, form: Form) -> Answer:
 
 
 class Form:
-    """What a program writes: `written` gives the output of a comparison and its status, `begun` what
-    may have gone out before a fault of the given texts, and `checked` the output of a check of the
-    configuration. `read` reads the words."""
+    """What a program writes: `written` gives the output of a comparison and its status, `begun`
+    what may have gone out before a fault of the given texts, and `checked` the output of a check of
+    the configuration. `read` reads the words."""
 
     def __init__(
         self,

@@ -78,7 +78,8 @@ class InstalledTest(InstallTest):
                 self.assertIn(name[11:], found, path)
 
     def test_documents(self) -> None:
-        """Documents link to one another where they lie now, and to nothing that is not installed."""
+        """Documents link to one another where they lie now, and to nothing that is not
+        installed."""
         links = [
             (path, name)
             for path, text in texts(tree(self.first())).items()
@@ -184,8 +185,8 @@ class InstalledTest(InstallTest):
             self.assertLessEqual(set(found), wanted, name)
 
     def test_unproved(self) -> None:
-        """A program that is not proved, by its name, marks the version of each command, and is never
-        packed."""
+        """A program that is not proved, by its name, marks the version of each command, and is
+        never packed."""
         program = self.copied_programs(self.program, "unproved programs", "aide-unproved")
         done = self.install("--destdir", self.path("unproved"), "--program", program)
         self.assertEqual(done.status, 0, done)

@@ -1,4 +1,5 @@
-"""The recipes of docs/HOSTS.md: a new host, and many hosts of which some lie, fail or are silent."""
+"""The recipes of docs/HOSTS.md: a new host, and many hosts of which some lie, fail or are
+silent."""
 from __future__ import annotations
 
 import gzip

@@ -4,11 +4,12 @@ their answers.
 
 A case begins with a sentence that says what it shows. Then come sections, each under a line `--
 NAME --`: `words` (the arguments, with blanks between), files of the folder in which the case is run
-(`conf`, `old`, `new`), the text of a list (`list`), and the right answer: `stdout` and `stderr`, which are left out where they
-are empty, and a line `-- status NUMBER --`. Without `words` both databases are compared, beside a
-trusted pair if there is one. Without a `conf` there is one that names both databases, and then has
-the lines of a section `options`. `/@DIR@` is replaced by the folder. A section `NAME (escaped)` is
-read as one line, with backslashes as in C. So is each argument.
+(`conf`, `old`, `new`), the text of a list (`list`), and the right answer: `stdout` and `stderr`,
+which are left out where they are empty, and a line `-- status NUMBER --`. Without `words` both
+databases are compared, beside a trusted pair if there is one. Without a `conf` there is one that
+names both databases, and then has the lines of a section `options`. `/@DIR@` is replaced by the
+folder. A section `NAME (escaped)` is read as one line, with backslashes as in C. So is each
+argument.
 """
 from __future__ import annotations
 

@@ -81,8 +81,8 @@ class LinesTest(LinesProgramTest):
                 self.checked(b"report_ignore_%s_attrs=%s" % (kind, each.name.encode()))
 
     def test_paths(self) -> None:
-        """Paths of the databases with each byte, which the line of -D names, and which are missing if
-        they are compared."""
+        """Paths of the databases with each byte, which the line of -D names, and which are missing
+        if they are compared."""
         for byte in range(1, 256):
             if byte != ord("\n"):
                 text = b"database_in=file:/none/%c|\ndatabase_new=file:/none/new\n" % byte
@@ -157,8 +157,8 @@ class LinesTest(LinesProgramTest):
 
     @slow
     def test_long_lines(self) -> None:
-        """Lines of the greatest length, and one byte longer: paths and values of a megabyte in one line
-        of JSON."""
+        """Lines of the greatest length, and one byte longer: paths and values of a megabyte in one
+        line of JSON."""
         for more, status in ((0, 2), (1, 24)):
             path = b"/%ff" + b"a" * (LINE_LIMIT - 6 + more) + b" 1"
             old = b"@@begin_db\n@@db_spec name size\n" + path + b"\n@@end_db\n"

@@ -241,8 +241,8 @@ class OneReadingTest(LinesProgramTest):
                 self.holds(label + ", openings", openings == [1] * len(texts), openings)
 
     def test_slow_reader(self) -> None:
-        """A reader that is slow gets the lines of what was opened, also if the names belong to other
-        files meanwhile."""
+        """A reader that is slow gets the lines of what was opened, also if the names belong to
+        other files meanwhile."""
         for texts in ([OLD, names(9000)], [names(9000), SKIPPING, OLD, names(9000)]):
             with Folder() as folder:
                 words = put(folder, texts)

@@ -1,5 +1,5 @@
-"""The program of lines, crates/aide_lines, over four databases: a pair that is compared and a trusted
-pair beside it.
+"""The program of lines, crates/aide_lines, over four databases: a pair that is compared and a
+trusted pair beside it.
 
 Each answer has to be that of tests/oracle/lines.py, byte by byte: stored cases, each way of naming
 the pair, damages of each of the four, long lines, outputs that fail, and random sessions.

@@ -2,7 +2,8 @@
 
 commands/lib/aide_compare has a folder for each layer, from base to commands. A module imports only
 from its own folder and from the folders before it, no two modules import each other in a circle,
-and each folder says in a sentence what it has. Prints what fails and, at the end, `N passed, M failed`.
+and each folder says in a sentence what it has. Prints what fails and, at the end, `N passed, M
+failed`.
 """
 from __future__ import annotations
 

@@ -2,8 +2,8 @@
 lines and long files.
 
 Each finding fails unless docs/DECISIONS.md has a row for it in the table under the heading
-"Exceptions from the layout". A row that matches no finding fails too. A row about lines or files may
-name a folder. The rules:
+"Exceptions from the layout". A row that matches no finding fails too. A row about lines or files
+may name a folder. The rules:
 
   cycle      the modules of a crate form no cycle (by their `use crate::` and `use super::` lines)
   ensures    a function has at most 8 `ensures`

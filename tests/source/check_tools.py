@@ -18,14 +18,13 @@ import subprocess
 import sys
 from collections.abc import Iterator
 
+from tests.lib.answer import Answer, run
 from tests.lib.scratch import TOP, read
 from tests.lib.tally import Tally
 from tests.source.check_docs import tracked
 from tools.lib.arguments import parser_of
 
 OLDEST = (3, 9)
-# Only for a script that hangs: on a machine with much other work one may take a minute.
-SECONDS = 300
 MAIN = 'if __name__ == "__main__":'
 
 
@@ -76,18 +75,11 @@ def command_of(name: str) -> list[str]:
     return [sys.executable, os.path.join(TOP, name)]
 
 
-def run(command: list[str]) -> tuple[int, str]:
-    environment = dict(os.environ, PYTHONDONTWRITEBYTECODE="1")
-    done = subprocess.run(
-        command,
-        cwd=TOP,
-        env=environment,
-        stdin=subprocess.DEVNULL,
-        timeout=SECONDS,
-        stdout=subprocess.PIPE,
-        stderr=subprocess.STDOUT,
-    )
-    return done.returncode, done.stdout.decode("utf-8", "replace")
+def answer_of(name: str, option: str) -> Answer:
+    """What a tool answers to an option, with both outputs as one."""
+    program, *words = command_of(name)
+    environment = {**os.environ, "PYTHONDONTWRITEBYTECODE": "1"}
+    return run(program, [*words, option], cwd=TOP, env=environment, stderr=subprocess.STDOUT)
 
 
 def lacks(name: str, text: str, output: str) -> list[str]:
@@ -110,13 +102,12 @@ def main() -> int:
             tools.append((name, text))
     before = tree()
     for name, text in tools:
-        status, output = run(command_of(name) + ["--help"])
-        is_help = status == 0 and output.startswith("usage:")
-        tally.holds(f"{name} --help", is_help, (status, output[-400:]))
-        tally.add(f"{name} --help lacks", lacks(name, text, output)[:2])
-        status, output = run(command_of(name) + ["--no-such-option"])
-        is_refused = status not in (0, 1)
-        tally.holds(f"{name} refuses another option", is_refused, (status, output[-400:]))
+        helped = answer_of(name, "--help")
+        is_help = helped.status == 0 and helped.output_text.startswith("usage:")
+        tally.holds(f"{name} --help", is_help, helped)
+        tally.add(f"{name} --help lacks", lacks(name, text, helped.output_text)[:2])
+        refused = answer_of(name, "--no-such-option")
+        tally.holds(f"{name} refuses another option", refused.status not in (0, 1), refused)
     tally.holds("no file is written before the arguments are read", tree() == before)
     tally.holds("a tool is found", len(tools) > 20, len(tools))
     return tally.status()

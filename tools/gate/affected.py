@@ -1,4 +1,5 @@
-"""Which modules of tests try a file: those that import it, start a command that runs it, or name it.
+"""Which modules of tests try a file: those that import it, start a command that runs it, or name
+it.
 
 It is read from the syntax trees of the commands and the tests, so that no table has to follow them.
 """

@@ -1,5 +1,5 @@
-"""The tests of the whole repository: the checks of files, `rt ci`, then the built programs over real
-files.
+"""The tests of the whole repository: the checks of files, `rt ci`, then the built programs over
+real files.
 
 The very last line is 'N passed, M failed' of all together, after what each part took; the status is
 1 if something failed.
