@@ -8,8 +8,9 @@ import shutil
 from typing import Any, Dict, Optional, Tuple
 
 from tests.lib import preload
+from tests.lib.answer import Answer
 
-from .sandbox import Answer, CommandTest, NEW, OLD, Texts, sha256
+from .sandbox import CommandTest, NEW, OLD, Texts, sha256
 
 TOOL = "aide-compare accept"
 BASE = "base/"

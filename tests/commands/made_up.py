@@ -9,7 +9,8 @@ import os
 import shutil
 from typing import Any, Callable, Dict, List, Tuple
 
-from tests.commands.sandbox import Answer, CommandTest
+from tests.commands.sandbox import CommandTest
+from tests.lib.answer import Answer
 
 DPKG = b"/var/lib/dpkg/"
 COLUMNS = (

@@ -9,7 +9,9 @@ from collections.abc import Iterator
 from email.message import Message
 from typing import Any
 
-from .sandbox import Answer, CommandTest, END, HEAD
+from tests.lib.answer import Answer
+
+from .sandbox import CommandTest, END, HEAD
 
 TOOL = "aide-compare mail"
 SUBJECT = "aide on %s: " % "".join(
@@ -49,8 +51,10 @@ def sent(sandbox: CommandTest) -> Message | None:
 def body(message: Message | None) -> bytes:
     """The text of a mail, that of its first part if it has several."""
     while message is not None and message.is_multipart():
-        message = message.get_payload()[0]  # type: ignore[assignment,index]
-    return bytes(message.get_payload(decode=True)) if message is not None else b""  # type: ignore
+        first: Any = message.get_payload(0)
+        message = first
+    data: Any = message.get_payload(decode=True) if message is not None else b""
+    return bytes(data)
 
 
 def subject(message: Message | None) -> Any:

@@ -10,7 +10,9 @@ import sys
 from collections.abc import Iterator
 from typing import Any, Dict, List, Optional, Tuple
 
-from .sandbox import AS_NOBODY, Answer, CommandTest, NEW, NOBODY, OLD, sha256
+from tests.lib.answer import Answer
+
+from .sandbox import AS_NOBODY, CommandTest, NEW, NOBODY, OLD, sha256
 
 TOOL = "aide-compare accept"
 BASELINE = "theirs/base/aide.db"

@@ -21,7 +21,7 @@ from tests.lib.byte_code import compile_modules
 from tests.lib.copies import copy_directory
 from tests.lib.program_test import ScratchTest
 from tests.lib.programs import find_program, lines_program_of
-from tests.lib.scratch import TOP as HERE
+from tests.lib.scratch import TOP
 from tests.lib.terminal import Terminal
 
 # Only for a tool that hangs: on a machine with much other work a run may take minutes.
@@ -117,7 +117,7 @@ def compiled_commands() -> str:
     directory = tempfile.mkdtemp(prefix="aide-compare-commands-")
     atexit.register(shutil.rmtree, directory, True)
     for name in ("bin", "lib", "share"):
-        copy_directory(os.path.join(HERE, "commands", name), os.path.join(directory, name))
+        copy_directory(os.path.join(TOP, "commands", name), os.path.join(directory, name))
     compile_modules(os.path.join(directory, "lib"))
     return directory
 

@@ -13,7 +13,8 @@ import time
 from typing import Callable, Dict, List, Tuple
 
 from tests.commands.made_up import MORE_ACL, Night, acl_of
-from tests.commands.sandbox import Answer, CommandTest
+from tests.commands.sandbox import CommandTest
+from tests.lib.answer import Answer
 from tests.oracle.agreement import same_as
 from tests.oracle.database import database_of
 

@@ -5,7 +5,9 @@ import json
 import time
 from typing import Any
 
-from .sandbox import Answer, CommandTest
+from tests.lib.answer import Answer
+
+from .sandbox import CommandTest
 
 ZERO: dict[str, Any] = {
     "status": 0,

@@ -8,11 +8,12 @@ import time
 from collections.abc import Callable
 from typing import Any
 
+from tests.lib.answer import Answer
 from tests.lib.program_test import slow
 
 from .accepting import AcceptingTest, accept_at, contents, fresh, library
 from .others_folder import BASELINE, SECRET, Swapping, call, harm, put, roots
-from .sandbox import Answer, NEW, NOBODY, OLD, sha256
+from .sandbox import NEW, NOBODY, OLD, sha256
 
 # So many rounds count, in which the other user was at work; and so many there are at most.
 ROUNDS, MOST_ROUNDS = 200, 1000

@@ -7,7 +7,9 @@ import os
 import re
 import time
 
-from .sandbox import Answer, CommandTest, DIFFER, NEW, OLD
+from tests.lib.answer import Answer
+
+from .sandbox import CommandTest, DIFFER, NEW, OLD
 from .test_run import KEYS
 
 TOOL = "aide-compare compare --report"

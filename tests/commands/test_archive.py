@@ -8,7 +8,7 @@ import shutil
 from typing import Any, Dict, List
 
 from tests.commands.made_up import Package, write_records
-from tests.commands.sandbox import NOBODY, Answer
+from tests.commands.sandbox import NOBODY
 from tests.commands.signed_archive import (
     APTS_LISTS,
     ARCHIVE,
@@ -28,6 +28,7 @@ from tests.commands.signed_archive import (
     keep_as_apt,
     keep_indexes,
 )
+from tests.lib.answer import Answer
 from tests.oracle.database import database_of, first_fault
 
 APPLIED = b"applied: 21 files\n"

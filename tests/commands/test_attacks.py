@@ -9,9 +9,10 @@ import stat
 import time
 from typing import Any
 
+from tests.lib.answer import Answer
 from tests.lib.program_test import slow
 
-from .sandbox import AS_NOBODY, Answer, CommandTest, NEW, NOBODY, OLD, UMASK, sha256
+from .sandbox import AS_NOBODY, CommandTest, NEW, NOBODY, OLD, UMASK, sha256
 from .states import state_text
 
 TOOL = "aide-compare compare --report"

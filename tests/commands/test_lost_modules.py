@@ -7,9 +7,11 @@ import os
 import shutil
 import subprocess
 
-from .sandbox import CommandTest, HERE, TIME_LIMIT
+from tests.lib.scratch import TOP
 
-FRONT = os.path.join(HERE, "commands", "bin", "aide-compare")
+from .sandbox import CommandTest, TIME_LIMIT
+
+FRONT = os.path.join(TOP, "commands", "bin", "aide-compare")
 # In a name space of its own, so that nothing of the machine changes. Python itself, at the end,
 # runs what another package has put there.
 SCRIPT = """set -e

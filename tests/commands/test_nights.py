@@ -14,9 +14,10 @@ from typing import Dict, List
 from urllib.parse import unquote_to_bytes
 
 from tests.commands.made_up import COLUMNS, objects_of, standings_of, write_records
-from tests.commands.sandbox import CommandTest, HERE
+from tests.commands.sandbox import CommandTest
+from tests.lib.scratch import TOP
 
-DIRECTORY = os.path.join(HERE, "tests", "nights")
+DIRECTORY = os.path.join(TOP, "tests", "nights")
 NIGHT = re.compile(r"n\d+-[a-z-]+\.txt")
 # What the intruder did in each of his nights.
 ALWAYS = (

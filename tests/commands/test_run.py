@@ -8,8 +8,10 @@ import subprocess
 import time
 from typing import Any
 
+from tests.lib.answer import Answer
+
 from . import test_standings as standings
-from .sandbox import COUNTS, DIFFER, END, HEAD, NEW, OLD, UMASK, Answer, CommandTest, sha256
+from .sandbox import COUNTS, DIFFER, END, HEAD, NEW, OLD, UMASK, CommandTest, sha256
 
 KINDS = ["added", "removed", "changed"]
 NAMES = "old_sha256 new_sha256 old new old_written new_written error".split()

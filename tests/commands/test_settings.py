@@ -5,9 +5,11 @@ from __future__ import annotations
 import os
 import shutil
 
+from tests.lib.answer import Answer
+
 from . import mail
 from .made_up import Night
-from .sandbox import Answer, CommandTest
+from .sandbox import CommandTest
 
 PLACES = ("/etc/passwd", "/etc/shadow", "/etc/aide/aide.conf", "/usr/sbin/sshd", "/usr/bin/vi")
 # All attributes that the changes have.

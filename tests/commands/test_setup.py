@@ -6,6 +6,7 @@ import os
 import pwd
 import shutil
 import stat
+from collections.abc import Callable
 from typing import Any
 
 from .sandbox import AS_NOBODY, CommandTest, NOBODY, OLD, UMASK
@@ -294,13 +295,14 @@ class SetupTest(CommandTest):
         chooses."""
         secret = self.write("root/secret", b"@@begin_db\n", 0o600)
         base = self.path(DATABASES + "aide.db")
-        for label, put in (
-            ("a hard link", lambda: os.link(secret, base)),
-            ("a link", lambda: os.symlink(secret, base)),
-            ("a FIFO", lambda: os.mkfifo(base)),
-            ("a folder", lambda: os.mkdir(base)),
-            ("no database", lambda: self.write(DATABASES + "aide.db", "root:x:\n")),
-        ):
+        ways: dict[str, Callable[[], object]] = {
+            "a hard link": lambda: os.link(secret, base),
+            "a link": lambda: os.symlink(secret, base),
+            "a FIFO": lambda: os.mkfifo(base),
+            "a folder": lambda: os.mkdir(base),
+            "no database": lambda: self.write(DATABASES + "aide.db", "root:x:\n"),
+        }
+        for label, put in ways.items():
             put()
             done = self.call(TOOL, "--no-mail", limit=60)
             self.expect(f"setup with {label} as the baseline", done, 18)

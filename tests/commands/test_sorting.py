@@ -11,7 +11,8 @@ import sys
 from typing import Any
 
 from tests.commands.units import TOP
-from tests.commands.sandbox import Answer, CommandTest
+from tests.commands.sandbox import CommandTest
+from tests.lib.answer import Answer
 from tests.lib.program_test import slow
 from tests.lib.waiting import until
 from tests.oracle.fields import decoded

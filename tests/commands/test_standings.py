@@ -8,8 +8,9 @@ import re
 
 from tests.commands import mail
 from tests.commands.made_up import Host, Package, standings_of, time_of
-from tests.commands.sandbox import Answer, CommandTest
+from tests.commands.sandbox import CommandTest
 from tests.commands.viewers.pages import data_in
+from tests.lib.answer import Answer
 
 TOOL, NAGIOS = "aide-compare", "check_aide_compare"
 ONE, TWO = b"one", b"two, of the upgraded package"

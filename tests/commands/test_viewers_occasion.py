@@ -9,16 +9,18 @@ import shlex
 import subprocess
 from typing import Any
 
-from tests.commands.sandbox import HERE, Answer, CommandTest
+from tests.commands.sandbox import CommandTest
 from tests.commands.viewers.lines import proved_lines
 from tests.commands.viewers.schema import Validator, schema_of_lines
+from tests.lib.answer import Answer
+from tests.lib.scratch import TOP
 
 from aide_compare.lines.rights import RIGHTS
 
 USAGE, CONFIGURATION, DEVICE = 15, 17, 18
 # Databases of AIDE 0.18.3 with access control lists, extended attributes, flags and capabilities.
 OLD, NEW = (
-    os.path.join(HERE, "tests", "commands", "viewers", "values", name)
+    os.path.join(TOP, "tests", "commands", "viewers", "values", name)
     for name in ("old.db", "new.db")
 )
 Fields = dict[str, Any]

@@ -7,11 +7,12 @@ import hashlib
 import json
 import os
 
+from tests.lib.answer import Answer
 from tests.lib.scratch import read
 
 from . import mail
 from . import test_standings as standings
-from .sandbox import Answer, CommandTest, END, HEAD, NOBODY, sha256
+from .sandbox import CommandTest, END, HEAD, NOBODY, sha256
 
 JSON = "aide-compare json"
 LOGS = b"# Logs\n\n  /var/log/**  \n/etc/*.bak\n"

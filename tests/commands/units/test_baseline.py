@@ -14,6 +14,7 @@ from unittest import mock
 
 from tests.commands.units.calls import OTHER, ModuleTest, in_child
 
+from aide_compare.base import replacement
 from aide_compare.base.files import in_memory
 from aide_compare.compare import baseline
 from aide_compare.compare.baseline import CHANGED, Baseline, Owners
@@ -164,7 +165,7 @@ class BaselineTest(ModuleTest):
 
     def test_swapped(self) -> None:
         """A baseline that another process moves, at whatever moment, is found out."""
-        exchange: Callable[..., bool] = baseline.exchange
+        exchange: Callable[..., bool] = replacement.exchange
 
         def swapped_first(*given: object) -> bool:
             self.swap("moved")

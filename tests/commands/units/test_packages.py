@@ -53,9 +53,12 @@ class PackagesTest(ModuleTest):
                 self.dpkg().members({b"/usr/bin/tool"}, same)
             os.chmod(path, 0o644)
         path = self.path("dpkg/info/tool.list")
-        for put in (lambda: os.symlink("gone.list", path), lambda: os.mkfifo(path, 0o600)):
+        for is_link in (True, False):
             os.unlink(path)
-            put()
+            if is_link:
+                os.symlink("gone.list", path)
+            else:
+                os.mkfifo(path, 0o600)
             self.assertRaises(Fault, self.dpkg().members, {b"/usr/bin/tool"}, same)
 
     def test_named(self) -> None:
