@@ -54,10 +54,10 @@ class CanaryTest(CommandTest):
 
     def compared(self, hosts: Hosts, *words: str) -> List[str]:
         """The lines of a comparison of all hosts."""
-        status, output, errors = hosts.compare(*words, self.path("hosts"))
-        self.assertGreaterEqual(status, 4, (words, output))
-        self.assertEqual(errors, "", words)
-        return output.splitlines()
+        done = hosts.compare(*words, self.path("hosts"))
+        self.assertGreaterEqual(done.status, 4, (words, done))
+        self.assertEqual(done.errors, b"", words)
+        return done.output_text.splitlines()
 
     def test_upgrade(self) -> None:
         """Only hosts with a mark are named, and the canary, which is told whole."""
@@ -80,14 +80,14 @@ class CanaryTest(CommandTest):
         hosts = self.fleet("www3")
         self.compared(hosts, "--canary", "www1")
         for form in ("text", "brief"):
-            text = hosts.report("--format", form).output
+            text = hosts.report("--format", form).output_text
             self.assertTrue(text.startswith(USED + "\naide on 4 hosts: 2 differ"), text)
             self.assertNotRegex(text, "www2|www4")
             self.assertIn("/usr/bin/mark", text)
-        page = data_in(hosts.report("--format", "page").output)["heading"]
+        page = data_in(hosts.report("--format", "page").output_text)["heading"]
         self.assertIn(USED.strip(), page["remarks"])
         self.set_names("hosts.hosts_page", MAX_PAGE=1)
-        page = data_in(hosts.report("--format", "page").output)["heading"]
+        page = data_in(hosts.report("--format", "page").output_text)["heading"]
         self.assertIn("This page has no room for 3 more changes", page["remarks"][-1])
         self.assertIn(USED.strip(), page["remarks"], "also without room")
         summary, _, changes = hosts.objects()
@@ -96,7 +96,7 @@ class CanaryTest(CommandTest):
         wanted = {("/usr/bin/a", ("www1",)), ("/usr/bin/b", ("www1",)), (MARK.decode(), ("www3",))}
         self.assertEqual(told, wanted, "each path that changed is reported at least once")
         self.compared(hosts)
-        text = hosts.report().output
+        text = hosts.report().output_text
         self.assertTrue(text.startswith("aide on 4 hosts: 4 differ"), "no note without a canary")
 
     def check_failed(self, hosts: Hosts, cause: str, *words: str) -> None:
@@ -105,9 +105,9 @@ class CanaryTest(CommandTest):
         note = f"canary www1 was not used, so the others were compared without it: {cause}"
         lines = self.compared(hosts, *words, "--canary", "www1")
         self.assertTrue(lines[1].startswith(note), lines)
-        text = hosts.report().output
+        text = hosts.report().output_text
         self.assertTrue(text.startswith("C" + note[1:]), text)
-        brief = hosts.report("--format=brief").output
+        brief = hosts.report("--format=brief").output_text
         self.assertIn("the others were compared without it", brief.split("\n")[0])
         self.assertIn("\nopen=2\n", hosts.state("www2"))
 
@@ -132,7 +132,7 @@ class CanaryTest(CommandTest):
         hosts = self.fleet()
         for name in ("nobody", "-x", "../www1", "a b", ""):
             said = hosts.compare(f"--canary={name}", self.path("hosts"))
-            self.assertEqual((said.status, said.output), (15, ""), name)
+            self.assertEqual((said.status, said.output_text), (15, ""), name)
 
     def test_changed(self) -> None:
         """Only the very databases that were compared are trusted."""

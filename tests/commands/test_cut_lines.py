@@ -5,6 +5,8 @@ from __future__ import annotations
 import json
 import os
 
+from tests.lib.answer import Answer
+
 from .sandbox import CommandTest
 from .test_hosts_report import Fields, Hosts, database, four_hosts, line
 
@@ -32,14 +34,16 @@ class CutLinesTest(CommandTest):
         self.assertEqual((host["open"], host["high"], summary["cut"]), (FLOOD + 1, 1, 1))
         words = "long: its changes were cut; "
         words += f"{host['listed']} of {FLOOD + 1} changes are listed; 1 of all are high\n"
-        self.assertIn(words, hosts.report().output)
+        self.assertIn(words, hosts.report().output_text)
         self.assertLess(os.stat(self.path("store/hosts/long/lines")).st_size, 21 << 10)
         said = hosts.compare_one("long")
         self.assertEqual(said.status, 1, said)
-        self.assertIn(words, said.errors)
-        self.assertIn("/zz/.ssh/authorized_keys\n", said.output)
+        self.assertIn(words, said.error_text)
+        self.assertIn("/zz/.ssh/authorized_keys\n", said.output_text)
         said = hosts.compare_one("long", "--quiet")
-        self.assertEqual((said.status, said.output.count("\n"), said.errors), (1, 2, ""), said)
+        self.assertEqual(
+            (said.status, said.output_text.count("\n"), said.error_text), (1, 2, ""), said
+        )
 
     def test_owners(self) -> None:
         """A user who floods with changes of the same severity hides none of root's, and root's come
@@ -54,7 +58,7 @@ class CutLinesTest(CommandTest):
         self.assertEqual(found["long"]["report"], "cut", found)
         paths = {each["path"] for each in changes}
         self.assertTrue({"/root/.bashrc", "/root/x"} <= paths, "what root has is kept")
-        brief = hosts.report("--format", "brief").output
+        brief = hosts.report("--format", "brief").output_text
         self.assertIn("severity high:\n  long                added    /root/.bashrc", brief)
 
     def report_of(self, hosts: Hosts, lines: bytes) -> Fields:
@@ -106,21 +110,21 @@ class CutLinesTest(CommandTest):
         calm = database(*touched, line(b"/d", b"xy", 9, b"40755"))
         loud = database(*touched, line(b"/d", b"xy", 9, b"40777"))
         said = hosts.compared({"calm": (old, calm)}, "--quiet")
-        self.assertEqual(said, (0, "", ""), "a quiet night")
+        self.assertEqual(said, Answer(b"", b"", 0), "a quiet night")
         self.stub("sendmail", f'cat > "{self.path("mail")}"')
-        self.assertEqual(hosts.report("--to", "root"), (0, "", ""))
+        self.assertEqual(hosts.report("--to", "root"), Answer(b"", b"", 0))
         self.assertFalse(os.path.exists(self.path("mail")))
         said = hosts.compared({"calm": (old, calm), "loud": (old, loud)}, "--quiet")
         self.assertEqual(said.status, 4, said)
         told = "loud 4 added 0, removed 0, changed 3: 1 open (1 high) of 3 changes\n"
-        self.assertTrue(said.output.startswith(told), said)
-        self.assertNotIn("calm", said.output)
+        self.assertTrue(said.output_text.startswith(told), said)
+        self.assertNotIn("calm", said.output_text)
         summary, found, changes = hosts.objects()
         counts = [summary[name] for name in ("differ", "silent", "unchanged", "changes")]
         self.assertEqual(counts, [1, 1, 0, 1])
         self.assertEqual([each["path"] for each in changes], ["/d"], "only what is open")
         self.assertEqual(found["calm"]["open"], 0)
-        text = hosts.report("--format=brief").output
+        text = hosts.report("--format=brief").output_text
         first = (
             "aide on 2 hosts: 1 differ, 0 not compared\n0 without differences, 1 with silent ones\n"
         )

@@ -10,8 +10,9 @@ import subprocess
 import sys
 import time
 from collections.abc import Sequence
-from typing import Any, NamedTuple
+from typing import Any
 
+from tests.lib.answer import Answer
 from tests.lib.waiting import is_alive, until
 
 from .sandbox import CommandTest, END, HEAD, NEW, OLD, sha256
@@ -55,14 +56,6 @@ def links(name: bytes) -> bytes:
     return b"@@begin_db\n@@db_spec name attr perm lname\n" + lines + END
 
 
-class Said(NamedTuple):
-    """What a command about many hosts answered."""
-
-    status: int
-    output: str
-    errors: str
-
-
 class Fleet:
     """The commands as they are installed, and a store with hosts that a small program in ssh's
     place sends for. Each trial begins with its own, so that it can be run by itself."""
@@ -101,15 +94,15 @@ class Fleet:
             **more,
         )
 
-    def call(self, command: str, *words: str, before: Sequence[str] = ()) -> Said:
+    def call(self, command: str, *words: str, before: Sequence[str] = ()) -> Answer:
         run = self.start([*before, *self.words(command, *words)])
         output, errors = run.communicate(timeout=900)
-        return Said(run.returncode, output.decode(), errors.decode())
+        return Answer(output, errors, run.returncode)
 
-    def compare(self, *words: str, before: Sequence[str] = ()) -> Said:
+    def compare(self, *words: str, before: Sequence[str] = ()) -> Answer:
         return self.call(COMPARE, *words, before=before)
 
-    def compare_one(self, host: str, *words: str, before: Sequence[str] = ()) -> Said:
+    def compare_one(self, host: str, *words: str, before: Sequence[str] = ()) -> Answer:
         return self.compare(*words, "--one", host, before=before)
 
     def state(self, host: str) -> str:
@@ -117,10 +110,10 @@ class Fleet:
         values = self.sandbox.state("store/states/" + host)
         return "".join(f"{key}={value}\n" for key, value in values.items())
 
-    def not_compared(self, told: str, said: Said, host: str, status: int = 18) -> None:
+    def not_compared(self, told: str, said: Answer, host: str, status: int = 18) -> None:
         """A host was not compared, which its line and its state say with this text."""
         self.sandbox.assertEqual(said.status, status, said)
-        line = re.search(f"(?m)^{re.escape(host)} {status} (.*)$", said.output)
+        line = re.search(f"(?m)^{re.escape(host)} {status} (.*)$", said.output_text)
         self.sandbox.assertIn(told, line.group(1) if line else "", said)
         state = self.state(host)
         self.sandbox.assertIn(f"\nstatus={status}\n", state)
@@ -132,10 +125,10 @@ class FleetTest(CommandTest):
         super().setUp()
         self.fleet = Fleet(self)
 
-    def check_pair(self, said: Said) -> None:
+    def check_pair(self, said: Answer) -> None:
         """All hosts that are not hostile are compared."""
         for host in PAIR:
-            self.assertIn(f"{host} {DIFFERS}\n", said.output, said)
+            self.assertIn(f"{host} {DIFFERS}\n", said.output_text, said)
 
     def test_hostile(self) -> None:
         """One host sends some kB whose changes have hundreds of MB: it is compared, its lines are
@@ -148,7 +141,7 @@ class FleetTest(CommandTest):
         self.assertEqual(said.status, 7, said)
         self.check_pair(said)
         line = "evil 4 added 0, removed 0, changed 60: 60 open of 60 changes\n"
-        self.assertIn(line, said.output)
+        self.assertIn(line, said.output_text)
         self.assertIn("\nchanged=60\n", fleet.state("evil"))
         folder = self.path("store/hosts/evil")
         size = sum(os.stat(f"{folder}/{name}").st_size for name in os.listdir(folder))
@@ -241,19 +234,19 @@ class FleetTest(CommandTest):
             self.fleet.put(host, OLD)
             said = self.fleet.compare_one(host)
             self.fleet.not_compared(told, said, host)
-            self.assertTrue(said.output.split("\n")[0].endswith(told), said)
+            self.assertTrue(said.output_text.split("\n")[0].endswith(told), said)
         self.fleet.put("killer", OLD)
         said = self.fleet.compare(self.fleet.list_hosts("good1", "killer", "good2"))
         self.fleet.not_compared("ended without an answer", said, "killer")
-        self.assertEqual(len(said.output.splitlines()), 4, said)
+        self.assertEqual(len(said.output_text.splitlines()), 4, said)
 
     def test_wrong(self) -> None:
         hosts = self.fleet.list_hosts("good1")
         of_one = ("--one --canary good1",)
         for words in ("--same-for 08x", "--same-for 31d", "--time -1", "--max-size 1T", *of_one):
             said = self.fleet.compare(*words.split(), hosts)
-            self.assertEqual((said.status, said.output), (15, ""), words)
-            self.assertTrue(said.errors, words)
+            self.assertEqual((said.status, said.output_text), (15, ""), words)
+            self.assertTrue(said.error_text, words)
         for name in ("..", "a..b", "-x", "a/b", "a b", "x\ny", "é", "a" * 201, "a\n"):
             said = self.fleet.call("aide-compare hosts fetch", "--", name)
             self.assertEqual(said.status, 15, (name, said))
@@ -272,7 +265,7 @@ class FleetTest(CommandTest):
             os.utime(kept, (time.time() - 9 * 3600,) * 2)
             said = self.fleet.compare_one(host, "--same-for", "08h")
             self.fleet.not_compared("for more than 8 hours", said, host)
-            self.assertIn(counts, said.output)
+            self.assertIn(counts, said.output_text)
             self.assertIn("error=%s: has sent" % host, self.fleet.state(host))
             for age in ("10h", "0"):
                 said = self.fleet.compare_one(host, "--same-for", age)
@@ -288,7 +281,7 @@ class FleetTest(CommandTest):
         self.assertEqual(self.fleet.call(accept, "fresh").status, 15, "no digest")
         said = self.fleet.call(accept, "--first", "fresh")
         self.assertEqual(said.status, 0, said)
-        self.assertRegex(said.output, "SHA-256 [0-9a-f]{64}\n")
+        self.assertRegex(said.output_text, "SHA-256 [0-9a-f]{64}\n")
         mode = os.stat(self.path("store/hosts/fresh/aide.db")).st_mode & 0o777
         self.assertEqual(mode, 0o600)
         self.assertEqual(self.fleet.call(accept, "--first", "fresh").status, 24)
@@ -296,15 +289,15 @@ class FleetTest(CommandTest):
             self.fleet.put("other", OLD, None)
             self.fleet.call("aide-compare hosts fetch", words[-1])
             said = self.fleet.call(accept, "--max-size", "50", *words)
-            self.assertEqual((said.status, said.output), (18, ""), (words, said))
-            self.assertIn("has more than 50 bytes", said.errors)
+            self.assertEqual((said.status, said.output_text), (18, ""), (words, said))
+            self.assertIn("has more than 50 bytes", said.error_text)
 
     def test_one(self) -> None:
         """The changes of a single host, the most severe first, each with its severity."""
         new = b"/a 36 100644 5\n/etc/passwd 36 100644 5\n/usr/bin/x 36 104755 5\n"
         self.fleet.put("good1", HEAD + new + END, HEAD + END)
         said = self.fleet.compare_one("good1")
-        found = re.findall("(?m)^(high|medium|low) added File: (.*)$", said.output)
+        found = re.findall("(?m)^(high|medium|low) added File: (.*)$", said.output_text)
         wanted = [("high", "/usr/bin/x"), ("high", "/etc/passwd"), ("medium", "/a")]
         self.assertEqual(found, wanted, said)
 
@@ -314,4 +307,4 @@ class FleetTest(CommandTest):
         os.chown(self.path("store/hosts/good1"), 65534, 65534)
         said = self.fleet.compare_one("good1")
         self.assertEqual(said.status, 18, said)
-        self.assertIn("another user can write", said.output)
+        self.assertIn("another user can write", said.output_text)

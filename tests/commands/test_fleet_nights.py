@@ -11,6 +11,7 @@ from typing import Any, Dict, Optional
 from tests.commands.made_up import Night, base64_of, time_of
 from tests.commands.sandbox import CommandTest
 from tests.commands.test_hosts_report import Hosts
+from tests.lib.answer import Answer
 
 ACCEPT = "aide-compare hosts accept"
 CANARY = "www1"
@@ -77,7 +78,7 @@ class Fleet(Hosts):
         digest = re.search("(?m)^new_sha256=(.*)$", self.state(host))
         assert digest is not None
         said = self.call(ACCEPT, "-q", "--sha256", digest.group(1), host)
-        self.sandbox.assertEqual(said, (0, "", ""))
+        self.sandbox.assertEqual(said, Answer(b"", b"", 0))
 
     def accept_silent(self) -> set[str]:
         """Accepts all hosts of which nothing is open. Returns their names."""
@@ -101,7 +102,7 @@ class FleetNightsTest(CommandTest):
             fleet.accept(CANARY)
         fleet.send(NAMES, mark)
         self.assertEqual(fleet.night(), {EVIL: 1}, "those that lag are quiet")
-        first = fleet.report().output.split("\n")[0]
+        first = fleet.report().output_text.split("\n")[0]
         self.assertIn("and was accepted, is silent", first)
         self.assertIn("www4", fleet.accept_silent())
         fleet.accept(EVIL)
@@ -109,9 +110,11 @@ class FleetNightsTest(CommandTest):
         self.assertEqual(fleet.night(), {}, "an idle night")
         hosts = self.path("hosts")
         said = fleet.compare("-q", "--canary", CANARY, "--no-fetch", hosts)
-        self.assertEqual((said.output, said.errors), ("", ""), "nobody is named")
+        self.assertEqual((said.output_text, said.error_text), ("", ""), "nobody is named")
         without = fleet.compare("-q", "--no-fetch", hosts)
-        self.assertEqual((without.output, without.errors), ("", ""), "nor without a canary")
+        self.assertEqual(
+            (without.output_text, without.error_text), ("", ""), "nor without a canary"
+        )
 
     def test_upgrade(self) -> None:
         """Night 1: the canary is named, and who has a mark. The canary is accepted. Night 2: hosts
@@ -234,7 +237,7 @@ class ListedOnceTest(CommandTest):
         fleet = Fleet(self)
         fleet.send(NAMES)
         self.assertEqual(fleet.night(), {CANARY: 4})
-        self.assertNotIn("listed nowhere", fleet.report().output)
+        self.assertNotIn("listed nowhere", fleet.report().output_text)
         self.put_mail()
         others = self.write("others", "".join(f"{host}\n" for host in NAMES if host != CANARY))
         said = fleet.call("aide-compare hosts report", "--to", "root", others)
@@ -243,7 +246,7 @@ class ListedOnceTest(CommandTest):
         fleet.compare_one(CANARY)
         os.remove(self.path("mail"))
         said = fleet.report("--to", "root")
-        self.assertEqual(said.errors, "")
+        self.assertEqual(said.error_text, "")
         second = self.read("mail").decode().split("\n\n")[1].split("\n")[1]
         self.assertTrue(second.startswith(f"Canary {CANARY}: what was silent beside it"), second)
 

@@ -8,8 +8,8 @@ import shutil
 import socket
 import subprocess
 import termios
-from typing import NamedTuple
 
+from tests.lib.answer import Answer
 from tests.lib.waiting import until
 
 from .sandbox import CommandTest, NEW, OLD, sha256
@@ -33,16 +33,9 @@ esac
 exec cat "ROOT/remote/$1\""""
 
 
-class Asked(NamedTuple):
-    """What a command with a terminal has ended with, and what that showed."""
-
-    status: int
-    text: str
-
-
 def add(
     sandbox: CommandTest, host: str, answer: str, *words: str, early: bytes = b"", key: bytes = b""
-) -> Asked:
+) -> Answer:
     """Runs the command on a terminal, and answers its question once it is asked; and that of ssh
     before it, if there is an answer to that."""
     options = ("--store", sandbox.path("store"), "--hosts-file", sandbox.path("etc-hosts"))
@@ -60,7 +53,7 @@ def add(
         terminal.type(key)
     terminal.type(early)
     status, text = terminal.answered(PROMPT, answer.encode())
-    return Asked(status, text.decode("utf-8", "replace"))
+    return Answer(text, b"", status)
 
 
 def files(sandbox: CommandTest) -> dict[str, str]:
@@ -149,8 +142,8 @@ class HostsAddTest(CommandTest):
         before = files(self)
         asked = add(self, host, "yes\n", *words)
         self.assertEqual(asked.status, status, asked)
-        self.assertIn(told, asked.text)
-        self.assertNotIn("yes or no", asked.text)
+        self.assertIn(told, asked.output_text)
+        self.assertNotIn("yes or no", asked.output_text)
         self.assertEqual(files(self), before, asked)
 
     def test_yes(self) -> None:
@@ -158,7 +151,7 @@ class HostsAddTest(CommandTest):
         self.fleet.put("www", OLD, None)
         asked = add(self, "www", "yes\n")
         self.assertEqual(asked.status, 0, asked)
-        before = asked.text.partition("yes or no: ")[0]
+        before = asked.output_text.partition("yes or no: ")[0]
         for part in (
             f"    {sha256(OLD)}\n",
             "    zcat -f /var/lib/aide/aide.db.new | sha256sum\n",
@@ -194,7 +187,7 @@ class HostsAddTest(CommandTest):
         asked = add(self, "db1", "yes\n")
         self.assertEqual(asked.status, 0, asked)
         self.assertEqual(files(self)["etc-hosts"], "www\n# no end of line\ndb1\n")
-        self.assertIn("db1 0 no differences", self.fleet.compare_one("db1").output)
+        self.assertIn("db1 0 no differences", self.fleet.compare_one("db1").output_text)
 
     def test_no(self) -> None:
         """Any other answer, or no terminal, keeps nothing."""
@@ -202,13 +195,13 @@ class HostsAddTest(CommandTest):
         for answer in ("no\n", "\n", "y\n", "yes please\n", "\x04"):
             asked = add(self, "www", answer)
             self.assertEqual((asked.status, files(self)), (24, {}), asked)
-            self.assertIn("nothing was added", asked.text)
+            self.assertIn("nothing was added", asked.output_text)
         asked = add(self, "www", "no\n", early=b"yes\n")
         self.assertEqual((asked.status, files(self)), (24, {}), "typed before the question")
         command = "aide-compare hosts add"
         said = self.fleet.call(command, "www")
         self.assertEqual((said.status, files(self)), (15, {}), said)
-        self.assertIn("needs a terminal", said.errors)
+        self.assertIn("needs a terminal", said.error_text)
         for option in ("--yes", "-y", "--force"):
             said = self.fleet.call(command, option, "www")
             self.assertEqual((said.status, files(self)), (15, {}), (option, said))
@@ -238,12 +231,12 @@ class HostsAddTest(CommandTest):
             sshds.start(name, f"cat {self.path('remote/' + name)}")
             asked = add(self, name, "", key=b"no\n")
             self.assertEqual((asked.status, name in files(self)), (18, False), asked)
-            self.assertIn("is its key in known_hosts?", asked.text)
+            self.assertIn("is its key in known_hosts?", asked.output_text)
             asked = add(self, name, "yes\n", key=b"yes\n")
             self.assertEqual(asked.status, 0, asked)
             words = ["ssh-keygen", "-lf", self.path(f"{name}.key.pub")]
             fingerprint = subprocess.check_output(words).decode().split(" ")[1]
-            self.assertIn(fingerprint, asked.text)
+            self.assertIn(fingerprint, asked.output_text)
         self.compared(0, "www 0 no differences", "db1 0 no differences")
         self.write("remote/www", NEW)
         sshds.running["db1"].kill()
@@ -267,5 +260,5 @@ class HostsAddTest(CommandTest):
         said = self.fleet.compare(self.path("etc-hosts"))
         self.assertEqual(said.status, status, said)
         for line in lines:
-            self.assertIn("\n" + line, "\n" + said.output)
-        return said.output
+            self.assertIn("\n" + line, "\n" + said.output_text)
+        return said.output_text

@@ -35,7 +35,7 @@ class HostsBriefTest(CommandTest):
         texts = {"evil1": (OLD, database(SHADOW, *flood(1)))}
         texts.update(good1=changed, good2=changed, good3=(OLD, OLD))
         hosts.compared(texts)
-        for text in (hosts.report("--format=brief").output, mailed(self, hosts)):
+        for text in (hosts.report("--format=brief").output_text, mailed(self, hosts)):
             self.assertRegex(text, r"evil1, good1 \+1 +changed +/etc/shadow")
             left = re.findall(r"(?m)^  and ([\d,]+) more", text)
             listed = len(re.findall("(?m)^  (?:evil1)? +added +/etc/cron.d/", text))
@@ -57,7 +57,7 @@ class HostsBriefTest(CommandTest):
         first = "\n".join(text.split("\n")[:20])
         self.assertRegex(first, "(?m)^  good +changed +/etc/shadow")
         self.assertRegex(text, "(?m)^  good +added +/zz/last")
-        paths = [head["path"] for head in heads_in(hosts.report("--format=page").output)]
+        paths = [head["path"] for head in heads_in(hosts.report("--format=page").output_text)]
         self.assertTrue(any(path.endswith("shadow") for path in paths), paths)
 
     def test_groups(self) -> None:
@@ -68,7 +68,7 @@ class HostsBriefTest(CommandTest):
         texts = {host: (OLD, database(SHADOW, *both)) for host in ("good1", "good2")}
         texts["evil"] = (OLD, database(SHADOW, own))
         hosts.compared(texts)
-        text = hosts.report("--format=brief").output
+        text = hosts.report("--format=brief").output_text
         rows = text.partition("Open, severity high:\n")[2].split("\n")[:5]
         found = [row.partition(": ")[0].split() for row in rows]
         wanted = [
@@ -92,7 +92,7 @@ class HostsBriefTest(CommandTest):
         hosts.compared(texts)
         never = ["never-compared-%s%02d" % ("x" * 150, number) for number in range(20)]
         hosts.list_hosts(*texts, *never)
-        text = hosts.report("--format=brief").output
+        text = hosts.report("--format=brief").output_text
         rows = text.rstrip("\n").split("\n")
         self.assertTrue(60 < len(rows) <= 80, len(rows))
         command = rows.index("All changes with their values:")

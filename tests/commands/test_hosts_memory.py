@@ -49,8 +49,8 @@ def bombs() -> dict[str, bytes]:
 def measured(fleet: Fleet, *words: str) -> tuple[int, str, int]:
     """The status and the output of a comparison, and the most memory of a process of it, in kB."""
     before = [sys.executable, "-c", MEASURE]
-    status, output, errors = fleet.call("aide-compare hosts compare", *words, before=before)
-    return status, output, int(errors.split()[-1])
+    done = fleet.call("aide-compare hosts compare", *words, before=before)
+    return done.status, done.output_text, int(done.errors.split()[-1])
 
 
 @slow

@@ -30,8 +30,9 @@ class HostsPageTest(CommandTest):
         hosts = four_hosts(self)
         hosts.list_hosts("www1", "www2", "www3", "www4", "calm", "never")
         self.set_names("commands.hosts_report", MAX_NAMES=2)
-        status, page, errors = hosts.report("--format=page")
-        self.assertEqual((status, errors), (18, ""))
+        done = hosts.report("--format=page")
+        self.assertEqual((done.status, done.errors), (18, b""))
+        page = done.output_text
         self.assertTrue(page.startswith("<!doctype html>"), page[:100])
         title = "aide on 6 hosts: 4 differ, 1 not compared"
         self.assertIn(f"<title>{title}</title>", page)
@@ -61,7 +62,7 @@ class HostsPageTest(CommandTest):
         many = [line(b"/usr/bin/%d" % number) for number in range(4)]
         texts = {"good1": many, "good2": many, "good3": [line(b"/usr/bin/2x")]}
         hosts.compared({name: (database(), database(*lines)) for name, lines in texts.items()})
-        rows = data_in(hosts.report("--format=page").output)["rows"]
+        rows = data_in(hosts.report("--format=page").output_text)["rows"]
         found = [head["path"].rpartition("/")[2] for head, _ in rows]
         self.assertEqual(found, ["2x", "0", "1", "2", "3"])
 
@@ -70,7 +71,7 @@ class HostsPageTest(CommandTest):
         hosts = Hosts(self)
         paths = HOSTILE + MARKUP
         hosts.compared({"good1": (database(), database(*(line(path, path) for path in paths)))})
-        page = hosts.report("--format=page").output
+        page = hosts.report("--format=page").output_text
         data = page.partition('<script id="data" type="application/json">')[2]
         self.assertEqual(data.count("<"), data.count("</"), "only the ends of what is there")
         self.assertTrue(data.isascii() and data.replace("\n", "").isprintable())
@@ -92,10 +93,10 @@ class HostsPageTest(CommandTest):
         one = database(line(b"/zz"))
         texts = {"good1": (database(), many), "good3": (database(), one), "same": (OLD, OLD)}
         hosts.compared(texts)
-        whole = data_in(hosts.report("--format=page").output)
+        whole = data_in(hosts.report("--format=page").output_text)
         self.assertEqual((len(whole["rows"]), whole["heading"]["remarks"]), (301, []))
         self.after_import("hosts.hosts_page", f"page.__defaults__ = ({ROOM},)\n")
-        page = hosts.report("--format=page").output
+        page = hosts.report("--format=page").output_text
         self.assertLessEqual(len(page.encode()), ROOM)
         data = data_in(page)
         (remark,) = data["heading"]["remarks"]

@@ -5,7 +5,9 @@ from __future__ import annotations
 import os
 import shutil
 
-from .test_fleet import COUNTS, DIFFERS, Fleet, Said
+from tests.lib.answer import Answer
+
+from .test_fleet import COUNTS, DIFFERS, Fleet
 from .sandbox import CommandTest, END, NEW, OLD, sha256
 
 HOSTS = 8
@@ -20,9 +22,9 @@ def idle(size: int) -> bytes:
     return OLD.replace(END, LOGS % size + END)
 
 
-def compared_of(said: Said) -> str:
+def compared_of(said: Answer) -> str:
     """The last line of a comparison of all hosts."""
-    return said.output.rpartition("hosts: ")[2]
+    return said.output_text.rpartition("hosts: ")[2]
 
 
 class HostsQuietTest(CommandTest):
@@ -46,22 +48,24 @@ class HostsQuietTest(CommandTest):
         self.assertEqual(said.status, 4, said)
         self.assertEqual(compared_of(said), "8 differ, 0 not compared, 0 without differences\n")
         said = fleet.compare("-q", "--exclude-from", self.path("without"), self.hosts)
-        self.assertEqual(said, (0, "", ""), "an idle night with what is left out")
+        self.assertEqual(said, Answer(b"", b"", 0), "an idle night with what is left out")
         said = fleet.compare("--exclude-from", self.path("without"), self.hosts)
-        self.assertEqual(said.output.count("; left out: 1 of 1 change\n"), HOSTS, said)
+        self.assertEqual(said.output_text.count("; left out: 1 of 1 change\n"), HOSTS, said)
         summary = "8 hosts: 0 differ, 0 not compared, 0 without differences, 8 with silent ones\n"
-        self.assertTrue(said.output.endswith(summary), said)
+        self.assertTrue(said.output_text.endswith(summary), said)
         state = fleet.state("h07")
         self.assertIn("left_out=1\n", state, "how many changes are left out")
         self.assertIn(f"new_sha256={sha256(idle(9))}\n", state, "of the whole database")
         report = fleet.call("aide-compare hosts report", "--format=json", self.hosts)
-        self.assertEqual((report.status, report.output.count('"left_out":1')), (0, HOSTS), report)
+        self.assertEqual(
+            (report.status, report.output_text.count('"left_out":1')), (0, HOSTS), report
+        )
         said = fleet.compare("--exclude-from", "none", self.hosts)
-        self.assertEqual((said.status, said.output), (18, ""), "a missing file of paths")
+        self.assertEqual((said.status, said.output_text), (18, ""), "a missing file of paths")
         self.write("faulty", "/a\nb\n")
         said = fleet.compare("--exclude-from", self.path("faulty"), self.hosts)
-        self.assertEqual((said.status, said.output), (17, ""), "a faulty list is refused once")
-        self.assertTrue(said.errors.endswith("faulty, line 2: a path begins with /: b\n"), said)
+        self.assertEqual((said.status, said.output_text), (17, ""), "a faulty list is refused once")
+        self.assertTrue(said.error_text.endswith("faulty, line 2: a path begins with /: b\n"), said)
 
     def test_usual_list(self) -> None:
         """The administrator's list and the lines of the defaults leave entries out on hosts too; a
@@ -69,12 +73,12 @@ class HostsQuietTest(CommandTest):
         fleet = self.prepare(idle(5), idle(9))
         self.write("etc/without", "/var/log/**\n")
         said = fleet.compare("-q", self.hosts)
-        self.assertEqual(said, (0, "", ""), "the usual list")
+        self.assertEqual(said, Answer(b"", b"", 0), "the usual list")
         self.assertEqual(fleet.compare("--no-defaults", self.hosts).status, 4)
         os.remove(self.path("etc/without"))
         self.write("etc/defaults", "--exclude /var/log/a\n--trusted none none\n--max-age 1s\n")
         said = fleet.compare("-q", self.hosts)
-        self.assertEqual(said, (0, "", ""), "a line of the defaults")
+        self.assertEqual(said, Answer(b"", b"", 0), "a line of the defaults")
         said = fleet.compare("--exclude", "/x", "--no-defaults", self.hosts)
         self.assertEqual(said.status, 4)
 
@@ -85,8 +89,8 @@ class HostsQuietTest(CommandTest):
         self.write("store/hosts/h04/aide.db.new", b"x" * 500, 0o600)
         os.remove(self.path("store/hosts/h04/aide.db"))
         said = fleet.call(accept, "--first", "h04")
-        self.assertEqual((said.status, said.output), (24, ""), said)
-        self.assertIn("no sound database", said.errors)
+        self.assertEqual((said.status, said.output_text), (24, ""), said)
+        self.assertIn("no sound database", said.error_text)
         os.remove(self.path("store/hosts/h06/aide.db"))
         fleet.call("aide-compare hosts fetch", "h06")
         full = ["sh", "-c", '"$@" > /dev/full', "sh"]
@@ -96,7 +100,7 @@ class HostsQuietTest(CommandTest):
         fleet.compare_one("h05")
         said = fleet.call(accept, "--sha256", sha256(NEW), "--keep-open", "/c", "h05")
         self.assertEqual(said.status, 0, said)
-        self.assertIn("added 0, removed 0, changed 1", said.output, "a part of a database")
+        self.assertIn("added 0, removed 0, changed 1", said.output_text, "a part of a database")
 
     def test_causes(self) -> None:
         """A host that is down: a later comparison without a fetch does not lose the cause, and is no
@@ -107,15 +111,19 @@ class HostsQuietTest(CommandTest):
             if had_one:
                 fleet.compare(self.hosts)
             self.write("down/h01", "")
-            self.assertIn(f"h01 18 {cause}\n", fleet.compare(self.hosts).output)
-            brief = fleet.call("aide-compare hosts report", "--format=brief", self.hosts).output
+            self.assertIn(f"h01 18 {cause}\n", fleet.compare(self.hosts).output_text)
+            brief = fleet.call(
+                "aide-compare hosts report", "--format=brief", self.hosts
+            ).output_text
             self.assertIn(f"  h01: {cause}\n", brief, "the whole cause")
             said = fleet.compare("--no-fetch", self.hosts)
             fleet.not_compared(cause, said, "h01")
-            self.assertNotIn("h01: ", said.output, "the name once")
-            self.assertEqual(f"; it differs: {COUNTS}" in said.output, had_one, said)
+            self.assertNotIn("h01: ", said.output_text, "the name once")
+            self.assertEqual(f"; it differs: {COUNTS}" in said.output_text, had_one, said)
             os.remove(self.path("down/h01"))
-        self.assertIn(f"h01 {DIFFERS}\n", fleet.compare(self.hosts).output, "it is there again")
+        self.assertIn(
+            f"h01 {DIFFERS}\n", fleet.compare(self.hosts).output_text, "it is there again"
+        )
         os.mkdir(self.path("store/hosts/h01/not-fetched"))
         said = fleet.compare("--no-fetch", self.hosts)
         told = "it was not fetched the last time: its cause cannot be read"
@@ -129,12 +137,12 @@ class HostsQuietTest(CommandTest):
         said = fleet.compare(hosts)
         line = "h02 18 there is no baseline yet; see aide-compare hosts add --help\n"
         summary = "1 host: 0 differ, 1 not compared, 0 without differences\n"
-        self.assertEqual(said.output, line + summary)
+        self.assertEqual(said.output_text, line + summary)
         head = ["sh", "-c", '"$@" | head -n 1', "sh"]
         said = fleet.compare_one("h03", before=head)
-        self.assertTrue(said.output.startswith("h03 7 "), said)
-        self.assertNotRegex(said.errors, "call of the system|Broken pipe")
-        report = fleet.call("aide-compare hosts report", hosts).output
+        self.assertTrue(said.output_text.startswith("h03 7 "), said)
+        self.assertNotRegex(said.error_text, "call of the system|Broken pipe")
+        report = fleet.call("aide-compare hosts report", hosts).output_text
         self.assertTrue(report.startswith("aide on 1 host: 0 differ, 1 not compared"), report)
 
     def test_list_and_remove(self) -> None:
@@ -144,21 +152,21 @@ class HostsQuietTest(CommandTest):
         fleet.compare(fleet.list_hosts("h01", "h02", "h03"))
         hosts = fleet.list_hosts("h01", "h02", "never", "h03")
         said = fleet.call("aide-compare hosts list", hosts)
-        self.assertEqual((said.status, said.errors), (0, ""), said)
-        lines = said.output.splitlines()
+        self.assertEqual((said.status, said.error_text), (0, ""), said)
+        lines = said.output_text.splitlines()
         self.assertRegex(
             lines[0], "^h01 7 added 1, removed 1, changed 2: 4 open of 4 changes, 20.*"
         )
         self.assertEqual(lines[2], "never 18 was never compared")
         words = ("--hosts-file", hosts)
         remove = "aide-compare hosts remove"
-        self.assertEqual(fleet.call(remove, "-q", *words, "h02"), (0, "", ""))
+        self.assertEqual(fleet.call(remove, "-q", *words, "h02"), Answer(b"", b"", 0))
         self.assertEqual(self.read("hosts"), b"h01\nnever\nh03\n")
         self.assertFalse(os.path.exists(self.path("store/hosts/h02")))
         self.assertEqual(fleet.state("h02"), "")
         self.assertEqual(fleet.call(remove, *words, "never").status, 0, "it was listed")
         said = fleet.call(remove, *words, "h02")
-        self.assertEqual((said.status, said.output), (18, ""), "nothing is left of it")
+        self.assertEqual((said.status, said.output_text), (18, ""), "nothing is left of it")
         os.remove(self.path("hosts"))
         os.symlink("/etc/passwd", self.path("hosts"))
         self.assertNotEqual(fleet.call(remove, *words, "root").status, 0)

@@ -16,11 +16,12 @@ import time
 from collections.abc import Callable, Iterator, Sequence
 from typing import Any, Dict, List, Tuple
 
+from tests.lib.answer import Answer
 from tests.lib.waiting import until
 
 from .made_up import path_of
 from .sandbox import CommandTest, END, NEW, OLD
-from .test_fleet import Fleet, Said
+from .test_fleet import Fleet
 
 SPEC = b"@@begin_db\n@@db_spec name perm uid gid size mtime inode lcount attr sha256\n"
 HOSTILE = (
@@ -66,7 +67,7 @@ def decoded(path: bytes) -> bytes:
 class Hosts(Fleet):
     """A store in which some hosts have been compared."""
 
-    def compared(self, texts: dict[str, tuple[bytes, bytes]], *words: str) -> Said:
+    def compared(self, texts: dict[str, tuple[bytes, bytes]], *words: str) -> Answer:
         """Fetches and compares hosts, each given by its old and its new database."""
         for host, (old, new) in texts.items():
             self.put(host, new, old)
@@ -80,7 +81,7 @@ class Hosts(Fleet):
             shutil.copy(states + host, states + name)
         self.list_hosts(*names)
 
-    def report(self, *words: str, before: Sequence[str] = ()) -> Said:
+    def report(self, *words: str, before: Sequence[str] = ()) -> Answer:
         hosts = self.sandbox.path("hosts")
         return self.call("aide-compare hosts report", *words, hosts, before=before)
 
@@ -88,8 +89,8 @@ class Hosts(Fleet):
         """The objects of a report in JSON: the summary, the hosts by their names, and the
         changes."""
         said = self.report("--format=json", *words)
-        summary, *rest = [json.loads(each) for each in said.output.splitlines()] or [{}]
-        self.sandbox.assertTrue(said.output.isascii(), said)
+        summary, *rest = [json.loads(each) for each in said.output_text.splitlines()] or [{}]
+        self.sandbox.assertTrue(said.output_text.isascii(), said)
         self.sandbox.assertEqual(summary.get("lines"), 1 + len(rest), said)
         hosts, changes = rest[: summary["hosts"]], rest[summary["hosts"] :]
         self.sandbox.assertEqual({each["record"] for each in hosts} - {"host"}, set())
@@ -128,7 +129,7 @@ def four_hosts(sandbox: CommandTest) -> Hosts:
     texts["calm"] = (old, old)
     said = hosts.compared(texts)
     sandbox.assertEqual(said.status, 7, said)
-    sandbox.assertIn("5 hosts: 4 differ, 0 not compared, 1 without differences\n", said.output)
+    sandbox.assertIn("5 hosts: 4 differ, 0 not compared, 1 without differences\n", said.output_text)
     return hosts
 
 
@@ -186,7 +187,7 @@ class HostsReportTest(CommandTest):
         paths = [each["path"] for each in hosts.objects()[2]]
         self.assertEqual(paths, sorted(paths))
         listed = re.findall(
-            r"(?m)^\w+ on (\d) of 5 hosts: .*\n\w+ \w+: (/.*)$", hosts.report().output
+            r"(?m)^\w+ on (\d) of 5 hosts: .*\n\w+ \w+: (/.*)$", hosts.report().output_text
         )
         self.assertEqual(listed[:3], [("1", "/usr/.x"), ("3", "/usr/.x"), ("4", "/d")])
 
@@ -202,7 +203,7 @@ class HostsReportTest(CommandTest):
         )
         hosts.compared({"www1": (old, new), "www2": (old, old)})
         paths = re.findall(
-            r"(?m)^\w+ on 1 of 2 hosts: www1\n\w+ \w+: (/.*)$", hosts.report().output
+            r"(?m)^\w+ on 1 of 2 hosts: www1\n\w+ \w+: (/.*)$", hosts.report().output_text
         )
         self.assertEqual(paths[0], "/zz/suid")
         self.assertEqual(paths, self.paths_of_mail(old, new))
@@ -221,9 +222,9 @@ class HostsReportTest(CommandTest):
         hosts = four_hosts(self)
         self.set_names("commands.hosts_report", MAX_NAMES=2)
         said = hosts.report()
-        self.assertEqual((said.status, said.errors), (7, ""), said)
+        self.assertEqual((said.status, said.error_text), (7, ""), said)
         first = "aide on 5 hosts: 4 differ, 0 not compared, 1 without differences\n"
-        self.assertTrue(said.output.startswith(first), said)
+        self.assertTrue(said.output_text.startswith(first), said)
         for part in (
             "\nhigh on 3 of 5 hosts: www1, www2 and 1 more\nadded File: /usr/.x\n    size       4\n",
             "\n    mode       -rwsr-xr-x\n",
@@ -233,7 +234,7 @@ class HostsReportTest(CommandTest):
             "\n    mode       (various) -> -rw-------\n",
             "\n  www4: added 1, removed 1, changed 2: 4 open",
         ):
-            self.assertIn(part, said.output)
+            self.assertIn(part, said.output_text)
 
     def test_wrong(self) -> None:
         hosts = Hosts(self)
@@ -247,8 +248,8 @@ class HostsReportTest(CommandTest):
             "--smtp mail.example --to root",
         ):
             said = hosts.report(*words.split())
-            self.assertEqual((said.status, said.output), (15, ""), words)
-            self.assertTrue(said.errors, words)
+            self.assertEqual((said.status, said.output_text), (15, ""), words)
+            self.assertTrue(said.error_text, words)
 
     def test_not_compared(self) -> None:
         """Whatever is not the result of today counts as not compared."""
@@ -276,7 +277,7 @@ class HostsReportTest(CommandTest):
         ):
             self.assertIn(found[name]["status"], (15, 18), name)
             self.assertIn(want, found[name]["error"])
-            self.assertRegex(said.output, f"\n  {re.escape(name)}: .*{want}")
+            self.assertRegex(said.output_text, f"\n  {re.escape(name)}: .*{want}")
         told = {name for each in changes for name in each["names"]}
         self.assertLessEqual(told, {"good1", "linked"}, "only those of today")
         self.assertFalse(os.path.exists(self.path("store/hosts/never")))
@@ -324,7 +325,7 @@ class HostsReportTest(CommandTest):
         wanted = sorted(map(decoded, HOSTILE), key=lambda path: path.split(b"/"))
         self.assertEqual([path_of(each) for each in changes], wanted)
         self.assertEqual({each["hosts"] for each in changes}, {2})
-        output = hosts.report().output
+        output = hosts.report().output_text
         self.assertNotRegex(output, "[\x00-\x09\x0b-\x1f\x7f\u202e]")
         self.assertLess(max(map(len, output.split("\n"))), 6000)
         starts = re.findall(r"(?m)^\w+ on (\d+) of (\d+) hosts: ", output)
@@ -333,7 +334,7 @@ class HostsReportTest(CommandTest):
     def mailed(self, hosts: Hosts, *words: str) -> str:
         """The mail about all hosts. The command prints nothing."""
         said = hosts.report("--to", "root", *words)
-        self.assertEqual(said, (18, "", ""))
+        self.assertEqual(said, Answer(b"", b"", 18))
         text: str = self.read("mail").decode()
         return text
 
@@ -343,13 +344,13 @@ class HostsReportTest(CommandTest):
         hosts = Hosts(self)
         self.stub("sendmail", 'cat > "%s"' % self.path("mail"))
         hosts.compared({"calm": (OLD, OLD)})
-        self.assertEqual(hosts.report("--to", "root"), (0, "", ""))
+        self.assertEqual(hosts.report("--to", "root"), Answer(b"", b"", 0))
         self.assertFalse(os.path.exists(self.path("mail")))
         today, other = time.strftime("%a"), time.strftime("%a", time.localtime(time.time() + 86400))
-        self.assertEqual(hosts.report("--to", "root", "--weekly", other), (0, "", ""))
+        self.assertEqual(hosts.report("--to", "root", "--weekly", other), Answer(b"", b"", 0))
         self.assertFalse(os.path.exists(self.path("mail")), "the heartbeat is due on another day")
         for _ in range(2):
-            self.assertEqual(hosts.report("--to", "root", f"--weekly={today}"), (0, "", ""))
+            self.assertEqual(hosts.report("--to", "root", f"--weekly={today}"), Answer(b"", b"", 0))
         heartbeat = self.read("mail").decode()
         self.assertIn("\nSubject: aide on 1 host: no difference in 2 runs\n", heartbeat)
         self.assertEqual(hosts.report("--weekly").status, 15, "without a mail")
@@ -360,7 +361,7 @@ class HostsReportTest(CommandTest):
         head, _, text = self.mailed(hosts).partition("\n\n")
         self.assertTrue(head.startswith("To: root\n"), head)
         self.assertIn(f"\nSubject: {title}\n", head)
-        self.assertEqual(hosts.report("--format=brief").output, text)
+        self.assertEqual(hosts.report("--format=brief").output_text, text)
         command = command_in(self.mailed(hosts, "--max-age", "2d"))
         self.assertEqual(shlex.split(command)[5:-1], ["--max-age", "172800"])
         done = subprocess.run(["sh", "-c", command], capture_output=True, env=self.environment())
@@ -373,4 +374,4 @@ class HostsReportTest(CommandTest):
         self.stub("sendmail", "exit 75")
         said = hosts.report("--to", "root")
         self.assertEqual(said.status, 18)
-        self.assertIn("cannot send the mail: status 75", said.errors)
+        self.assertIn("cannot send the mail: status 75", said.error_text)
