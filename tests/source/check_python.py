@@ -1,7 +1,7 @@
 """Checks how the Python of this repository is written.
 
-- `mypy --strict` finds no fault in commands/, and mypy none in tests/, tools/ and bench/.
-- pyflakes finds no fault in any of them or in packaging/, and black would change none.
+- `mypy --strict` and pyflakes find no fault in commands/, tests/, tools/ and bench/, and black
+  would change none of them. pyflakes reads packaging/ too.
 
 A checker that is not installed is said, and not counted. Prints what fails and, at the end,
 `N passed, M failed`.
@@ -13,13 +13,12 @@ import subprocess
 import sys
 from typing import NamedTuple
 
+from tests.lib.answer import run
 from tests.lib.scratch import TOP
 from tests.lib.tally import Tally
 from tools.lib.arguments import parser_of
 
-FRONT = "commands/bin/aide-compare"
-PACKED = "packaging/completions"
-OTHERS = ("tests", "tools", "bench")
+CHECKED = ("commands", "commands/bin/aide-compare", "tests", "tools", "bench")
 
 
 class Checker(NamedTuple):
@@ -30,10 +29,9 @@ class Checker(NamedTuple):
 
 
 CHECKERS = (
-    Checker(("mypy",), ("--cache-dir=/dev/null", "--strict", "commands", FRONT)),
-    Checker(("mypy",), ("--cache-dir=/dev/null", *OTHERS)),
-    Checker(("pyflakes3", "pyflakes"), ("commands", FRONT, PACKED, *OTHERS)),
-    Checker(("black",), ("--check", "--quiet", "commands", FRONT, *OTHERS)),
+    Checker(("mypy",), ("--cache-dir=/dev/null", "--strict", *CHECKED)),
+    Checker(("pyflakes3", "pyflakes"), (*CHECKED, "packaging/completions")),
+    Checker(("black",), ("--check", "--quiet", *CHECKED)),
 )
 
 
@@ -45,16 +43,8 @@ def check_by(checker: Checker, tally: Tally) -> None:
     if program is None:
         print(f"skipped, since {checker.names[0]} is not installed: {label}", flush=True)
         return
-    answer = subprocess.run(
-        [program, *checker.words],
-        cwd=TOP,
-        stdin=subprocess.DEVNULL,
-        stdout=subprocess.PIPE,
-        stderr=subprocess.STDOUT,
-        text=True,
-        check=False,
-    )
-    tally.add(label, [answer.stdout or f"status {answer.returncode}"] if answer.returncode else [])
+    answer = run(program, checker.words, cwd=TOP, stderr=subprocess.STDOUT)
+    tally.add(label, [answer.output_text or repr(answer)] if answer.status else [])
 
 
 def main() -> None:
