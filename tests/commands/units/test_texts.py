@@ -40,7 +40,9 @@ NO_TIMES = (
     *("31d", "721h", "2592001", "9" * 10),
 )
 
-END = """import sys
+# A shell's `&` starts commands that ignore some signals, which their children inherit.
+END = """import signal, sys
+signal.signal(signal.SIGINT, signal.default_int_handler)
 sys.path.insert(0, %r)
 from aide_compare.base.ending import *
 import os
