@@ -1,6 +1,6 @@
 """Prints docs/HEADLINE.md, docs/HEADLINE_LINES.md, docs/HEADLINE_LISTS.md and
 docs/HEADLINE_JSON.md: the headline of the report, what the lines of JSON say of the databases, what
-a list leaves out, and what the calls that write lines promise; and each definition that these rest
+a list leaves out, and what the call that writes lines promises; and each definition that these rest
 on, with the sentence over it.
 
 From the contracts of `aide_headline`, and from the laws of `aide_line_laws` that the second page
@@ -9,15 +9,19 @@ the definitions that it uses, as tools/source/public_specs.py does for all publi
 definition comes before those that it uses. With --write the pages are written;
 tests/source/check_docs.py compares them with the definitions.
 """
+from __future__ import annotations
+
 import os
 import re
 import sys
+from collections.abc import Sequence
 
+from tests.lib.scratch import TOP, read
 from tools.lib.arguments import parser_of
 from tools.source import headline_texts as texts
 from tools.source.definition_lines import PROSE, shown, users_first, wrapped
-from tools.source.definitions import TOP, WORD, Definitions, crates, imports_of
-from tools.source.headline_tables import library_words, members_of, read, types_of
+from tools.source.definitions import WORD, Definitions, Place, Places, crates, imports_of
+from tools.source.headline_tables import library_words, members_of, types_of
 from tools.source.worked_examples import ENTRIES, LISTS, examples_of, things_of
 
 PAGE, THEOREM_PAGE = "docs/HEADLINE.md", "docs/HEADLINE_LINES.md"
@@ -31,7 +35,6 @@ OF_LISTS = (
 )
 COMPARE = "crates/aide_headline/src/comparison.rt"
 PROGRAM = "crates/aide_headline/src/program.rt"
-COMPARE_LINES = "crates/aide_headline/src/lines.rt"
 PROGRAM_LINES = "crates/aide_headline/src/lines_program.rt"
 RUN_RECORD = "crates/aide_report/specs/Run.antt"
 # What contracts see of a desk, which no clause names by its type.
@@ -63,7 +66,7 @@ RUNS = [
 ]
 
 
-def contract_of(text, name):
+def contract_of(text: str, name: str) -> str:
     """A public function without its body: the line that names it, its arguments and its clauses."""
     begin = text.index("pub fn %s<" % name)
     return text[begin : text.index("\n{\n", begin)]
@@ -86,18 +89,34 @@ def fields_of(text: str, names: list[str]) -> list[str]:
 class Page:
     """The page, part by part: each definition is printed once."""
 
-    def __init__(self, definitions, intro, printed=(), examples=None):
-        self.definitions, self.examples = definitions, examples or {}
-        self.lines, self.printed, self.outside = intro.split("\n")[:-1], list(printed), []
+    def __init__(
+        self,
+        definitions: Definitions,
+        intro: str,
+        printed: Sequence[Place] = (),
+        examples: dict[Place, list[str]] | None = None,
+    ) -> None:
+        self.definitions = definitions
+        self.examples = examples or {}
+        self.lines = intro.split("\n")[:-1]
+        self.printed = list(printed)
+        self.outside: list[Place] = []
         self.known = list(printed)
 
-    def add(self, *lines):
+    def add(self, *lines: str) -> None:
         self.lines += lines
 
-    def block(self, kind, text):
-        self.add("```" + kind, *(text.split("\n") + ["```"]))
+    def block(self, kind: str, text: str) -> None:
+        self.add("```" + kind, *text.split("\n"), "```")
 
-    def part(self, title, text, contract, imports, stops=()):
+    def part(
+        self,
+        title: str,
+        text: Sequence[str],
+        contract: str,
+        imports: dict[str, Place],
+        stops: Sequence[Place] = (),
+    ) -> None:
         """A heading with a text, and the definitions that a contract needs and that are not on the
         page yet."""
         first, named = self.definitions.named_by(WORD.findall(contract), imports)
@@ -110,7 +129,7 @@ class Page:
         self.add("", "## " + title, "", *text)
         self.block("text", "\n".join(self.shown(new))[1:])
 
-    def things(self, title, text, file):
+    def things(self, title: str, text: str, file: str) -> None:
         """A heading with the entries or lists that the page's examples are about. An example whose
         definition is not on the page ends the program."""
         if self.examples:
@@ -118,13 +137,13 @@ class Page:
         self.add("", "## " + title, "", *text.split("\n"), "")
         self.block("text", "\n".join(things_of(file)))
 
-    def shown(self, places):
+    def shown(self, places: Places) -> list[str]:
         """Lines with these definitions by file, users first."""
         files = list(dict.fromkeys(place[:2] for place in places))
         users = {
             file: {place[:2] for place in places if self.uses_file(place, file)} for file in files
         }
-        lines = []
+        lines: list[str] = []
         for file in users_first(files, users):
             name = "crates/%s/specs/%s.antt" % (file[0], file[1].replace(".", "/"))
             lines += [""] + wrapped(
@@ -140,11 +159,11 @@ class Page:
                 lines += self.examples.pop(place, [])
         return lines
 
-    def uses_file(self, place, file):
+    def uses_file(self, place: Place, file: tuple[str, ...]) -> bool:
         return any(used[:2] == file for used in self.definitions.used_by(place)[0])
 
 
-def premises(definitions, places):
+def premises(definitions: Definitions, places: Places) -> list[str]:
     """What the premises of a call over arguments are, in lines of a list."""
     lines = [texts.ASKED, ""]
     for place in places:
@@ -158,10 +177,16 @@ def premises(definitions, places):
     return lines + [""]
 
 
-def begun(intro, definitions, calls, printed=()):
+def begun(
+    intro: str,
+    definitions: Definitions,
+    calls: Sequence[tuple[str, str, str]],
+    printed: Sequence[Place] = (),
+) -> tuple[Page, list[str]]:
     """A page with its introduction and the clauses of these calls, each with what it is about, its
     file and its name; and their contracts."""
-    made, contracts = Page(definitions, intro, printed), []
+    made = Page(definitions, intro, printed)
+    contracts: list[str] = []
     made.add("", "## The clauses")
     for words, file, name in calls:
         contracts.append(contract_of(read(file), name))
@@ -170,7 +195,7 @@ def begun(intro, definitions, calls, printed=()):
     return made, contracts
 
 
-def theorem(definitions, known):
+def theorem(definitions: Definitions, known: Places) -> Page:
     """The page of what lines say of the databases, and each definition that its laws rest on; what
     is `known` from the page of the report is not explained again."""
     text = read(texts.LAWS)
@@ -189,25 +214,26 @@ def theorem(definitions, known):
     return made
 
 
-def lists(definitions, printed):
+def lists(definitions: Definitions, printed: Places) -> Page:
     """The page of what a list leaves out, with the definitions that are not printed yet."""
     text = read(texts.LIST_LAWS)
     made = Page(definitions, texts.INTRO_OF_LISTS, printed, examples_of(LISTS))
     made.add("", "## The laws", "", *texts.OF_LIST_LAWS.split("\n"), "")
     made.block("text", "\n\n".join(law_of(text, name) for name in OF_LISTS))
-    for title, place, stops in (
+    parts: list[tuple[str, Place, Places]] = [
         ("When a line leaves a change out", LEFT_OUT, [NAMES]),
         ("What gives somebody a right", RIGHTS, []),
         ("Which databases say that a program has no capabilities", MEASURES, []),
         ("Which paths a line names", NAMES, []),
         ("What a text says as a list", READING, []),
-    ):
+    ]
+    for title, place, stops in parts:
         made.part(title, [], place[2], {place[2]: place}, stops)
     made.things("The lists of the examples", texts.OF_LIST_THINGS, LISTS)
     return made
 
 
-def pages():
+def pages() -> dict[str, str]:
     """The texts of all pages, by their names."""
     definitions, record = Definitions(crates()), read(RUN_RECORD)
     calls = [
@@ -244,14 +270,10 @@ def pages():
     known = made.outside + silent.outside
     listed.add(*types_of(listed, known))
     listed.add(*library_words(listed.outside, known))
-    calls = [(texts.OF_TWO, COMPARE_LINES, "compare_as_lines")]
-    calls.append((texts.OF_PROGRAM, PROGRAM_LINES, "run_lines_program"))
-    lines, (compare, program) = begun(
-        texts.INTRO_OF_LINES, definitions, calls, [*printed, *listed.printed]
-    )
-    lines.part("What the first call adds", [], compare, imports_of(read(COMPARE_LINES)))
+    calls = [(texts.OF_PROGRAM, PROGRAM_LINES, "run_lines_program")]
+    lines, (program,) = begun(texts.INTRO_OF_LINES, definitions, calls, [*printed, *listed.printed])
     lines.part(
-        "What the second call adds",
+        "What the call adds",
         premises(definitions, PREMISES_TRUSTED),
         program,
         imports_of(read(PROGRAM_LINES)),
@@ -264,7 +286,7 @@ def pages():
     return {name: "\n".join(page.lines) + "\n" for name, page in named.items()}
 
 
-def main():
+def main() -> int:
     parser = parser_of("tools.source.headline_page", __doc__)
     parser.add_argument("--write", action="store_true", help="write the pages")
     arguments = parser.parse_args()

@@ -60,8 +60,8 @@ to read a definition. Read this page to know which changes are silent:
 After any fault, and if the output fails, no last line has been written. So a
 reader never takes the lines for complete. [HEADLINE_LISTS.md](HEADLINE_LISTS.md)
 says when a line of a list leaves a change out, and what no list does.
-[HEADLINE_JSON.md](HEADLINE_JSON.md) has the calls that write lines, all that
-they promise, and the text of each line.
+[HEADLINE_JSON.md](HEADLINE_JSON.md) has the call that writes lines, all that it
+promises, and the text of each line.
 
 A line that begins with `-- Example` marks a definition that would hurt if it
 were wrong. `rt check` proves each example
@@ -89,7 +89,7 @@ were wrong. `rt check` proves each example
 (`crates/aide_line_laws/proofs/ListExamples.antt`).
 """
 INTRO_OF_LINES = """\
-# The calls that write lines of JSON, and what else they rest on
+# The call that writes lines of JSON, and what else it rests on
 
 `python3 -m tools.source.headline_page --write` writes this page too, and the
 tests compare it with the definitions. [HEADLINE.md](HEADLINE.md) explains how

@@ -2,12 +2,12 @@
 `rt check` proves, and the entries and lists that these examples are about."""
 from __future__ import annotations
 
-import os
 import re
 import sys
 
+from tests.lib.scratch import read
 from tools.source.definition_lines import shown, wrapped
-from tools.source.definitions import TOP, File, imports_of
+from tools.source.definitions import File, Place, imports_of
 
 FOLDER = "crates/aide_line_laws/proofs"
 ENTRIES, LISTS = "Examples.antt", "ListExamples.antt"
@@ -15,20 +15,12 @@ ENTRIES, LISTS = "Examples.antt", "ListExamples.antt"
 STATEMENT = re.compile(r"^pub ((\w+)_example\w*) :\s+(.*?)\n(?:unfolding|\1)\b", re.M | re.S)
 MARK = "-- Example: "
 MORE = "--     "
-# A definition: its crate, its file and its name.
-Place = tuple[str, str, str]
-
-
-def text_of(file: str) -> str:
-    """The text of a file of examples."""
-    with open(os.path.join(TOP, FOLDER, file), encoding="utf-8") as opened:
-        return opened.read()
 
 
 def examples_of(file: str) -> dict[Place, list[str]]:
     """The lines with the examples of each definition, which the file imports by its name."""
-    text = text_of(file)
-    imports: dict[str, Place] = imports_of(text)
+    text = read(f"{FOLDER}/{file}")
+    imports = imports_of(text)
     found: dict[Place, list[str]] = {}
     for law, name, statement in STATEMENT.findall(text):
         if name not in imports:
@@ -43,7 +35,7 @@ def things_of(file: str) -> list[str]:
     """Lines with the entries and lists that the examples of a file are about: its public definitions
     that have a sentence and are no examples."""
     lines: list[str] = []
-    for name, definition in File(text_of(file)).definitions.items():
+    for name, definition in File(read(f"{FOLDER}/{file}")).definitions.items():
         if definition.sentence and "pub " in definition.lines[0] and "_example" not in name:
             lines += shown(definition)
     return lines
