@@ -59,7 +59,7 @@ IN_MEMORY = {
     b"lines_session_on": 400,
 }
 # What comes before the one call whose command line is not understood: it may feel no refusal.
-NOT_UNDERSTOOD = b"a trusted pair in part:\njob: no trusted pair\n"
+NOT_UNDERSTOOD = b"a trusted pair in part:\njob: no comparison\n"
 WAYS: dict[str, Callable[[int], int]] = {
     "only one allocation fails": lambda first: first,
     "one allocation and all later ones fail": lambda first: 2**31 - 1,

@@ -1,25 +1,21 @@
 -- A run in which nothing fails ends with the right answer.
-use Rattle.std.specs.Prelude.{ℕ, ◌≡◌, ◌≤◌, Option, List, Result, Ok, Err, Some, IfErr, false}
-use Rattle.std.proofs.Common.{refl, sym, inl, inr, arith, subst}
+use Rattle.std.specs.Prelude.{ℕ, ◌≡◌, Option, List, Result, Ok, Err, Some, IfErr, false}
+use Rattle.std.proofs.Common.{refl, sym, inl, inr, arith}
 use Rattle.aide_entry.specs.Cause.{is_memory}
 use Rattle.aide_entry.specs.declared.fault_kind.DbFaultKind.{DbFaultKind}
 use Rattle.aide_entry.specs.declared.fault_kind.DbFaultKind.TheVariants.{Read, Memory}
-use Rattle.aide_db.specs.Database.{IsSound}
 use Rattle.aide_db.specs.declared.fault.DbFault.{DbFault}
 use Rattle.aide_db.specs.declared.limits.Limits.{Limits}
 use Rattle.aide_report.specs.Asked.{Asked}
-use Rattle.aide_report.specs.LinesRead.{lines_begun, lines_read}
-use Rattle.aide_report.specs.LinesRun.{CutsLines, EndsBy}
-use Rattle.aide_report.specs.Missing.{EndsOver, IsHindered, RunsOverBy}
+use Rattle.aide_report.specs.Missing.{EndsOver, IsHindered, RunsOver}
 use Rattle.aide_report.specs.Room.{IsNotOfMemory}
-use Rattle.aide_report.specs.Runs.{Report, Runs, RunsBy, Causes}
+use Rattle.aide_report.specs.Runs.{Report, Runs, Causes}
 use Rattle.aide_report.specs.Failures.{Rose}
 use Rattle.aide_report.specs.declared.outcome.Outcome.{Outcome}
 use Rattle.aide_report.specs.declared.run_fault.RunFault.{RunFault}
 use Rattle.aide_report.specs.declared.run_fault.RunFault.TheVariants.{Open, Database, Changed, Write}
-use Rattle.aide_report.proofs.RunLaws.{two_texts_have_an_answer}
 use Rattle.aide_session.specs.Put.{HasNoFailure}
-use Rattle.aide_headline.specs.Headline.{EndsAs, StopsAt}
+use Rattle.aide_headline.specs.Headline.{EndsAs}
 
 -- A count that stayed the same, and can still rise, did not rise.
 pub no_failure_is_no_rise : (before after : ℕ) → HasNoFailure before after → Rose before after → ⊥
@@ -38,22 +34,22 @@ nothing_hinders old new sources sink (Database fault) source out room hinders = 
 nothing_hinders old new sources sink (Changed side) source out room hinders = hinders
 nothing_hinders old new sources sink (Write written) source out room hinders = out hinders
 
--- A run over two texts that ends as the clause `over` of `run` says ends with the right answer, whatever is to be
--- written, if no device fails and memory does not run out.
-pub ends_with_the_right_answer : (limits : Limits) (over : List ℕ → List ℕ → Report) (old new : List ℕ)
+-- A run over two texts that ends as the clause `over` of `run` says ends with the right answer, if no device fails and
+-- memory does not run out.
+pub ends_with_the_right_answer : (limits : Limits) (wish : Asked) (old new : List ℕ)
     (sources sink : Type 0) (result : Result Outcome RunFault) (before after : Option (List ℕ))
     (right : Result Report DbFault)
-    → ((r : Result Report RunFault) → RunsOverBy limits over (Some old) (Some new) r
+    → ((r : Result Report RunFault) → RunsOver limits wish (Some old) (Some new) r
     → EndsOver r (IsHindered (Some old) (Some new) sources sink) result before after)
     → (sources → ⊥) → (sink → ⊥) → IfErr result IsNotOfMemory
-    → RunsBy limits over old new right → EndsAs right result before after
-ends_with_the_right_answer limits over old new sources sink (Ok outcome) before after (Ok report) ends source out room runs =
+    → Runs limits wish old new right → EndsAs right result before after
+ends_with_the_right_answer limits wish old new sources sink (Ok outcome) before after (Ok report) ends source out room runs =
     let well = ends (Ok report) (Ok report, runs, refl) in (sym well.0, well.1)
-ends_with_the_right_answer limits over old new sources sink (Err fault) before after (Ok report) ends source out room runs =
+ends_with_the_right_answer limits wish old new sources sink (Err fault) before after (Ok report) ends source out room runs =
     nothing_hinders old new sources sink fault source out room (ends (Ok report) (Ok report, runs, refl)).0
-ends_with_the_right_answer limits over old new sources sink (Ok outcome) before after (Err right) ends source out room runs =
+ends_with_the_right_answer limits wish old new sources sink (Ok outcome) before after (Err right) ends source out room runs =
     ends (Err (Database right)) (Err right, runs, refl)
-ends_with_the_right_answer limits over old new sources sink (Err fault) before after (Err right) ends source out room runs =
+ends_with_the_right_answer limits wish old new sources sink (Err fault) before after (Err right) ends source out room runs =
     let early = ends (Err (Database right)) (Err right, runs, refl) in (
       elim early.0 [
         | inl same ↦ same
@@ -61,49 +57,3 @@ ends_with_the_right_answer limits over old new sources sink (Err fault) before a
       ],
       early.1,
     )
-
--- A run that writes lines of two sound texts writes all of them, if no device fails and memory does not run out.
-pub lines_are_written : (limits : Limits) (over : List ℕ → List ℕ → Report) (old new : List ℕ) (sources sink : Type 0)
-    (result : Result Outcome RunFault) (before after : Option (List ℕ))
-    → ((r : Result Report RunFault) → RunsOverBy limits over (Some old) (Some new) r
-    → EndsBy r (IsHindered (Some old) (Some new) sources sink) result before after)
-    → (sources → ⊥) → (sink → ⊥) → IfErr result IsNotOfMemory
-    → IsSound limits old → IsSound limits new → EndsAs (Ok (over old new)) result before after
-lines_are_written limits over old new sources sink (Ok outcome) before after ends source out room sound_old sound_new =
-    let report = over old new in
-    let well = ends (Ok report) (Ok report, (sound_old, sound_new, refl), refl) in (sym well.0, well.1)
-lines_are_written limits over old new sources sink (Err fault) before after ends source out room sound_old sound_new =
-    let report = over old new in
-    nothing_hinders old new sources sink fault source out room
-    (ends (Ok report) (Ok report, (sound_old, sound_new, refl), refl))
-
--- A run that writes lines of two texts stops at the first fault, if no device fails and memory does not run out.
-pub stops_at_the_right_fault : (limits : Limits) (wish : Asked) (old new : List ℕ) (sources sink : Type 0)
-    (result : Result Outcome RunFault) (before after : Option (List ℕ)) (right : DbFault)
-    → ((r : Result Report RunFault) → RunsOverBy limits (lines_read wish) (Some old) (Some new) r
-    → EndsBy r (IsHindered (Some old) (Some new) sources sink) result before after)
-    → (sources → ⊥) → (sink → ⊥) → IfErr result IsNotOfMemory
-    → IfErr result (CutsLines limits wish old new before after)
-    → RunsBy limits (lines_read wish) old new (Err right)
-    → StopsAt right (lines_begun wish old new) result before after
-stops_at_the_right_fault limits wish old new sources sink (Ok outcome) before after right ends source out room cut runs =
-    ends (Err (Database right)) (Err right, runs, refl)
-stops_at_the_right_fault limits wish old new sources sink (Err fault) before after right ends source out room cut runs =
-    let same : fault ≡ Database right = elim (ends (Err (Database right)) (Err right, runs, refl)) [
-      | inl is ↦ is
-      | inr hinders ↦ absurd (nothing_hinders old new sources sink fault source out room hinders)
-    ] in
-    (same, subst (λ (f : RunFault). CutsLines limits wish old new before after f) same cut)
-
--- Where the report is the right answer, so is whatever else is to be written of two sound texts; a fault is the answer to both.
-answer_for : (limits : Limits) (over : List ℕ → List ℕ → Report) (wish : Asked) (old new : List ℕ)
-    (right : Result Report DbFault) → Runs limits wish old new right
-    → (r : Result Report DbFault) × RunsBy limits over old new r
-answer_for limits over wish old new (Ok report) runs = (Ok (over old new), (runs.0, runs.1, refl))
-answer_for limits over wish old new (Err fault) runs = (Err fault, runs)
-
--- Two texts have a right answer, whatever is to be written.
-pub texts_have_an_answer : (limits : Limits) (over : List ℕ → List ℕ → Report) (wish : Asked) (old new : List ℕ)
-    → 14 ≤ limits.line → (r : Result Report DbFault) × RunsBy limits over old new r
-texts_have_an_answer limits over wish old new least =
-    let right = two_texts_have_an_answer limits wish old new least in answer_for limits over wish old new right.0 right.1

@@ -6,7 +6,6 @@ use Rattle.aide_report.specs.Runs.{Report}
 use Rattle.aide_report.specs.declared.outcome.Outcome.{Outcome}
 use Rattle.aide_report.specs.declared.run_fault.RunFault.{RunFault}
 use Rattle.aide_report.specs.declared.run_fault.RunFault.TheVariants.{Database}
-use Rattle.aide_text.specs.Sent.{SendsPart}
 
 -- The run ends with this answer. If it is a report, exactly the report has been written, and its
 -- outcome is returned. If it is a fault of a database, this fault is returned, and nothing has
@@ -18,10 +17,3 @@ EndsAs (Ok report) (Ok outcome) before after = (outcome ≡ report.outcome)
 EndsAs (Ok report) (Err fault) before after = ⊥
 EndsAs (Err right) (Ok outcome) before after = ⊥
 EndsAs (Err right) (Err fault) before after = (fault ≡ Database right) × Appends before after []
-
--- The run ends with this fault of a database, and no more than a beginning of this text has been written.
-abbrev pub StopsAt : DbFault → (begun : List ℕ) → Result Outcome RunFault
-    → (before after : Option (List ℕ)) → Type 0
-StopsAt right begun (Ok outcome) before after = ⊥
-StopsAt right begun (Err fault) before after = (fault ≡ Database right)
-    × SendsPart begun before after

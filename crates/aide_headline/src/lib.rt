@@ -3,11 +3,9 @@
 #![tactic(auto)]
 
 mod comparison;
-mod lines;
 mod lines_program;
 mod program;
 
 pub use comparison::compare_databases;
-pub use lines::compare_as_lines;
 pub use lines_program::run_lines_program;
 pub use program::run_program;

@@ -1,22 +1,19 @@
-//! What the whole program promises if it writes lines of JSON, in five clauses.
-ghost use Rattle.std.specs.Prelude.{◌≡◌, ◌≤◌, ◌+◌, ◌⊎◌, ℕ, List, Some, None, Result, max};
+//! What the whole program promises if it writes lines of JSON, in three clauses.
+ghost use Rattle.std.specs.Prelude.{◌≡◌, ◌≤◌, ◌+◌, ◌⊎◌, ℕ, List, Some, Result, max};
 ghost use Rattle.aide_conf.specs.Settings.{Configured};
 ghost use Rattle.aide_db.specs.Longest.{longest_line};
-ghost use Rattle.aide_db.specs.declared.fault.DbFault.{DbFault};
 ghost use Rattle.aide_headline.specs.Beside.{IsRightBeside};
-ghost use Rattle.aide_report.specs.LinesRead.{lines_begun, lines_read};
-ghost use Rattle.aide_report.specs.Runs.{Report, RunsBy};
-ghost use Rattle.aide_session.specs.Answer.{Named, answer_with, asked_by, limits};
-ghost use Rattle.aide_session.specs.Asks.{Asks};
+ghost use Rattle.aide_report.specs.Runs.{Report};
+ghost use Rattle.aide_session.specs.Answer.{Named, asked_by, limits};
 ghost use Rattle.aide_session.specs.AsksBeside.{AsksBeside};
 ghost use Rattle.aide_session.specs.BesideAnswer.{answer_beside, out_beside, trusted_of};
 ghost use Rattle.aide_session.specs.BesideEnds.{StarvedBeside, WholeBeside};
-ghost use Rattle.aide_session.specs.Ends.{Starved, Whole, sinks_between};
-ghost use Rattle.aide_session.specs.Output.{start_of};
+ghost use Rattle.aide_session.specs.Ends.{sinks_between};
 ghost use Rattle.aide_session.specs.Put.{HasNoFailure};
+ghost use Rattle.aide_session.specs.Trusted.{trusted_at};
 ghost use Rattle.aide_trusted.specs.Listed.{ListRead};
 ghost use Rattle.aide_trusted.specs.declared.pair_fault.PairFault.{PairFault};
-ghost use Rattle.aide_words.specs.BesideJob.{BesideText, beside_job_of};
+ghost use Rattle.aide_words.specs.BesideJob.{BesideText};
 
 use aide_db::{Desk, Sources};
 use aide_report::Sink;
@@ -25,19 +22,16 @@ use std::alloc::Global;
 
 /// Runs the whole program that writes lines of JSON on these desks, by [`lines_session_on`].
 ///
-/// If the arguments name no trusted pair, two clauses are those of [`run_program`](crate::run_program), with the
-/// lines in place of the report (`answer`, `bound`). But at the first fault of a text a beginning of what comes
-/// before the last line has been written.
-///
-/// If they name one, three clauses begin with a comparison, a list without a fault (the empty text, if the arguments
-/// give none), and a text at each of the four paths:
+/// All clauses begin with a comparison, a list without a fault (the empty text, if the arguments give none), and a text
+/// at each of the four paths. If the arguments name no trusted pair, its paths are empty, and the empty database is at
+/// both.
 ///
 /// - If no device counts a failure, the program ends with the right answer over the four texts or out of memory. If
-///   all four are sound, exactly the lines are written that the definitions assign to the four maps, to the rules of
-///   the list and to the SHA-256 of its text. Otherwise the first fault is named, in the order old, new, trusted old,
-///   trusted new, and a beginning of what comes before the last line has been written (`trusted_answer`).
+///   all four are sound, exactly the lines go out that the definitions assign to the four maps, to the rules of the
+///   list and to the SHA-256 of its text. Otherwise the first fault is named, in the order old, new, trusted old,
+///   trusted new, and a beginning of what comes before the last line has gone out (`answer`).
 /// - Neither desk holds more than the longest line of each text of its pair and one more line no longer than these
-///   (`compared_bound`, `trusted_bound`).
+///   (`bound`, `trusted_bound`).
 ///
 /// What is promised beyond this is in the contract of [`lines_session_on`].
 pub fn run_lines_program<S: Site, W: Sink, E: Sink>(
@@ -50,30 +44,11 @@ pub fn run_lines_program<S: Site, W: Sink, E: Sink>(
     out: &mut W,
     err: &mut E,
 ) -> u8
-    ensures answer { (named : Named) (settings : Configured) (old new : List ℕ)
-        → beside_job_of words.now ≡ None
-        → Asks (S.file_at site.old) words.now named settings old new
-        → HasNoFailure (S.failures site.old) (S.failures site.new)
-        → HasNoFailure (W.failures out.old) (W.failures out.new)
-        → (right : Result Report DbFault)
-        → RunsBy limits (lines_read (asked_by settings.options named)) old new right
-        → Whole (answer_with
-        (start_of (lines_begun (asked_by settings.options named) old new)) right) result
-        (sinks_between W.delivered E.delivered E.failures out.old out.new err.old err.new)
-        ⊎ Starved (answer_with
-        (start_of (lines_begun (asked_by settings.options named) old new)) right) result
-        (sinks_between W.delivered E.delivered E.failures out.old out.new err.old err.new) }
-    ensures bound { (named : Named) (settings : Configured) (old new : List ℕ)
-        → beside_job_of words.now ≡ None
-        → Asks (S.file_at site.old) words.now named settings old new
-        → desk.new.peak ≤ max desk.old.peak
-        (longest_line limits old + longest_line limits new
-        + max (longest_line limits old) (longest_line limits new)) }
-    ensures trusted_answer { (job : BesideText) (list : ListRead) (named : Named)
+    ensures answer { (job : BesideText) (list : ListRead) (named : Named)
         (settings : Configured)
         (old new trusted_old trusted_new : List ℕ)
-        → AsksBeside (S.file_at site.old) (S.file_at trusted.old) words.now job list named
-        settings old new trusted_old trusted_new
+        → AsksBeside (S.file_at site.old) (trusted_at (S.file_at trusted.old)) words.now job list
+        named settings old new trusted_old trusted_new
         → HasNoFailure (S.failures site.old) (S.failures site.new)
         → HasNoFailure (S.failures trusted.old) (S.failures trusted.new)
         → HasNoFailure (W.failures out.old) (W.failures out.new)
@@ -87,19 +62,19 @@ pub fn run_lines_program<S: Site, W: Sink, E: Sink>(
         (sinks_between W.delivered E.delivered E.failures out.old out.new err.old err.new)
         ⊎ StarvedBeside result
         (sinks_between W.delivered E.delivered E.failures out.old out.new err.old err.new) }
-    ensures compared_bound { (job : BesideText) (list : ListRead) (named : Named)
+    ensures bound { (job : BesideText) (list : ListRead) (named : Named)
         (settings : Configured)
         (old new trusted_old trusted_new : List ℕ)
-        → AsksBeside (S.file_at site.old) (S.file_at trusted.old) words.now job list named
-        settings old new trusted_old trusted_new
+        → AsksBeside (S.file_at site.old) (trusted_at (S.file_at trusted.old)) words.now job list
+        named settings old new trusted_old trusted_new
         → desk.new.peak ≤ max desk.old.peak
         (longest_line limits old + longest_line limits new
         + max (longest_line limits old) (longest_line limits new)) }
     ensures trusted_bound { (job : BesideText) (list : ListRead) (named : Named)
         (settings : Configured)
         (old new trusted_old trusted_new : List ℕ)
-        → AsksBeside (S.file_at site.old) (S.file_at trusted.old) words.now job list named
-        settings old new trusted_old trusted_new
+        → AsksBeside (S.file_at site.old) (trusted_at (S.file_at trusted.old)) words.now job list
+        named settings old new trusted_old trusted_new
         → trusted_desk.new.peak ≤ max trusted_desk.old.peak
         (longest_line limits trusted_old + longest_line limits trusted_new
         + max (longest_line limits trusted_old) (longest_line limits trusted_new)) }

@@ -76,17 +76,17 @@ pub(crate) fn job_of(rt: &HostRuntime, words: &Words) -> Result<(), Memory> {
     Ok(())
 }
 
-/// Prints what a command line asks for that names a trusted pair.
+/// Prints the comparison that a command line asks for.
 fn print_beside_job(rt: &HostRuntime, job: &BesideJob) {
     let (config, before, after) = (job.config.as_str(), job.before.as_str(), job.after.as_str());
     let (old, new) = (job.trusted_old.as_str(), job.trusted_new.as_str());
     let list = job.without.as_str();
     let _ = println!(rt;
-        "job: compare {config} [{before}] [{after}] beside {old} {new} without [{list}]"
+        "job: compare {config} [{before}] [{after}] beside [{old}] [{new}] without [{list}]"
     );
 }
 
-/// Reads a command line that may name a trusted pair, and prints the answer.
+/// Reads the command line of a comparison, which may name a trusted pair, and prints the answer.
 pub(crate) fn beside_job_of(rt: &HostRuntime, words: &Words) -> Result<(), Memory> {
     let answer = match read_beside_words(rt.alloc(), words) {
         Err(WordsFault::Memory) => {
@@ -98,7 +98,7 @@ pub(crate) fn beside_job_of(rt: &HostRuntime, words: &Words) -> Result<(), Memor
     match answer {
         Ok(job) => print_beside_job(rt, &job),
         Err(WordsFault::Usage) => {
-            let _ = println!(rt; "job: no trusted pair");
+            let _ = println!(rt; "job: no comparison");
         }
         Err(WordsFault::Memory) => return Err(Memory),
     }

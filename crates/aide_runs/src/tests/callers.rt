@@ -14,7 +14,7 @@ use by_clauses::{lines_on, report_on};
 use by_run::{LIMITS, Refusal, counts_of};
 use by_run_clauses::{
     run_for_its_answer, run_for_its_bytes, run_for_its_desk, run_for_its_faults,
-    run_for_its_openings, run_lines_for_its_answer,
+    run_for_its_openings,
 };
 use by_session::run_session;
 use std::alloc::Global;
@@ -113,13 +113,12 @@ fn good_runs(alloc: Global) -> Option<usize> {
         run_for_its_desk(&task, LIMITS, &mut desk, &mut sources, &mut out).is_ok(),
         run_for_its_faults(&task, LIMITS, &mut desk, &mut sources, &mut out).is_ok(),
         run_for_its_openings(&task, LIMITS, &mut desk, &mut sources, &mut out).is_ok(),
-        run_lines_for_its_answer(&task, LIMITS, &mut desk, &mut sources, &mut out).is_ok(),
     ];
     Some(ends.iter().filter(|is_good| **is_good).count())
 }
 
 #[test]
 fn takes_the_promises_of_a_run(rt: HostRuntime) -> Result<(), Fail> {
-    assert!(rt; good_runs(rt.alloc()) == Some(6));
+    assert!(rt; good_runs(rt.alloc()) == Some(5));
     Ok(())
 }

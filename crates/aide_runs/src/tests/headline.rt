@@ -1,9 +1,9 @@
 //! The calls whose contracts are the headline.
-use super::lines::{LINES, MODE_600, MODE_644, are_cut, program_ended};
+use super::lines::{LINES, MODE_600, MODE_644, program_ended};
 use super::session::{CONF, site_of, words_of};
 use aide_conf::{Need, Settings};
 use aide_db::{Desk, Limits, MemorySources};
-use aide_headline::{compare_as_lines, compare_databases, run_program};
+use aide_headline::{compare_databases, run_program};
 use aide_report::{MemorySink, Outcome, RunFault, Sink};
 use aide_session::{MemorySite, Site, Words};
 use std::alloc::Global;
@@ -47,20 +47,6 @@ fn compared<W: Sink>(
     Some(compare_databases(&task, LIMITS, &mut desk, &mut sources, out))
 }
 
-/// Compares two databases and writes their lines. It has no contract, for the same reason.
-fn compared_as_lines<W: Sink>(
-    alloc: Global,
-    old: &[u8],
-    new: &[u8],
-    out: &mut W,
-) -> Option<Result<Outcome, RunFault>> {
-    let settings = Settings::read(alloc, b"", CONF, b"", Need::Compare).ok()?;
-    let task = settings.task()?;
-    let mut desk = Desk::reserved(alloc, LIMITS.line).ok()?;
-    let mut sources = MemorySources::new(old, new);
-    Some(compare_as_lines(&task, LIMITS, &mut desk, &mut sources, out))
-}
-
 /// The status of the program. It has no contract, for the same reason.
 fn status_of<S: Site, W: Sink>(alloc: Global, words: &Words, site: &mut S, out: &mut W) -> u8 {
     let mut desk = Desk::new(alloc);
@@ -97,22 +83,6 @@ fn runs_the_whole_program(rt: HostRuntime) -> Result<(), Fail> {
     assert!(rt; status == 7, "status {status}");
     assert!(rt; out.bytes() == SUMMARY, "report");
     Ok(())
-}
-
-#[test]
-fn writes_the_lines_of_two_databases(rt: HostRuntime) {
-    let mut out = MemorySink::new(rt.alloc());
-    match compared_as_lines(rt.alloc(), MODE_644, MODE_600, &mut out) {
-        Some(Ok(outcome)) => assert!(rt; outcome.status() == 4, "status {}", outcome.status()),
-        _ => assert!(rt; false, "no lines"),
-    }
-    assert!(rt; out.bytes() == LINES, "lines");
-    let mut out = MemorySink::new(rt.alloc());
-    match compared_as_lines(rt.alloc(), OLD, CUT, &mut out) {
-        Some(Err(RunFault::Database(fault))) => assert!(rt; fault.line == 4, "line {}", fault.line),
-        _ => assert!(rt; false, "no fault of a database"),
-    }
-    assert!(rt; are_cut(out.bytes()), "a last line");
 }
 
 #[test]

@@ -8,7 +8,7 @@ use Rattle.aide_headline.proofs.comparison.compare_databases.Goals as goal
 
 pub returns-clause-report : goal.returns-clause-report
 returns-clause-report g c old new told_old told_new site out sound_old sound_new =
-    ends_with_the_right_answer c.args.limits (report_over (asked c.args.task.now)) old new
+    ends_with_the_right_answer c.args.limits (asked c.args.task.now) old new
     (Rose (g.S.Sources.failures c.args.sources.now) (g.S.Sources.failures c.run.new.sources))
     (Rose (g.W.Sink.failures c.args.out.now) (g.W.Sink.failures c.run.new.out))
     c.run.result (g.W.Sink.delivered c.args.out.now) (g.W.Sink.delivered c.run.new.out)
@@ -20,7 +20,7 @@ returns-clause-report g c old new told_old told_new site out sound_old sound_new
 
 pub returns-clause-old_fault : goal.returns-clause-old_fault
 returns-clause-old_fault g c old new told_old told_new site out fault first =
-    ends_with_the_right_answer c.args.limits (report_over (asked c.args.task.now)) old new
+    ends_with_the_right_answer c.args.limits (asked c.args.task.now) old new
     (Rose (g.S.Sources.failures c.args.sources.now) (g.S.Sources.failures c.run.new.sources))
     (Rose (g.W.Sink.failures c.args.out.now) (g.W.Sink.failures c.run.new.out))
     c.run.result (g.W.Sink.delivered c.args.out.now) (g.W.Sink.delivered c.run.new.out)
@@ -32,7 +32,7 @@ returns-clause-old_fault g c old new told_old told_new site out fault first =
 
 pub returns-clause-new_fault : goal.returns-clause-new_fault
 returns-clause-new_fault g c old new told_old told_new site out fault sound first =
-    ends_with_the_right_answer c.args.limits (report_over (asked c.args.task.now)) old new
+    ends_with_the_right_answer c.args.limits (asked c.args.task.now) old new
     (Rose (g.S.Sources.failures c.args.sources.now) (g.S.Sources.failures c.run.new.sources))
     (Rose (g.W.Sink.failures c.args.out.now) (g.W.Sink.failures c.run.new.out))
     c.run.result (g.W.Sink.delivered c.args.out.now) (g.W.Sink.delivered c.run.new.out)

@@ -1,19 +1,18 @@
-use Rattle.std.proofs.Common.{arith}
+use Rattle.std.proofs.Common.{None, arith}
 use Rattle.aide_report.proofs.RunLaws.{two_texts_have_an_answer}
 use Rattle.aide_session.specs.Answer.{answer_of_run, asked_by, limits}
-use Rattle.aide_session.specs.Writing.{the_report}
 use Rattle.aide_session.proofs.Laws.{answer_by_what_is_asked}
 use Rattle.aide_headline.proofs.program.run_program.Goals as goal
 
 pub returns-clause-answer : goal.returns-clause-answer
 returns-clause-answer g c named settings old new asks site out right runs =
     c.session_on.ensures.session.exact named (answer_of_run right)
-    (answer_by_what_is_asked the_report (g.S.Sources.file_at c.args.site.now) c.args.words.now named settings old new right asks runs)
+    (answer_by_what_is_asked None (g.S.Sources.file_at c.args.site.now) c.args.words.now named settings old new right asks runs)
     site out
 
 pub returns-clause-bound : goal.returns-clause-bound
 returns-clause-bound g c named settings old new asks =
     let right = two_texts_have_an_answer limits (asked_by settings.options named) old new (omega arith) in
     c.session_on.ensures.desk.bound named (answer_of_run right.0)
-    (answer_by_what_is_asked the_report (g.S.Sources.file_at c.args.site.now) c.args.words.now named settings old new right.0 asks right.1)
+    (answer_by_what_is_asked None (g.S.Sources.file_at c.args.site.now) c.args.words.now named settings old new right.0 asks right.1)
     old new asks.old_there asks.new_there

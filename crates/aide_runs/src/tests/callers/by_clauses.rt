@@ -1,15 +1,14 @@
 //! Callers of `session_on` and `lines_session_on` that take each promise out of its record.
-ghost use Rattle.std.specs.Prelude.{◌≡◌, ◌≤◌, ◌⊎◌, true, None, max};
+ghost use Rattle.std.specs.Prelude.{◌≡◌, ◌≤◌, ◌⊎◌, true, None};
 ghost use Rattle.aide_db.specs.Count.{one_more};
 ghost use Rattle.aide_report.specs.Failures.{Rose};
 ghost use Rattle.aide_session.specs.Answer.{Answer, IsAnswerBy, Named};
 ghost use Rattle.aide_session.specs.Closing.{ClosesBy, course_between};
 ghost use Rattle.aide_session.specs.Ends.{Ends, HasFailed, Starved, Whole, sinks_between};
 ghost use Rattle.aide_session.specs.Existence.{HasSessionAnswerBy, TellsNamed};
-ghost use Rattle.aide_session.specs.Held.{HoldsWithin, most_held};
 ghost use Rattle.aide_session.specs.Put.{HasNoFailure};
-ghost use Rattle.aide_session.specs.Writing.{the_lines, the_report};
 ghost use Rattle.aide_words.specs.BesideJob.{beside_job_of};
+ghost use Rattle.aide_words.specs.Job.{job_of};
 
 use aide_db::Desk;
 use aide_report::Sink;
@@ -26,13 +25,13 @@ pub(super) fn report_on<S: Site, W: Sink, E: Sink>(
     err: &mut E,
 ) -> u8
     ensures ends { (named : Named) (a : Answer)
-        → IsAnswerBy the_report (S.file_at site.old) words.now named a
+        → IsAnswerBy None (S.file_at site.old) (job_of words.now) named a
         → Ends a named result
         (sinks_between W.delivered E.delivered E.failures out.old out.new err.old err.new)
         (HasFailed (S.is_reliable site.old) (S.failures site.old) (S.failures site.new))
         (Rose (W.failures out.old) (W.failures out.new)) }
     ensures exact { (named : Named) (a : Answer)
-        → IsAnswerBy the_report (S.file_at site.old) words.now named a
+        → IsAnswerBy None (S.file_at site.old) (job_of words.now) named a
         → HasNoFailure (S.failures site.old) (S.failures site.new)
         → HasNoFailure (W.failures out.old) (W.failures out.new)
         → Whole a result
@@ -40,7 +39,7 @@ pub(super) fn report_on<S: Site, W: Sink, E: Sink>(
         ⊎ Starved a result
         (sinks_between W.delivered E.delivered E.failures out.old out.new err.old err.new) }
     ensures reliable { (named : Named) (a : Answer)
-        → IsAnswerBy the_report (S.file_at site.old) words.now named a
+        → IsAnswerBy None (S.file_at site.old) (job_of words.now) named a
         → S.is_reliable site.old ≡ true → HasNoFailure (W.failures out.old) (W.failures out.new)
         → Whole a result
         (sinks_between W.delivered E.delivered E.failures out.old out.new err.old err.new)
@@ -48,9 +47,9 @@ pub(super) fn report_on<S: Site, W: Sink, E: Sink>(
         (sinks_between W.delivered E.delivered E.failures out.old out.new err.old err.new) }
     ensures passed_on { HasNoFailure (E.failures err.old) (E.failures err.new)
         → E.is_flushed err.new ≡ true }
-    ensures answered { TellsNamed (S.file_at site.old) words.now
-        → HasSessionAnswerBy the_report (S.file_at site.old) words.now }
-    ensures closes { ClosesBy the_report (S.file_at site.old) words.now result
+    ensures answered { TellsNamed (S.file_at site.old) (job_of words.now)
+        → HasSessionAnswerBy None (S.file_at site.old) (job_of words.now) }
+    ensures closes { ClosesBy None (S.file_at site.old) (job_of words.now) result
         (sinks_between W.delivered E.delivered E.failures out.old out.new err.old err.new)
         (course_between S.openings S.was_given W.flushes W.is_flushed
         site.old site.new out.old out.new)
@@ -72,13 +71,12 @@ pub(super) fn lines_on<S: Site, W: Sink, E: Sink>(
     out: &mut W,
     err: &mut E,
 ) -> u8
-    ensures peak { beside_job_of words.now ≡ None → desk.old.peak ≤ desk.new.peak }
-    ensures below { beside_job_of words.now ≡ None
-        → desk.new.peak ≤ max desk.old.peak most_held }
-    ensures bound { beside_job_of words.now ≡ None → (named : Named) (a : Answer)
-        → IsAnswerBy the_lines (S.file_at site.old) words.now named a
-        → HoldsWithin (S.file_at site.old) named desk.old.peak desk.new.peak }
-    ensures still { beside_job_of words.now ≡ None
+    ensures unopened { beside_job_of words.now ≡ None
+        → S.openings site.new ≡ S.openings site.old }
+    ensures still { beside_job_of words.now ≡ None → desk.new.peak ≡ desk.old.peak }
+    ensures trusted_unopened { beside_job_of words.now ≡ None
+        → S.openings trusted.new ≡ S.openings trusted.old }
+    ensures trusted_still { beside_job_of words.now ≡ None
         → trusted_desk.new.peak ≡ trusted_desk.old.peak }
 {
     lines_session_on(alloc, words, desk, site, trusted_desk, trusted, out, err)

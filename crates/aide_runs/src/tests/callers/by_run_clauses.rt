@@ -1,4 +1,4 @@
-//! Callers of `run` and `run_lines` that take each promise of a run out of its record.
+//! Callers of `run` that take each promise of a run out of its record.
 ghost use Rattle.std.specs.Io.KnownBytes.{Appends};
 ghost use Rattle.std.specs.Prelude.{◌≡◌, ◌≤◌, ◌*◌, ◌^◌, [], ℕ, List, Option, Some, Result, Ok};
 ghost use Rattle.std.specs.Prelude.{Err, IfOk, IfErr, OnOk, true, max};
@@ -9,21 +9,18 @@ ghost use Rattle.aide_report.specs.Agreement.{IsOfOutcome, OpensByOutcome};
 ghost use Rattle.aide_report.specs.Asked.{asked};
 ghost use Rattle.aide_report.specs.Bound.{three_lines};
 ghost use Rattle.aide_report.specs.Failures.{CountsFlush, Rose};
-ghost use Rattle.aide_report.specs.LinesRead.{lines_read};
-ghost use Rattle.aide_report.specs.LinesRun.{AreLinesRead, ComesOf, CutsLines, EndsBy};
-ghost use Rattle.aide_report.specs.LinesRun.{KeepsUnopened};
 ghost use Rattle.aide_report.specs.Missing.{EndsOver, IsHindered, IsOfReliable, RunsOver};
-ghost use Rattle.aide_report.specs.Missing.{RunsOverBy, TellsSide};
+ghost use Rattle.aide_report.specs.Missing.{TellsSide};
 ghost use Rattle.aide_report.specs.Openings.{IsNotGiven, IsRefusedThere, OpensAtMost, OpensExactly};
 ghost use Rattle.aide_report.specs.Openings.{OpensFirst};
 ghost use Rattle.aide_report.specs.Room.{IsNotOfMemory};
 ghost use Rattle.aide_report.specs.RunFaults.{CountsWrites, HasSentNothing, HasWrittenIfAny};
 ghost use Rattle.aide_report.specs.RunFaults.{IsRight};
-ghost use Rattle.aide_report.specs.Runs.{HasCause, Report, Runs, RunsBy, openings_over};
+ghost use Rattle.aide_report.specs.Runs.{HasCause, Report, Runs, openings_over};
 
 use aide_conf::Task;
 use aide_db::{Desk, Limits, Side, Sources};
-use aide_report::{Outcome, RunFault, Sink, run, run_lines};
+use aide_report::{Outcome, RunFault, Sink, run};
 use std::alloc::Allocator;
 
 /// Runs for the answer over both sides.
@@ -150,45 +147,4 @@ pub(super) fn run_for_its_desk<S: Sources, W: Sink, A: Allocator + Copy>(
     ensures memory { limits.line ≤ desk.old.room → IfErr result IsNotOfMemory }
 {
     run(task, limits, desk, sources, out)
-}
-
-/// Writes lines for the clauses that name what is written.
-pub(super) fn run_lines_for_its_answer<S: Sources, W: Sink, A: Allocator + Copy>(
-    task: &Task<'_>,
-    limits: Limits,
-    desk: &mut Desk<A>,
-    sources: &mut S,
-    out: &mut W,
-) -> Result<Outcome, RunFault>
-    requires line { 14 ≤ limits.line }
-    requires bytes { limits.bytes ≤ 2 ^ 60 }
-    ensures over { (old new : Option (List ℕ))
-        → TellsSide (S.bytes_of sources.old Side.Old) (S.is_missing sources.old Side.Old) old
-        → TellsSide (S.bytes_of sources.old Side.New) (S.is_missing sources.old Side.New) new
-        → (r : Result Report RunFault) → RunsOverBy limits (lines_read (asked task.now)) old new r
-        → EndsBy r (IsHindered old new (Rose (S.failures sources.old) (S.failures sources.new))
-        (Rose (W.failures out.old) (W.failures out.new)))
-        result (W.delivered out.old) (W.delivered out.new) }
-    ensures cut { (old new : List ℕ) → S.bytes_of sources.old Side.Old ≡ Some old
-        → S.bytes_of sources.old Side.New ≡ Some new
-        → IfErr result (CutsLines limits (asked task.now) old new
-        (W.delivered out.old) (W.delivered out.new)) }
-    ensures unopened { IfErr result (KeepsUnopened
-        (W.delivered out.old) (W.delivered out.new)) }
-    ensures missing { (side : Side) → S.is_missing sources.old side ≡ true
-        → Appends (W.delivered out.old) (W.delivered out.new) [] }
-    ensures consistent { IfOk result (λ outcome.
-        AreLinesRead (asked task.now) outcome (W.delivered out.old) (W.delivered out.new)) }
-    ensures cause { IfErr result (λ fault. ComesOf fault
-        (Rose (S.failures sources.old) (S.failures sources.new))
-        (Rose (W.failures out.old) (W.failures out.new))
-        (λ first. (old new : List ℕ) → S.bytes_of sources.old Side.Old ≡ Some old
-        → S.bytes_of sources.old Side.New ≡ Some new
-        → (r : Result Report DbFault) → RunsBy limits (lines_read (asked task.now)) old new r
-        → r ≡ Err first)) }
-    ensures opens { OnOk result (OpensExactly
-        (S.openings sources.old) (S.openings sources.new) 1) }
-    ensures opens_some { OpensAtMost (S.openings sources.old) (S.openings sources.new) 1 }
-{
-    run_lines(task, limits, desk, sources, out)
 }
