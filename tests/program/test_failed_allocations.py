@@ -53,7 +53,7 @@ IN_MEMORY = {
     b"push": 70,
     b"add": 20,
     b"read_words": 300,
-    b"read_beside_words": 250,
+    b"read_line_words": 250,
     b"point": 10,
     b"session": 500,
     b"lines_session_on": 400,

@@ -42,7 +42,7 @@ DESK = ("aide_db", "DeskView", "DeskView")
 # What a configuration means and what arguments ask for are premises of the second call. Their
 # definitions are not printed.
 PREMISES = [("aide_conf", "ReadResult", "ReadsAs"), ("aide_words", "Job", "job_of")]
-PREMISES_TRUSTED = [("aide_words", "BesideJob", "beside_job_of")]
+PREMISES_TRUSTED = [("aide_words", "LineJob", "line_job_of")]
 # The map of a text, which the second page has in a part of its own.
 MAP = ("aide_db", "Map", "database_of")
 # What the page of lists has, and the page of the theorem leaves to it.
@@ -51,16 +51,16 @@ NAMES = ("aide_patterns", "Rules", "IsFirst")
 RIGHTS = ("aide_left_out", "Meaning", "GivesRight")
 RULE = ("aide_patterns", "Line", "RuleText")
 READING = ("aide_patterns", "List", "IsReading")
-MEASURES = ("aide_trusted", "Listed", "measures_between")
+MEASURES = ("aide_line_run", "Listed", "measures_between")
 # What lines of JSON are as texts, which the page of the calls has.
 JSON = ("aide_line_laws", "JsonLine", "AreJsonLines")
 # What a field means, and which number digits write, which the page of the report has.
 VALUES = [("aide_entry", "Values", "value_of"), ("aide_entry", "Numbers", "bits_of")]
 # The records of a run, and what contracts see of devices: HEADLINE_JSON.md has them.
 RUNS = [
-    ("aide_trusted", "RunBeside", "IsRunBeside"),
-    ("aide_trusted", "PairSeen", "PairSeen"),
-    ("aide_trusted", "PairSeen", "Gives"),
+    ("aide_line_run", "LinesRun", "IsLinesRun"),
+    ("aide_line_run", "PairSeen", "PairSeen"),
+    ("aide_line_run", "PairSeen", "Gives"),
     ("aide_report", "Seen", "SinkSeen"),
     ("aide_report", "Asked", "Asked"),
 ]

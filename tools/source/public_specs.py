@@ -20,7 +20,7 @@ from tools.source.definitions import WORD, Definitions, crates, imports_of
 PROGRAMS = ("aide", "aide_lines", "aide_headline")
 # A crate that goes on with the inside of another one. What it takes of it is promised to nobody
 # else.
-INSIDE = {"aide_trusted": "aide_report"}
+INSIDE = {"aide_line_run": "aide_report"}
 
 
 def public_names(crate: str) -> set[str]:

@@ -11,10 +11,10 @@ use Rattle.aide_report.specs.Runs.{Report, report_over}
 use Rattle.aide_report.specs.declared.run_fault.RunFault.{RunFault}
 use Rattle.aide_report.specs.declared.run_fault.RunFault.TheVariants.{Database}
 use Rattle.aide_report.proofs.MissingLemmas.{RunsOver-exists}
-use Rattle.aide_trusted.specs.BesideRuns.{RunsBeside}
-use Rattle.aide_trusted.specs.Listed.{ListRead}
-use Rattle.aide_trusted.specs.declared.pair_fault.PairFault.{PairFault}
-use Rattle.aide_trusted.specs.declared.pair_fault.PairFault.TheVariants.{Compared, Trusted}
+use Rattle.aide_line_run.specs.BesideRuns.{RunsBeside}
+use Rattle.aide_line_run.specs.Listed.{ListRead}
+use Rattle.aide_line_run.specs.declared.pair_fault.PairFault.{PairFault}
+use Rattle.aide_line_run.specs.declared.pair_fault.PairFault.TheVariants.{Compared, Trusted}
 
 module _ (limits : Limits) (wish : Asked) (old new : List ℕ) where
   -- two sound texts have the report for their answer

@@ -7,10 +7,10 @@ use Rattle.aide_db.specs.declared.side.Side.TheVariants.{Old, New}
 use Rattle.aide_report.specs.Asked.{Asked}
 use Rattle.aide_report.specs.Runs.{IsFirstFaultOf, Report}
 use Rattle.aide_report.specs.declared.run_fault.RunFault.TheVariants.{Database}
-use Rattle.aide_trusted.specs.BesideLines.{lines_beside}
-use Rattle.aide_trusted.specs.Listed.{ListRead}
-use Rattle.aide_trusted.specs.declared.pair_fault.PairFault.{PairFault}
-use Rattle.aide_trusted.specs.declared.pair_fault.PairFault.TheVariants.{Compared, Trusted}
+use Rattle.aide_line_run.specs.BesideLines.{lines_beside}
+use Rattle.aide_line_run.specs.Listed.{ListRead}
+use Rattle.aide_line_run.specs.declared.pair_fault.PairFault.{PairFault}
+use Rattle.aide_line_run.specs.declared.pair_fault.PairFault.TheVariants.{Compared, Trusted}
 
 -- the fault is the first one of two texts, where a fault of the old text comes first
 abbrev pub IsFirstOfPair : Limits → (old new : List ℕ) → DbFault → Type 0

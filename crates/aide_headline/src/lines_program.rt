@@ -11,9 +11,9 @@ ghost use Rattle.aide_session.specs.BesideEnds.{StarvedBeside, WholeBeside};
 ghost use Rattle.aide_session.specs.Ends.{sinks_between};
 ghost use Rattle.aide_session.specs.Put.{HasNoFailure};
 ghost use Rattle.aide_session.specs.Trusted.{trusted_at};
-ghost use Rattle.aide_trusted.specs.Listed.{ListRead};
-ghost use Rattle.aide_trusted.specs.declared.pair_fault.PairFault.{PairFault};
-ghost use Rattle.aide_words.specs.BesideJob.{BesideText};
+ghost use Rattle.aide_line_run.specs.Listed.{ListRead};
+ghost use Rattle.aide_line_run.specs.declared.pair_fault.PairFault.{PairFault};
+ghost use Rattle.aide_words.specs.LineJob.{LineJobText};
 
 use aide_db::{Desk, Sources};
 use aide_report::Sink;
@@ -44,7 +44,7 @@ pub fn run_lines_program<S: Site, W: Sink, E: Sink>(
     out: &mut W,
     err: &mut E,
 ) -> u8
-    ensures answer { (job : BesideText) (list : ListRead) (named : Named)
+    ensures answer { (job : LineJobText) (list : ListRead) (named : Named)
         (settings : Configured)
         (old new trusted_old trusted_new : List ℕ)
         → AsksBeside (S.file_at site.old) (trusted_at (S.file_at trusted.old)) words.now job list
@@ -62,7 +62,7 @@ pub fn run_lines_program<S: Site, W: Sink, E: Sink>(
         (sinks_between W.delivered E.delivered E.failures out.old out.new err.old err.new)
         ⊎ StarvedBeside result
         (sinks_between W.delivered E.delivered E.failures out.old out.new err.old err.new) }
-    ensures bound { (job : BesideText) (list : ListRead) (named : Named)
+    ensures bound { (job : LineJobText) (list : ListRead) (named : Named)
         (settings : Configured)
         (old new trusted_old trusted_new : List ℕ)
         → AsksBeside (S.file_at site.old) (trusted_at (S.file_at trusted.old)) words.now job list
@@ -70,7 +70,7 @@ pub fn run_lines_program<S: Site, W: Sink, E: Sink>(
         → desk.new.peak ≤ max desk.old.peak
         (longest_line limits old + longest_line limits new
         + max (longest_line limits old) (longest_line limits new)) }
-    ensures trusted_bound { (job : BesideText) (list : ListRead) (named : Named)
+    ensures trusted_bound { (job : LineJobText) (list : ListRead) (named : Named)
         (settings : Configured)
         (old new trusted_old trusted_new : List ℕ)
         → AsksBeside (S.file_at site.old) (trusted_at (S.file_at trusted.old)) words.now job list

@@ -2,8 +2,8 @@
 use aide_db::{Desk, Side, Sources};
 use aide_report::WriteSink;
 use aide_session::{
-    BesideJob, Job, Memory, MemorySite, Site, Words, WordsFault, lines_session_on,
-    read_beside_words, read_words, session,
+    Job, LineJob, Memory, MemorySite, Site, Words, WordsFault, lines_session_on, read_line_words,
+    read_words, session,
 };
 use arrayvec::ArrayVec;
 use std::alloc::Global;
@@ -77,7 +77,7 @@ pub(crate) fn job_of(rt: &HostRuntime, words: &Words) -> Result<(), Memory> {
 }
 
 /// Prints the comparison that a command line asks for.
-fn print_beside_job(rt: &HostRuntime, job: &BesideJob) {
+fn print_beside_job(rt: &HostRuntime, job: &LineJob) {
     let (config, before, after) = (job.config.as_str(), job.before.as_str(), job.after.as_str());
     let (old, new) = (job.trusted_old.as_str(), job.trusted_new.as_str());
     let list = job.without.as_str();
@@ -87,11 +87,11 @@ fn print_beside_job(rt: &HostRuntime, job: &BesideJob) {
 }
 
 /// Reads the command line of a comparison, which may name a trusted pair, and prints the answer.
-pub(crate) fn beside_job_of(rt: &HostRuntime, words: &Words) -> Result<(), Memory> {
-    let answer = match read_beside_words(rt.alloc(), words) {
+pub(crate) fn line_job_of(rt: &HostRuntime, words: &Words) -> Result<(), Memory> {
+    let answer = match read_line_words(rt.alloc(), words) {
         Err(WordsFault::Memory) => {
-            tell(rt, "read_beside_words");
-            read_beside_words(rt.alloc(), words)
+            tell(rt, "read_line_words");
+            read_line_words(rt.alloc(), words)
         }
         answer => answer,
     };

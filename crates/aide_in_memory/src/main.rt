@@ -7,7 +7,7 @@ mod rows;
 
 use aide_db::Side;
 use aide_session::{Memory, MemorySite, Words};
-use calls::{add, beside_job_of, job_of, point, push, run, run_lines};
+use calls::{add, job_of, line_job_of, point, push, run, run_lines};
 use rows::{CONF, LINES_ROWS, LinesRow, MODES_NEW, MODES_OLD, ROWS, Row, TRUSTED_OLD};
 use std::process::ExitCode;
 
@@ -47,7 +47,7 @@ fn play_lines(rt: &HostRuntime, row: &LinesRow) -> Result<(), Memory> {
     let mut trusted = MemorySite::new(rt.alloc());
     add(rt, &mut trusted, "/trusted_old", TRUSTED_OLD)?;
     add(rt, &mut trusted, "/trusted_new", row.trusted_new)?;
-    beside_job_of(rt, &words)?;
+    line_job_of(rt, &words)?;
     run_lines(rt, &words, &mut site, &mut trusted)
 }
 

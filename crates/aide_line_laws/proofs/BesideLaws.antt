@@ -22,15 +22,15 @@ use Rattle.aide_report.specs.Sections.{all_listed, is_in}
 use Rattle.aide_report.specs.Seen.{SinkSeen}
 use Rattle.aide_report.specs.declared.outcome.Outcome.{Outcome}
 use Rattle.aide_report.specs.declared.run_fault.RunFault.TheVariants.{Open, Database, Changed, Write}
-use Rattle.aide_trusted.specs.BesideLines.{BeginsBeside, all_lines_beside, by_texts, closing_beside, facts_of_texts, lines_beside}
-use Rattle.aide_trusted.specs.BesideLines.{opening_beside}
-use Rattle.aide_trusted.specs.BesideRuns.{AreAllSound, CutsBeside, changes_between}
-use Rattle.aide_trusted.specs.Listed.{ListRead, leaves_between}
-use Rattle.aide_trusted.specs.PairSeen.{Gives, PairSeen}
-use Rattle.aide_trusted.specs.RunBeside.{IsRunBeside}
-use Rattle.aide_trusted.specs.Sought.{Accounted, accounted_lines, changes_of}
-use Rattle.aide_trusted.specs.declared.pair_fault.PairFault.{PairFault}
-use Rattle.aide_trusted.specs.declared.pair_fault.PairFault.TheVariants.{Compared, Trusted}
+use Rattle.aide_line_run.specs.BesideLines.{BeginsBeside, all_lines_beside, by_texts, closing_beside, facts_of_texts, lines_beside}
+use Rattle.aide_line_run.specs.BesideLines.{opening_beside}
+use Rattle.aide_line_run.specs.BesideRuns.{AreAllSound, CutsBeside, changes_between}
+use Rattle.aide_line_run.specs.Listed.{ListRead, leaves_between}
+use Rattle.aide_line_run.specs.PairSeen.{Gives, PairSeen}
+use Rattle.aide_line_run.specs.LinesRun.{IsLinesRun}
+use Rattle.aide_line_run.specs.Sought.{Accounted, accounted_lines, changes_of}
+use Rattle.aide_line_run.specs.declared.pair_fault.PairFault.{PairFault}
+use Rattle.aide_line_run.specs.declared.pair_fault.PairFault.TheVariants.{Compared, Trusted}
 use Rattle.aide_line_laws.specs.ByteValues.{AreBytes}
 use Rattle.aide_line_laws.specs.Complete.{AreComplete, EndsWithDigests, digest_under}
 use Rattle.aide_line_laws.specs.Field.{Field, text_field}
@@ -247,7 +247,7 @@ begun_at limits list wish trusted old new trusted_old trusted_new before after (
 module _ (limits : Limits) (list : ListRead) (p q : PairSeen) (o s : SinkSeen) (old new trusted_old trusted_new : List ℕ)
     (gives : Gives p old new) (trusted_gives : Gives q trusted_old trusted_new) where
   -- After such a fault a run has not sent complete lines.
-  pub no_fault_completes_lines_beside : (fault : PairFault) → IsRunBeside limits list p q o s (Err fault)
+  pub no_fault_completes_lines_beside : (fault : PairFault) → IsLinesRun limits list p q o s (Err fault)
       → LeavesUnfinishedBeside limits old new trusted_old trusted_new fault
       → AreBytes old → AreBytes new → ArePathsOfBytes p.asked → ArePathsOfBytes q.asked
       → (before whole rest : List ℕ) (all : List (List Field)) → o.delivered ≡ Some before
@@ -266,7 +266,7 @@ module _ (limits : Limits) (list : ListRead) (p q : PairSeen) (o s : SinkSeen) (
 
   -- After `Ok` it has sent a last line in which a reader finds the SHA-256 of all four texts, and that of the list, if
   -- its digest was that of its text.
-  pub digests_are_of_all_texts : (outcome : Outcome) → IsRunBeside limits list p q o s (Ok outcome)
+  pub digests_are_of_all_texts : (outcome : Outcome) → IsLinesRun limits list p q o s (Ok outcome)
       → (list_text : List ℕ) → list.digest ≡ sha256 list_text
       → EndsWithDigests ((codes "old", old) ∷ (codes "new", new) ∷ (codes "trusted_old", trusted_old)
       ∷ (codes "trusted_new", trusted_new) ∷ (codes "list", list_text) ∷ []) o.delivered s.delivered

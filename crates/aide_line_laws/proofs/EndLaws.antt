@@ -9,7 +9,7 @@ use Rattle.aide_json.specs.Member.{member}
 use Rattle.aide_json.specs.Number.{json_count}
 use Rattle.aide_line_text.specs.Ends
 use Rattle.aide_line_text.specs.Ends.{count_member, is_skipped, numbers, skipped_array}
-use Rattle.aide_line_text.specs.Frame.{ReadFacts, closing_line_trusted, list_member, opening_line_trusted, read_object}
+use Rattle.aide_line_text.specs.Frame.{ReadFacts, closing_line, list_member, opening_line, read_object}
 use Rattle.aide_line_text.specs.declared.counts.LineCounts.{LineCounts}
 use Rattle.aide_line_laws.specs.ByteValues.{AreBytes}
 use Rattle.aide_line_laws.specs.Field.{Field, count_json, items_of}
@@ -69,9 +69,9 @@ read_member_of name facts e digest =
 -- The first line is one, if the paths are of bytes.
 pub opening_line_trusted_is_json : (old_path new_path trusted_old trusted_new : List ℕ) → AreBytes old_path
     → AreBytes new_path → AreBytes trusted_old → AreBytes trusted_new
-    → IsJsonLine (opening_line_trusted old_path new_path trusted_old trusted_new)
+    → IsJsonLine (opening_line old_path new_path trusted_old trusted_new)
     (opening_fields_trusted old_path new_path trusted_old trusted_new)
-unfolding opening_line_trusted
+unfolding opening_line
 opening_line_trusted_is_json old_path new_path trusted_old trusted_new h k l m =
     line_of 0 _ _ (omega arith) (
       count_member_of 0 (codes "format") 4 refl,
@@ -96,9 +96,9 @@ list_member_of digest bytes =
 pub closing_line_trusted_is_json : (old new trusted_old trusted_new : ReadFacts) (list : List ℕ) (counts : LineCounts)
     (status : ℕ)
     → AreBytes old.digest → AreBytes new.digest → AreBytes trusted_old.digest → AreBytes trusted_new.digest → AreBytes list
-    → IsJsonLine (closing_line_trusted old new trusted_old trusted_new list counts status)
+    → IsJsonLine (closing_line old new trusted_old trusted_new list counts status)
     (closing_fields_trusted old new trusted_old trusted_new list counts status)
-unfolding closing_line_trusted
+unfolding closing_line
 closing_line_trusted_is_json old new trusted_old trusted_new list counts status h k l m n =
     let texts = list_member list ∷ count_member (codes "status") status ∷ [] in
     let behind : AreMembers 2 texts (list_field list ∷ status_fields status) = (list_member_of list n, status_of 2 status) in

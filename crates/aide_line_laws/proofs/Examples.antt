@@ -35,7 +35,7 @@ use Rattle.aide_entry.specs.declared.column.Column.TheVariants.{Bits, Name, Of, 
 use Rattle.aide_entry.specs.declared.line.LineKind.TheVariants.{Blank, End}
 use Rattle.aide_line_text.specs.declared.account.Account.TheVariants.{LeftOut, Old, Trusted}
 use Rattle.aide_report.specs.Changed.{differ_by}
-use Rattle.aide_trusted.specs.Listed.{account_by}
+use Rattle.aide_line_run.specs.Listed.{account_by}
 use Rattle.aide_line_laws.specs.OverMaps.{HappenedThere, IsAbout, IsAccount, StayedAsOld, differ_beyond}
 use Rattle.aide_line_laws.specs.Reading.{SaysAccount}
 use Rattle.aide_line_laws.proofs.MapLaws.{account_by_is_account}

@@ -16,8 +16,8 @@ use Rattle.aide_line_text.specs.declared.account.Account.TheVariants.{LeftOut, O
 use Rattle.aide_patterns.specs.Line.{RuleText}
 use Rattle.aide_report.specs.ChangeLines.{Accounts}
 use Rattle.aide_report.specs.Entries.{PathChange}
-use Rattle.aide_trusted.specs.BesideLines.{by_texts, by_trusted, lines_beside}
-use Rattle.aide_trusted.specs.Listed.{ListRead, account_by, leaves_between, left_by, measures_between}
+use Rattle.aide_line_run.specs.BesideLines.{by_texts, by_trusted, lines_beside}
+use Rattle.aide_line_run.specs.Listed.{ListRead, account_by, leaves_between, left_by, measures_between}
 use Rattle.aide_report.specs.Asked.{Asked}
 use Rattle.aide_line_laws.specs.Field.{Field, count_json}
 use Rattle.aide_line_laws.specs.Reading.{SaysAccount, line_number, same_word}

@@ -31,8 +31,8 @@ use Rattle.aide_report.specs.Compare.{changes, compared}
 use Rattle.aide_report.specs.Entries.{PathChange}
 use Rattle.aide_report.specs.Sections.{all_listed, is_in}
 use Rattle.aide_report.proofs.MergeLemmas.{and_first, and_second, get-compared, lt_less, paired}
-use Rattle.aide_trusted.specs.BesideLines.{by_texts}
-use Rattle.aide_trusted.specs.Listed.{ListRead, account_by, left_by, measures_between}
+use Rattle.aide_line_run.specs.BesideLines.{by_texts}
+use Rattle.aide_line_run.specs.Listed.{ListRead, account_by, left_by, measures_between}
 use Rattle.aide_line_laws.specs.ByteValues.{AreBytes}
 use Rattle.aide_line_laws.specs.Field.{Field}
 use Rattle.aide_line_laws.specs.OverMaps.{AreApart, HappenedThere, IsAbout, IsAccount, IsFramed, IsOneOf, LeavesOut, SayAll}

@@ -7,10 +7,10 @@ use Rattle.aide_db.specs.declared.side.Side.TheVariants.{Old, New}
 use Rattle.aide_report.specs.Runs.{report_over}
 use Rattle.aide_report.specs.Seen.{SinkSeen}
 use Rattle.aide_report.specs.declared.outcome.Outcome.{Outcome}
-use Rattle.aide_trusted.specs.BesideLines.{lines_beside}
-use Rattle.aide_trusted.specs.Listed.{ListRead}
-use Rattle.aide_trusted.specs.PairSeen.{Gives, PairSeen}
-use Rattle.aide_trusted.specs.RunBeside.{IsRunBeside}
+use Rattle.aide_line_run.specs.BesideLines.{lines_beside}
+use Rattle.aide_line_run.specs.Listed.{ListRead}
+use Rattle.aide_line_run.specs.PairSeen.{Gives, PairSeen}
+use Rattle.aide_line_run.specs.LinesRun.{IsLinesRun}
 use Rattle.aide_line_laws.specs.ByteValues.{AreBytes}
 use Rattle.aide_line_laws.specs.OverMaps.{HasSaidAll, left_out_of, no_entries}
 use Rattle.aide_line_laws.specs.TextFields.{fields_beside}
@@ -24,7 +24,7 @@ pub a_trusted_run_says_all : (limits : Limits) (list : ListRead) (p q : PairSeen
     (old new trusted_old trusted_new : List ℕ)
     → Gives p old new → Gives q trusted_old trusted_new → AreBytes old → AreBytes new
     → ArePathsOfBytes p.asked → ArePathsOfBytes q.asked → AreBytes list.digest
-    → (outcome : Outcome) → IsRunBeside limits list p q o s (Ok outcome)
+    → (outcome : Outcome) → IsLinesRun limits list p q o s (Ok outcome)
     → HasSaidAll p.asked.options.ignore (database_of old) (database_of new)
     (λ path. (get (database_of trusted_old) path, get (database_of trusted_new) path)) (left_out_of list old new)
     o.delivered s.delivered
@@ -66,7 +66,7 @@ a_trusted_run_says_all limits list p q o s old new trusted_old trusted_new gives
 pub a_run_says_all : (limits : Limits) (list : ListRead) (p q : PairSeen) (o s : SinkSeen) (old new : List ℕ)
     → Gives p old new → Gives q no_entries no_entries → AreBytes old → AreBytes new
     → ArePathsOfBytes p.asked → ArePathsOfBytes q.asked → AreBytes list.digest
-    → (outcome : Outcome) → IsRunBeside limits list p q o s (Ok outcome)
+    → (outcome : Outcome) → IsLinesRun limits list p q o s (Ok outcome)
     → HasSaidAll p.asked.options.ignore (database_of old) (database_of new) (λ path. (None, None)) (left_out_of list old new)
     o.delivered s.delivered
 a_run_says_all limits list p q o s old new gives none_gives old_bytes new_bytes paths others digest outcome run =

@@ -8,8 +8,8 @@ use Rattle.aide_report.specs.Compare.{changes}
 use Rattle.aide_report.specs.Entries.{PathChange, letters_of, shows_at}
 use Rattle.aide_report.specs.LineCounts.{line_counts, status_by}
 use Rattle.aide_report.specs.LinesRead.{read_of}
-use Rattle.aide_trusted.specs.BesideLines.{by_texts}
-use Rattle.aide_trusted.specs.Listed.{ListRead}
+use Rattle.aide_line_run.specs.BesideLines.{by_texts}
+use Rattle.aide_line_run.specs.Listed.{ListRead}
 use Rattle.aide_line_laws.specs.Field.{Field}
 use Rattle.aide_line_laws.specs.Fields.{closing_fields_trusted, opening_fields_trusted, path_fields}
 

@@ -28,19 +28,19 @@ assemble_trusted : (e x y z w t a r c o b s : List ℕ)
 assemble_trusted e x y z w t a r c o b s = grind (arith, append_assoc)
 
 -- the same with all four databases
-pub closing_trusted_parts : (e x y z w t a r c o s : List ℕ) (more : List (List ℕ))
+pub closing_parts : (e x y z w t a r c o s : List ℕ) (more : List (List ℕ))
     → (123 ∷ []) ++ (e ++ ((44 ∷ x) ++ ((44 ∷ y) ++ ((44 ∷ z) ++ ((44 ∷ w) ++ ((44 ∷ []) ++ (joined (t ∷ a ∷ r ∷ c ∷ [])
     ++ ((44 ∷ []) ++ (joined (o ∷ more) ++ ((44 ∷ []) ++ (s ++ (125 ∷ 10 ∷ []))))))))))))
     ≡ line (e ∷ x ∷ y ∷ z ∷ w ∷ t ∷ a ∷ r ∷ c ∷ o ∷ (more ++ s ∷ []))
 unfolding line object
-closing_trusted_parts e x y z w t a r c o s more =
+closing_parts e x y z w t a r c o s more =
     assemble_trusted e x y z w t a r c o (behind more) s
     ∙ ap (λ l. (123 ∷ ((e ++ ((44 ∷ x) ++ ((44 ∷ y) ++ ((44 ∷ z) ++ ((44 ∷ w) ++ ((44 ∷ t) ++ ((44 ∷ a) ++ ((44 ∷ r) ++ ((44 ∷ c)
     ++ ((44 ∷ o) ++ l)))))))))) ++ (125 ∷ []))) ++ 10 ∷ [])
     (ap (λ l. behind more ++ l) (behind_one s) ∙ sym (behind_append more (s ∷ [])))
 
-pub opening_trusted_parts : (f x y z w : List ℕ)
+pub opening_parts : (f x y z w : List ℕ)
     → (123 ∷ []) ++ (f ++ ((44 ∷ x) ++ ((44 ∷ y) ++ ((44 ∷ z) ++ ((44 ∷ w) ++ (125 ∷ 10 ∷ []))))))
     ≡ line (f ∷ x ∷ y ∷ z ∷ w ∷ [])
 unfolding line object
-opening_trusted_parts f x y z w = grind (arith, append_assoc)
+opening_parts f x y z w = grind (arith, append_assoc)

@@ -18,8 +18,8 @@ read_object facts =
     ∷ member (codes "skipped") (skipped_array facts.skipped) ∷ [])
 
 -- the first line: the format's number, and the paths of the two databases and of the trusted pair
-unfoldable pub opening_line_trusted : (old_path new_path trusted_old trusted_new : List ℕ) → List ℕ
-opening_line_trusted old_path new_path trusted_old trusted_new =
+unfoldable pub opening_line : (old_path new_path trusted_old trusted_new : List ℕ) → List ℕ
+opening_line old_path new_path trusted_old trusted_new =
     line (count_member (codes "format") 4
     ∷ text_member (codes "old") old_path
     ∷ text_member (codes "new") new_path
@@ -33,10 +33,10 @@ list_member digest =
 
 -- the last line, without which the lines were cut: what was read of all four databases, the numbers of entries and of
 -- what accounts for them, the list, and the exit status
-unfoldable pub closing_line_trusted : (old new trusted_old trusted_new : ReadFacts)
+unfoldable pub closing_line : (old new trusted_old trusted_new : ReadFacts)
     → (list : List ℕ) → LineCounts → ℕ
     → List ℕ
-closing_line_trusted old new trusted_old trusted_new list counts status =
+closing_line old new trusted_old trusted_new list counts status =
     line (member (codes "end") (codes "true")
     ∷ member (codes "old") (read_object old)
     ∷ member (codes "new") (read_object new)

@@ -1,8 +1,8 @@
 //! Writes the first and the last line of lines that are written while the databases are read.
 ghost use Rattle.std.specs.Prelude.{◌∷◌, codes};
 ghost use Rattle.aide_json.specs.Member.{member, text_member};
-ghost use Rattle.aide_line_text.specs.Frame.{closing_line_trusted, list_member};
-ghost use Rattle.aide_line_text.specs.Frame.{opening_line_trusted, read_object};
+ghost use Rattle.aide_line_text.specs.Frame.{closing_line, list_member};
+ghost use Rattle.aide_line_text.specs.Frame.{opening_line, read_object};
 ghost use Rattle.aide_line_text.specs.ReadView.{facts_read};
 ghost use Rattle.aide_text.specs.PenSheet.{on_sheet};
 ghost use Rattle.aide_text.specs.Sheet.{Wrote};
@@ -33,7 +33,7 @@ pub struct ReadPair<'a> {
 
 /// What is known of two databases at their ends, of a trusted pair, and of a list.
 #[derive(Clone, Copy)]
-pub struct ReadBeside<'a> {
+pub struct ReadFour<'a> {
     /// The pair that is compared.
     pub compared: ReadPair<'a>,
     /// The trusted pair.
@@ -66,7 +66,7 @@ fn put_path_behind<W: Sink>(out: &mut W, pen: &mut Pen, name: &[u8], path: &[u8]
 }
 
 /// Writes the first line.
-pub fn put_opening_line_trusted<W: Sink>(
+pub fn put_opening_line<W: Sink>(
     out: &mut W,
     pen: &mut Pen,
     old_path: &[u8],
@@ -74,7 +74,7 @@ pub fn put_opening_line_trusted<W: Sink>(
     trusted_old: &[u8],
     trusted_new: &[u8],
 )
-    ensures { Wrote (opening_line_trusted old_path.now new_path.now trusted_old.now trusted_new.now)
+    ensures { Wrote (opening_line old_path.now new_path.now trusted_old.now trusted_new.now)
         (on_sheet W.Sink out.old pen.old) (on_sheet W.Sink out.new pen.new) }
 {
     put(out, pen, b"{");
@@ -108,14 +108,14 @@ fn put_list<W: Sink>(out: &mut W, pen: &mut Pen, digest: &[u8; 32])
 }
 
 /// Writes the last line.
-pub fn put_closing_line_trusted<W: Sink>(
+pub fn put_closing_line<W: Sink>(
     out: &mut W,
     pen: &mut Pen,
-    read: &ReadBeside<'_>,
+    read: &ReadFour<'_>,
     counts: &LineCounts,
     status: u8,
 )
-    ensures { Wrote (closing_line_trusted
+    ensures { Wrote (closing_line
         (facts_read read.now.compared.old) (facts_read read.now.compared.new)
         (facts_read read.now.trusted.old) (facts_read read.now.trusted.new)
         read.now.list.now counts.now status)

@@ -14,5 +14,5 @@ mod skipped;
 pub use account::{Account, account_as};
 pub use counts::LineCounts;
 pub use entry::{Remark, kind_word, put_entry_line, type_at};
-pub use frame::{Read, ReadBeside, ReadPair, put_closing_line_trusted, put_opening_line_trusted};
+pub use frame::{Read, ReadFour, ReadPair, put_closing_line, put_opening_line};
 pub use sides::Sides;

@@ -12,7 +12,7 @@ use Rattle.aide_db.specs.declared.side.Side.{Side}
 use Rattle.aide_db.specs.declared.side.Side.TheVariants.{Old, New}
 use Rattle.aide_db.proofs.MapLaws.{first_fault_unsound}
 use Rattle.aide_report.specs.code.LaterFault.{later_by, later_of}
-use Rattle.aide_report.specs.LinesRun.{ComesOf}
+use Rattle.aide_report.specs.Stops.{ComesOf}
 use Rattle.aide_report.specs.Missing.{IsOfReliable}
 use Rattle.aide_report.specs.Openings.{OpensFirst, opened_first}
 use Rattle.aide_report.specs.Standing.{IsFaultOf}

@@ -29,7 +29,7 @@ pub mod Seen
 pub mod Agreement
 pub mod LineRuns
 pub mod LinesRead
-pub mod LinesRun
+pub mod Stops
 pub mod Missing
 pub mod Run
 pub mod code

@@ -51,14 +51,14 @@ use Rattle.aide_session.specs.TrustedLines.{pair_fault_line, pair_fault_status, 
 use Rattle.aide_session.proofs.AnswerSteps.{same_file}
 use Rattle.aide_session.proofs.Endings.{by_reliable, rose_later, same_some}
 use Rattle.aide_session.proofs.PutLemmas.{put_as, put_passed}
-use Rattle.aide_trusted.specs.BesideLines.{BeginsBeside, lines_beside}
-use Rattle.aide_trusted.specs.BesideRuns.{AreAllSound, CutsBeside, RunsBeside, SendsWholeOf, StopsForPair, answer_by, changes_between}
-use Rattle.aide_trusted.specs.Listed.{ListRead, leaves_between}
-use Rattle.aide_trusted.proofs.BesideLaws.{begins_what_is_written, begins_with_nothing}
-use Rattle.aide_trusted.specs.Pairs.{OfEach}
-use Rattle.aide_trusted.specs.declared.pair_fault.PairFault.{PairFault}
-use Rattle.aide_trusted.specs.declared.pair_fault.PairFault.TheVariants.{Compared, Trusted}
-use Rattle.aide_words.specs.BesideJob.{BesideText}
+use Rattle.aide_line_run.specs.BesideLines.{BeginsBeside, lines_beside}
+use Rattle.aide_line_run.specs.BesideRuns.{AreAllSound, CutsBeside, RunsBeside, SendsWholeOf, StopsForPair, answer_by, changes_between}
+use Rattle.aide_line_run.specs.Listed.{ListRead, leaves_between}
+use Rattle.aide_line_run.proofs.BesideLaws.{begins_what_is_written, begins_with_nothing}
+use Rattle.aide_line_run.specs.Pairs.{OfEach}
+use Rattle.aide_line_run.specs.declared.pair_fault.PairFault.{PairFault}
+use Rattle.aide_line_run.specs.declared.pair_fault.PairFault.TheVariants.{Compared, Trusted}
+use Rattle.aide_words.specs.LineJob.{LineJobText}
 
 -- ---- what has gone out
 
@@ -290,7 +290,7 @@ abbrev EndsFor : AnswerBeside → (named trusted : Named) → (status before : �
 EndsFor a named trusted status before v = EndsWithin a named trusted status v.sinks (HasFailed v.is_reliable before v.site_after)
     (HasFailed v.trusted_reliable v.trusted_before v.trusted_after) (Rose v.out_before v.out_after)
 
-module _ (job : BesideText) (list : ListRead) (status before count : ℕ) (v : BesideView) (s : Configured) (named : Named)
+module _ (job : LineJobText) (list : ListRead) (status before count : ℕ) (v : BesideView) (s : Configured) (named : Named)
     (more : before ≤ count) (a : AnswerBeside) (is : ComparesBeside v.files v.trusted_files job list s named a) where
   abbrev sent : OutputBeside
   sent = out_beside list (asked_by s.options named) (asked_by s.options (trusted_of job)) is.old_file is.new_file is.trusted_old_file
@@ -342,7 +342,7 @@ module _ (job : BesideText) (list : ListRead) (status before count : ℕ) (v : B
 
 -- ---- from the answer to a job to that of its configuration
 
-module _ (files trusted_files : Files) (job : BesideText) (list : ListRead) (named : Named) (a : AnswerBeside) where
+module _ (files trusted_files : Files) (job : LineJobText) (list : ListRead) (named : Named) (a : AnswerBeside) where
   of_text : (file : Option (List ℕ)) (text : List ℕ) → file ≡ Some text → is_too_large text ≡ false
       → IsFileBeside files trusted_files job list file named a → IsTextBeside files trusted_files job list text named a
   of_text file text same small is = search rules
@@ -375,7 +375,7 @@ pub no_rules_and_fault : (text : List ℕ) (rules : List RuleText) (fault : List
 no_rules_and_fault text rules fault has refused =
     rules_are_no_fault rules fault (one_reading text (Ok rules) has ∙ sym (one_reading text (Err fault) refused))
 
-module _ (files trusted_files : Files) (job : BesideText) (named : Named) (a : AnswerBeside)
+module _ (files trusted_files : Files) (job : LineJobText) (named : Named) (a : AnswerBeside)
     (is : IsAnswerBeside files trusted_files job named a) where
   -- the answer of a reading of the list
   of_reading : (reading : Result (List RuleText) ListFault) → IsReading job.without reading
@@ -400,7 +400,7 @@ whole_stop : (a : AnswerBeside) (line : List ℕ) (code status : ℕ) (v : Besid
     → WholeBeside a status v.sinks
 whole_stop a line code status v is stops = search rules
 
-module _ (job : BesideText) (status before : ℕ) (v : BesideView) (named : Named) (a : AnswerBeside)
+module _ (job : LineJobText) (status before : ℕ) (v : BesideView) (named : Named) (a : AnswerBeside)
     (is : IsAnswerBeside v.files v.trusted_files job named a) where
   stop_ends : (stop : EarlyStop) → StopCause v.files v.is_reliable job (Rose before v.site_after) stop
       → StopsWith (stop_line job stop) (stop_status stop) status v
@@ -477,7 +477,7 @@ module _ (job : BesideText) (status before : ℕ) (v : BesideView) (named : Name
   ]
 
 -- what both desks have held
-module _ (job : BesideText) (status before : ℕ) (v : BesideView) where
+module _ (job : LineJobText) (status before : ℕ) (v : BesideView) where
   pub trusted_bound_beside : EndsBesideBy job status before v
       → HoldsWithin v.trusted_files (trusted_of job) v.trusted_peak_before v.trusted_peak_after
   trusted_bound_beside ends = search rules
@@ -486,7 +486,7 @@ module _ (job : BesideText) (status before : ℕ) (v : BesideView) where
   peaks_beside ends = search rules
 
 -- standard error has counted no fewer failures
-pub put_rises : (job : BesideText) (status before : ℕ) (v : BesideView) → EndsBesideBy job status before v
+pub put_rises : (job : LineJobText) (status before : ℕ) (v : BesideView) → EndsBesideBy job status before v
     → v.sinks.err_before ≤ v.sinks.err_after
 put_rises job status before v ends = search rules
 
@@ -525,7 +525,7 @@ module _ (v : BesideView) (bytes : Option (List ℕ)) (count : ℕ) (kept : Keep
         → ComparesPairs list named trusted options result site (passed_view v bytes count)
     passed_pairs list named trusted options result site c = search rules
 
-    pub passed_beside : (job : BesideText) (status before : ℕ) → EndsBesideBy job status before v
+    pub passed_beside : (job : LineJobText) (status before : ℕ) → EndsBesideBy job status before v
         → EndsBesideBy job status before (passed_view v bytes count)
     passed_beside job status before ends = elim ends [
       | inl early ↦ inl (record {

@@ -27,13 +27,13 @@ use Rattle.aide_session.specs.Files.{Files, is_too_large}
 use Rattle.aide_session.specs.GivenList.{list_line, list_of}
 use Rattle.aide_session.specs.Lines.{conf_line, too_large_line, unread_line}
 use Rattle.aide_session.proofs.Closings.{only_config}
-use Rattle.aide_trusted.specs.BesideLines.{lines_beside}
-use Rattle.aide_trusted.specs.BesideRuns.{RunsBeside, answer_by, over_sides}
-use Rattle.aide_trusted.specs.Listed.{ListRead}
-use Rattle.aide_trusted.specs.declared.pair_fault.PairFault.{PairFault}
-use Rattle.aide_trusted.specs.declared.pair_fault.PairFault.TheVariants.{Compared, Trusted}
-use Rattle.aide_trusted.proofs.PairLemmas.{IsOkay}
-use Rattle.aide_words.specs.BesideJob.{BesideText}
+use Rattle.aide_line_run.specs.BesideLines.{lines_beside}
+use Rattle.aide_line_run.specs.BesideRuns.{RunsBeside, answer_by, over_sides}
+use Rattle.aide_line_run.specs.Listed.{ListRead}
+use Rattle.aide_line_run.specs.declared.pair_fault.PairFault.{PairFault}
+use Rattle.aide_line_run.specs.declared.pair_fault.PairFault.TheVariants.{Compared, Trusted}
+use Rattle.aide_line_run.proofs.PairLemmas.{IsOkay}
+use Rattle.aide_words.specs.LineJob.{LineJobText}
 
 -- ---- four sides have a right answer
 
@@ -96,7 +96,7 @@ value_of : (path : Option (List ℕ)) → IsSome path → (value : List ℕ) × 
 value_of None some = cc
 value_of (Some value) some = (value, refl)
 
-module _ (files trusted_files : Files) (job : BesideText) (list : ListRead) (tells : TellsBeside files trusted_files job) where
+module _ (files trusted_files : Files) (job : LineJobText) (list : ListRead) (tells : TellsBeside files trusted_files job) where
   -- an answer over what was read of the list
   abbrev HasListedAnswer : Type 0
   HasListedAnswer = (named : Named) × (a : AnswerBeside) × (named.config ≡ job.config)
@@ -177,7 +177,7 @@ module _ (files trusted_files : Files) (job : BesideText) (list : ListRead) (tel
   of_file (Some text) known = of_size text known (is_too_large text) refl
 
 -- a job has an answer where it is told what stands at the paths that are named
-pub answered_beside : (files trusted_files : Files) (job : BesideText) → TellsBeside files trusted_files job
+pub answered_beside : (files trusted_files : Files) (job : LineJobText) → TellsBeside files trusted_files job
     → HasAnswerBeside files trusted_files job
 answered_beside files trusted_files job tells = go (read_list job.without) (has_reading job.without)
   where

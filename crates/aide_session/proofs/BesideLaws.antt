@@ -25,15 +25,15 @@ use Rattle.aide_session.specs.GivenList.{list_line, list_of}
 use Rattle.aide_session.proofs.BesideExistence.{answered_beside}
 use Rattle.aide_session.proofs.BesideEndings.{list_is}
 use Rattle.aide_session.proofs.Endings.{same_some}
-use Rattle.aide_trusted.specs.BesideLines.{lines_beside}
-use Rattle.aide_trusted.specs.BesideRuns.{RunsBeside, answer_by, over_sides}
-use Rattle.aide_trusted.specs.Listed.{ListRead}
-use Rattle.aide_trusted.specs.declared.pair_fault.PairFault.{PairFault}
-use Rattle.aide_words.specs.BesideJob.{BesideText}
+use Rattle.aide_line_run.specs.BesideLines.{lines_beside}
+use Rattle.aide_line_run.specs.BesideRuns.{RunsBeside, answer_by, over_sides}
+use Rattle.aide_line_run.specs.Listed.{ListRead}
+use Rattle.aide_line_run.specs.declared.pair_fault.PairFault.{PairFault}
+use Rattle.aide_words.specs.LineJob.{LineJobText}
 
 -- If the arguments ask for a comparison of two texts beside two trusted ones, the right answer over the four texts is the
 -- answer to the arguments.
-pub answer_by_what_is_asked_beside : (files trusted_files : Files) (words : List (List ℕ)) (job : BesideText)
+pub answer_by_what_is_asked_beside : (files trusted_files : Files) (words : List (List ℕ)) (job : LineJobText)
     (list : ListRead) (named : Named) (settings : Configured) (old new trusted_old trusted_new : List ℕ) (run : Result Report PairFault)
     → AsksBeside files trusted_files words job list named settings old new trusted_old trusted_new
     → RunsBeside limits list (asked_by settings.options named) (asked_by settings.options (trusted_of job))
@@ -75,12 +75,12 @@ answer_by_what_is_asked_beside files trusted_files words job list named settings
     }
 
 -- If it is known what is at the paths that are named, the job has an answer.
-pub a_job_beside_has_an_answer : (files trusted_files : Files) (job : BesideText) → TellsBeside files trusted_files job
+pub a_job_beside_has_an_answer : (files trusted_files : Files) (job : LineJobText) → TellsBeside files trusted_files job
     → HasAnswerBeside files trusted_files job
 a_job_beside_has_an_answer = answered_beside
 
 -- The first fault of the list is the answer, whatever is at the paths.
-pub a_fault_of_the_list_is_the_answer : (files trusted_files : Files) (job : BesideText) (named : Named) (fault : ListFault)
+pub a_fault_of_the_list_is_the_answer : (files trusted_files : Files) (job : LineJobText) (named : Named) (fault : ListFault)
     → named.config ≡ job.config → HasFirstFault job.without fault
     → IsAnswerBeside files trusted_files job named (refused_beside (list_line fault) 17)
 a_fault_of_the_list_is_the_answer files trusted_files job named fault config_is refused =
@@ -113,7 +113,7 @@ four_sides_have_one_answer limits list wish beside old new trusted_old trusted_n
     (subst (λ (t : Result Report RunFault). answer_by p.compared t over s) trusted
     (subst (λ (c : Result Report RunFault). answer_by c q.trusted over s) compared q.answer))
 
-module _ (files trusted_files : Files) (job : BesideText) (list : ListRead) where
+module _ (files trusted_files : Files) (job : LineJobText) (list : ListRead) where
   -- the same settings and the same configuration name the same paths
   same_named : (s : Configured) (named other : Named) (a b : AnswerBeside) → other.config ≡ named.config
       → ComparesBeside files trusted_files job list s named a → ComparesBeside files trusted_files job list s other b → other ≡ named
@@ -166,7 +166,7 @@ module _ (files trusted_files : Files) (job : BesideText) (list : ListRead) wher
       → IsListedBeside files trusted_files job list named a → IsListedBeside files trusted_files job list other b → a ≡ b
   one_listed named other a b same p q = search (rules, one_of_file, one_file)
 
-module _ (files trusted_files : Files) (job : BesideText) where
+module _ (files trusted_files : Files) (job : LineJobText) where
   one_given : (reading : Result (List RuleText) ListFault) (named other : Named) (a b : AnswerBeside) → other.config ≡ named.config
       → IsGivenBeside files trusted_files job reading named a → IsGivenBeside files trusted_files job reading other b → a ≡ b
   one_given (Err fault) named other a b same p q = p ∙ sym q

@@ -40,15 +40,15 @@ use Rattle.aide_session.proofs.Closings.{run_cause}
 use Rattle.aide_session.proofs.Comparisons.{caused_of}
 use Rattle.aide_session.proofs.Endings.{rose_later}
 use Rattle.aide_text.specs.declared.sink.Sink.{Ghosts as AnySink}
-use Rattle.aide_trusted.specs.BesideLines.{AreLinesBeside}
-use Rattle.aide_trusted.specs.BesideRuns.{CutsBeside, IsFaultOfPair, RunsBeside}
-use Rattle.aide_trusted.specs.Listed.{ListRead}
-use Rattle.aide_trusted.specs.PairSeen.{PairSeen, pair_seen}
-use Rattle.aide_trusted.specs.Pairs.{OfEach}
-use Rattle.aide_trusted.specs.RunBeside.{IsRunBeside}
-use Rattle.aide_trusted.specs.declared.pair_fault.PairFault.{PairFault}
-use Rattle.aide_trusted.specs.declared.pair_fault.PairFault.TheVariants.{Compared, Trusted}
-use Rattle.aide_words.specs.BesideJob.{BesideText}
+use Rattle.aide_line_run.specs.BesideLines.{AreLinesBeside}
+use Rattle.aide_line_run.specs.BesideRuns.{CutsBeside, IsFaultOfPair, RunsBeside}
+use Rattle.aide_line_run.specs.Listed.{ListRead}
+use Rattle.aide_line_run.specs.PairSeen.{PairSeen, pair_seen}
+use Rattle.aide_line_run.specs.Pairs.{OfEach}
+use Rattle.aide_line_run.specs.LinesRun.{IsLinesRun}
+use Rattle.aide_line_run.specs.declared.pair_fault.PairFault.{PairFault}
+use Rattle.aide_line_run.specs.declared.pair_fault.PairFault.TheVariants.{Compared, Trusted}
+use Rattle.aide_words.specs.LineJob.{LineJobText}
 
 -- ---- sites that are pointed at paths
 
@@ -152,7 +152,7 @@ pub compares_pairs : {S R W E : Type 0} (src : AnySources S R) (w : AnySink W) (
     → IsPointed (src.file_at x) wish (src.bytes_of x) (src.is_missing x)
     → IsPointed (trusted_at (src.file_at p)) beside (src.bytes_of p) (src.is_missing p)
     → beside.options ≡ wish.options → limits.line ≤ d.room → limits.line ≤ u.room
-    → IsRunBeside limits list (pair_seen wish (seen src x) (seen src y) d f) (pair_seen beside (seen src p) (seen src q) u v)
+    → IsLinesRun limits list (pair_seen wish (seen src x) (seen src y) d f) (pair_seen beside (seen src p) (seen src q) u v)
     (sink_seen w out_old) (sink_seen w out_new) result
     → ComparesPairs list (named_by config wish) (named_by config beside) wish.options result (Rose (src.failures x) (src.failures y))
     (beside_view (view_between src w e x y out_old out_new err_old err_new) (view_between src w e p q out_old out_new err_old err_new)
@@ -239,7 +239,7 @@ pub closes_as : (list : ListRead) (named trusted other : Named) (options wish : 
     → ClosesCompared list named other wish status site v
 closes_as list named trusted other options wish status site v same same_wish closes = search (rules, same_wish)
 
-stop_later : (files : Files) (is_reliable : Bool) (job : BesideText) (site more : Type 0) (stop : EarlyStop) → (site → more)
+stop_later : (files : Files) (is_reliable : Bool) (job : LineJobText) (site more : Type 0) (stop : EarlyStop) → (site → more)
     → StopCause files is_reliable job site stop → StopCause files is_reliable job more stop
 stop_later files is_reliable job site more no_memory_left then cause = tt
 stop_later files is_reliable job site more (list_refused fault) then cause = cause
@@ -248,7 +248,7 @@ stop_later files is_reliable job site more config_too_large then cause = cause
 stop_later files is_reliable job site more (config_refused fault) then cause = cause
 
 -- the end of a session as it is seen from an earlier moment
-pub ends_seen : (job : BesideText) (status before later : ℕ) (v now : BesideView) → before ≤ later → now ≡ v
+pub ends_seen : (job : LineJobText) (status before later : ℕ) (v now : BesideView) → before ≤ later → now ≡ v
     → EndsBesideBy job status later now → EndsBesideBy job status before v
 ends_seen job status before later v now more seen ends =
     elim (subst (λ (x : BesideView). EndsBesideBy job status later x) seen ends) [
@@ -274,18 +274,18 @@ ends_seen job status before later v now more seen ends =
     ]
 
 -- what is known where the configuration of a job was read
-pub has_text : (files later : Files) (job : BesideText) (path text copy : List ℕ)
+pub has_text : (files later : Files) (job : LineJobText) (path text copy : List ℕ)
     → path ≡ job.config → copy ≡ text → later ≡ files → IsReadFile files path text → is_too_large text ≡ false
     → HasTextBeside later job copy
 has_text files later job path text copy is_path is_text same found small = search rules
 
 -- ---- what the texts of a job read as
 
-reads_for : (job : BesideText) (before text after : List ℕ) (read : Result Configured ConfFault) → before ≡ job.before → after ≡ job.after
+reads_for : (job : LineJobText) (before text after : List ℕ) (read : Result Configured ConfFault) → before ≡ job.before → after ≡ job.after
     → ReadsAs Compare before text after read → ReadsAs Compare job.before text job.after read
 reads_for job before text after read is_before is_after reads = search rules
 
-module _ (job : BesideText) (before text after : List ℕ) (is_before : before ≡ job.before) (is_after : after ≡ job.after) where
+module _ (job : LineJobText) (before text after : List ℕ) (is_before : before ≡ job.before) (is_after : after ≡ job.after) where
   pub settings_of_texts : (result : Result Configured ConfFault)
       → IfOk result (λ s. IsRead Compare (places before text after) s)
       → IfOk result (λ s. ReadsAs Compare job.before text job.after (Ok s))
@@ -300,17 +300,17 @@ module _ (job : BesideText) (before text after : List ℕ) (is_before : before �
 
 -- ---- the job of the arguments
 
-pub is_none_and_some : (o : Option BesideText) (job : BesideText) → o ≡ None → o ≡ Some job → ⊥
+pub is_none_and_some : (o : Option LineJobText) (job : LineJobText) → o ≡ None → o ≡ Some job → ⊥
 is_none_and_some o job none some = cc
 
-abbrev job_or : BesideText → Option BesideText → BesideText
+abbrev job_or : LineJobText → Option LineJobText → LineJobText
 job_or other None = other
 job_or other (Some job) = job
 
-pub same_job : (o : Option BesideText) (one other : BesideText) → o ≡ Some one → o ≡ Some other → one ≡ other
+pub same_job : (o : Option LineJobText) (one other : LineJobText) → o ≡ Some one → o ≡ Some other → one ≡ other
 same_job o one other p q = sym (ap (job_or one) p) ∙ ap (job_or one) q
 
 -- the end of the session of a job that is equal
-pub ends_for : (one other : BesideText) (status before : ℕ) (v : BesideView) → one ≡ other → EndsBesideBy one status before v
+pub ends_for : (one other : LineJobText) (status before : ℕ) (v : BesideView) → one ≡ other → EndsBesideBy one status before v
     → EndsBesideBy other status before v
-ends_for one other status before v same ends = subst (λ (j : BesideText). EndsBesideBy j status before v) same ends
+ends_for one other status before v same ends = subst (λ (j : LineJobText). EndsBesideBy j status before v) same ends

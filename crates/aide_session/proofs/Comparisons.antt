@@ -5,7 +5,7 @@ use Rattle.aide_db.specs.declared.fault.DbFault.{DbFault}
 use Rattle.aide_db.specs.declared.side.Side.{Side}
 use Rattle.aide_entry.specs.declared.fault_kind.DbFaultKind.{DbFaultKind}
 use Rattle.aide_entry.specs.declared.fault_kind.DbFaultKind.TheVariants.{Read}
-use Rattle.aide_report.specs.LinesRun.{ComesOf}
+use Rattle.aide_report.specs.Stops.{ComesOf}
 use Rattle.aide_report.specs.RunFaults.{IsCaused}
 use Rattle.aide_report.specs.Runs.{Causes, HasCause}
 use Rattle.aide_report.specs.declared.run_fault.RunFault.{RunFault}

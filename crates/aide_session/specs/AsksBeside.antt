@@ -6,18 +6,18 @@ use Rattle.aide_conf.specs.declared.task.Need.TheVariants.{Compare}
 use Rattle.aide_session.specs.Answer.{Named}
 use Rattle.aide_session.specs.Files.{Files, is_too_large}
 use Rattle.aide_session.specs.GivenList.{IsListOf}
-use Rattle.aide_trusted.specs.Listed.{ListRead}
-use Rattle.aide_words.specs.BesideJob.{BesideText, beside_job_of}
+use Rattle.aide_line_run.specs.Listed.{ListRead}
+use Rattle.aide_words.specs.LineJob.{LineJobText, line_job_of}
 
 -- The arguments ask for this job, and this is read of the list that they give: its rules, and the
 -- digest of its text. The configuration is at the path that they name, and is accepted with these
 -- settings. At each of the two paths that it names, and at each of those of the trusted pair, there
 -- is a text. `trusted_files` is `trusted_at` of what the second site tells, so that the empty database
 -- is at an empty path.
-pub record AsksBeside (files trusted_files : Files) (words : List (List ℕ)) (job : BesideText)
+pub record AsksBeside (files trusted_files : Files) (words : List (List ℕ)) (job : LineJobText)
     (list : ListRead) (named : Named) (settings : Configured)
     (old new trusted_old trusted_new : List ℕ) : Type 0 where
-  pub job_is : beside_job_of words ≡ Some job
+  pub job_is : line_job_of words ≡ Some job
   pub listed : IsListOf job.without list
   pub config_is : named.config ≡ job.config
   pub config : List ℕ

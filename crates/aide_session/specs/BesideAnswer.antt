@@ -22,14 +22,14 @@ use Rattle.aide_session.specs.GivenList.{list_line, list_of}
 use Rattle.aide_session.specs.Lines.{conf_line, outcome_lines, too_large_line, unread_line}
 use Rattle.aide_session.specs.TrustedLines.{pair_fault_line, pair_fault_status}
 use Rattle.aide_text.specs.Sent.{SendsPart}
-use Rattle.aide_trusted.specs.BesideLines.{BeginsBeside}
-use Rattle.aide_trusted.specs.BesideRuns.{RunsBeside, changes_between}
-use Rattle.aide_trusted.specs.Listed.{Leaves, ListRead, leaves_between}
-use Rattle.aide_trusted.specs.declared.pair_fault.PairFault.{PairFault}
-use Rattle.aide_words.specs.BesideJob.{BesideText}
+use Rattle.aide_line_run.specs.BesideLines.{BeginsBeside}
+use Rattle.aide_line_run.specs.BesideRuns.{RunsBeside, changes_between}
+use Rattle.aide_line_run.specs.Listed.{Leaves, ListRead, leaves_between}
+use Rattle.aide_line_run.specs.declared.pair_fault.PairFault.{PairFault}
+use Rattle.aide_words.specs.LineJob.{LineJobText}
 
 -- the trusted pair's paths, which the arguments name
-abbrev pub trusted_of : BesideText → Named
+abbrev pub trusted_of : LineJobText → Named
 trusted_of job = record {
   config = job.config;
   old_path = job.trusted_old;
@@ -97,7 +97,7 @@ answer_beside at_fault named trusted (Err fault) = record {
 -- The comparison of what is at the paths that the settings and the arguments name. At each path
 -- there is a database or no file. The answer is that of `RunsBeside`: the lines over four maps, or
 -- the first fault, in the order old, new, trusted old, trusted new.
-pub record ComparesBeside (files trusted_files : Files) (job : BesideText) (list : ListRead)
+pub record ComparesBeside (files trusted_files : Files) (job : LineJobText) (list : ListRead)
     (s : Configured) (named : Named) (a : AnswerBeside) : Type 0 where
   pub old_is : s.old_path ≡ Some named.old_path
   pub new_is : s.new_path ≡ Some named.new_path
@@ -117,7 +117,7 @@ pub record ComparesBeside (files trusted_files : Files) (job : BesideText) (list
       named (trusted_of job) run
 
 -- the answer, by whether the configuration reads as settings or has a fault
-abbrev pub IsReadBeside : (files trusted_files : Files) → BesideText → ListRead
+abbrev pub IsReadBeside : (files trusted_files : Files) → LineJobText → ListRead
     → Result Configured ConfFault → Named → AnswerBeside
     → Type 0
 IsReadBeside files trusted_files job list (Ok s) named a =
@@ -126,14 +126,14 @@ IsReadBeside files trusted_files job list (Err fault) named a =
     a ≡ refused_beside (conf_line fault) 17
 
 -- the answer if the configuration has this text
-pub record IsTextBeside (files trusted_files : Files) (job : BesideText) (list : ListRead)
+pub record IsTextBeside (files trusted_files : Files) (job : LineJobText) (list : ListRead)
     (text : List ℕ) (named : Named) (a : AnswerBeside) : Type 0 where
   pub read : Result Configured ConfFault
   pub reads : ReadsAs Compare job.before text job.after read
   pub then_is : IsReadBeside files trusted_files job list read named a
 
 -- the answer, by whether the configuration is too large
-abbrev pub IsSizedBeside : (files trusted_files : Files) → BesideText → ListRead → Bool → List ℕ
+abbrev pub IsSizedBeside : (files trusted_files : Files) → LineJobText → ListRead → Bool → List ℕ
     → Named → AnswerBeside
     → Type 0
 IsSizedBeside files trusted_files job list true text named a = a ≡ refused_beside too_large_line 17
@@ -141,7 +141,7 @@ IsSizedBeside files trusted_files job list false text named a =
     IsTextBeside files trusted_files job list text named a
 
 -- the answer, by what is at the configuration's path
-abbrev pub IsFileBeside : (files trusted_files : Files) → BesideText → ListRead
+abbrev pub IsFileBeside : (files trusted_files : Files) → LineJobText → ListRead
     → Option (List ℕ) → Named → AnswerBeside
     → Type 0
 IsFileBeside files trusted_files job list None named a =
@@ -150,14 +150,14 @@ IsFileBeside files trusted_files job list (Some text) named a =
     IsSizedBeside files trusted_files job list (is_too_large text) text named a
 
 -- the answer if this was read of the list: it is known what is at the configuration's path
-pub record IsListedBeside (files trusted_files : Files) (job : BesideText) (list : ListRead)
+pub record IsListedBeside (files trusted_files : Files) (job : LineJobText) (list : ListRead)
     (named : Named) (a : AnswerBeside) : Type 0 where
   pub file : Option (List ℕ)
   pub known : files job.config ≡ Some file
   pub then_is : IsFileBeside files trusted_files job list file named a
 
 -- the answer, by whether the list has rules or a fault
-abbrev pub IsGivenBeside : (files trusted_files : Files) → BesideText
+abbrev pub IsGivenBeside : (files trusted_files : Files) → LineJobText
     → Result (List RuleText) ListFault → Named → AnswerBeside
     → Type 0
 IsGivenBeside files trusted_files job (Ok rules) named a =
@@ -167,7 +167,7 @@ IsGivenBeside files trusted_files job (Err fault) named a = a ≡ refused_beside
 -- The answer to a job with a trusted pair, over the files of both sites. It is the first fault of
 -- the list, of the configuration or of a database, or else the lines. A named file that is not there
 -- counts as a fault. `named` has the paths that the arguments and the configuration name.
-pub record IsAnswerBeside (files trusted_files : Files) (job : BesideText) (named : Named)
+pub record IsAnswerBeside (files trusted_files : Files) (job : LineJobText) (named : Named)
     (a : AnswerBeside) : Type 0 where
   pub config_is : named.config ≡ job.config
   pub reading : Result (List RuleText) ListFault
@@ -176,7 +176,7 @@ pub record IsAnswerBeside (files trusted_files : Files) (job : BesideText) (name
 
 -- It is known what is at the configuration's path, at the paths of the databases that it names, and
 -- at those of the trusted pair.
-pub record TellsBeside (files trusted_files : Files) (job : BesideText) : Type 0 where
+pub record TellsBeside (files trusted_files : Files) (job : LineJobText) : Type 0 where
   pub config : (file : Option (List ℕ)) × (files job.config ≡ Some file)
   pub databases : (text : List ℕ) → files job.config ≡ Some (Some text) → (s : Configured)
       → ReadsAs Compare job.before text job.after (Ok s) → (path : List ℕ)
@@ -186,6 +186,6 @@ pub record TellsBeside (files trusted_files : Files) (job : BesideText) : Type 0
       × (trusted_files (by_side job.trusted_old job.trusted_new side) ≡ Some file)
 
 -- the job has an answer over these files
-abbrev pub HasAnswerBeside : (files trusted_files : Files) → BesideText → Type 0
+abbrev pub HasAnswerBeside : (files trusted_files : Files) → LineJobText → Type 0
 HasAnswerBeside files trusted_files job =
     (named : Named) × (a : AnswerBeside) × IsAnswerBeside files trusted_files job named a

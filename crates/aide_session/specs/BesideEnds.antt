@@ -15,7 +15,7 @@ use Rattle.aide_entry.specs.declared.fault_kind.DbFaultKind.TheVariants.{Read}
 use Rattle.aide_patterns.specs.List.{HasFirstFault}
 use Rattle.aide_patterns.specs.declared.fault.ListFault.{ListFault}
 use Rattle.aide_report.specs.Failures.{Rose}
-use Rattle.aide_report.specs.LinesRun.{KeepsUnopened}
+use Rattle.aide_report.specs.Stops.{KeepsUnopened}
 use Rattle.aide_report.specs.Missing.{IsHindered}
 use Rattle.aide_report.specs.Openings.{IsNotGiven, IsRefusedThere, OpensAtMost, OpensExactly}
 use Rattle.aide_report.specs.Report.{status_of}
@@ -35,12 +35,12 @@ use Rattle.aide_session.specs.Lines.{unread_line}
 use Rattle.aide_session.specs.TrustedLines.{pair_fault_line, pair_fault_status}
 use Rattle.aide_session.specs.TrustedLines.{trusted_database_line, trusted_open_line}
 use Rattle.aide_text.specs.Failures.{CountsFlush}
-use Rattle.aide_trusted.specs.BesideLines.{AreLinesBeside}
-use Rattle.aide_trusted.specs.BesideRuns.{CutsBeside, EndsBeside, RunsBeside}
-use Rattle.aide_trusted.specs.Listed.{ListRead}
-use Rattle.aide_trusted.specs.Pairs.{OfEach}
-use Rattle.aide_trusted.specs.declared.pair_fault.PairFault.{PairFault}
-use Rattle.aide_words.specs.BesideJob.{BesideText}
+use Rattle.aide_line_run.specs.BesideLines.{AreLinesBeside}
+use Rattle.aide_line_run.specs.BesideRuns.{CutsBeside, EndsBeside, RunsBeside}
+use Rattle.aide_line_run.specs.Listed.{ListRead}
+use Rattle.aide_line_run.specs.Pairs.{OfEach}
+use Rattle.aide_line_run.specs.declared.pair_fault.PairFault.{PairFault}
+use Rattle.aide_words.specs.LineJob.{LineJobText}
 
 -- All that contracts say about a session with a trusted pair, but how often its first site had
 -- failed before.
@@ -142,7 +142,7 @@ stop_status config_too_large = 17
 stop_status (config_refused fault) = 17
 
 -- the line of such a stop on standard error
-abbrev pub stop_line : BesideText → EarlyStop → List ℕ
+abbrev pub stop_line : LineJobText → EarlyStop → List ℕ
 stop_line job no_memory_left = memory_line
 stop_line job (list_refused fault) = list_line fault
 stop_line job config_unread = unread_line job.config
@@ -151,7 +151,7 @@ stop_line job (config_refused fault) = conf_line fault
 
 -- The configuration of the job reads as this. If the file is known, the text that was read is the
 -- file's.
-pub record HasReadBeside (files : Files) (job : BesideText)
+pub record HasReadBeside (files : Files) (job : LineJobText)
     (read : Result Configured ConfFault) : Type 0 where
   pub text : List ℕ
   pub text_is : (file : Option (List ℕ)) → files job.config ≡ Some file → file ≡ Some text
@@ -160,7 +160,7 @@ pub record HasReadBeside (files : Files) (job : BesideText)
 
 -- The cause of an early stop. A fault of the list comes before those of the configuration. A
 -- reliable site fails to give a configuration only if it is not there.
-abbrev pub StopCause : Files → (is_reliable : Bool) → BesideText → (site : Type 0) → EarlyStop
+abbrev pub StopCause : Files → (is_reliable : Bool) → LineJobText → (site : Type 0) → EarlyStop
     → Type 0
 StopCause files is_reliable job site no_memory_left = ⊤
 StopCause files is_reliable job site (list_refused fault) = HasFirstFault job.without fault
@@ -291,7 +291,7 @@ pub record ClosesCompared (list : ListRead) (named trusted : Named) (options : O
 
 -- The session of a job stops before it opens a database. The first site had failed `before` times
 -- before it.
-pub record StopsEarly (job : BesideText) (status before : ℕ) (v : BesideView) : Type 0 where
+pub record StopsEarly (job : LineJobText) (status before : ℕ) (v : BesideView) : Type 0 where
   pub stop : EarlyStop
   pub cause : StopCause v.files v.is_reliable job (Rose before v.site_after) stop
   pub stops : StopsWith (stop_line job stop) (stop_status stop) status v
@@ -299,7 +299,7 @@ pub record StopsEarly (job : BesideText) (status before : ℕ) (v : BesideView) 
 -- The session of a job compares the databases that its configuration and its arguments name, with
 -- what was read of its list. The first site had failed `before` times before it, and `count` times
 -- when the configuration had been read.
-pub record ClosesBeside (job : BesideText) (status before : ℕ) (v : BesideView) : Type 0 where
+pub record ClosesBeside (job : LineJobText) (status before : ℕ) (v : BesideView) : Type 0 where
   pub list : ListRead
   pub listed : IsListOf job.without list
   pub settings : Configured
@@ -314,5 +314,5 @@ pub record ClosesBeside (job : BesideText) (status before : ℕ) (v : BesideView
       (Rose count v.site_after) v
 
 -- over any sites: the session of a job stops early, or compares the databases
-abbrev pub EndsBesideBy : BesideText → (status before : ℕ) → BesideView → Type 0
+abbrev pub EndsBesideBy : LineJobText → (status before : ℕ) → BesideView → Type 0
 EndsBesideBy job status before v = StopsEarly job status before v ⊎ ClosesBeside job status before v

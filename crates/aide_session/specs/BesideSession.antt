@@ -16,7 +16,7 @@ use Rattle.aide_session.specs.Put.{HasNoFailure}
 use Rattle.aide_session.specs.Says.{settings_told}
 use Rattle.aide_session.specs.Session.{IsSessionBy, SessionView}
 use Rattle.aide_session.specs.Trusted.{trusted_at}
-use Rattle.aide_words.specs.BesideJob.{BesideText, beside_job_of}
+use Rattle.aide_words.specs.LineJob.{LineJobText, line_job_of}
 use Rattle.aide_words.specs.Job.{JobText, job_of}
 
 -- The most that both desks have ever held, before and after.
@@ -49,7 +49,7 @@ beside_view s t desks = record {
 
 -- A session of a comparison, with this status. `s` is what is seen of the first site, `t` of the site of the trusted
 -- pair. If the job names no trusted pair, the empty database is at both of its paths, which are empty.
-pub record IsSessionBeside (job : BesideText) (status : ℕ) (s t : SessionView)
+pub record IsSessionBeside (job : LineJobText) (status : ℕ) (s t : SessionView)
     (desks : DeskPeaks) : Type 0 where
   -- The session ends in one of three ways:
   -- - with the answer to the job;
@@ -108,14 +108,14 @@ check_job_of words = option_and_then (λ job. if job.compare then None else Some
 -- ask for a check of a configuration; no database is opened then, and neither desk holds more than before.
 pub record IsLineSession (words : List (List ℕ)) (status : ℕ) (s t : SessionView)
     (desks : DeskPeaks) : Type 0 where
-  pub alone : beside_job_of words ≡ None
+  pub alone : line_job_of words ≡ None
       → IsSessionBy (Some settings_told) (check_job_of words) status s
-  pub unopened : beside_job_of words ≡ None → s.course.opened_after ≡ s.course.opened_before
-  pub still : beside_job_of words ≡ None → desks.after ≡ desks.before
-  pub trusted_unopened : beside_job_of words ≡ None
+  pub unopened : line_job_of words ≡ None → s.course.opened_after ≡ s.course.opened_before
+  pub still : line_job_of words ≡ None → desks.after ≡ desks.before
+  pub trusted_unopened : line_job_of words ≡ None
       → t.course.opened_after ≡ t.course.opened_before
-  pub trusted_still : beside_job_of words ≡ None → desks.trusted_after ≡ desks.trusted_before
-  pub beside : (job : BesideText) → beside_job_of words ≡ Some job
+  pub trusted_still : line_job_of words ≡ None → desks.trusted_after ≡ desks.trusted_before
+  pub beside : (job : LineJobText) → line_job_of words ≡ Some job
       → IsSessionBeside job status s t desks
 
 -- A program that writes lines of JSON has ended with this status: after a session, or because

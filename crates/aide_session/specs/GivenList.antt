@@ -10,7 +10,7 @@ use Rattle.aide_patterns.specs.declared.fault.PatternFault.{PatternFault}
 use Rattle.aide_patterns.specs.declared.fault.PatternFault.TheVariants.{NoPath, DoubleStar}
 use Rattle.aide_patterns.specs.declared.fault.PatternFault.TheVariants.{OpenEscape, OpenClass}
 use Rattle.aide_patterns.specs.declared.fault.PatternFault.TheVariants.{BadRange}
-use Rattle.aide_trusted.specs.Listed.{ListRead}
+use Rattle.aide_line_run.specs.Listed.{ListRead}
 use Rattle.sha2.specs.Sha256.{sha256}
 
 -- ---- its faults

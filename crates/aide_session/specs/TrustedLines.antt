@@ -13,8 +13,8 @@ use Rattle.aide_entry.specs.declared.fault_kind.DbFaultKind.{DbFaultKind}
 use Rattle.aide_entry.specs.declared.fault_kind.DbFaultKind.TheVariants as db
 use Rattle.aide_session.specs.Lines.{memory_line, number_if_any, run_fault_line, side_word}
 use Rattle.aide_session.specs.Lines.{write_line}
-use Rattle.aide_trusted.specs.declared.pair_fault.PairFault.{PairFault}
-use Rattle.aide_trusted.specs.declared.pair_fault.PairFault.TheVariants.{Compared, Trusted}
+use Rattle.aide_line_run.specs.declared.pair_fault.PairFault.{PairFault}
+use Rattle.aide_line_run.specs.declared.pair_fault.PairFault.TheVariants.{Compared, Trusted}
 
 -- `aide: trusted SIDE database:LINE: WORDS`, with the number of the column that the fault is about,
 -- if any

@@ -8,8 +8,8 @@ ghost use Rattle.aide_session.specs.Pointing.{KeepsFiles, KeepsOthers};
 ghost use Rattle.aide_session.specs.Trusted.{trusted_at};
 ghost use Rattle.aide_session.specs.code.BesideParts.{IsPointed, beside_between, named_by};
 ghost use Rattle.aide_session.specs.code.Parts.{AreSame};
-ghost use Rattle.aide_trusted.specs.ListView.{list_read};
-ghost use Rattle.aide_trusted.specs.SamePair.{AreSamePair};
+ghost use Rattle.aide_line_run.specs.ListView.{list_read};
+ghost use Rattle.aide_line_run.specs.SamePair.{AreSamePair};
 
 use crate::databases::{LIMITS, LONGEST};
 use crate::devices::Devices;
@@ -20,8 +20,8 @@ use crate::telling::AsLine;
 use crate::trusted_lines::{pair_status, put_pair_fault};
 use aide_conf::Task;
 use aide_db::{Desk, Side};
+use aide_line_run::{Tasks, TrustedPair, run_lines};
 use aide_report::Sink;
-use aide_trusted::{Tasks, TrustedPair, run_lines_beside};
 use aide_words::Memory;
 use std::alloc::Global;
 
@@ -120,7 +120,7 @@ fn compare_pairs<S: Site, W: Sink, E: Sink>(
     ensures lookups { S.lookups devices.new.site.now ≡ S.lookups devices.old.site.now }
     ensures trusted_lookups { S.lookups pair.new.sources.now ≡ S.lookups pair.old.sources.now }
 {
-    match run_lines_beside(tasks, LIMITS, devices.desk, devices.site, pair, devices.out) {
+    match run_lines(tasks, LIMITS, devices.desk, devices.site, pair, devices.out) {
         Ok(outcome) => {
             put_outcome_lines(devices.err, &outcome);
             outcome.status()

@@ -22,9 +22,7 @@ mod status;
 mod telling;
 mod trusted_lines;
 
-pub use aide_words::{
-    BesideJob, Job, Memory, Word, Words, WordsFault, read_beside_words, read_words,
-};
+pub use aide_words::{Job, LineJob, Memory, Word, Words, WordsFault, read_line_words, read_words};
 pub use file_reel::FileReel;
 pub use file_site::FileSite;
 pub use lines_program::lines_session_on;

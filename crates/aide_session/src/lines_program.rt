@@ -16,8 +16,8 @@ ghost use Rattle.aide_session.specs.Session.{view_between};
 ghost use Rattle.aide_session.specs.code.BesideParts.{HasTextBeside, RunsAlone, beside_between};
 ghost use Rattle.aide_session.specs.code.BesideParts.{peaks_between, trusted_between};
 ghost use Rattle.aide_session.specs.code.Parts.{AreSame, ClosesFor, EndsWith, part_between};
-ghost use Rattle.aide_trusted.specs.ListView.{list_read};
-ghost use Rattle.aide_words.specs.BesideJob.{BesideText, beside_job_of, text_of_beside};
+ghost use Rattle.aide_line_run.specs.ListView.{list_read};
+ghost use Rattle.aide_words.specs.LineJob.{LineJobText, line_job_of, text_of_line_job};
 
 use crate::beside::compare_beside;
 use crate::config_file::{ConfigFault, read_config};
@@ -33,14 +33,14 @@ use crate::status::Status;
 use crate::telling::AsLine;
 use aide_conf::{ConfFault, ConfFaultKind, Need, Settings, Task};
 use aide_db::Desk;
+use aide_line_run::{LeftOutList, Tasks};
 use aide_patterns::{Exclusions, ListFaultKind};
 use aide_report::Sink;
-use aide_trusted::{LeftOutList, Tasks};
-use aide_words::{BesideJob, Words, WordsFault, read_beside_words, read_words};
+use aide_words::{LineJob, Words, WordsFault, read_line_words, read_words};
 use std::alloc::Global;
 
 /// Reads the settings of a comparison from its three texts.
-fn read_settings_beside(alloc: Global, job: &BesideJob, text: &[u8]) -> Result<Settings, ConfFault>
+fn read_settings_beside(alloc: Global, job: &LineJob, text: &[u8]) -> Result<Settings, ConfFault>
     ensures ok { IfOk result (λ settings. ReadsAs Compare job.now.before text.now job.now.after
         (Ok settings)) }
     ensures err { IfErr result (λ fault. fault.kind ≢ Memory
@@ -55,7 +55,7 @@ fn read_settings_beside(alloc: Global, job: &BesideJob, text: &[u8]) -> Result<S
 /// Compares the databases that the settings name and those of the trusted pair of a job, whose list
 /// has been read.
 fn compare_settings<S: Site, W: Sink, E: Sink>(
-    job: &BesideJob,
+    job: &LineJob,
     list: LeftOutList<'_>,
     settings: &Settings,
     devices: &mut Devices<'_, AsLine, S, W, E>,
@@ -65,9 +65,9 @@ fn compare_settings<S: Site, W: Sink, E: Sink>(
     requires { IsSome settings.now.old_path × IsSome settings.now.new_path }
     ensures same { AreSame devices.old devices.new }
     ensures closes { IsListOf job.now.without (list_read list.entry)
-        → HasReadBeside (S.file_at devices.old.site.now) (text_of_beside job.now)
+        → HasReadBeside (S.file_at devices.old.site.now) (text_of_line_job job.now)
         (Ok settings.now)
-        → EndsBesideBy (text_of_beside job.now) result
+        → EndsBesideBy (text_of_line_job job.now) result
         (S.failures devices.old.site.now)
         (beside_between S.Sources W.Sink E.Sink devices.old devices.new
         trusted_desk.old trusted_desk.new trusted.old trusted.new) }
@@ -92,7 +92,7 @@ fn compare_settings<S: Site, W: Sink, E: Sink>(
 
 /// Runs the session of a comparison, whose list and configuration have been read.
 fn run_text_beside<S: Site, W: Sink, E: Sink>(
-    job: &BesideJob,
+    job: &LineJob,
     list: LeftOutList<'_>,
     text: &[u8],
     devices: &mut Devices<'_, AsLine, S, W, E>,
@@ -101,8 +101,8 @@ fn run_text_beside<S: Site, W: Sink, E: Sink>(
 ) -> u8
     ensures same { AreSame devices.old devices.new }
     ensures closes { IsListOf job.now.without (list_read list.entry)
-        → HasTextBeside (S.file_at devices.old.site.now) (text_of_beside job.now) text.now
-        → EndsBesideBy (text_of_beside job.now) result
+        → HasTextBeside (S.file_at devices.old.site.now) (text_of_line_job job.now) text.now
+        → EndsBesideBy (text_of_line_job job.now) result
         (S.failures devices.old.site.now)
         (beside_between S.Sources W.Sink E.Sink devices.old devices.new
         trusted_desk.old trusted_desk.new trusted.old trusted.new) }
@@ -126,7 +126,7 @@ fn run_text_beside<S: Site, W: Sink, E: Sink>(
 
 /// Runs the session of a comparison, whose list has been read.
 fn run_listed<S: Site, W: Sink, E: Sink>(
-    job: &BesideJob,
+    job: &LineJob,
     list: LeftOutList<'_>,
     devices: &mut Devices<'_, AsLine, S, W, E>,
     trusted_desk: &mut Desk<Global>,
@@ -134,7 +134,7 @@ fn run_listed<S: Site, W: Sink, E: Sink>(
 ) -> u8
     ensures same { AreSame devices.old devices.new }
     ensures closes { IsListOf job.now.without (list_read list.entry)
-        → EndsBesideBy (text_of_beside job.now) result
+        → EndsBesideBy (text_of_line_job job.now) result
         (S.failures devices.old.site.now)
         (beside_between S.Sources W.Sink E.Sink devices.old devices.new
         trusted_desk.old trusted_desk.new trusted.old trusted.new) }
@@ -161,7 +161,7 @@ fn run_listed<S: Site, W: Sink, E: Sink>(
 
 /// Runs the session of a comparison, whose list has these rules.
 fn run_ruled<S: Site, W: Sink, E: Sink>(
-    job: &BesideJob,
+    job: &LineJob,
     rules: &Exclusions<'_>,
     devices: &mut Devices<'_, AsLine, S, W, E>,
     trusted_desk: &mut Desk<Global>,
@@ -169,7 +169,7 @@ fn run_ruled<S: Site, W: Sink, E: Sink>(
 ) -> u8
     ensures same { AreSame devices.old devices.new }
     ensures closes { HasRules job.now.without rules.now
-        → EndsBesideBy (text_of_beside job.now) result
+        → EndsBesideBy (text_of_line_job job.now) result
         (S.failures devices.old.site.now)
         (beside_between S.Sources W.Sink E.Sink devices.old devices.new
         trusted_desk.old trusted_desk.new trusted.old trusted.new) }
@@ -186,13 +186,13 @@ fn run_ruled<S: Site, W: Sink, E: Sink>(
 
 /// Runs the session of a comparison.
 fn run_job_beside<S: Site, W: Sink, E: Sink>(
-    job: &BesideJob,
+    job: &LineJob,
     devices: &mut Devices<'_, AsLine, S, W, E>,
     trusted_desk: &mut Desk<Global>,
     trusted: &mut S,
 ) -> u8
     ensures same { AreSame devices.old devices.new }
-    ensures closes { EndsBesideBy (text_of_beside job.now) result
+    ensures closes { EndsBesideBy (text_of_line_job job.now) result
         (S.failures devices.old.site.now)
         (beside_between S.Sources W.Sink E.Sink devices.old devices.new
         trusted_desk.old trusted_desk.new trusted.old trusted.new) }
@@ -259,21 +259,21 @@ fn run_line_words<S: Site, W: Sink, E: Sink>(
     trusted: &mut S,
 ) -> u8
     ensures same { AreSame devices.old devices.new }
-    ensures alone { beside_job_of words.now ≡ None
+    ensures alone { line_job_of words.now ≡ None
         → RunsAlone words.now result (part_between S.Sources W.Sink E.Sink devices.old devices.new)
         (trusted_between S.Sources W.Sink E.Sink devices.old devices.new trusted.old trusted.new)
         (peaks_between devices.old devices.new trusted_desk.old trusted_desk.new) }
-    ensures beside { (job : BesideText) → beside_job_of words.now ≡ Some job
+    ensures beside { (job : LineJobText) → line_job_of words.now ≡ Some job
         → EndsBesideBy job result (S.failures devices.old.site.now)
         (beside_between S.Sources W.Sink E.Sink devices.old devices.new
         trusted_desk.old trusted_desk.new trusted.old trusted.new) }
-    ensures unlooked { (job : BesideText) → beside_job_of words.now ≡ Some job
+    ensures unlooked { (job : LineJobText) → line_job_of words.now ≡ Some job
         → (fault : ListFault) → HasFirstFault job.without fault
         → S.lookups devices.new.site.now ≡ S.lookups devices.old.site.now }
     ensures lookups { S.lookups devices.new.site.now ≤ one_more (S.lookups devices.old.site.now) }
     ensures trusted_lookups { S.lookups trusted.new ≡ S.lookups trusted.old }
 {
-    match read_beside_words(devices.alloc, words) {
+    match read_line_words(devices.alloc, words) {
         Ok(job) => run_job_beside(&job, devices, trusted_desk, trusted),
         Err(WordsFault::Usage) => run_check_words(words, devices),
         Err(WordsFault::Memory) => {

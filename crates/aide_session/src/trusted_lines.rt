@@ -9,9 +9,9 @@ use crate::databases::{path_of, put_run_fault};
 use crate::lines::{put_fault_column, put_memory_line, put_write_line, side_name};
 use aide_conf::Task;
 use aide_db::{DbFault, DbFaultKind, Side};
+use aide_line_run::PairFault;
 use aide_report::RunFault;
 use aide_text::{Pen, Sink, SliceFeed, put, put_number, put_path};
-use aide_trusted::PairFault;
 
 /// Puts the line for a fault of a trusted database.
 fn put_trusted_database_line<E: Sink>(err: &mut E, fault: DbFault)

@@ -7,31 +7,31 @@ use Rattle.clap.specs.Simple.{is_simple, matches_of}
 use Rattle.clap.specs.Kinds.{Kinds}
 use Rattle.clap.specs.Faults.{fault_of, is_simple_and_free}
 use Rattle.clap.proofs.OnLiterals.{clap_on_literals}
-use Rattle.aide_words.specs.BesideJob.{beside_command, beside_job_of, beside_text, paired, text_of_beside}
-use Rattle.aide_words.specs.declared.beside_job.BesideJob.{BesideJob}
+use Rattle.aide_words.specs.LineJob.{line_command, line_job_of, line_job_text, paired, text_of_line_job}
+use Rattle.aide_words.specs.declared.line_job.LineJob.{LineJob}
 use Rattle.aide_words.specs.declared.job.WordsFault.{WordsFault}
 
-pub beside_is_free : is_simple_and_free beside_command ≡ true
-unfolding beside_command clap_on_literals
-beside_is_free = refl
+pub line_command_is_free : is_simple_and_free line_command ≡ true
+unfolding line_command clap_on_literals
+line_command_is_free = refl
 
-pub beside_is_simple : is_simple beside_command ≡ true
-unfolding beside_command clap_on_literals
-beside_is_simple = refl
+pub line_command_is_simple : is_simple line_command ≡ true
+unfolding line_command clap_on_literals
+line_command_is_simple = refl
 
 -- where the parse succeeds, the job is that of the options
 pub job_of_options : (v words : List Text) (rows : List Row) → v ≡ words
-    → (fault_of beside_command v ≡ []) × (rows ≡ matches_of beside_command v)
-    → beside_job_of words ≡ paired (beside_text rows)
+    → (fault_of line_command v ≡ []) × (rows ≡ matches_of line_command v)
+    → line_job_of words ≡ paired (line_job_text rows)
 job_of_options v words rows same is =
-    sym (ap beside_job_of same)
-    ∙ ap (λ (k : Kinds). if is_empty k then paired (beside_text (matches_of beside_command v)) else None) is.0
-    ∙ sym (ap (λ (r : List Row). paired (beside_text r)) is.1)
+    sym (ap line_job_of same)
+    ∙ ap (λ (k : Kinds). if is_empty k then paired (line_job_text (matches_of line_command v)) else None) is.0
+    ∙ sym (ap (λ (r : List Row). paired (line_job_text r)) is.1)
 
 -- the job that was made is that of the words
 pub job_that_was_made : (v words : List Text) (rows : List Row) → v ≡ words
-    → (fault_of beside_command v ≡ []) × (rows ≡ matches_of beside_command v)
-    → (result : Result BesideJob WordsFault) → IfOk result (λ job. paired (beside_text rows) ≡ Some (text_of_beside job))
-    → IfOk result (λ job. beside_job_of words ≡ Some (text_of_beside job))
+    → (fault_of line_command v ≡ []) × (rows ≡ matches_of line_command v)
+    → (result : Result LineJob WordsFault) → IfOk result (λ job. paired (line_job_text rows) ≡ Some (text_of_line_job job))
+    → IfOk result (λ job. line_job_of words ≡ Some (text_of_line_job job))
 job_that_was_made v words rows same is (Ok job) made = job_of_options v words rows same is ∙ made
 job_that_was_made v words rows same is (Err fault) made = tt

@@ -1,6 +1,6 @@
 //! What a command line asks for.
 use super::session::words_of;
-use aide_session::{BesideJob, Job, WordsFault, read_beside_words, read_words};
+use aide_session::{Job, LineJob, WordsFault, read_line_words, read_words};
 use std::alloc::Global;
 use std::test::Fail;
 
@@ -19,15 +19,15 @@ fn reads_a_job(rt: HostRuntime) -> Result<(), Fail> {
 }
 
 /// The comparison of a command line, for the same reason without a contract.
-fn beside_job_of(alloc: Global, line: &str) -> Result<BesideJob, WordsFault> {
-    read_beside_words(alloc, &words_of(alloc, line)?)
+fn line_job_of(alloc: Global, line: &str) -> Result<LineJob, WordsFault> {
+    read_line_words(alloc, &words_of(alloc, line)?)
 }
 
 #[test]
 fn reads_a_comparison_with_a_trusted_pair_or_without(rt: HostRuntime) -> Result<(), Fail> {
-    let job = beside_job_of(rt.alloc(), "aide -E -c /conf")?;
+    let job = line_job_of(rt.alloc(), "aide -E -c /conf")?;
     assert!(rt; job.trusted_old.as_str() == "" && job.trusted_new.as_str() == "");
-    let job = beside_job_of(
+    let job = line_job_of(
         rt.alloc(),
         "aide -E -c /conf --trusted-new /n --trusted-old /o",
     )?;
@@ -46,7 +46,7 @@ const REFUSED: [&str; 4] = [
 #[test]
 fn refuses_half_a_trusted_pair(rt: HostRuntime) {
     for line in &REFUSED {
-        let is_refused = matches!(beside_job_of(rt.alloc(), line), Err(WordsFault::Usage));
+        let is_refused = matches!(line_job_of(rt.alloc(), line), Err(WordsFault::Usage));
         assert!(rt; is_refused, "{line}");
     }
 }

@@ -15,7 +15,7 @@ use Rattle.aide_session.specs.Says.{settings_told}
 use Rattle.aide_session.specs.code.Parts.{ClosesFor, EndsWith, part_between}
 use Rattle.aide_session.specs.declared.devices.Devices.{Devices}
 use Rattle.aide_text.specs.declared.sink.Sink.{Ghosts as AnySink}
-use Rattle.aide_words.specs.BesideJob.{BesideText}
+use Rattle.aide_words.specs.LineJob.{LineJobText}
 
 -- the paths of what is asked for, and that of the configuration
 abbrev pub named_by : List ℕ → Asked → Named
@@ -55,7 +55,7 @@ pub record IsPointed (files : Files) (asked : Asked) (bytes_of : Side → Option
       → TellsSide (bytes_of New) (is_missing New) file
 
 -- The configuration of a job has this text. If the file is known, the text is the file's.
-pub record HasTextBeside (files : Files) (job : BesideText) (text : List ℕ) : Type 0 where
+pub record HasTextBeside (files : Files) (job : LineJobText) (text : List ℕ) : Type 0 where
   pub text_is : (file : Option (List ℕ)) → files job.config ≡ Some file → file ≡ Some text
   pub small : is_too_large text ≡ false
 

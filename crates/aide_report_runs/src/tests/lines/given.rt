@@ -2,8 +2,8 @@
 use super::super::OLD;
 use super::super::reported::bytes_before;
 use aide_db::Side;
+use aide_line_run::PairFault;
 use aide_report::RunFault;
-use aide_trusted::PairFault;
 
 /// A database, in the order in which their faults count.
 #[derive(Clone, Copy, Debug, PartialEq, Eq)]

@@ -3,9 +3,9 @@ use super::given::{Given, Place};
 use aide_conf::{Options, Task};
 use aide_db::{Desk, Limits, Side, Sources};
 use aide_faults::{Pace, PlannedSources, SidePlan};
+use aide_line_run::{LeftOutList, PairFault, Tasks, TrustedPair, run_lines};
 use aide_patterns::Exclusions;
 use aide_report::{Outcome, RunFault, Sink};
-use aide_trusted::{LeftOutList, PairFault, Tasks, TrustedPair, run_lines_beside};
 use sha2::{Digest, Sha256};
 use std::alloc::{Allocator, Global};
 
@@ -110,7 +110,7 @@ fn run_tasks<S: Sources, W: Sink, A: Allocator + Copy>(
     out: &mut W,
 ) -> Result<Outcome, PairFault> {
     let mut pair = pair_of(&mut desks.trusted, &mut sources.trusted);
-    run_lines_beside(
+    run_lines(
         tasks,
         LIMITS,
         &mut desks.compared,

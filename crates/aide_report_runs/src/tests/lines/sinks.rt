@@ -4,8 +4,8 @@ use super::desks;
 use super::given::{GIVEN, Given, openings};
 use super::runs::{Plans, openings_of, run_over};
 use aide_faults::{PACES, Pace, PlannedSink};
+use aide_line_run::PairFault;
 use aide_report::{MemorySink, RunFault, Sink, WriteSink};
-use aide_trusted::PairFault;
 use std::alloc::Global;
 use std::process::Abort;
 

@@ -7,7 +7,7 @@ ghost use Rattle.aide_session.specs.Closing.{ClosesBy, course_between};
 ghost use Rattle.aide_session.specs.Ends.{Ends, HasFailed, Starved, Whole, sinks_between};
 ghost use Rattle.aide_session.specs.Existence.{HasSessionAnswerBy, TellsNamed};
 ghost use Rattle.aide_session.specs.Put.{HasNoFailure};
-ghost use Rattle.aide_words.specs.BesideJob.{beside_job_of};
+ghost use Rattle.aide_words.specs.LineJob.{line_job_of};
 ghost use Rattle.aide_words.specs.Job.{job_of};
 
 use aide_db::Desk;
@@ -71,12 +71,12 @@ pub(super) fn lines_on<S: Site, W: Sink, E: Sink>(
     out: &mut W,
     err: &mut E,
 ) -> u8
-    ensures unopened { beside_job_of words.now ≡ None
+    ensures unopened { line_job_of words.now ≡ None
         → S.openings site.new ≡ S.openings site.old }
-    ensures still { beside_job_of words.now ≡ None → desk.new.peak ≡ desk.old.peak }
-    ensures trusted_unopened { beside_job_of words.now ≡ None
+    ensures still { line_job_of words.now ≡ None → desk.new.peak ≡ desk.old.peak }
+    ensures trusted_unopened { line_job_of words.now ≡ None
         → S.openings trusted.new ≡ S.openings trusted.old }
-    ensures trusted_still { beside_job_of words.now ≡ None
+    ensures trusted_still { line_job_of words.now ≡ None
         → trusted_desk.new.peak ≡ trusted_desk.old.peak }
 {
     lines_session_on(alloc, words, desk, site, trusted_desk, trusted, out, err)

@@ -1,7 +1,7 @@
 use Rattle.std.proofs.Common.{inr, rules}
 use Rattle.aide_report.specs.Asked.{asked}
 use Rattle.aide_session.specs.code.BesideParts.{named_by}
-use Rattle.aide_trusted.specs.ListView.{list_read}
+use Rattle.aide_line_run.specs.ListView.{list_read}
 use Rattle.aide_session.proofs.BesideParts.{closes_seen, pointed_later, seen_pointed, trusted_later}
 use Rattle.aide_session.proofs.PutLemmas.{appends_none}
 use Rattle.aide_session.proofs.beside.compare_beside.Goals as goal

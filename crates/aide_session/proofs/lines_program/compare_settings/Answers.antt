@@ -4,14 +4,14 @@ use Rattle.aide_session.specs.Answer.{Named}
 use Rattle.aide_session.specs.BesideAnswer.{trusted_of}
 use Rattle.aide_session.specs.BesideEnds.{no_memory_left}
 use Rattle.aide_session.specs.code.BesideParts.{named_by}
-use Rattle.aide_words.specs.BesideJob.{text_of_beside}
-use Rattle.aide_trusted.specs.ListView.{list_read}
+use Rattle.aide_words.specs.LineJob.{text_of_line_job}
+use Rattle.aide_line_run.specs.ListView.{list_read}
 use Rattle.aide_session.proofs.BesideParts.{closes_as}
 use Rattle.aide_session.proofs.lines_program.compare_settings.Goals as goal
 
 pub returns-clause-closes : goal.returns-clause-closes
 returns-clause-closes g c = λ listed read.
-    let job = text_of_beside c.args.job.now in
+    let job = text_of_line_job c.args.job.now in
     let settings = c.args.settings.now in
     let task = c.in-Some.task in
     let trusted : Named = record { config = job.config; old_path = c.as_str.result.now; new_path = c.as_str-2.result.now } in

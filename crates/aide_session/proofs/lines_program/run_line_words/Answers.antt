@@ -1,7 +1,7 @@
 use Rattle.std.proofs.Common.{◌∙◌, ap, refl, Some, Err, rules}
 use Rattle.std.proofs.Math.Path.{subst}
 use Rattle.aide_patterns.specs.List.{HasFirstFault}
-use Rattle.aide_words.specs.BesideJob.{BesideText, text_of_beside}
+use Rattle.aide_words.specs.LineJob.{LineJobText, text_of_line_job}
 use Rattle.aide_session.proofs.BesideParts.{ends_for, is_none_and_some, same_job}
 use Rattle.aide_session.specs.BesideSession.{check_job_of}
 use Rattle.aide_session.specs.Says.{settings_told}
@@ -16,16 +16,16 @@ returns-in-Ok-clause-alone g c = λ none. absurd (is_none_and_some _ _ none c.in
 
 pub returns-in-Ok-clause-beside : goal.returns-in-Ok-clause-beside
 returns-in-Ok-clause-beside g c = λ job is.
-    ends_for (text_of_beside c.in-Ok.job) job _ _ _ (same_job _ _ _ c.in-Ok.ensures.ok is) c.run_job_beside.ensures.closes
+    ends_for (text_of_line_job c.in-Ok.job) job _ _ _ (same_job _ _ _ c.in-Ok.ensures.ok is) c.run_job_beside.ensures.closes
 
 pub returns-in-Ok-clause-unlooked : goal.returns-in-Ok-clause-unlooked
 returns-in-Ok-clause-unlooked g c = λ job is fault has.
     c.run_job_beside.ensures.unlooked fault
-    (subst (λ (j : BesideText). HasFirstFault j.without fault) (same_job _ _ _ is c.in-Ok.ensures.ok) has)
+    (subst (λ (j : LineJobText). HasFirstFault j.without fault) (same_job _ _ _ is c.in-Ok.ensures.ok) has)
 
 pub returns-in-Err-Usage-clause-unlooked : goal.returns-in-Err-Usage-clause-unlooked
 returns-in-Err-Usage-clause-unlooked g c = λ job is.
-    absurd (is_none_and_some _ _ (c.read_beside_words.ensures.usage (c.in-Err-Usage.is ∙ ap Err c.in-Err-Usage.field-0-is)) is)
+    absurd (is_none_and_some _ _ (c.read_line_words.ensures.usage (c.in-Err-Usage.is ∙ ap Err c.in-Err-Usage.field-0-is)) is)
 
 pub returns-in-Err-Usage-clause-alone : goal.returns-in-Err-Usage-clause-alone
 returns-in-Err-Usage-clause-alone g c = λ none. record {
@@ -40,7 +40,7 @@ returns-in-Err-Usage-clause-alone g c = λ none. record {
 
 pub returns-in-Err-Usage-clause-beside : goal.returns-in-Err-Usage-clause-beside
 returns-in-Err-Usage-clause-beside g c = λ job is.
-    absurd (is_none_and_some _ _ (c.read_beside_words.ensures.usage (c.in-Err-Usage.is ∙ ap Err c.in-Err-Usage.field-0-is)) is)
+    absurd (is_none_and_some _ _ (c.read_line_words.ensures.usage (c.in-Err-Usage.is ∙ ap Err c.in-Err-Usage.field-0-is)) is)
 
 pub returns-in-Err-Memory-clause-alone : goal.returns-in-Err-Memory-clause-alone
 returns-in-Err-Memory-clause-alone g c = λ none. record {

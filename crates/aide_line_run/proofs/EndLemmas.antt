@@ -1,0 +1,309 @@
+-- How a run beside a trusted pair ends, by what has gone out and what was found of all four databases.
+use Rattle.std.specs.Prelude.{◌≡◌, ◌⊎◌, ℕ, Option, Some, None, Result, Ok, Err, List, [], ◌∷◌, ◌++◌, map, true, false}
+use Rattle.std.proofs.Common.{ap, append_assoc, inl, inr, refl, sym, subst, ◌∙◌}
+use Rattle.std.proofs.lemmas.Grind.{flat_map-append}
+use Rattle.std.proofs.lemmas.List.{map-append}
+use Rattle.std.specs.FinMap.Entries.{is_sorted}
+use Rattle.std.specs.Io.KnownBytes.{Appends}
+use Rattle.aide_db.specs.DeskView.{DeskView}
+use Rattle.aide_db.specs.Map.{database_of}
+use Rattle.aide_db.specs.declared.limits.Limits.{Limits}
+use Rattle.aide_db.specs.declared.reel.Reel.{Ghosts as Reels}
+use Rattle.aide_db.specs.declared.side.Side.TheVariants.{Old, New}
+use Rattle.aide_entry.specs.Path.{path_cmp}
+use Rattle.aide_text.specs.Sent.{SendsPart}
+use Rattle.aide_text.proofs.Sending.{Appends-nothing}
+use Rattle.aide_report.specs.Asked.{Asked}
+use Rattle.aide_report.specs.ChangeLines.{change_lines}
+use Rattle.aide_report.specs.Entries.{PathChange}
+use Rattle.aide_report.specs.LineCounts.{line_counts}
+use Rattle.aide_report.specs.LineRuns.{line_outcome}
+use Rattle.aide_report.specs.Missing.{TellsSide}
+use Rattle.aide_report.specs.Runs.{Report, report_over}
+use Rattle.aide_report.specs.Seen.{Seen}
+use Rattle.aide_report.specs.code.Finding.{pass_of}
+use Rattle.aide_report.specs.code.LineTally.{tally}
+use Rattle.aide_report.specs.code.Merging.{remaining}
+use Rattle.aide_report.specs.code.Readings.{AreRead}
+use Rattle.aide_report.specs.declared.outcome.Outcome.{Outcome}
+use Rattle.aide_report.specs.declared.run_fault.RunFault.{RunFault}
+use Rattle.aide_report.specs.declared.run_fault.RunFault.TheVariants.{Open, Database, Changed, Write}
+use Rattle.aide_report.proofs.LineLaws.{tally_is}
+use Rattle.aide_report.proofs.LineRunLemmas.{texts_read}
+use Rattle.aide_report.proofs.OneReadingLemmas.{are_read}
+use Rattle.aide_report.proofs.RunLemmas.{pass_is_changes}
+use Rattle.aide_line_run.specs.BesideLines.{BeginsBeside, all_lines_beside, by_texts, closing_beside, facts_of_texts}
+use Rattle.aide_line_run.specs.BesideLines.{lines_beside, opening_beside}
+use Rattle.aide_line_run.specs.BesideRuns.{AreAllSound, CutsBeside, RunsBeside, SendsWholeOf, answer_by}
+use Rattle.aide_line_run.specs.Listed.{Leaves, ListRead, leaves_between}
+use Rattle.aide_line_run.specs.Sought.{Accounted, accounted_line, accounted_lines, changes_of, sought_by}
+use Rattle.aide_line_run.specs.code.Over.{AreDone}
+use Rattle.aide_line_run.specs.code.Readings.{AreOpened}
+use Rattle.aide_line_run.specs.code.Written.{ArePairsRead, CutsChanges, CutsLast, HasToldAll, IsWrite, begun_beside, told_beside}
+use Rattle.aide_line_run.specs.declared.pair_fault.PairFault.{PairFault}
+use Rattle.aide_line_run.specs.declared.pair_fault.PairFault.TheVariants.{Compared, Trusted}
+use Rattle.aide_line_run.specs.declared.walk.Merges.{Merges}
+use Rattle.aide_line_run.specs.declared.write.PairsFound.{PairsFound}
+use Rattle.aide_line_run.proofs.Laws.{pass_sorted, sought_is}
+use Rattle.aide_line_run.proofs.PairLemmas.{IsOkay, okay_over}
+
+true_false : true ≡ false → ⊥
+true_false e = cc
+
+-- ---- a beginning
+
+pub part_none : (text : List ℕ) (bytes : Option (List ℕ)) → SendsPart text bytes bytes
+part_none text bytes = record { front = []; rest = text; whole = refl; bytes = Appends-nothing bytes }
+
+-- a beginning of a text is one of a longer text
+part_longer : {text : List ℕ} {before after : Option (List ℕ)} (more whole : List ℕ) → whole ≡ text ++ more
+    → SendsPart text before after → SendsPart whole before after
+part_longer more whole is p = record {
+  front = p.front;
+  rest = p.rest ++ more;
+  whole = is ∙ ap (λ l. l ++ more) p.whole ∙ append_assoc p.front p.rest more;
+  bytes = p.bytes;
+}
+
+abbrev unaccounted : List PathChange → List Accounted
+unaccounted changes = map (λ change. (change, None)) changes
+
+unaccounted_are : (changes : List PathChange) → changes_of (unaccounted changes) ≡ changes
+unaccounted_are [] = refl
+unaccounted_are (c ∷ cs) = ap (λ l. c ∷ l) (unaccounted_are cs)
+
+begins_none : (leaves : Leaves) (wish trusted_wish : Asked) (changes beside : List PathChange) (bytes : Option (List ℕ))
+    → BeginsBeside leaves wish trusted_wish changes beside bytes bytes
+begins_none leaves wish trusted_wish changes beside bytes = record {
+  accounted = unaccounted changes;
+  all = unaccounted_are changes;
+  part = part_none _ bytes;
+  sought = λ in_order. part_none _ bytes;
+}
+
+-- nothing has gone out
+module _ (limits : Limits) (list : ListRead) (wish trusted_wish : Asked) (old new trusted_old trusted_new : List ℕ)
+    (bytes : Option (List ℕ)) where
+  pub cut_none : (fault : PairFault) → CutsBeside limits list wish trusted_wish old new trusted_old trusted_new bytes bytes fault
+  cut_none (Compared (Open side)) = begins_none _ wish trusted_wish _ _ bytes
+  cut_none (Compared (Database fault)) = begins_none _ wish trusted_wish _ _ bytes
+  cut_none (Compared (Changed side)) = begins_none _ wish trusted_wish _ _ bytes
+  cut_none (Compared (Write written)) = (λ sound. part_none _ bytes, λ unsound. begins_none _ wish trusted_wish _ _ bytes)
+  cut_none (Trusted fault) = begins_none _ wish trusted_wish _ _ bytes
+
+-- ---- both pairs were read to their ends
+
+module _ {R : Type 0} {r : Reels R} {limits : Limits} {a b s t : Seen} {m : Merges R} {e v : DeskView}
+    (p : AreOpened r limits a b e m.compared) (q : AreOpened r limits s t v m.trusted) where
+  module _ {n : Merges R} {f w : DeskView} {found : PairsFound} (read : ArePairsRead r m n e f v w found) where
+    pub compared_read : AreRead limits a found.compared
+    compared_read = are_read p.there p.opened read.keeps.compared read.ended read.read
+
+    pub trusted_read : AreRead limits s found.trusted
+    trusted_read = are_read q.there q.opened read.keeps.trusted read.trusted_ended read.trusted_read
+
+  -- four texts that are told
+  module _ (list : ListRead) (wish trusted_wish : Asked) (old new trusted_old trusted_new : List ℕ)
+      (told_old : a.bytes_of Old ≡ Some old) (told_new : a.bytes_of New ≡ Some new)
+      (told_trusted_old : s.bytes_of Old ≡ Some trusted_old) (told_trusted_new : s.bytes_of New ≡ Some trusted_new) where
+    abbrev lines_sought : List ℕ
+    lines_sought = change_lines wish.options (sought_by (leaves_between list old new) (pass_of trusted_old trusted_new))
+        (pass_of old new)
+
+    abbrev lines_left : List ℕ
+    lines_left = change_lines wish.options (sought_by (leaves_between list old new)
+        (remaining m.trusted v trusted_old trusted_new)) (remaining m.compared e old new)
+
+    left_are : lines_left ≡ lines_sought
+    left_are = λ i. change_lines wish.options (sought_by (leaves_between list old new)
+        (q.opened.rest trusted_old trusted_new i)) (p.opened.rest old new i)
+
+    sorted_left : is_sorted path_cmp (pass_of old new) ≡ true → is_sorted path_cmp (remaining m.compared e old new) ≡ true
+    sorted_left in_order = ap (is_sorted path_cmp) (p.opened.rest old new) ∙ in_order
+
+    -- what has gone out of changes that were broken off
+    done_begins : (done : List Accounted) (before after : Option (List ℕ)) (fault : PairFault)
+        → AreDone {X = PairsFound} r list wish.options m e v done (Err fault)
+        → SendsPart (begun_beside wish trusted_wish done) before after
+        → BeginsBeside (leaves_between list old new) wish trusted_wish (pass_of old new) (pass_of trusted_old trusted_new)
+        before after
+    done_begins done before after fault are part =
+        let opening = opening_beside wish trusted_wish in
+        let rest = are.changes old new (p.opened.stands Old old told_old) (p.opened.stands New new told_new) in
+        record {
+          accounted = done ++ unaccounted rest.0;
+          all = map-append (λ (each : Accounted). each.0) done (unaccounted rest.0)
+              ∙ ap (λ l. changes_of done ++ l) (unaccounted_are rest.0) ∙ sym rest.1 ∙ p.opened.rest old new;
+          part = part_longer (accounted_lines wish.options (unaccounted rest.0)) _
+              (ap (λ l. opening ++ l) (flat_map-append (accounted_line wish.options) done (unaccounted rest.0))
+              ∙ sym (append_assoc opening (accounted_lines wish.options done) (accounted_lines wish.options (unaccounted rest.0)))) part;
+          sought = λ in_order.
+              let lines = are.lines old new trusted_old trusted_new (p.opened.stands Old old told_old) (p.opened.stands New new told_new)
+              (q.opened.stands Old trusted_old told_trusted_old) (q.opened.stands New trusted_new told_trusted_new)
+              (sorted_left in_order) in
+              part_longer lines.0 _ (ap (λ l. opening ++ l) (sym left_are ∙ lines.1)
+              ∙ sym (append_assoc opening (accounted_lines wish.options done) lines.0)) part;
+        }
+
+    -- ---- sound texts
+
+    module _ (sound : AreAllSound limits old new trusted_old trusted_new) where
+      in_order : is_sorted path_cmp (pass_of old new) ≡ true
+      in_order = pass_sorted limits old new sound.of_old sound.of_new
+
+      -- what comes before the last line
+      text_begun : (lines_beside list wish trusted_wish old new trusted_old trusted_new).text
+          ≡ (opening_beside wish trusted_wish ++ lines_sought)
+          ++ closing_beside list (facts_of_texts old new trusted_old trusted_new)
+          (line_counts wish.options (by_texts list old new trusted_old trusted_new) (database_of old) (database_of new))
+      unfolding lines_beside all_lines_beside
+      text_begun = sym (λ i. (opening_beside wish trusted_wish
+          ++ change_lines wish.options (sought_is (leaves_between list old new) limits trusted_old trusted_new
+          sound.of_trusted_old sound.of_trusted_new i)
+          (sym (pass_is_changes limits old new sound.of_old sound.of_new) i))
+          ++ closing_beside list (facts_of_texts old new trusted_old trusted_new)
+          (line_counts wish.options (by_texts list old new trusted_old trusted_new) (database_of old) (database_of new)))
+
+      begins_whole : {before after : Option (List ℕ)}
+          → BeginsBeside (leaves_between list old new) wish trusted_wish (pass_of old new) (pass_of trusted_old trusted_new)
+          before after
+          → SendsPart (lines_beside list wish trusted_wish old new trusted_old trusted_new).text before after
+      begins_whole begins = part_longer _ _ text_begun (begins.sought in_order)
+
+      counts_of_pass : tally wish.options (sought_by (leaves_between list old new) (pass_of trusted_old trusted_new))
+          (pass_of old new)
+          ≡ line_counts wish.options (by_texts list old new trusted_old trusted_new) (database_of old) (database_of new)
+      counts_of_pass =
+          (λ i. tally wish.options (sought_is (leaves_between list old new) limits trusted_old trusted_new sound.of_trusted_old
+          sound.of_trusted_new i)
+          (sym (pass_is_changes limits old new sound.of_old sound.of_new) i))
+          ∙ tally_is wish.options (by_texts list old new trusted_old trusted_new) (database_of old) (database_of new)
+
+      module _ {n : Merges R} {f w : DeskView} {found : PairsFound} {Goes : List ℕ → Type 0}
+          (told : HasToldAll r list wish trusted_wish m n e f v w found Goes) where
+        counted : found.counts ≡ line_counts wish.options (by_texts list old new trusted_old trusted_new)
+            (database_of old) (database_of new)
+        counted =
+            told.counts old new trusted_old trusted_new (p.opened.stands Old old told_old) (p.opened.stands New new told_new)
+            (q.opened.stands Old trusted_old told_trusted_old) (q.opened.stands New trusted_new told_trusted_new) (sorted_left in_order)
+            ∙ (λ i. tally wish.options (sought_by (leaves_between list old new) (q.opened.rest trusted_old trusted_new i))
+            (p.opened.rest old new i))
+            ∙ counts_of_pass
+
+        all_lines : lines_sought ≡ accounted_lines wish.options told.done
+        all_lines = sym left_are
+            ∙ told.are.lines old new trusted_old trusted_new (p.opened.stands Old old told_old) (p.opened.stands New new told_new)
+            (q.opened.stands Old trusted_old told_trusted_old) (q.opened.stands New trusted_new told_trusted_new) (sorted_left in_order)
+
+        -- what was written is the answer
+        pub told_is : told_beside list wish trusted_wish told.done found
+            ≡ (lines_beside list wish trusted_wish old new trusted_old trusted_new).text
+        told_is =
+            let is = texts_read old new (compared_read told.read) told_old told_new in
+            let other = texts_read trusted_old trusted_new (trusted_read told.read) told_trusted_old told_trusted_new in
+            (λ i. (opening_beside wish trusted_wish ++ sym all_lines i) ++ closing_beside list (record {
+              of_old = record { digest = is.digest_old i; skipped = is.skipped_old i };
+              of_new = record { digest = is.digest_new i; skipped = is.skipped_new i };
+              of_trusted_old = record { digest = other.digest_old i; skipped = other.skipped_old i };
+              of_trusted_new = record { digest = other.digest_new i; skipped = other.skipped_new i };
+            }) (counted i))
+            ∙ sym text_begun
+
+        pub outcome_is : (lines_beside list wish trusted_wish old new trusted_old trusted_new).outcome
+            ≡ line_outcome found.counts found.compared.skipped_old found.compared.skipped_new
+        unfolding lines_beside report_over
+        outcome_is =
+            let is = texts_read old new (compared_read told.read) told_old told_new in
+            sym (λ i. line_outcome (counted i) (is.skipped_old i) (is.skipped_new i))
+
+    all_sound : {n : Merges R} {f w : DeskView} {found : PairsFound} → ArePairsRead r m n e f v w found
+        → AreAllSound limits old new trusted_old trusted_new
+    all_sound read = record {
+      of_old = (compared_read read).sound Old old told_old;
+      of_new = (compared_read read).sound New new told_new;
+      of_trusted_old = (trusted_read read).sound Old trusted_old told_trusted_old;
+      of_trusted_new = (trusted_read read).sound New trusted_new told_trusted_new;
+    }
+
+    -- ---- what has gone out at a fault
+
+    cut_changes : (before after : Option (List ℕ)) (fault : PairFault)
+        → BeginsBeside (leaves_between list old new) wish trusted_wish (pass_of old new) (pass_of trusted_old trusted_new)
+        before after
+        → CutsBeside limits list wish trusted_wish old new trusted_old trusted_new before after fault
+    cut_changes before after (Compared (Open side)) begins = begins
+    cut_changes before after (Compared (Database fault)) begins = begins
+    cut_changes before after (Compared (Changed side)) begins = begins
+    cut_changes before after (Compared (Write written)) begins = (λ sound. begins_whole sound begins, λ unsound. begins)
+    cut_changes before after (Trusted fault) begins = begins
+
+    cut_last : (before after : Option (List ℕ)) (fault : PairFault) → IsWrite fault
+        → AreAllSound limits old new trusted_old trusted_new
+        → SendsPart (lines_beside list wish trusted_wish old new trusted_old trusted_new).text before after
+        → CutsBeside limits list wish trusted_wish old new trusted_old trusted_new before after fault
+    cut_last before after (Compared (Open side)) written sound part = absurd written
+    cut_last before after (Compared (Database fault)) written sound part = absurd written
+    cut_last before after (Compared (Changed side)) written sound part = absurd written
+    cut_last before after (Compared (Write bytes)) written sound part = (λ all. part, λ unsound. absurd (unsound sound))
+    cut_last before after (Trusted fault) written sound part = absurd written
+
+    pub cut_by : {n : Merges R} {f w : DeskView} (before after : Option (List ℕ)) (fault : PairFault)
+        → CutsChanges r list wish trusted_wish m e v before after fault ⊎ CutsLast r list wish trusted_wish m n e f v w before after fault
+        → CutsBeside limits list wish trusted_wish old new trusted_old trusted_new before after fault
+    cut_by before after fault cut = elim cut [
+      | inl early ↦ cut_changes before after fault (done_begins early.done before after fault early.are early.part)
+      | inr last ↦
+          let sound = all_sound last.told.read in
+          cut_last before after fault last.written sound
+          (subst (λ text. SendsPart text before after) (told_is sound last.told) last.told.goes)
+    ]
+
+-- ---- the answer over four texts that are there and sound
+
+okay_answer : (compared trusted : Result Report RunFault) (whole : Report) (r : Result Report PairFault) → IsOkay compared → IsOkay trusted
+    → answer_by compared trusted (Some whole) r → r ≡ Ok whole
+okay_answer (Err fault) trusted whole r okay other is = absurd okay
+okay_answer (Ok report) (Err fault) whole r okay other is = absurd other
+okay_answer (Ok report) (Ok second) whole r okay other is = is
+
+whole_as : (r : Result Report PairFault) (whole : Report) (outcome : Outcome) (before after : Option (List ℕ)) → r ≡ Ok whole
+    → (whole.outcome ≡ outcome) × Appends before after whole.text → SendsWholeOf r outcome before after
+whole_as r whole outcome before after is ends =
+    subst (λ (x : Result Report PairFault). SendsWholeOf x outcome before after) (sym is) ends
+
+-- after `Ok` the whole answer has gone out
+pub ends_whole : {R : Type 0} {r : Reels R} {limits : Limits} {a b s t : Seen} {m n : Merges R} {e f v w : DeskView}
+    {found : PairsFound} (p : AreOpened r limits a b e m.compared) (q : AreOpened r limits s t v m.trusted)
+    (list : ListRead) (wish trusted_wish : Asked) (before after : Option (List ℕ))
+    → HasToldAll r list wish trusted_wish m n e f v w found (Appends before after)
+    → (old new trusted_old trusted_new : Option (List ℕ))
+    → TellsSide (a.bytes_of Old) (a.is_missing Old) old × TellsSide (a.bytes_of New) (a.is_missing New) new
+    → TellsSide (s.bytes_of Old) (s.is_missing Old) trusted_old × TellsSide (s.bytes_of New) (s.is_missing New) trusted_new
+    → (r : Result Report PairFault) → RunsBeside limits list wish trusted_wish old new trusted_old trusted_new r
+    → SendsWholeOf r (line_outcome found.counts found.compared.skipped_old found.compared.skipped_new) before after
+ends_whole p q list wish trusted_wish before after told None new trusted_old trusted_new tells trusted_tells r runs =
+    absurd (true_false (sym tells.0 ∙ p.there Old))
+ends_whole p q list wish trusted_wish before after told (Some old) None trusted_old trusted_new tells trusted_tells r runs =
+    absurd (true_false (sym tells.1 ∙ p.there New))
+ends_whole p q list wish trusted_wish before after told (Some old) (Some new) None trusted_new tells trusted_tells r runs =
+    absurd (true_false (sym trusted_tells.0 ∙ q.there Old))
+ends_whole p q list wish trusted_wish before after told (Some old) (Some new) (Some trusted_old) None tells trusted_tells r runs =
+    absurd (true_false (sym trusted_tells.1 ∙ q.there New))
+ends_whole {limits = limits} {a = a} {s = s} p q list wish trusted_wish before after told (Some old) (Some new) (Some trusted_old)
+    (Some trusted_new) tells trusted_tells r runs =
+    let read = compared_read p q told.read in
+    let trusted_read = trusted_read p q told.read in
+    let sound = all_sound p q list wish trusted_wish old new trusted_old trusted_new tells.0 tells.1 trusted_tells.0 trusted_tells.1
+    told.read in
+    whole_as r (lines_beside list wish trusted_wish old new trusted_old trusted_new) _ before after
+    (okay_answer runs.compared runs.trusted (lines_beside list wish trusted_wish old new trusted_old trusted_new) r
+    (okay_over limits wish a.bytes_of a.is_missing (Some old) (Some new) tells.0 tells.1 read.there read.sound runs.compared
+    runs.compared_runs)
+    (okay_over limits trusted_wish s.bytes_of s.is_missing (Some trusted_old) (Some trusted_new) trusted_tells.0 trusted_tells.1
+    trusted_read.there trusted_read.sound runs.trusted runs.trusted_runs)
+    runs.answer) (
+      outcome_is p q list wish trusted_wish old new trusted_old trusted_new tells.0 tells.1 trusted_tells.0 trusted_tells.1 sound told,
+      subst (λ text. Appends before after text)
+          (told_is p q list wish trusted_wish old new trusted_old trusted_new tells.0 tells.1 trusted_tells.0 trusted_tells.1 sound told)
+          told.goes,
+    )

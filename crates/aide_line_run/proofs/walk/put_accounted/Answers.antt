@@ -1,0 +1,176 @@
+use Rattle.std.proofs.Common.{◌∙◌, ◌<◌, ◌^◌, ap, arith, refl}
+use Rattle.std.specs.Prelude.{None}
+use Rattle.aide_report.specs.code.ChangeView.{alike_of, change_of}
+use Rattle.aide_report.specs.code.Merging.{total_work}
+use Rattle.aide_report.specs.code.Passes.{on_sheet}
+use Rattle.aide_report.proofs.CallLemmas.{merge_fault, merge_none, merge_then}
+use Rattle.aide_line_run.proofs.TallyLemmas.{below_all, small_more, small_start, tally_alike}
+use Rattle.aide_agreement.specs.Account.{same_as}
+use Rattle.aide_db.specs.declared.side.Side.TheVariants.{Old, New}
+use Rattle.aide_report.specs.code.Merging.{remaining}
+use Rattle.aide_line_run.specs.ListView.{list_read}
+use Rattle.aide_line_run.specs.Listed.{account_by, left_by}
+use Rattle.aide_line_run.specs.Sought.{found_at}
+use Rattle.aide_line_run.proofs.WalkLemmas.{measures_known, walk_alike, walk_ended, walk_more, walk_start, walk_stopped}
+use Rattle.aide_line_run.proofs.walk.put_accounted.Goals as goal
+
+pub pass-init : goal.pass-init
+pass-init g c = record {
+  ready = c.requires.ready;
+  trusted_ready = c.requires.trusted_ready;
+  small = small_start c.args.terms.now.options.now _ (total_work c.args.merges.now.compared) c.no_counts-counts.ensures c.requires.short;
+  writes_on = c.requires.writes_on;
+  keeps = record {
+    compared = merge_none g.R.Reel c.args.merges.now.compared c.args.desk.now;
+    trusted = merge_none g.R.Reel c.args.merges.now.trusted c.args.trusted_desk.now;
+  };
+  walking = walk_start g.R.Reel (list_read c.args.terms.now.list) c.args.terms.now.options.now c.args.merges.now c.args.desk.now
+      c.args.trusted_desk.now _ _ c.no_counts-counts.ensures;
+}
+
+pub read_due-requires : goal.read_due-requires
+read_due-requires g c = c.pass.invariant.ready
+
+pub seek-requires : goal.seek-requires
+seek-requires g c = c.pass.invariant.trusted_ready
+
+pub returns-in-Err-clause-keeps : goal.returns-in-Err-clause-keeps
+returns-in-Err-clause-keeps g c = record {
+  compared = merge_then c.pass.invariant.keeps.compared c.read_due.ensures.keeps;
+  trusted = c.pass.invariant.keeps.trusted;
+}
+
+pub returns-in-Err-clause-walked : goal.returns-in-Err-clause-walked
+returns-in-Err-clause-walked g c =
+    walk_stopped g.R.Reel (list_read c.args.terms.now.list) c.args.terms.now.options.now c.args.merges.now c.args.desk.now
+    c.args.trusted_desk.now c.pass.invariant.walking
+    c.pass.invariant.keeps _
+
+pub returns-in-Err-clause-fault : goal.returns-in-Err-clause-fault
+returns-in-Err-clause-fault g c =
+    (c.pass.invariant.writes_on, merge_fault c.pass.invariant.keeps.compared c.in-Err.ensures.fault)
+
+pub returns-in-End-clause-keeps : goal.returns-in-End-clause-keeps
+returns-in-End-clause-keeps g c = record {
+  compared = merge_then c.pass.invariant.keeps.compared (merge_then c.read_due.ensures.keeps c.next.ensures.keeps);
+  trusted = c.pass.invariant.keeps.trusted;
+}
+
+pub returns-in-End-clause-walked : goal.returns-in-End-clause-walked
+returns-in-End-clause-walked g c =
+    walk_ended g.R.Reel (list_read c.args.terms.now.list) c.args.terms.now.options.now c.args.merges.now c.args.desk.now
+    c.args.trusted_desk.now c.pass.invariant.walking
+    c.pass.invariant.keeps
+    (λ old new s t. c.in_default.ensures.read.same old new s t ∙ c.in-End.ensures.step.end old new refl)
+
+pub returns-in-End-clause-ended : goal.returns-in-End-clause-ended
+returns-in-End-clause-ended g c = record {
+  ready = c.in-End.ensures.step.ready;
+  trusted_ready = c.pass.invariant.trusted_ready;
+  ended = c.in-End.ensures.step.ended refl;
+  writes_on = c.pass.invariant.writes_on;
+}
+
+pub returns-in-Err-seek-clause-keeps : goal.returns-in-Err-seek-clause-keeps
+returns-in-Err-seek-clause-keeps g c = record {
+  compared = merge_then c.pass.invariant.keeps.compared (merge_then c.read_due.ensures.keeps c.next.ensures.keeps);
+  trusted = merge_then c.pass.invariant.keeps.trusted c.seek.ensures.keeps;
+}
+
+pub returns-in-Err-seek-clause-walked : goal.returns-in-Err-seek-clause-walked
+returns-in-Err-seek-clause-walked g c =
+    walk_stopped g.R.Reel (list_read c.args.terms.now.list) c.args.terms.now.options.now c.args.merges.now c.args.desk.now
+    c.args.trusted_desk.now c.pass.invariant.walking
+    c.pass.invariant.keeps _
+
+pub returns-in-Err-seek-clause-fault : goal.returns-in-Err-seek-clause-fault
+returns-in-Err-seek-clause-fault g c =
+    (c.pass.invariant.writes_on, merge_fault c.pass.invariant.keeps.trusted c.in-Err-seek.ensures.fault)
+
+pub returns-then-pen-clause-keeps : goal.returns-then-pen-clause-keeps
+returns-then-pen-clause-keeps g c = record {
+  compared = merge_then c.pass.invariant.keeps.compared (merge_then c.read_due.ensures.keeps c.next.ensures.keeps);
+  trusted = merge_then c.pass.invariant.keeps.trusted c.seek.ensures.keeps;
+}
+
+pub returns-then-pen-clause-walked : goal.returns-then-pen-clause-walked
+returns-then-pen-clause-walked g c =
+    let step = c.in-Differs.ensures.step in
+    let change = change_of c.in-Differs.change in
+    walk_stopped g.R.Reel (list_read c.args.terms.now.list) c.args.terms.now.options.now c.args.merges.now c.args.desk.now
+    c.args.trusted_desk.now
+    (walk_more g.R.Reel (list_read c.args.terms.now.list) c.args.terms.now.options.now c.args.merges.now c.args.desk.now
+    c.args.trusted_desk.now c.pass.invariant.walking
+    c.pass.invariant.keeps change c.account_of-account.result step.changes
+    (record { compared = c.next.new.self; trusted = c.seek.new.merge }) c.read_due.new.desk c.seek.new.desk c.put_counted.new.counts
+    (on_sheet g.W.Sink c.put_counted.new.out c.put_counted.new.pen)
+    (λ old new s t. c.in_default.ensures.read.same old new s t ∙ step.gives old new) step.shows
+    c.in_default-seek.ensures.sought.same (λ old new trusted_old trusted_new s t. c.account_of-account.ensures trusted_old trusted_new
+    ∙ ap (λ m. account_by (same_as change.1 (found_at change.0 (remaining c.seek.new.merge c.seek.new.desk trusted_old trusted_new)))
+    (left_by (list_read c.args.terms.now.list) m change))
+    (measures_known g.R.Reel.to_come c.read_due.new.self c.next.new.self c.read_due.new.desk old new c.in_default.ensures.read.ready
+    c.in_default.ensures.read.not_due c.next.ensures.old_cursor c.next.ensures.new_cursor
+    (c.read_due.ensures.keeps.stands Old old s) (c.read_due.ensures.keeps.stands New new t))) c.put_counted.ensures.counted
+    c.put_counted.ensures.wrote)
+    (record {
+      compared = merge_then c.pass.invariant.keeps.compared (merge_then c.read_due.ensures.keeps c.next.ensures.keeps);
+      trusted = merge_then c.pass.invariant.keeps.trusted c.seek.ensures.keeps;
+    }) _
+
+pub pass-preserved-else-pen : goal.pass-preserved-else-pen
+pass-preserved-else-pen g c =
+    let step = c.in-Differs.ensures.step in
+    let change = change_of c.in-Differs.change in
+    let fewer : total_work c.next.new.self < total_work c.pass.merges.compared =
+    omega (arith, step.falls (λ e. cc), c.in_default.ensures.read.falls) in
+    record {
+      ready = step.ready;
+      trusted_ready = c.in_default-seek.ensures.sought.ready;
+      small = small_more c.args.terms.now.options.now c.pass.counts c.put_counted.new.counts
+          (change, c.account_of-account.result) (2 ^ 62)
+          (total_work c.pass.merges.compared) (total_work c.next.new.self) fewer c.put_counted.ensures.counted c.pass.invariant.small;
+      writes_on = c.if-pen.false;
+      keeps = record {
+        compared = merge_then c.pass.invariant.keeps.compared (merge_then c.read_due.ensures.keeps c.next.ensures.keeps);
+        trusted = merge_then c.pass.invariant.keeps.trusted c.seek.ensures.keeps;
+      };
+      walking = walk_more g.R.Reel (list_read c.args.terms.now.list) c.args.terms.now.options.now c.args.merges.now c.args.desk.now
+          c.args.trusted_desk.now c.pass.invariant.walking
+          c.pass.invariant.keeps change c.account_of-account.result step.changes
+          (record { compared = c.next.new.self; trusted = c.seek.new.merge }) c.read_due.new.desk c.seek.new.desk c.put_counted.new.counts
+          (on_sheet g.W.Sink c.put_counted.new.out c.put_counted.new.pen)
+          (λ old new s t. c.in_default.ensures.read.same old new s t ∙ step.gives old new) step.shows
+          c.in_default-seek.ensures.sought.same (λ old new trusted_old trusted_new s t. c.account_of-account.ensures trusted_old trusted_new
+          ∙ ap (λ m. account_by (same_as change.1 (found_at change.0 (remaining c.seek.new.merge c.seek.new.desk trusted_old trusted_new)))
+          (left_by (list_read c.args.terms.now.list) m change))
+          (measures_known g.R.Reel.to_come c.read_due.new.self c.next.new.self c.read_due.new.desk old new c.in_default.ensures.read.ready
+          c.in_default.ensures.read.not_due c.next.ensures.old_cursor c.next.ensures.new_cursor
+          (c.read_due.ensures.keeps.stands Old old s) (c.read_due.ensures.keeps.stands New new t))) c.put_counted.ensures.counted
+          c.put_counted.ensures.wrote;
+    }
+
+pub pass-preserved : goal.pass-preserved
+pass-preserved g c =
+    let step = c.in-Alike.ensures.step in
+    let fewer : total_work c.next.new.self < total_work c.pass.merges.compared =
+    omega (arith, step.falls (λ e. cc), c.in_default.ensures.read.falls) in
+    record {
+      ready = step.ready;
+      trusted_ready = c.pass.invariant.trusted_ready;
+      small = small_more c.args.terms.now.options.now c.pass.counts _ (alike_of step.shows.entry, None) (2 ^ 62)
+          (total_work c.pass.merges.compared) (total_work c.next.new.self) fewer
+          (tally_alike c.args.terms.now.options.now c.pass.counts step.shows.entry None) c.pass.invariant.small;
+      writes_on = c.pass.invariant.writes_on;
+      keeps = record {
+        compared = merge_then c.pass.invariant.keeps.compared (merge_then c.read_due.ensures.keeps c.next.ensures.keeps);
+        trusted = c.pass.invariant.keeps.trusted;
+      };
+      walking = walk_alike g.R.Reel (list_read c.args.terms.now.list) c.args.terms.now.options.now c.args.merges.now c.args.desk.now
+          c.args.trusted_desk.now c.pass.invariant.walking
+          c.pass.invariant.keeps step.shows.entry step.changes c.next.new.self c.read_due.new.desk
+          (λ old new s t. c.in_default.ensures.read.same old new s t ∙ step.gives old new) step.shows.only;
+    }
+
+pub put_counted-requires : goal.put_counted-requires
+put_counted-requires g c =
+    below_all c.args.terms.now.options.now c.pass.counts (2 ^ 62) (total_work c.pass.merges.compared) c.pass.invariant.small

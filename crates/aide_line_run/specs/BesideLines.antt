@@ -1,0 +1,114 @@
+-- The lines of two databases with a trusted pair.
+use Rattle.std.specs.Prelude.{◌≡◌, ℕ, List, [], ◌++◌, Option, true}
+use Rattle.std.specs.FinMap.{get}
+use Rattle.std.specs.FinMap.Entries.{is_sorted}
+use Rattle.std.specs.Io.KnownBytes.{Appends}
+use Rattle.aide_agreement.specs.Account.{same_as}
+use Rattle.aide_db.specs.Map.{Database, database_of}
+use Rattle.aide_entry.specs.Path.{path_cmp}
+use Rattle.aide_line_text.specs.Frame.{ReadFacts, closing_line, opening_line}
+use Rattle.aide_line_text.specs.declared.counts.LineCounts.{LineCounts}
+use Rattle.aide_report.specs.Asked.{Asked}
+use Rattle.aide_report.specs.ChangeLines.{Accounts, change_lines}
+use Rattle.aide_report.specs.Compare.{changes}
+use Rattle.aide_report.specs.Entries.{PathChange}
+use Rattle.aide_report.specs.LineCounts.{account_count, entry_count, line_counts, status_by}
+use Rattle.aide_report.specs.LineRuns.{line_outcome}
+use Rattle.aide_report.specs.LinesRead.{read_of}
+use Rattle.aide_report.specs.Runs.{Report, report_over}
+use Rattle.aide_report.specs.declared.outcome.Outcome.{Outcome}
+use Rattle.aide_text.specs.Sent.{SendsPart}
+use Rattle.aide_line_run.specs.Listed.{Leaves, ListRead, account_by, leaves_between}
+use Rattle.aide_line_run.specs.Sought.{Accounted, accounted_lines, changes_of, sought_by}
+
+-- what the last line says about all four databases
+pub record PairFacts : Type 0 where
+  pub of_old : ReadFacts
+  pub of_new : ReadFacts
+  pub of_trusted_old : ReadFacts
+  pub of_trusted_new : ReadFacts
+
+-- what accounts for each change, by what the trusted maps have at its path and by what a list leaves out
+abbrev pub by_trusted : Leaves → (trusted_old trusted_new : Database) → Accounts
+by_trusted leaves trusted_old trusted_new change =
+    account_by (same_as change.1 (get trusted_old change.0, get trusted_new change.0))
+    (leaves change)
+
+-- the first line: the configured paths of all four databases
+abbrev pub opening_beside : (asked trusted : Asked) → List ℕ
+opening_beside asked trusted = opening_line asked.old_path asked.new_path
+    trusted.old_path trusted.new_path
+
+-- the last line
+abbrev pub closing_beside : ListRead → PairFacts → LineCounts → List ℕ
+closing_beside list facts counts = closing_line facts.of_old facts.of_new
+    facts.of_trusted_old facts.of_trusted_new list.digest counts (status_by counts)
+
+-- all lines, with these facts, counts and changes: the first line, a line for each added, removed or changed entry,
+-- which says what accounts for the change, and the last line
+unfoldable pub all_lines_beside : ListRead → (asked trusted : Asked) → PairFacts → Accounts
+    → LineCounts → List PathChange → List ℕ
+all_lines_beside list asked trusted facts account counts changes =
+    (opening_beside asked trusted ++ change_lines asked.options account changes)
+    ++ closing_beside list facts counts
+
+-- what the last line says about four texts
+abbrev pub facts_of_texts : (old new trusted_old trusted_new : List ℕ) → PairFacts
+facts_of_texts old new trusted_old trusted_new = record {
+  of_old = read_of old;
+  of_new = read_of new;
+  of_trusted_old = read_of trusted_old;
+  of_trusted_new = read_of trusted_new;
+}
+
+-- the lines over two maps from paths to attributes, by what accounts for their changes
+abbrev pub lines_of_pairs : ListRead → (asked trusted : Asked) → PairFacts → Accounts
+    → (old new : Database) → List ℕ
+lines_of_pairs list asked trusted facts account old new =
+    all_lines_beside list asked trusted facts account (line_counts asked.options account old new)
+    (changes old new)
+
+-- what accounts for the changes of two texts, by the maps of the trusted texts and by a list
+abbrev pub by_texts : ListRead → (old new trusted_old trusted_new : List ℕ) → Accounts
+by_texts list old new trusted_old trusted_new =
+    by_trusted (leaves_between list old new) (database_of trusted_old)
+    (database_of trusted_new)
+
+-- The lines over four sound texts, and the outcome that goes with them, in which the trusted texts and the list have no
+-- part.
+unfoldable pub lines_beside : ListRead → (asked trusted : Asked)
+    → (old new trusted_old trusted_new : List ℕ)
+    → Report
+lines_beside list asked trusted old new trusted_old trusted_new = record {
+  text = lines_of_pairs list asked trusted (facts_of_texts old new trusted_old trusted_new)
+      (by_texts list old new trusted_old trusted_new) (database_of old) (database_of new);
+  outcome = (report_over asked old new).outcome;
+}
+
+-- A beginning of the first line and of the lines of these changes has been written, each with what accounts for it. If
+-- the changes are in path order, that is what the changes of the trusted pair have at its path, or what is left out.
+pub record BeginsBeside (leaves : Leaves) (asked trusted : Asked) (changes beside : List PathChange)
+    (before after : Option (List ℕ)) : Type 0 where
+  pub accounted : List Accounted
+  pub all : changes_of accounted ≡ changes
+  pub part : SendsPart (opening_beside asked trusted ++ accounted_lines asked.options accounted)
+      before after
+  pub sought : is_sorted path_cmp changes ≡ true → SendsPart
+      (opening_beside asked trusted ++ change_lines asked.options (sought_by leaves beside) changes)
+      before after
+
+-- The first line has been written with the paths, the last line with some digests, the skipped columns and the counts
+-- of this outcome, and bytes between them only if an entry was added, removed or changed. What accounts for the lines
+-- are as many as they are. The skipped columns of the trusted pair are no part of the outcome.
+pub record AreLinesBeside (list : ListRead) (asked trusted : Asked) (outcome : Outcome)
+    (before after : Option (List ℕ)) : Type 0 where
+  pub facts : PairFacts
+  pub skipped_old : facts.of_old.skipped ≡ outcome.skipped_old
+  pub skipped_new : facts.of_new.skipped ≡ outcome.skipped_new
+  pub counts : LineCounts
+  pub told : line_outcome counts outcome.skipped_old outcome.skipped_new ≡ outcome
+  pub accounted : account_count counts ≡ entry_count counts
+  pub between : List ℕ
+  pub bytes : Appends before after ((opening_beside asked trusted ++ between)
+      ++ closing_beside list facts counts)
+  pub alone : entry_count counts ≡ 0 → between ≡ []

@@ -1,0 +1,153 @@
+-- What a run with a trusted pair returns, and what it leaves.
+use Rattle.std.specs.Prelude.{◌≡◌, ◌≤◌, ◌*◌, ℕ, ◌⊎◌, Option, Some, None, Result, Ok, Err, List}
+use Rattle.std.specs.Prelude.{max, true}
+use Rattle.std.specs.Io.KnownBytes.{Appends}
+use Rattle.aide_db.specs.Database.{IsSound}
+use Rattle.aide_db.specs.Longest.{longest_line}
+use Rattle.aide_db.specs.Map.{entries_of}
+use Rattle.aide_db.specs.declared.fault.DbFault.{DbFault}
+use Rattle.aide_db.specs.declared.limits.Limits.{Limits}
+use Rattle.aide_db.specs.declared.side.Side.TheVariants.{Old, New}
+use Rattle.aide_entry.specs.Path.{path_cmp}
+use Rattle.aide_report.specs.Asked.{Asked}
+use Rattle.aide_report.specs.Bound.{three_lines}
+use Rattle.aide_report.specs.Entries.{PathChange}
+use Rattle.aide_report.specs.Stops.{ComesOf}
+use Rattle.aide_report.specs.Missing.{IsOfReliable, RunsOver}
+use Rattle.aide_report.specs.Openings.{IsNotGiven, IsRefusedThere, OpensAtMost}
+use Rattle.aide_report.specs.Room.{IsNotOfMemory}
+use Rattle.aide_report.specs.RunFaults.{IsRight}
+use Rattle.aide_report.specs.Runs.{Report, RunsBy, report_over}
+use Rattle.aide_report.specs.Merged.{merged}
+use Rattle.aide_report.specs.declared.outcome.Outcome.{Outcome}
+use Rattle.aide_report.specs.declared.run_fault.RunFault.{RunFault}
+use Rattle.aide_report.specs.declared.run_fault.RunFault.TheVariants.{Write}
+use Rattle.aide_text.specs.Failures.{Rose}
+use Rattle.aide_text.specs.Sent.{SendsPart}
+use Rattle.aide_line_run.specs.BesideLines.{BeginsBeside, lines_beside}
+use Rattle.aide_line_run.specs.Listed.{ListRead, leaves_between}
+use Rattle.aide_line_run.specs.PairSeen.{Gives, PairSeen}
+use Rattle.aide_line_run.specs.declared.pair_fault.PairFault.{PairFault}
+use Rattle.aide_line_run.specs.declared.pair_fault.PairFault.TheVariants.{Compared, Trusted}
+
+-- ---- the right answer
+
+-- what is to be written over four sides that are there
+abbrev pub over_sides : (List ℕ → List ℕ → List ℕ → List ℕ → Report)
+    → (old new trusted_old trusted_new : Option (List ℕ))
+    → Option Report
+over_sides over (Some old) (Some new) (Some trusted_old) (Some trusted_new) =
+    Some (over old new trusted_old trusted_new)
+over_sides over _ _ _ _ = None
+
+-- The answer, by the answers over both pairs: the fault of the compared pair comes before one of the trusted pair. If
+-- neither pair has a fault, the answer is what is to be written.
+abbrev pub answer_by : (compared trusted : Result Report RunFault) → Option Report
+    → Result Report PairFault
+    → Type 0
+answer_by (Err fault) trusted over r = r ≡ Err (Compared fault)
+answer_by (Ok report) (Err fault) over r = r ≡ Err (Trusted fault)
+answer_by (Ok report) (Ok other) None r = ⊥
+answer_by (Ok report) (Ok other) (Some over) r = r ≡ Ok over
+
+-- The right answer, by what is at all four sides.
+pub record RunsBeside (limits : Limits) (list : ListRead) (asked trusted_asked : Asked)
+    (old new trusted_old trusted_new : Option (List ℕ))
+    (r : Result Report PairFault) : Type 0 where
+  pub compared : Result Report RunFault
+  pub trusted : Result Report RunFault
+  pub compared_runs : RunsOver limits asked old new compared
+  pub trusted_runs : RunsOver limits trusted_asked trusted_old trusted_new trusted
+  pub answer : answer_by compared trusted
+      (over_sides (lines_beside list asked trusted_asked) old new trusted_old trusted_new) r
+
+-- ---- how a run ends
+
+-- a run stops with the fault that is the answer, or with a fault that keeps the run from its answer
+abbrev pub StopsForPair : Result Report PairFault → (PairFault → Type 0) → PairFault → Type 0
+StopsForPair (Ok report) hindered fault = hindered fault
+StopsForPair (Err right) hindered fault = (fault ≡ right) ⊎ hindered fault
+
+-- the whole of the answer's lines has been written, and its outcome is returned
+abbrev pub SendsWholeOf : Result Report PairFault → Outcome → Option (List ℕ) → Option (List ℕ)
+    → Type 0
+SendsWholeOf (Ok report) outcome before after = (report.outcome ≡ outcome)
+    × Appends before after report.text
+SendsWholeOf (Err right) outcome before after = ⊥
+
+-- a run ends with this answer and all that goes with it, unless a fault keeps the run from it
+abbrev pub EndsBeside : Result Report PairFault → (PairFault → Type 0) → Result Outcome PairFault
+    → Option (List ℕ) → Option (List ℕ) → Type 0
+EndsBeside r hindered (Ok outcome) before after = SendsWholeOf r outcome before after
+EndsBeside r hindered (Err fault) before after = StopsForPair r hindered fault
+
+-- ---- what has been written at a fault
+
+-- all four texts are sound
+pub record AreAllSound (limits : Limits) (old new trusted_old trusted_new : List ℕ) : Type 0 where
+  pub of_old : IsSound limits old
+  pub of_new : IsSound limits new
+  pub of_trusted_old : IsSound limits trusted_old
+  pub of_trusted_new : IsSound limits trusted_new
+
+-- the changes of all entry lines of two texts, sound or not
+abbrev pub changes_between : (old new : List ℕ) → List PathChange
+changes_between old new = merged path_cmp (entries_of old) (entries_of new)
+
+-- Never a byte of the last line, unless all four texts are sound and a write has failed.
+abbrev pub CutsBeside : Limits → ListRead → (asked trusted : Asked)
+    → (old new trusted_old trusted_new : List ℕ)
+    → (before after : Option (List ℕ)) → PairFault
+    → Type 0
+CutsBeside limits list asked trusted old new trusted_old trusted_new before after
+    (Compared (Write written)) =
+    (AreAllSound limits old new trusted_old trusted_new
+    → SendsPart (lines_beside list asked trusted old new trusted_old trusted_new).text before after)
+    × ((AreAllSound limits old new trusted_old trusted_new → ⊥)
+    → BeginsBeside (leaves_between list old new) asked trusted
+    (changes_between old new) (changes_between trusted_old trusted_new) before after)
+CutsBeside limits list asked trusted old new trusted_old trusted_new before after _ =
+    BeginsBeside (leaves_between list old new) asked trusted
+    (changes_between old new) (changes_between trusted_old trusted_new) before after
+
+-- ---- what a run leaves of each pair
+
+-- What a run leaves of the sources of a pair and of its desk, whatever its end.
+pub record LeavesPair (limits : Limits) (p : PairSeen) : Type 0 where
+  -- the count of failures does not fall
+  pub never_falls : p.before.failures ≤ p.after.failures
+  -- no file was looked up
+  pub lookups : p.after.lookups ≡ p.before.lookups
+  -- no side was opened more than once
+  pub opens_some : OpensAtMost p.before.openings p.after.openings 1
+  -- the most that was ever held on the desk does not fall, and rises at most to three lines as long as the limit
+  pub peak : p.desk_before.peak ≤ p.desk_after.peak
+  pub below : p.desk_after.peak ≤ max p.desk_before.peak (3 * limits.line)
+  -- and at most to the longest line of each text and one more line no longer than these
+  pub bound : (old new : List ℕ) → Gives p old new → p.desk_after.peak ≤ max p.desk_before.peak
+      (three_lines (longest_line limits old) (longest_line limits new))
+  -- the reserved room stays
+  pub room : p.desk_after.room ≡ p.desk_before.room
+
+-- the fault is the answer over the texts of a pair
+abbrev pub IsAnswerOver : Limits → PairSeen → DbFault → Type 0
+IsAnswerOver limits p fault = (old new : List ℕ) → p.before.bytes_of Old ≡ Some old
+    → p.before.bytes_of New ≡ Some new
+    → (r : Result Report DbFault) → RunsBy limits (report_over p.asked) old new r
+    → r ≡ Err fault
+
+-- What a fault of a pair means. It means what it means in a run over this pair alone.
+pub record IsFaultOfPair (limits : Limits) (p : PairSeen) (sink : Type 0)
+    (fault : RunFault) : Type 0 where
+  -- a fault of a text is its first one, and no side is called changed
+  pub right : IsRight limits p.before.bytes_of fault
+  -- a device, memory, the first fault of the pair, or the sink: there is no other cause
+  pub cause : ComesOf fault (Rose p.before.failures p.after.failures) sink (IsAnswerOver limits p)
+  -- a side that could not be opened is the one that was opened last
+  pub refused : IsRefusedThere p.before.openings p.after.openings fault
+  -- that opening is not known to have succeeded
+  pub not_given : IsNotGiven p.after.was_given fault
+  -- reliable sources fail only at a side that has no bytes
+  pub reliable : p.before.is_reliable ≡ true → IsOfReliable p.before.bytes_of fault
+  -- no allocation fails if the longest allowed line fits into the reserved room
+  pub memory : limits.line ≤ p.desk_before.room → IsNotOfMemory fault

@@ -1,0 +1,10 @@
+pub mod BesideLines
+pub mod BesideRuns
+pub mod LinesRun
+pub mod Pairs
+pub mod PairSeen
+pub mod SamePair
+pub mod Listed
+pub mod ListView
+pub mod Sought
+pub mod code

@@ -1,0 +1,48 @@
+-- What is true of the changes that merges have still to give, where the texts of their databases are known.
+use Rattle.std.specs.Prelude.{◌≡◌, ℕ, List, ◌++◌, Option, Result, Ok, Err, true}
+use Rattle.std.specs.FinMap.Entries.{is_sorted}
+use Rattle.aide_conf.specs.declared.options.Options.{Options}
+use Rattle.aide_db.specs.DeskView.{DeskView}
+use Rattle.aide_db.specs.declared.reel.Reel.{Ghosts as Reels}
+use Rattle.aide_db.specs.declared.side.Side.TheVariants.{Old, New}
+use Rattle.aide_entry.specs.Path.{path_cmp}
+use Rattle.aide_report.specs.ChangeLines.{change_lines}
+use Rattle.aide_report.specs.Entries.{PathChange}
+use Rattle.aide_report.specs.code.Merging.{StandsAt, remaining}
+use Rattle.aide_report.specs.declared.merge.Merge.{Merge}
+use Rattle.aide_line_run.specs.Listed.{Leaves, ListRead, leaves_between}
+use Rattle.aide_line_run.specs.Sought.{Accounted, accounted_lines, changes_of, sought_by}
+use Rattle.aide_line_run.specs.declared.walk.Merges.{Merges}
+
+-- of the changes of one merge
+abbrev pub OverMerge : {R : Type 0} → Reels R → Merge R → DeskView → (List PathChange → Type 0)
+    → Type 0
+OverMerge r merge desk Is = (old new : List ℕ) → StandsAt r.to_come merge desk Old old
+    → StandsAt r.to_come merge desk New new
+    → Is (remaining merge desk old new)
+
+-- of the changes of two merges and of what a list leaves out, if the changes of the first one are in path order
+abbrev pub OverMerges : {R : Type 0} → Reels R → ListRead → Merge R → DeskView → Merge R
+    → DeskView → (Leaves → (changes beside : List PathChange) → Type 0)
+    → Type 0
+OverMerges r list merge desk trusted trusted_desk Is = (old new trusted_old trusted_new : List ℕ)
+    → StandsAt r.to_come merge desk Old old → StandsAt r.to_come merge desk New new
+    → StandsAt r.to_come trusted trusted_desk Old trusted_old
+    → StandsAt r.to_come trusted trusted_desk New trusted_new
+    → is_sorted path_cmp (remaining merge desk old new) ≡ true
+    → Is (leaves_between list old new) (remaining merge desk old new)
+    (remaining trusted trusted_desk trusted_old trusted_new)
+
+-- all of a list after `Ok`, and after a fault its beginning
+abbrev pub IsDone : {X E A : Type 0} → Result X E → (done all : List A) → Type 0
+IsDone (Ok answer) done all = all ≡ done
+IsDone {A = A} (Err fault) done all = (rest : List A) × (all ≡ done ++ rest)
+
+-- What has been done of the changes of both pairs.
+pub record AreDone {R X E : Type 0} (r : Reels R) (list : ListRead) (options : Options)
+    (m : Merges R) (d u : DeskView) (done : List Accounted) (result : Result X E) : Type 0 where
+  -- it is of the changes of the compared pair
+  pub changes : OverMerge r m.compared d (λ all. IsDone result (changes_of done) all)
+  -- if they are in path order, what accounts for them is what the trusted pair has at their paths, or the list
+  pub lines : OverMerges r list m.compared d m.trusted u (λ leaves all beside. IsDone result
+      (accounted_lines options done) (change_lines options (sought_by leaves beside) all))
