@@ -1,4 +1,4 @@
-use Rattle.std.proofs.Common.{◌∙◌, sym, subst, ap, arith, drop, get_or, ◌+◌}
+use Rattle.std.proofs.Common.{◌∙◌, sym, subst, ap, arith, drop, get_or, ◌+◌, rules}
 use Rattle.std.proofs.lemmas.List.{drop_more, drop_all}
 use Rattle.aide_attr.specs.Set.{has}
 use Rattle.aide_attr.specs.declared.attr.Attr.TheVariants.{Ftype}
@@ -40,8 +40,4 @@ loop-attr-preserved g c =
     ]
 
 pub returns : goal.returns
-returns g c =
-    let i = c.loop-attr.attr-index in
-    let attrs = c.args.attrs.now in
-    writing_done (items_end (has c.args.set) attr_string c.loop-attr.first (drop i attrs) (drop_all i attrs (omega arith)))
-    c.loop-attr.invariant
+returns g c = search (rules, writing_done, items_end, drop_all)
