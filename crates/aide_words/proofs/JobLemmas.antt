@@ -1,5 +1,5 @@
 -- From what the matches hold to the job of the words.
-use Rattle.std.proofs.Common.{◌≡◌, ◌∙◌, List, [], ap, refl, Bool, true, false, Option, Some, None, codes}
+use Rattle.std.proofs.Common.{◌≡◌, ◌∙◌, List, [], ap, refl, Bool, true, Option, Some, None, codes}
 use Rattle.std.proofs.Common.{Ok, Err}
 use Rattle.std.proofs.Math.Path.{subst}
 use Rattle.std.specs.Prelude.{IfOk, Result, option_and_then}
@@ -42,12 +42,6 @@ Option-of-JobText j = Some j
 
 pub job-none : (rows : List Row) → first_of (codes "config") rows ≡ None → job_of_rows rows ≡ None
 job-none rows e = ap (option_and_then (job_for rows)) e
-
-pub choose_none : (rows : List Row) (o : Option Text)
-    → exactly_one (flag_of (codes "compare") rows) (flag_of (codes "config-check") rows) ≡ false
-    → option_and_then (job_for rows) o ≡ None
-choose_none rows None e = refl
-choose_none rows (Some t) e = cc
 
 pub job-some : (rows : List Row) (t : Text)
     → exactly_one (flag_of (codes "compare") rows) (flag_of (codes "config-check") rows) ≡ true

@@ -1,4 +1,4 @@
-use Rattle.std.proofs.Common.{◌≡◌, ap₂, sym, refl, Bool, true, false, codes, rules}
+use Rattle.std.proofs.Common.{◌≡◌, sym, refl, Bool, true, false, rules}
 use Rattle.std.proofs.Math.Bool.{beq}
 use Rattle.clap.proofs.WalkLemmas.{first_value-rows}
 use Rattle.aide_words.specs.Job.{exactly_one}
@@ -18,7 +18,7 @@ other false true e = refl
 other false false e = sym e
 
 pub returns-in_default-clause-usage : goal.returns-in_default-clause-usage
-returns-in_default-clause-usage c = search (rules, job-none, first_value-rows, codes)
+returns-in_default-clause-usage c = search (rules, job-none, first_value-rows)
 
 pub returns-clause-ok : goal.returns-clause-ok
-returns-clause-ok c = search (rules, job-some, ap₂, other, first_value-rows, codes, job-made)
+returns-clause-ok c = search (rules, job-some, other, first_value-rows, job-made)
