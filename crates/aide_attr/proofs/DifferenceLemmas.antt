@@ -1,10 +1,11 @@
 -- Sets of attributes by lists of them.
 use Rattle.std.proofs.lemmas.Grind.{common_steps}
-use Rattle.std.proofs.Common.{ℕ, ◌<◌, ◌≡◌, Bool, true, false, List, [], ◌∷◌, suc, zero, length, refl, sym, ap, ◌∙◌}
+use Rattle.std.proofs.Common.{ℕ, ◌<◌, ◌≡◌, Bool, true, false, List, [], ◌∷◌, suc, length, refl, sym, ap, ◌∙◌}
 use Rattle.std.proofs.Common.{arith, get_or, inl, inr, rules}
 use Rattle.std.specs.Prelude.{◌||◌, ◌&&◌, not, map, IsTrue, ◌↔◌}
-use Rattle.std.proofs.lemmas.Bool.{eqb-true, eq-eqb}
+use Rattle.std.proofs.lemmas.Bool.{eqb-true, eq-eqb, false_from_ne_true, both_ways, or_parts}
 use Rattle.std.specs.List.{list_any}
+use Rattle.std.proofs.lemmas.List.Folds.{list_any_at}
 use Rattle.aide_attr.specs.declared.attr.Attr.{Attr}
 use Rattle.aide_attr.specs.declared.set.AttrSet.{AttrSet}
 use Rattle.aide_attr.specs.declared.delta.Ignore.{Ignore}
@@ -20,15 +21,10 @@ pub any_has : (s : AttrSet) (p : Attr → Bool) (xs : List Attr) → ((a : Attr)
 any_has s p [] h = refl
 any_has s p (x ∷ xs) h = rw (h x, any_has s p xs h) refl
 
-none_any : (p : Attr → Bool) (xs : List Attr) (k : ℕ) (d : Attr) → list_any p xs ≡ false → k < length xs
+-- a test that none of a list passes, no element passes
+pub none_any : (p : Attr → Bool) (xs : List Attr) (k : ℕ) (d : Attr) → list_any p xs ≡ false → k < length xs
     → p (get_or xs k d) ≡ false
-none_any p [] k d h l = absurd (omega arith)
-none_any p (x ∷ xs) zero d h l = search rules
-none_any p (x ∷ xs) (suc k) d h l = none_any p xs k d (second (p x) (list_any p xs) h) (omega arith)
-  where
-    second : (a b : Bool) → (a || b) ≡ false → b ≡ false
-    second false b h = h
-    second true b h = cc
+none_any p xs k d h l = false_from_ne_true (p (get_or xs k d)) (λ e. both_ways (list_any p xs) h (list_any_at p xs k d l e))
 
 -- a list whose elements are those of another under a function
 pub filled : (f : ℕ → ℕ) (slots letters : List ℕ) → length letters ≡ length slots
@@ -54,12 +50,8 @@ none_listed : (p : Attr → Bool) (xs : List Attr) → list_any p xs ≡ false �
 none_listed p [] h a l = cc
 none_listed p (x ∷ xs) h a l = elim (bool_cases (is_attr a x)) [
   | inl e ↦ ap p (attr_is a x e) ∙ none_any p (x ∷ xs) 0 x h (omega arith)
-  | inr e ↦ none_listed p xs (rest (p x) (list_any p xs) h) a (either (is_attr a x) (list_any (is_attr a) xs) l e)
+  | inr e ↦ none_listed p xs (or_parts (p x) (list_any p xs) h).1 a (either (is_attr a x) (list_any (is_attr a) xs) l e)
 ]
-  where
-    rest : (a b : Bool) → (a || b) ≡ false → b ≡ false
-    rest false b h = h
-    rest true b h = cc
 
 all_none : (p : Attr → Bool) (xs : List Attr) → ((a : Attr) → list_any (is_attr a) xs ≡ true → p a ≡ false)
     → list_any p xs ≡ false

@@ -240,6 +240,10 @@ meant_from look (t ∷ ts) acc a h = elim (meant_from look ts (apply t.adds (loo
 pub meant_is : (look : Lookup) (ts : List Term) (a : Attr) → (meant look (λ _. false) ts a ≡ true) ↔ IsMeant look ts a
 meant_is look ts a = search (rules, meant_from, meant_to)
 
+pub to_expression : (text : List ℕ) (ts : List Term) → At BeforeName true text ts → IsExpression text ts
+to_expression text [] h = h
+to_expression text (t ∷ ts) h = h
+
 -- the answer of a walk that starts at the front
 pub is_meaning : (look : Lookup) (text : List ℕ) (set : AttrSet)
     → walk look (λ _. false) BeforeName true 0 text ≡ Ok (has set)
@@ -247,7 +251,7 @@ pub is_meaning : (look : Lookup) (text : List ℕ) (set : AttrSet)
 is_meaning look text set e =
     let w = walked look (λ _. false) BeforeName true 0 text (has set) e in (
       w.0,
-      to_expression w.0 w.1,
+      to_expression text w.0 w.1,
       w.2,
       λ a. (
         (λ h. (meant_is look w.0 a).0 (ap (λ f. f a) (sym w.3) ∙ h)),
@@ -255,10 +259,6 @@ is_meaning look text set e =
             ∙ (meant_is look w.0 a).1 h),
       ),
     )
-  where
-    to_expression : (ts : List Term) → At BeforeName true text ts → IsExpression text ts
-    to_expression [] h = h
-    to_expression (t ∷ ts) h = h
 
 -- ---- faults
 
