@@ -1,10 +1,10 @@
 -- Whether some attribute passes a test.
-use Rattle.std.proofs.Common.{ℕ, ◌<◌, ◌≡◌, Bool, true, false, List, [], ◌∷◌, suc, zero, length, refl, sym, ap, ◌∙◌}
-use Rattle.std.proofs.Common.{arith, get_or, rules}
+use Rattle.std.proofs.Common.{◌≡◌, Bool, true, false, List, [], ◌∷◌, refl, sym, ap, ◌∙◌}
+use Rattle.std.proofs.Common.{rules}
 use Rattle.std.specs.Prelude.{◌||◌, not, IsTrue, ◌↔◌}
 use Rattle.std.specs.List.{list_any}
 use Rattle.std.proofs.lemmas.List.Folds.{list_any_at}
-use Rattle.std.proofs.lemmas.Bool.{or_parts}
+use Rattle.aide_attr.proofs.DifferenceLemmas.{none_any}
 use Rattle.aide_attr.specs.Attr.{index, all_attrs, count}
 use Rattle.aide_attr.specs.Set.{has}
 use Rattle.aide_attr.specs.declared.attr.Attr.{Attr}
@@ -16,12 +16,6 @@ right_true : (a b : Bool) → (a || b) ≡ true → a ≡ false → b ≡ true
 right_true false b h is = h
 right_true true b h is = cc
 
-none_from : (p : Attr → Bool) (xs : List Attr) (k : ℕ) (d : Attr) → list_any p xs ≡ false → k < length xs
-    → p (get_or xs k d) ≡ false
-none_from p [] k d h l = absurd (omega arith)
-none_from p (x ∷ xs) zero d h l = (or_parts (p x) (list_any p xs) h).0
-none_from p (x ∷ xs) (suc k) d h l = none_from p xs k d (or_parts (p x) (list_any p xs) h).1 (omega arith)
-
 -- a test that no attribute passes, none of a list passes
 pub none_of : (p : Attr → Bool) → ((a : Attr) → p a ≡ false) → (xs : List Attr) → list_any p xs ≡ false
 none_of p h [] = refl
@@ -30,7 +24,7 @@ none_of p h (x ∷ xs) = rw (h x, none_of p h xs) refl
 -- a test that none of the list of all passes, no attribute passes
 pub none_at : (p : Attr → Bool) → list_any p all_attrs ≡ false → (a : Attr) → p a ≡ false
 unfolding count
-none_at p e a = ap p (sym (at_index a a)) ∙ none_from p all_attrs (index a) a e (index_small a)
+none_at p e a = ap p (sym (at_index a a)) ∙ none_any p all_attrs (index a) a e (index_small a)
 
 -- a test that an attribute passes, one of the list of all passes
 pub some_at : (p : Attr → Bool) (a : Attr) → p a ≡ true → list_any p all_attrs ≡ true

@@ -54,9 +54,6 @@ seen_in-more text (y ∷ ys) x e = search (rules, seen_in-more text ys x e)
 
 -- ---- the blocks after one more line
 
-abbrev else_fault : Bool → Option ConfFaultKind
-else_fault b = if b then Some StrayElse else None
-
 module _ (here : List Seen) (fs : List Frame) (o : IsOpen here fs) (earlier : List Marked) (defined : List ℕ → Bool) (out : List ℕ)
     (v : Option (Result AttrSet ExprFault)) where
   divides_well : (x : Seen) → x.role ≡ Divides → (gs : List Frame) → IsOpen here gs
