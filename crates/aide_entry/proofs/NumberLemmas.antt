@@ -85,7 +85,7 @@ module _ (base bound : ℕ) where
   -- digits whose power is not above the bound have a number where they are digits
   pub short_digits : (ds : List ℕ) → is_filled ds ≡ true → base ^ length ds ≤ bound
       → list_all (is_digit base) ds ≡ is_some (digits_of base bound ds)
-  short_digits ds filled le = search (rules, is_some, natural_is, positional_below, natural_no_digits)
+  short_digits ds filled le = search (rules, natural_is, positional_below, natural_no_digits)
 
   pub digits_after : (all rest more : List ℕ) (d : ℕ) → rest ≡ d ∷ more
       → list_all (is_digit base) all ≡ list_all (is_digit base) rest → is_digit base d ≡ true

@@ -81,7 +81,7 @@ none_at s i bytes = none_if_not (slice_index table (slice_index s i) == 255) _ �
 
 take_four : (s : List ℕ) (i : ℕ) → i + 4 ≤ length s
     → take (i + 4) s ≡ take i s ++ slice_index s i ∷ slice_index s (i + 1) ∷ slice_index s (i + 2) ∷ slice_index s (i + 3) ∷ []
-take_four s i h = grind (arith, common_steps, slice_index, take_more, append_assoc)
+take_four s i h = grind (arith, common_steps, take_more, append_assoc)
 
 -- the groups have no error where their bytes are symbols
 groups_none : (s : List ℕ) (q : ℕ) → IsBytes s → 4 * q ≤ length s
@@ -152,7 +152,7 @@ module _ (s : List ℕ) (q : ℕ) (bytes : IsBytes s) (last : q ≡ groups_befor
   -- something else before it
   undecoded : list_all is_symbol (take (4 * q) s) ≡ false → decoded_of standard s ≡ None
   unfolding decoded_of
-  undecoded others = search (rules, is_none, groups_none, no_outcome, second_error)
+  undecoded others = search (rules, groups_none, no_outcome, second_error)
 
   pub no_symbols : (least most : ℕ) → list_all is_symbol (take (4 * q) s) ≡ false → false ≡ is_some (digest_of least most s)
   unfolding digest_of

@@ -41,7 +41,7 @@ last_alone [] x a b d size digits e = elim size
 last_alone (f ∷ []) x a b d size digits e = refl
 last_alone (f ∷ g ∷ []) x a b d size digits e =
     absurd (no_padding (g % 16 * 4) (omega arith) (sym (ap (λ xs. slice_index xs 2) e)))
-last_alone (f ∷ g ∷ h ∷ []) x a b d size digits e = search (rules, and_parts, ltb-true, no_padding, slice_index)
+last_alone (f ∷ g ∷ h ∷ []) x a b d size digits e = search (rules, and_parts, ltb-true, no_padding)
 last_alone (f ∷ g ∷ h ∷ i ∷ rest) x a b d size digits e = elim size
     [ inl k ↦ absurd (omega (arith, k)) | inr k ↦ elim k [ inl l ↦ absurd (omega (arith, l)) | inr l ↦ absurd (omega (arith, l)) ] ]
 
@@ -108,9 +108,9 @@ module _ (s : List ℕ) (bytes : IsBytes s) (size : length s ≡ 16) (high : 77 
 
   known_ten : is_some (time_of s) ≡ true → Ten s
   unfolding time_of
-  known_ten some = search (rules, by_decoded, no_number_first, slice_index, drop_more, le-leb)
+  known_ten some = search (rules, by_decoded, no_number_first, drop_more, le-leb)
 
 -- a time whose length, first byte and padding are those of ten digits
 pub told_ten : (s : List ℕ) → IsBytes s → is_some (time_of s) ≡ true → tells_ten s ≡ true → Ten s
 unfolding tells_ten
-told_ten s bytes some is = search (rules, and_parts, slice_index, known_ten, eqb-true, leb-true)
+told_ten s bytes some is = search (rules, and_parts, known_ten, eqb-true, leb-true)

@@ -1,4 +1,4 @@
-use Rattle.std.proofs.Common.{sym, ◌∙◌, arith, is_some, rules}
+use Rattle.std.proofs.Common.{sym, ◌∙◌, arith, rules}
 use Rattle.aide_entry.proofs.FieldValues.{time_decoded, time_undecoded}
 use Rattle.aide_entry.proofs.TenDigits.{ten_is_time}
 use Rattle.aide_entry.proofs.value.is_time.Goals as goal
@@ -8,7 +8,7 @@ returns-then-are_ten c =
     ten_is_time c.args.field.now (λ i. let f = c.type_inv.field i in omega arith) (sym c.are_ten.ensures ∙ c.if-are_ten.true)
 
 pub returns-in-Ok : goal.returns-in-Ok
-returns-in-Ok c = search (rules, is_some, time_decoded)
+returns-in-Ok c = search (rules, time_decoded)
 
 pub returns-in-Err : goal.returns-in-Err
-returns-in-Err c = search (rules, is_some, time_undecoded)
+returns-in-Err c = search (rules, time_undecoded)
