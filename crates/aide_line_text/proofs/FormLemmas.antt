@@ -1,10 +1,10 @@
 -- The forms that one attribute alone has.
-use Rattle.std.proofs.Common.{◌≡◌, ◌∙◌, ◌<◌, ℕ, suc, zero, Bool, true, false, List, [], ◌∷◌, length, get_or, refl, sym}
-use Rattle.std.proofs.Common.{ap, arith}
-use Rattle.std.specs.Prelude.{◌&&◌, ◌||◌, not}
+use Rattle.std.proofs.Common.{◌≡◌, ◌∙◌, ◌<◌, ℕ, suc, zero, Bool, true, false, List, [], ◌∷◌, length, get_or, sym}
+use Rattle.std.proofs.Common.{ap, arith, rules}
+use Rattle.std.specs.Prelude.{◌||◌, not}
 use Rattle.std.specs.List.{list_all}
+use Rattle.std.proofs.lemmas.Bool.{and_parts}
 use Rattle.aide_attr.specs.Attr.{detail_name_of, form_of, row_of, row, index, all_attrs, count}
-use Rattle.aide_attr.specs.Set.{is_attr}
 use Rattle.aide_attr.specs.declared.attr.Attr.{Attr}
 use Rattle.aide_attr.specs.declared.attr.Attr.TheVariants.{Ftype, Lname}
 use Rattle.aide_attr.specs.declared.form.Form.{Form}
@@ -12,23 +12,15 @@ use Rattle.aide_attr.specs.declared.form.Form.TheVariants.{Kind, Link}
 use Rattle.aide_attr.proofs.AttrLemmas.{at_index, index_small}
 use Rattle.aide_attr.proofs.DifferenceLemmas.{attr_is}
 use Rattle.aide_entry.specs.Attributes.{Attributes, type_in, link_in}
-use Rattle.aide_line_text.specs.Attribute.{attribute_member, link_member, type_string, value_member}
+use Rattle.aide_line_text.specs.Attribute.{attribute_member, link_member, type_string}
 use Rattle.aide_json.specs.Member.{member}
 use Rattle.aide_text.specs.ValueText.{option_text}
-
-and_left : (a b : Bool) → (a && b) ≡ true → a ≡ true
-and_left true b h = refl
-and_left false b h = cc
-
-and_right : (a b : Bool) → (a && b) ≡ true → b ≡ true
-and_right true b h = h
-and_right false b h = cc
 
 all_at : (p : Attr → Bool) (xs : List Attr) (k : ℕ) (d : Attr) → list_all p xs ≡ true → k < length xs
     → p (get_or xs k d) ≡ true
 all_at p [] k d h l = absurd (omega arith)
-all_at p (x ∷ xs) zero d h l = and_left (p x) (list_all p xs) h
-all_at p (x ∷ xs) (suc k) d h l = all_at p xs k d (and_right (p x) (list_all p xs) h) (omega arith)
+all_at p (x ∷ xs) zero d h l = (and_parts (p x) (list_all p xs) h).0
+all_at p (x ∷ xs) (suc k) d h l = all_at p xs k d (and_parts (p x) (list_all p xs) h).1 (omega arith)
 
 -- what passes for each of the table's attributes passes for any
 every_attr : (p : Attr → Bool) → list_all p all_attrs ≡ true → (a : Attr) → p a ≡ true
@@ -49,25 +41,17 @@ then_passes false b h e = cc
 
 pub kind_alone : (a : Attr) → form_of a ≡ Kind → a ≡ Ftype
 unfolding row_of row is_kind
-kind_alone a e =
-    attr_is a Ftype (then_passes (is_kind (form_of a)) (is_attr a Ftype)
-    (every_attr (λ x. not (is_kind (form_of x)) || is_attr x Ftype) refl a) (ap is_kind e))
+kind_alone a e = search (rules, attr_is, then_passes, is_kind, every_attr)
 
 pub link_alone : (a : Attr) → form_of a ≡ Link → a ≡ Lname
 unfolding row_of row is_link
-link_alone a e =
-    attr_is a Lname (then_passes (is_link (form_of a)) (is_attr a Lname)
-    (every_attr (λ x. not (is_link (form_of x)) || is_attr x Lname) refl a) (ap is_link e))
+link_alone a e = search (rules, attr_is, then_passes, is_link, every_attr)
 
 -- the member of an attribute of such a form is that of the attribute that alone has it
 pub kind_at : (name : List ℕ) (a : Attr) (values : Attributes) → name ≡ detail_name_of a → form_of a ≡ Kind
     → option_text (λ kind. member name (type_string kind)) (type_in (values Ftype)) ≡ attribute_member values a
-kind_at name a values n e =
-    ap (λ x. value_member name Kind (values x)) (sym (kind_alone a e)) ∙ ap (λ form. value_member name form (values a)) (sym e)
-    ∙ ap (λ m. value_member m (form_of a) (values a)) n
+kind_at name a values n e = search (rules, kind_alone)
 
 pub link_at : (name : List ℕ) (a : Attr) (values : Attributes) → name ≡ detail_name_of a → form_of a ≡ Link
     → option_text (link_member name) (link_in (values Lname)) ≡ attribute_member values a
-link_at name a values n e =
-    ap (λ x. value_member name Link (values x)) (sym (link_alone a e)) ∙ ap (λ form. value_member name form (values a)) (sym e)
-    ∙ ap (λ m. value_member m (form_of a) (values a)) n
+link_at name a values n e = search (rules, link_alone)

@@ -1,7 +1,7 @@
 -- The first and the last line in the order in which they are written.
-use Rattle.std.proofs.Common.{◌≡◌, ◌∙◌, ℕ, List, [], ◌∷◌, ◌++◌, ap, sym, arith, append_assoc}
+use Rattle.std.proofs.Common.{◌≡◌, ℕ, List, [], ◌∷◌, ◌++◌, arith, append_assoc, rules}
 use Rattle.aide_json.proofs.ItemLemmas.{behind_append, behind_one}
-use Rattle.aide_json.specs.Object.{behind, joined, line, object}
+use Rattle.aide_json.specs.Object.{joined, line, object}
 
 pub read_parts : (d s : List ℕ)
     → (123 ∷ []) ++ (d ++ ((44 ∷ []) ++ (s ++ (125 ∷ [])))) ≡ object (d ∷ s ∷ [])
@@ -16,9 +16,7 @@ digest_parts d = grind (arith, append_assoc)
 -- one member more
 pub joined_one : (first last : List ℕ) (members : List (List ℕ))
     → joined (first ∷ members) ++ ((44 ∷ []) ++ last) ≡ joined (first ∷ (members ++ last ∷ []))
-joined_one first last members =
-    append_assoc first (behind members) ((44 ∷ []) ++ last)
-    ∙ ap (λ l. first ++ l) (ap (λ l. behind members ++ l) (behind_one last) ∙ sym (behind_append members (last ∷ [])))
+joined_one first last members = search (rules, append_assoc, behind_one, behind_append)
 
 assemble_trusted : (e x y z w t a r c o b s : List ℕ)
     → (123 ∷ []) ++ (e ++ ((44 ∷ x) ++ ((44 ∷ y) ++ ((44 ∷ z) ++ ((44 ∷ w) ++ ((44 ∷ []) ++ (joined (t ∷ a ∷ r ∷ c ∷ [])
@@ -33,11 +31,7 @@ pub closing_parts : (e x y z w t a r c o s : List ℕ) (more : List (List ℕ))
     ++ ((44 ∷ []) ++ (joined (o ∷ more) ++ ((44 ∷ []) ++ (s ++ (125 ∷ 10 ∷ []))))))))))))
     ≡ line (e ∷ x ∷ y ∷ z ∷ w ∷ t ∷ a ∷ r ∷ c ∷ o ∷ (more ++ s ∷ []))
 unfolding line object
-closing_parts e x y z w t a r c o s more =
-    assemble_trusted e x y z w t a r c o (behind more) s
-    ∙ ap (λ l. (123 ∷ ((e ++ ((44 ∷ x) ++ ((44 ∷ y) ++ ((44 ∷ z) ++ ((44 ∷ w) ++ ((44 ∷ t) ++ ((44 ∷ a) ++ ((44 ∷ r) ++ ((44 ∷ c)
-    ++ ((44 ∷ o) ++ l)))))))))) ++ (125 ∷ []))) ++ 10 ∷ [])
-    (ap (λ l. behind more ++ l) (behind_one s) ∙ sym (behind_append more (s ∷ [])))
+closing_parts e x y z w t a r c o s more = search (rules, assemble_trusted, behind_one, behind_append)
 
 pub opening_parts : (f x y z w : List ℕ)
     → (123 ∷ []) ++ (f ++ ((44 ∷ x) ++ ((44 ∷ y) ++ ((44 ∷ z) ++ ((44 ∷ w) ++ (125 ∷ 10 ∷ []))))))

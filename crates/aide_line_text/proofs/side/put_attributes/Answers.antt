@@ -1,19 +1,15 @@
-use Rattle.std.proofs.Common.{arith, true, drop, get_or, ◌+◌}
+use Rattle.std.proofs.Common.{arith, drop, get_or, ◌+◌, rules}
 use Rattle.std.proofs.lemmas.List.{drop_more, drop_all}
 use Rattle.aide_attr.specs.Set.{has}
 use Rattle.aide_attr.specs.declared.attr.Attr.TheVariants.{Ftype}
 use Rattle.aide_entry.specs.View.{entry_in}
 use Rattle.aide_json.proofs.ItemLemmas.{items_more, items_end}
-use Rattle.aide_json.specs.code.Items.{items_from}
 use Rattle.aide_line_text.specs.Attribute.{attribute_member}
-use Rattle.aide_text.specs.PenSheet.{on_sheet}
 use Rattle.aide_text.proofs.Sheets.{writing_start, writing_more, writing_done}
 use Rattle.aide_line_text.proofs.side.put_attributes.Goals as goal
 
 pub loop-attr-init : goal.loop-attr-init
-loop-attr-init g c =
-    writing_start (items_from true (has c.args.set) (attribute_member (entry_in c.args.view.now).1) c.args.attrs.now)
-    (on_sheet g.W.Sink c.args.out.now c.args.pen.now)
+loop-attr-init g c = search (rules, writing_start)
 
 pub loop-attr-preserved : goal.loop-attr-preserved
 loop-attr-preserved g c =
@@ -26,9 +22,4 @@ loop-attr-preserved g c =
     c.loop-attr.invariant c.put_next.ensures
 
 pub returns : goal.returns
-returns g c =
-    let i = c.loop-attr.attr-index in
-    let attrs = c.args.attrs.now in
-    writing_done (items_end (has c.args.set) (attribute_member (entry_in c.args.view.now).1) c.loop-attr.first (drop i attrs)
-    (drop_all i attrs (omega arith)))
-    c.loop-attr.invariant
+returns g c = search (rules, writing_done, items_end, drop_all)

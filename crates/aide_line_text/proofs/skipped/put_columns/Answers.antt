@@ -1,4 +1,4 @@
-use Rattle.std.proofs.Common.{true, ◌-◌, ◌+◌, arith}
+use Rattle.std.proofs.Common.{true, ◌-◌, ◌+◌, arith, rules}
 use Rattle.aide_json.proofs.ItemLemmas.{items_more, items_end}
 use Rattle.aide_json.specs.Number.{json_count}
 use Rattle.aide_json.specs.code.Items.{items_from}
@@ -22,7 +22,4 @@ loop-column-preserved g c =
     c.loop-column.invariant c.put_next.ensures
 
 pub returns : goal.returns
-returns g c =
-    let n = c.loop-column.column in
-    writing_done (items_end (is_skipped c.args.columns) json_count c.loop-column.first (numbers n (65 - n)) (numbers_end n (omega arith)))
-    c.loop-column.invariant
+returns g c = search (rules, writing_done, items_end, numbers_end)
