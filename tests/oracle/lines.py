@@ -20,7 +20,7 @@ from .configuration import BOOL_OPTIONS, SET_OPTIONS, Settings
 from .database import Database, Entries, Entry, WITHOUT_ENTRIES, database_of, front_of
 from .fields import FILE_TYPES
 from .report import Counts, KINDS, counts_of, status_of
-from .session import Beginning, File, Files, Form, Unread, answer_of, job_beside
+from .session import Beginning, File, Files, Form, Unread, answer_of, job_of_lines
 
 FORMAT, FORMAT_OF_SETTINGS = 4, 3
 # The name of a member of an object, and its value as JSON.
@@ -30,6 +30,8 @@ Account = Union[str, int, None]
 # The rules of the empty list, and its text.
 NO_LIST: tuple[list[patterns.Rule], bytes] = ([], b"")
 SIDES = ("old", "new", "trusted_old", "trusted_new")
+# The paths of a trusted pair that is not named.
+NO_PATHS = (b"", b"")
 # Many readers keep 53 bits of a number, so a greater one is a string of its digits (RFC 7493
 # section 2.2).
 EXACT = 2**53
@@ -150,6 +152,11 @@ class Source(NamedTuple):
     database: Database
 
 
+# A database of a trusted pair that is not named.
+NO_ENTRIES = b"@@begin_db\n@@db_spec name attr\n@@end_db\n"
+NO_SOURCE = Source(b"", NO_ENTRIES, database_of(NO_ENTRIES))
+
+
 def read_of(source: Source) -> bytes:
     """What is known of a database at its end: its digest and the places of the columns that are not
     compared."""
@@ -172,17 +179,14 @@ def change_lines(changes: list[Change], accounts: list[Account], settings: Setti
     )
 
 
-def numbers_of(
-    new: Database, counts: Counts, accounts: list[Account], has_trusted: bool
-) -> list[Member]:
+def numbers_of(new: Database, counts: Counts, accounts: list[Account]) -> list[Member]:
     """The members of the last line with the numbers of entries, and of the changes that each
     account explains."""
     numbers = [("total", len(new.entries))]
     numbers += [(kind, counts[kind]) for kind in KINDS]
     numbers.append(("same_as_old", accounts.count("old")))
-    if has_trusted:
-        numbers.append(("same_as_trusted", accounts.count("trusted")))
-        numbers.append(("left_out", sum(isinstance(account, int) for account in accounts)))
+    numbers.append(("same_as_trusted", accounts.count("trusted")))
+    numbers.append(("left_out", sum(isinstance(account, int) for account in accounts)))
     numbers.append(("others", accounts.count(None)))
     return [(name, number(value)) for name, value in numbers]
 
@@ -211,8 +215,7 @@ def account_of(
 
 
 def parts_over(sources: list[Source], settings: Settings) -> Parts:
-    """The lines over two databases and, if they are there, the old and the new one of a trusted
-    pair, beside which there is a list."""
+    """The lines over two databases, the old and the new one of a trusted pair, and a list."""
     old, new, *trusted = sources
     rules, text = settings.get("list", NO_LIST)
     changes = compared(old.database.entries, new.database.entries)
@@ -224,27 +227,29 @@ def parts_over(sources: list[Source], settings: Settings) -> Parts:
     accounts = [account_of(change, maps, rules, measures) for change in listed]
     end = [("end", truth(True))]
     end += [(side, read_of(source)) for side, source in zip(SIDES, sources)]
-    end += numbers_of(new.database, counts, accounts, bool(trusted))
-    if trusted:
-        digest = hashlib.sha256(text).hexdigest()
-        end.append(("list", object_of([("sha256", string(digest))])))
+    end += numbers_of(new.database, counts, accounts)
+    digest = hashlib.sha256(text).hexdigest()
+    end.append(("list", object_of([("sha256", string(digest))])))
     end.append(("status", number(status)))
     changed = change_lines(listed, accounts, settings)
     return Parts(first_line(sources), changed, line(end), status)
 
 
-def paths_of(settings: Settings) -> list[bytes]:
-    return [settings["database_in"], settings["database_new"], *settings.get("trusted", ())]
+def sources_over(texts: list[bytes], databases: list[Database], settings: Settings) -> list[Source]:
+    """All four databases, by the texts and the maps of those that are named. A trusted pair that is
+    not named has no path and no entry."""
+    trusted = settings.get("trusted") or NO_PATHS
+    paths = [settings["database_in"], settings["database_new"], *trusted]
+    sources = [Source(*each) for each in zip(paths, texts, databases)]
+    return sources + [NO_SOURCE] * (len(paths) - len(sources))
 
 
 def lines_of(
     old: Database, new: Database, texts: list[bytes], settings: Settings
 ) -> tuple[bytes, int]:
-    """The lines over two databases and the texts of all that are named, and the status of their
-    report."""
+    """The lines over the texts of all databases that are named, and the status of the report."""
     databases = [old, new, *map(database_of, texts[2:])]
-    sources = list(map(Source, paths_of(settings), texts, databases))
-    parts = parts_over(sources, settings)
+    parts = parts_over(sources_over(texts, databases, settings), settings)
     return parts.first + parts.changes + parts.last, parts.status
 
 
@@ -257,8 +262,8 @@ def begun_lines(given: list[File], settings: Settings) -> bytes:
         if text is None:
             return b""
         fronts.append(WITHOUT_ENTRIES if isinstance(text, Unread) else front_of(text))
-    sources = list(map(Source, paths_of(settings), fronts, map(database_of, fronts)))
-    parts = parts_over(sources, settings)
+    databases = [database_of(front) for front in fronts]
+    parts = parts_over(sources_over(fronts, databases, settings), settings)
     return Beginning(parts.first + parts.changes)
 
 
@@ -277,7 +282,7 @@ def settings_line(settings: Settings) -> bytes:
     return line(members)
 
 
-LINES = Form(lines_of, begun_lines, settings_line, job_beside)
+LINES = Form(lines_of, begun_lines, settings_line, job_of_lines)
 
 
 def lines_answer_of(words: list[bytes], files: Files) -> Answer:

@@ -145,14 +145,16 @@ def job_of(words: list[bytes]) -> Job | None:
     return job if ("compare" in job) != ("config-check" in job) else None
 
 
-def job_beside(words: list[bytes]) -> Job | None:
-    """The options of a command line that may name a trusted pair: both databases of it, and then
-    only for a comparison, and perhaps the text of a list."""
+def job_of_lines(words: list[bytes]) -> Job | None:
+    """The options of a command line of `aide_lines`: a comparison may name both databases of a
+    trusted pair, and give the text of a list. A name that is empty is none."""
     job = options_of(words, OPTIONS + TRUSTED + [WITHOUT])
-    if job is None or not any(name in job for name in TRUSTED):
+    if job is None or "compare" not in job:
         return job_of(words)
-    is_whole = all(name in job for name in ["compare", "config", *TRUSTED])
-    return job if is_whole and "config-check" not in job else None
+    named = [name for name in TRUSTED if job.get(name)]
+    if "config-check" in job or "config" not in job or len(named) == 1:
+        return None
+    return {name: text for name, text in job.items() if name not in TRUSTED or name in named}
 
 
 def refused(line: bytes, status: int) -> Answer:

@@ -91,10 +91,16 @@ NEW_READ = (
 )
 
 # The options of a configuration for these two databases, the output and the status.
+# The databases of a trusted pair that is not named, which have no entries, and the empty list.
+NO_ENTRIES = (
+    '{"sha256":"7e49efc8977a1b13cb6d300a65a1f91375b0b1b4fd5df78af91edade960474d4","skipped":[]}'
+)
+NO_PAIR = ',"trusted_old":' + NO_ENTRIES + ',"trusted_new":' + NO_ENTRIES
+NO_LIST = '"list":{"sha256":"e3b0c44298fc1c149afbf4c8996fb92427ae41e4649b934ca495991b7852b855"}'
 WHOLE = [
     (
         b"report_force_attrs=s\n",
-        '{"format":4,"old":"/old","new":"/new"}\n'
+        '{"format":4,"old":"/old","new":"/new","trusted_old":"","trusted_new":""}\n'
         '{"kind":"added","path_hex":"2f61ff0a","summary":"f+++++++++++++++++","type":"File",'
         '"new":{"Type":"File","Size":5,"Perm":"0644"}}\n'
         '{"kind":"removed","path":"/b","summary":"d-----------------","type":"Directory",'
@@ -105,12 +111,14 @@ WHOLE = [
         + OLD_READ
         + ',"new":'
         + NEW_READ
-        + ',"total":3,"added":1,"removed":1,"changed":1,"same_as_old":0,"others":3,"status":7}\n',
+        + NO_PAIR
+        + ',"total":3,"added":1,"removed":1,"changed":1,"same_as_old":0,'
+        '"same_as_trusted":0,"left_out":0,"others":3,' + NO_LIST + ',"status":7}\n',
         7,
     ),
     (
         b"report_ignore_changed_attrs=p\nreport_quiet=yes\n",
-        '{"format":4,"old":"/old","new":"/new"}\n'
+        '{"format":4,"old":"/old","new":"/new","trusted_old":"","trusted_new":""}\n'
         '{"kind":"added","path_hex":"2f61ff0a","summary":"f+++++++++++++++++","type":"File",'
         '"new":{"Type":"File","Size":5,"Perm":"0644"}}\n'
         '{"kind":"removed","path":"/b","summary":"d-----------------","type":"Directory",'
@@ -119,17 +127,21 @@ WHOLE = [
         + OLD_READ
         + ',"new":'
         + NEW_READ
-        + ',"total":3,"added":1,"removed":1,"changed":0,"same_as_old":0,"others":2,"status":3}\n',
+        + NO_PAIR
+        + ',"total":3,"added":1,"removed":1,"changed":0,"same_as_old":0,'
+        '"same_as_trusted":0,"left_out":0,"others":2,' + NO_LIST + ',"status":3}\n',
         3,
     ),
     (
         b"database_new=file:/old\nreport_quiet=yes\n",
-        '{"format":4,"old":"/old","new":"/old"}\n'
+        '{"format":4,"old":"/old","new":"/old","trusted_old":"","trusted_new":""}\n'
         '{"end":true,"old":'
         + OLD_READ
         + ',"new":'
         + OLD_READ
-        + ',"total":3,"added":0,"removed":0,"changed":0,"same_as_old":0,"others":0,"status":0}\n',
+        + NO_PAIR
+        + ',"total":3,"added":0,"removed":0,"changed":0,"same_as_old":0,'
+        '"same_as_trusted":0,"left_out":0,"others":0,' + NO_LIST + ',"status":0}\n',
         0,
     ),
 ]

@@ -1,5 +1,5 @@
 """The program of lines, crates/aide_lines, over four databases: a pair that is compared and a
-trusted pair beside it.
+trusted pair beside it, which has no entries if it is not named.
 
 Each answer has to be that of tests/oracle/lines.py, byte by byte: stored cases, each way of naming
 the pair, damages of each of the four, long lines, outputs that fail, and random sessions.
@@ -123,7 +123,8 @@ class TrustedTest(LinesProgramTest):
                 ("an empty list", compared + old + [b"--without", b""] + new, 7),
                 ("a list in one word", [b"--without=/**\n# all\n"] + compared + old + new, 7),
                 ("a list with a fault", compared + old + new + [b"--without", b"a"], 17),
-                ("a list and no pair", compared + [b"--without", b"/a"], 15),
+                ("a list and no pair", compared + [b"--without", b"/a"], 7),
+                ("a pair without names", compared + [old[0], b"", new[0], b""], 7),
                 ("a list and half of a pair", compared + old + [b"--without", b"/a"], 15),
                 ("two lists", compared + old + new + 2 * [b"--without", b"/a"], 15),
                 ("a list without its text", compared + old + new + [b"--without"], 15),
@@ -141,7 +142,8 @@ class TrustedTest(LinesProgramTest):
                 ("a shorter name", compared + [b"--trusted", old[1]], 15),
                 ("a letter", compared + old + new + [b"-T", b"x"], 15),
                 ("a pair and --help", compared + old + new + [b"--help"], 15),
-                ("an empty path", compared + old + [new[0], b""], 18),
+                ("an old one and an empty name", compared + old + [new[0], b""], 15),
+                ("an empty name and a new one", compared + new + [old[0], b""], 15),
                 ("a path that is not there", compared + [old[0], folder.at("none")] + new, 18),
                 ("a folder in place of a database", compared + old + [new[0], folder.path], 18),
             ):

@@ -119,7 +119,7 @@ def random_words_beside(
 ) -> list[bytes]:
     """A command line that mostly names a trusted pair in a folder too, and often gives a list."""
     trusted = []
-    for name in (b"old", b"new"):
+    for name in (b"old", b"new") if pick.random() < 0.8 else ():
         option, path = b"--trusted-" + name, os.path.join(folder, b"trusted_" + name)
         if pick.random() < 0.01:
             path += b"x"
