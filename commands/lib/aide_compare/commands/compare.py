@@ -21,7 +21,7 @@ from aide_compare.commands.compare_task import (
 )
 from aide_compare.compare.comparison import Comparison
 from aide_compare.compare.outputs import STDOUT, Notes, StreamOutput, descriptor_of
-from aide_compare.compare.work import report_of
+from aide_compare.compare.report import report_of
 from aide_compare.show.told import coloured, no_difference, told_of, wants_colours
 
 if TYPE_CHECKING:

@@ -23,6 +23,9 @@ from aide_compare.base.files import (
 from aide_compare.base.directories import closed_after, failure
 from aide_compare.base.words import words_of_side
 
+SMALL_BLOCK = 1 << 12
+# Each member costs time, also an empty one. AIDE writes one.
+MAX_MEMBERS = 1 << 16
 GZIP = b"\x1f\x8b"
 COMPRESS = b"\x1f\x9d"
 WITH_GZIP_HEADER = 31  # What zlib calls a window of 32 KiB behind a header of gzip.
@@ -106,17 +109,39 @@ def _raw_blocks(opened: Opened, limit: int) -> Iterator[bytes]:
         yield block
 
 
-def _unzipped(packed: Iterable[bytes]) -> Iterator[bytes]:
-    """Unpacks a member of gzip. Zeros may follow it, nothing else."""
-    member = zlib.decompressobj(WITH_GZIP_HEADER)
-    for rest in packed:
-        while rest and not member.eof:
+def _small_blocks(blocks: Iterable[bytes]) -> Iterator[bytes]:
+    """The same bytes, few at a time. zlib copies what is behind a member: with whole blocks, a
+    member of 20 bytes would cost a copy of one."""
+    for block in blocks:
+        for offset in range(0, len(block), SMALL_BLOCK):
+            yield block[offset : offset + SMALL_BLOCK]
+
+
+def _unzipped(packed: Iterable[bytes], words: str) -> Iterator[bytes]:
+    """Unpacks one member of gzip after another. Zeros may follow a member, nothing else."""
+    blocks = _small_blocks(packed)
+    rest = next(blocks)
+    for _ in range(MAX_MEMBERS):
+        member = zlib.decompressobj(WITH_GZIP_HEADER)
+        while not member.eof:
+            rest = rest or next(blocks, b"")
+            if not rest:
+                raise zlib.error("it ends too early")
             yield member.decompress(rest, BLOCK)
-            rest = member.unconsumed_tail or member.unused_data
-        if rest.strip(b"\0"):
-            raise zlib.error("something follows its end")
-    if not member.eof:
-        raise zlib.error("it ends too early")
+            rest = member.unconsumed_tail
+        rest = _start_of_next(member.unused_data, blocks)
+        if not rest:
+            return
+    raise Fault(Status.DEVICE, f"{words} has more than {MAX_MEMBERS} members of gzip")
+
+
+def _start_of_next(unused: bytes, blocks: Iterator[bytes]) -> bytes:
+    """The first bytes of the next member; none behind the last one."""
+    for block in chain([unused], blocks):
+        start = block.lstrip(b"\0")
+        if start:
+            return start
+    return b""
 
 
 def _unpacked(opened: Opened, limit: int) -> Iterator[bytes]:
@@ -130,7 +155,7 @@ def _unpacked(opened: Opened, limit: int) -> Iterator[bytes]:
         raise Fault(Status.DEVICE, text)
     blocks: Iterator[bytes] = chain([head], raw)
     if head.startswith(GZIP):
-        blocks = _unzipped(blocks)
+        blocks = _unzipped(blocks, opened.words)
     size = 0
     try:
         for block in blocks:

@@ -16,7 +16,6 @@ from aide_compare.compare.asking import Settings, ask_for_lines, odd_answer, set
 from aide_compare.compare.comparison import Comparison, Digests, Lines, Refusal, Request
 from aide_compare.compare.configuration import Texts, configuration_in
 from aide_compare.compare.hints import column_notes, equal_notes, hints_of, order_notes, skipped_in
-from aide_compare.compare.report import write_report
 from aide_compare.compare.unpack import Copy, Opened, copy_opened, open_database
 from aide_compare.lines.reader import ODD, end_of
 
@@ -169,21 +168,6 @@ def compare(request: Request) -> Comparison:
 def failed_comparison(error: BaseException) -> Comparison:
     """The comparison of a run that an exception has ended before it could begin."""
     return Work(Request(old="", new="")).failed(error)
-
-
-def report_of(comparison: Comparison) -> int:
-    """The descriptor of the program's own report, which knows nothing of a trusted pair. A Fault if
-    it does not say what the lines have said."""
-    limit = comparison.request.max_report
-    pair = {side: comparison.compared[side] for side in SIDES}
-    report = write_report(comparison.texts, pair, limit)
-    if report.answer.status > 7:
-        path = comparison.request.configuration
-        hints = hints_of(report.answer.errors, comparison.texts, path, comparison.copies)
-        raise Refusal(report.answer, hints)
-    if report.answer != Answer(comparison.status, comparison.errors):
-        raise report.odd_answer()
-    return report.known_descriptor()
 
 
 def ignored_notes(settings: Settings | None) -> Iterator[str]:
