@@ -213,9 +213,7 @@ class HostsReportTest(CommandTest):
         self.write("one.db", old)
         self.write("two.db", new)
         output = self.call("aide-compare", "one.db", "two.db").output.decode()
-        found: list[str] = re.findall(
-            r"(?m)^  (?:high|medium|low) +(?:added|changed|removed) +(/[^ :]+)", output
-        )
+        found: list[str] = re.findall(r"(?m)^  (?:added|changed|removed) +(/[^ :]+)", output)
         return found
 
     def test_text(self) -> None:
