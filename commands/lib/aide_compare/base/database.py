@@ -25,10 +25,9 @@ class Kind(Enum):
     """What a line of a database is."""
 
     ENTRY = "an entry"
-    BESIDE = "blank, a comment, or a line for AIDE"  # All but those that follow.
+    BESIDE = "blank, a comment, a line for AIDE, or after the end"
     COLUMNS = "the names of the columns"
     END = "the end"
-    AFTER = "after the end"
 
 
 def fields_in(line: bytes) -> list[bytes]:
@@ -49,7 +48,7 @@ class Layout:
     def kind_of(self, line: bytes) -> Kind:
         """What the next line is. The lines of a database have to be asked about in their order."""
         if self.is_over:
-            return Kind.AFTER
+            return Kind.BESIDE
         start = line.lstrip(b" \t")[:2]
         if start == b"@@":
             return self._kind_of_command(fields_in(line))

@@ -2,6 +2,7 @@
 whole, or but for what stays open."""
 from __future__ import annotations
 
+import os
 from collections.abc import Iterator, Sequence
 
 from aide_compare.base.ending import Fault, Status, say, tell
@@ -17,10 +18,13 @@ from aide_compare.base.options import (
 )
 from aide_compare.base.parser import read
 from aide_compare.base.paths import Pattern
-from aide_compare.base.words import KINDS, date_of
-from aide_compare.commands.accept_question import can_ask, wanted_after_question
+from aide_compare.base.terminal import answer_to
+from aide_compare.base.words import KINDS, date_of, minute_of
 from aide_compare.commands.accept_work import Accepted, AcceptRequest, accept
+from aide_compare.commands.compare import Printer
+from aide_compare.commands.compare_task import given_by, with_defaults
 from aide_compare.commands.defaults import machines_databases
+from aide_compare.compare.state import State
 
 NAME = "aide-compare accept"
 DESCRIPTION = """\
@@ -35,6 +39,35 @@ Status: 0 NEW is the baseline; 15 bad arguments; 18 a file cannot be read or wri
 memory; 24 refused: NEW is another database, or no sound one, or a part of it cannot stay
 open."""
 HINT = f"try: {NAME} --help"
+YES = ("y", "yes")
+
+
+def can_ask() -> bool:
+    """Whether a person can read the question and answer it."""
+    return os.isatty(0) and os.isatty(1)
+
+
+def compare_and_print(new: str, baseline: str) -> State:
+    """Compares as aide-compare does, with the same defaults and privileges, and prints what
+    differs."""
+    words = ["--", baseline, new]
+    request = with_defaults(given_by(words), words)
+    ended = Printer(request).task().carry_out()
+    if ended.status > 7:
+        raise Fault(Status(ended.status), "nothing was compared, so nothing is accepted")
+    return ended.state()
+
+
+def wanted_after_question(new: str, baseline: str) -> str:
+    """The SHA-256 of a new database that a person wants who has seen its changes."""
+    state = compare_and_print(new, baseline)
+    line = f"New database: {shown(new)}"
+    if state.new_written is not None:
+        line += f", written {minute_of(state.new_written)}"
+    tell("", line, f"SHA-256 {state.new_sha256}")
+    if answer_to(f"Make it the baseline {shown(baseline)}? [y/N] ") not in YES:
+        raise Fault(Status.DATABASE, "nothing is accepted")
+    return state.new_sha256
 
 
 class AcceptOptions(Asked):

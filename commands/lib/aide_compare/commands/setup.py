@@ -225,11 +225,6 @@ class Machine:
             title = f"the owner of {shown(path)}: {user}"
             yield Step(title, self.owns(path), partial(self.give, path))
 
-    def troubles(self) -> Iterator[str]:
-        """What keeps mails from their reader."""
-        queue = os.path.join(PATHS.own_directory, DAILY, "mail")
-        return troubles(queue)
-
 
 def take_steps(machine: Machine) -> None:
     """Makes what is missing."""
@@ -247,7 +242,7 @@ def take_steps(machine: Machine) -> None:
 def tell_missing(machine: Machine) -> int:
     """Says what is missing, and changes nothing."""
     missing = [step.title for step in machine.steps() if not step.is_done]
-    missing += machine.troubles()
+    missing += troubles(os.path.join(PATHS.own_directory, DAILY, "mail"))
     if not missing:
         tell("nothing is missing")
         return Status.OK

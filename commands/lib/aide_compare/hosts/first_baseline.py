@@ -19,6 +19,6 @@ def first_database(directory: HostDirectory, max_size: int = MAX_BASELINE) -> Co
 def keep_first(directory: HostDirectory) -> None:
     """Makes what was fetched the first baseline. One that is there already is never replaced."""
     try:
-        directory.copy(NEW, BASELINE, over=False)
+        directory.copy(NEW, BASELINE)
     except OSError as error:
         raise directory.fault(f"cannot keep its baseline: {write_cause(error)}")

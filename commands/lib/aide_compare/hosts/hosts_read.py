@@ -42,16 +42,11 @@ def host_of(name: str, status: int, error: str, state: State | None = None) -> H
     return Host(shown(name, 200), int(status), error.removeprefix(f"{name}: "), state)
 
 
-def state_in(directory: HostDirectory) -> State:
-    """The state of a host."""
-    if not os.path.lexists(directory.state_path):
-        raise directory.fault("was never compared")
-    return read_state(directory.state_path)
-
-
 def host_in(directory: HostDirectory, max_age: int) -> Host:
     """The host by its state. One that is too old says nothing of today."""
-    state = state_in(directory)
+    if not os.path.lexists(directory.state_path):
+        raise directory.fault("was never compared")
+    state = read_state(directory.state_path)
     if state.age is None:
         raise directory.fault("was compared in the future; is the clock of this host right?")
     if max_age and state.age > max_age:

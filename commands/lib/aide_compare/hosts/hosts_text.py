@@ -21,10 +21,9 @@ from aide_compare.show.digest import MAIL, Room, digest, entry_line
 
 MAX_ROWS = 80
 MAX_COLUMNS = 80
-# Of a short text: the lines for hosts that were not compared, for the canaries of stores, for hosts
-# whose changes were cut, and the columns for the names of the hosts of a change.
+# Of a short text: the lines for hosts that were not compared, for hosts whose changes were cut, and
+# the columns for the names of the hosts of a change.
 MAX_MISSING = 12
-MAX_NOTES = 4
 MAX_CUT = 6
 NAMES_WIDTH = 18
 # A host has one of so many parts of the lines, or less if more of them have something to list.
@@ -50,13 +49,10 @@ def headline(summary: Summary) -> str:
     return f"aide on {summary.counts.headline()}"
 
 
-def canary_lines(summary: Summary, limit: int = 0) -> list[str]:
-    """Beside which host the others were compared, or why they were not; nothing without a canary.
-    With a limit at most so many lines."""
+def canary_lines(summary: Summary) -> list[str]:
+    """Beside which host the others were compared, or why they were not; nothing without a
+    canary."""
     lines = [f"{line[:1].upper()}{line[1:]}" for line in summary.canary]
-    if limit and len(lines) > limit:
-        left = len(lines) - limit + 1
-        lines = [*lines[: limit - 1], f"And {counted(left, 'more note')} of canaries."]
     return [*lines, ""] if lines else []
 
 
@@ -209,7 +205,7 @@ def short_lines(report: Report) -> Iterator[str]:
     """Yields the lines of the short text, at most MAX_ROWS of at most MAX_COLUMNS."""
     summary = report.summary
     lists = host_lists(report.hosts)
-    head = [beginning(line, MAX_COLUMNS) for line in canary_lines(summary, MAX_NOTES)]
+    head = [beginning(line, MAX_COLUMNS) for line in canary_lines(summary)]
     head += [headline(summary), summary.counts.others(), ""]
     head += list_lines("Not compared", lists["Not compared"], MAX_MISSING)
     head += list_lines("Not all listed", lists["Not all changes are listed"], MAX_CUT)

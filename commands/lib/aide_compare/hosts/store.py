@@ -96,14 +96,13 @@ class HostDirectory:
             write_all(part.fd, data)
             part.put(name)
 
-    def copy(self, source: str, name: str, over: bool = True) -> None:
-        """Makes a copy of a file of this host. Without `over` a file of that name is a
-        FileExistsError."""
+    def copy(self, source: str, name: str) -> None:
+        """Makes a copy of a file of this host. A file of that name is a FileExistsError."""
         with closing(NewFile(self.fd)) as part, closed_after(
             open_regular(self.file(source))
         ) as descriptor:
             copy_file(descriptor, part.fd)
-            part.put(name, over)
+            part.put(name, over=False)
 
     def room(self, jobs: int) -> int:
         """The most bytes that this host may take now, so that something is left for each host at
