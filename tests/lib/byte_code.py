@@ -2,7 +2,6 @@
 command compiles its modules."""
 from __future__ import annotations
 
-import shutil
 import subprocess
 
 WORDS = [
@@ -26,9 +25,3 @@ def compile_modules(directory: str) -> None:
         stdout=subprocess.DEVNULL,
         stderr=subprocess.DEVNULL,
     )
-
-
-def copy_modules(source: str, target: str) -> None:
-    """Copies a folder of modules with their byte code, but for what another run is writing just
-    now, under a name that it has for a moment: it would be gone before it is copied."""
-    shutil.copytree(source, target, ignore=shutil.ignore_patterns("*.pyc.*"))

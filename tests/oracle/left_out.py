@@ -8,7 +8,7 @@ from collections.abc import Mapping
 from typing import NamedTuple, Optional
 
 from . import patterns
-from .database import database_of, parts_of
+from .database import parts_of
 from .texts import lines_of
 
 SETTINGS = b"/etc/aide-compare"
@@ -96,15 +96,3 @@ def line_of(rules: list[patterns.Rule], change: Change) -> int:
 def measures_of(text: bytes) -> bool:
     """Whether a database has the column of capabilities."""
     return any(b"capabilities" in columns for _, columns in parts_of(lines_of(text)).spec)
-
-
-def lines_of_texts(text: bytes, old: bytes, new: bytes) -> dict[bytes, int]:
-    """The line of a list that leaves out what two databases have, or 0, by each path."""
-    rules = patterns.rules_of(text)
-    before = database_of(old).entries
-    after = database_of(new).entries
-    found = {}
-    for path in before.keys() | after.keys():
-        change = Change(path, before.get(path), after.get(path), measures_of(old), measures_of(new))
-        found[path] = line_of(rules, change)
-    return found
