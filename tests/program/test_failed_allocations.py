@@ -66,7 +66,7 @@ WAYS: dict[str, Callable[[int], int]] = {
 }
 SHOWN = 3
 # The label of a session and its words.
-Known = Tuple[str, List[bytes]]
+Labelled = Tuple[str, List[bytes]]
 NAME_LIMIT, PATH_LIMIT, FOLDER_NAME = 64, 4095, b"f" * 200
 
 
@@ -146,14 +146,14 @@ def made(folder: bytes, **files: bytes) -> bytes:
     return os.path.join(folder, b"conf")
 
 
-def stored_sessions(top: bytes) -> Iterator[Known]:
+def stored_sessions(top: bytes) -> Iterator[Labelled]:
     for number, path in enumerate(cases.all_cases()):
         folder = os.path.join(top, b"case-%d" % number)
         os.mkdir(folder)
         yield os.path.relpath(path, cases.FOLDER), cases.put(cases.read(path), folder)
 
 
-def refused_sessions(top: bytes) -> Iterator[Known]:
+def refused_sessions(top: bytes) -> Iterator[Labelled]:
     """Databases and configurations that are refused."""
     for number, (said, text) in enumerate(refusal_rows.DATABASES):
         folder = os.path.join(top, b"database-%d" % number)
@@ -163,7 +163,7 @@ def refused_sessions(top: bytes) -> Iterator[Known]:
         yield said, [b"-D", b"-c", made(folder, conf=text)]
 
 
-def example_sessions(levels: list[str]) -> Iterator[Known]:
+def example_sessions(levels: list[str]) -> Iterator[Labelled]:
     """What AIDE has written, with every attribute too, at these report levels."""
     for folder in folders_of_aide():
         for level in levels:
@@ -191,7 +191,7 @@ def definitions_of_each_length() -> bytes:
     return b"\n".join(lines) + b"\n"
 
 
-def long_sessions(top: bytes) -> Iterator[Known]:
+def long_sessions(top: bytes) -> Iterator[Labelled]:
     """Many definitions, and long words, configurations and paths."""
     pair = cases.DATABASES
     conf = made(
@@ -235,14 +235,14 @@ def random_sessions(
     count: int,
     name: bytes = b"random",
     make: Make = make_session,
-) -> Iterator[Known]:
+) -> Iterator[Labelled]:
     for number in range(count):
         folder = os.path.join(top, b"%s-%d" % (name, number))
         os.mkdir(folder)
         yield "seed %d, %s session %d" % (seed, name.decode(), number), make(seed, number, folder)
 
 
-def long_sessions_beside(top: bytes) -> Iterator[Known]:
+def long_sessions_beside(top: bytes) -> Iterator[Labelled]:
     """Trusted databases on long paths, and of many names."""
     folder = os.path.join(top, b"beside", FOLDER_NAME, FOLDER_NAME)
     files = {"old": OLD, "new": NEW, "trusted_old": names(3000), "trusted_new": SKIPPING}
@@ -260,7 +260,7 @@ def long_sessions_beside(top: bytes) -> Iterator[Known]:
     yield "a trusted pair in part", [b"-E", b"-c", conf] + trusted[:2]
 
 
-def sessions(top: bytes, seed: int, count: int) -> Iterator[Known]:
+def sessions(top: bytes, seed: int, count: int) -> Iterator[Labelled]:
     """The labels and words of all sessions, with their files below a folder."""
     yield from stored_sessions(top)
     yield from refused_sessions(top)
@@ -269,7 +269,7 @@ def sessions(top: bytes, seed: int, count: int) -> Iterator[Known]:
     yield from random_sessions(top, seed, count)
 
 
-def sessions_of_lines(top: bytes, seed: int, count: int) -> Iterator[Known]:
+def sessions_of_lines(top: bytes, seed: int, count: int) -> Iterator[Labelled]:
     """Those for the program of lines, which knows no levels."""
     os.mkdir(top)
     yield from example_sessions(LEVELS[-1:])
@@ -279,7 +279,7 @@ def sessions_of_lines(top: bytes, seed: int, count: int) -> Iterator[Known]:
     yield from random_sessions(top, seed, count, b"beside", make_session_beside)
 
 
-def try_sessions(refuser: Refuser, known: list[Known], jobs: int, tally: AnswerTest) -> None:
+def try_sessions(refuser: Refuser, known: list[Labelled], jobs: int, tally: AnswerTest) -> None:
     """Tries sessions."""
     for (label, _), found in zip(
         known, side_by_side(jobs, lambda one: try_session(refuser, one[1]), known)

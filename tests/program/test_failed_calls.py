@@ -58,7 +58,7 @@ class Session(NamedTuple):
 
 
 # The label of a session, its words and the texts of its files.
-Told = Tuple[str, List[bytes], Tuple[bytes, ...]]
+Labelled = Tuple[str, List[bytes], Tuple[bytes, ...]]
 # How often a report opens each side where the words ask for a comparison, and both texts are sound.
 # Lines open it once.
 OPENINGS = {
@@ -84,7 +84,7 @@ def openings_of_lines(label: str, words: list[bytes], answer: Answer) -> int | N
     return int(b"-E" in words and answer.status != BAD_CONFIGURATION)
 
 
-def sessions(folder: bytes) -> Iterator[Told]:
+def sessions(folder: bytes) -> Iterator[Labelled]:
     """The labels of the sessions, their words, and the texts of the configuration and of both
     databases."""
     texts = {
@@ -107,7 +107,7 @@ def sessions(folder: bytes) -> Iterator[Told]:
     yield "a usage error", [b"-E"], (b"", b"", b"")
 
 
-def sessions_of_lines(folder: bytes) -> Iterator[Told]:
+def sessions_of_lines(folder: bytes) -> Iterator[Labelled]:
     """Those of the program of lines, some of which have a trusted pair, so that the texts are those
     of four databases."""
     yield from sessions(folder)
@@ -271,7 +271,7 @@ def try_session(
     return counts
 
 
-def try_calls(stumbler: Stumbler, tried: Iterator[Told], jobs: int, tally: AnswerTest) -> None:
+def try_calls(stumbler: Stumbler, tried: Iterator[Labelled], jobs: int, tally: AnswerTest) -> None:
     counts: Counter[int] = Counter()
     for label, words, files in tried:
         counts.update(try_session(stumbler, label, words, files, jobs, tally))
