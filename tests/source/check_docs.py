@@ -206,7 +206,7 @@ def promised_by(call: str, source: str) -> set[str]:
 def check_clauses(tally: Kinds) -> None:
     sources = {
         "run": "crates/aide_report/src/comparison.rt",
-        "run_lines": "crates/aide_report/src/lines_run.rt",
+        "run_lines": "crates/aide_line_run/src/run.rt",
         "session": "crates/aide_session/src/program.rt",
     }
     parts = re.split(r"\n### What a caller of `(\w+)` may rely on\n", read("docs/LIBRARY.md"))
