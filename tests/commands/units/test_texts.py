@@ -15,10 +15,12 @@ from tests.lib.scratch import read
 from aide_compare import VERSION
 from aide_compare.base import ending, escapes, kinds, options, words
 from aide_compare.base.parser import read as read_options
+from aide_compare.base.paths import key_of_path
+from aide_compare.changes.table import Row
 from aide_compare.compare import state
 from aide_compare.lines import attributes
 from aide_compare.lines.change import Change, Counts, Values, change_of
-from aide_compare.show import entry
+from aide_compare.show import digest, entry
 
 ESCAPED: tuple[tuple[str | bytes, str], ...] = (
     (b"a b", "a b"),
@@ -130,6 +132,19 @@ class TextsTest(ModuleTest):
         ]
         for label, pair, want in rows:
             self.expect("what %s, and when" % label, entry.entry_words(change_between(*pair)), want)
+
+    def test_room(self) -> None:
+        """In a line without room the size of a new entry goes before its mode."""
+        values: Values = {"Perm": "4755", "UID": 0, "GID": 0, "Size": 151344, "Ctime": 1795602777}
+        change = change_between(None, values)
+        place = (0, key_of_path(b"/a"), b"", "added", 0, 0, 0, None, "file", False, 0, 0, 1)
+        row = Row(*place, "open", "", True)
+        mode = "added    /a: -rwsr-xr-x root:root"
+        sized = f"{mode} 151344 bytes"
+        dated = f"{sized}, 2026-11-25 10:32 UTC"
+        lines = {0: dated, 68: dated, 67: sized, 46: sized, 45: mode, 33: mode, 32: "added    /a"}
+        for width, line in lines.items():
+            self.gives(line, digest.entry_line, row, lambda _: change, "", width)
 
     def test_options(self) -> None:
         class Wanted(options.Asked):

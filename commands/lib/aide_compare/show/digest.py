@@ -8,6 +8,7 @@ beyond that comes after all others. What is not listed is counted.
 """
 from __future__ import annotations
 
+import re
 from collections import Counter
 from collections.abc import Callable, Iterator, Sequence
 from typing import Any, NamedTuple
@@ -22,6 +23,8 @@ from aide_compare.show.entry import entry_words
 MAX_LETTERS = 400  # Of a path in a line of any width.
 # A path of which the middle is left out keeps so many bytes at each end.
 MIN_END = 12
+# What a line without room leaves out first of a new entry, whose mode says more.
+SIZE = re.compile(" [0-9]+ bytes$")
 # What open changes of one severity and one group of owners have in common.
 PART = f"{LISTED} and level = ? and owners = ?"
 IN_ORDER = f"select place, party, site from changes where {PART} order by {ORDER}"
@@ -183,7 +186,10 @@ def entry_line(row: Row, read: Read, begin: str, width: int) -> str:
     line += shortened_path(row.path, width and width - len(line))
     separator = ": "
     for word in entry_words(read(row)).split(", "):
-        if not word or 0 < width < len(line) + len(separator) + len(word):
+        room = width - len(line) - len(separator)
+        if width and len(word) > room:
+            word = SIZE.sub("", word)
+        if not word or (width and len(word) > room):
             break
         line += separator + word
         separator = ", "
