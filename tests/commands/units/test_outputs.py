@@ -13,7 +13,7 @@ from aide_compare.compare import outputs
 def put(path: str, text: bytes, mode: int = 0o600) -> None:
     descriptor = in_memory(text)
     try:
-        outputs.open_output(path, "it", mode).commit(descriptor)
+        outputs.open_output(path, "it", mode).commit_copy(descriptor)
     finally:
         os.close(descriptor)
 

@@ -7,7 +7,7 @@ from typing import TYPE_CHECKING, Optional
 
 from aide_compare.base.ending import Fault, Status, write_blocks
 from aide_compare.base.escapes import shown
-from aide_compare.base.files import in_memory, nameless
+from aide_compare.base.files import nameless
 from aide_compare.base.kinds import pattern
 from aide_compare.base.options import (
     AFTER,
@@ -161,28 +161,36 @@ def keep_failure(path: Optional[str], error: Exception) -> None:
     with suppress(Fault, OSError):
         become_owner(path)
         place = FileOutput(path, "the state file", ANYBODY_READS)
-        place.commit(in_memory(failed_comparison(error).state().text()))
+        place.commit(failed_comparison(error).state().text())
 
 
 class Row:
     """An output: its place, which is open before anything is compared, and what makes its bytes.
     These are made before any place gets its own. An output `of_failure` is made if nothing was
-    compared, too: its few bytes are in memory, so that it needs no disk."""
+    compared, too: its few bytes are in memory, so that it needs no disk and no descriptor."""
 
     def __init__(self, place: Output, make: Maker, of_failure: bool = False) -> None:
         self.place = place
         self.make = make
         self.of_failure = of_failure
+        self.data = b""
         self.fd = -1
 
     def write(self, comparison: Comparison, judged: Optional[Judged]) -> None:
         """Makes the bytes."""
-        self.fd = in_memory(b"") if self.of_failure else nameless()
-        write_blocks(self.fd, self.make(comparison, judged))
+        blocks = self.make(comparison, judged)
+        if self.of_failure:
+            self.data = b"".join(blocks)
+        else:
+            self.fd = nameless()
+            write_blocks(self.fd, blocks)
 
     def put(self) -> None:
         """Hands the bytes to the place."""
-        self.place.commit(self.fd)
+        if self.of_failure:
+            self.place.commit(self.data)
+        else:
+            self.place.commit_copy(self.fd)
 
 
 def output_rows(request: CompareRequest) -> list[Row]:

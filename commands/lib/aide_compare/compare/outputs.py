@@ -5,7 +5,7 @@ import fcntl
 import os
 from contextlib import suppress
 
-from aide_compare.base.ending import Fault, Status, failing
+from aide_compare.base.ending import Fault, Status, failing, write_all
 from aide_compare.base.escapes import shown
 from aide_compare.base.files import PRIVATE, copy_file, given_descriptor
 from aide_compare.base.replacement import Replacement
@@ -31,11 +31,15 @@ def descriptor_of(path: str) -> int | None:
 
 
 class Output:
-    """The place that a path means. It is known before the work that bytes can be written to it."""
+    """The place that a path means, to which bytes can be written. It is known before the work that
+    this is possible."""
 
-    def commit(self, source: int) -> None:
-        """Writes the bytes of an open file there."""
+    def commit(self, data: bytes) -> None:
         raise NotImplementedError
+
+    def commit_copy(self, source: int) -> None:
+        """Writes the bytes of an open file there."""
+        self.commit(whole(source))
 
 
 class Kept(Output):
@@ -43,8 +47,21 @@ class Kept(Output):
 
     data = b""
 
-    def commit(self, source: int) -> None:
-        self.data = os.pread(source, os.fstat(source).st_size, 0)
+    def commit(self, data: bytes) -> None:
+        self.data = data
+
+
+class Notes(Output):
+    """Standard error. If that cannot be written, nothing else changes."""
+
+    def commit(self, data: bytes) -> None:
+        with suppress(OSError):
+            write_all(2, data)
+
+
+def whole(descriptor: int) -> bytes:
+    """All bytes of a small file."""
+    return os.pread(descriptor, os.fstat(descriptor).st_size, 0)
 
 
 class FileOutput(Output):
@@ -53,7 +70,10 @@ class FileOutput(Output):
     def __init__(self, path: str, what: str, mode: int) -> None:
         self.file = Replacement(path, mode, what, makes_directory=False).begin()
 
-    def commit(self, source: int) -> None:
+    def commit(self, data: bytes) -> None:
+        self.file.commit(data)
+
+    def commit_copy(self, source: int) -> None:
         self.file.commit_copy(source)
 
 
@@ -64,17 +84,13 @@ class StreamOutput(Output):
         self.fd = descriptor
         self.words = words
 
-    def commit(self, source: int) -> None:
+    def commit(self, data: bytes) -> None:
+        with failing(self.words):
+            write_all(self.fd, data)
+
+    def commit_copy(self, source: int) -> None:
         with failing(self.words):
             copy_file(source, self.fd)
-
-
-class Notes(Output):
-    """Standard error. If that cannot be written, nothing else changes."""
-
-    def commit(self, source: int) -> None:
-        with suppress(OSError):
-            copy_file(source, 2)
 
 
 def open_output(path: str, what: str, mode: int = PRIVATE) -> Output:
