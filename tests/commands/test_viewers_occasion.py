@@ -183,13 +183,11 @@ class OccasionTest(CommandTest):
         for fields in [*objects, recorded]:
             self.assertEqual(validator.faults(fields), [])
         read: Fields = {"sha256": "00" * 32, "skipped": []}
-        listed: Fields = {"left_out": 0, "list": {"sha256": "00" * 32}}
-        pair: Fields = {"trusted_old": read, "trusted_new": read, "same_as_trusted": 0, **listed}
         sides = {kind: {side: entry[side]} for kind, side in (("removed", "old"), ("added", "new"))}
         lone = changed(entry, old=..., new=..., old_text=..., new_text=...)
         good: list[object] = [
             changed(summary, old=..., old_hex="2fff"),
-            changed(summary, trusted_old="a", trusted_new_hex="ff"),
+            changed(summary, trusted_old="a", trusted_new=..., trusted_new_hex="ff"),
             changed(lone, kind="added", **sides["added"]),
             changed(lone, kind="removed", **sides["removed"]),
             changed(entry, path=..., path_hex="2fff"),
@@ -198,8 +196,7 @@ class OccasionTest(CommandTest):
             changed(entry, same_as="trusted", standing="open"),
             changed(entry, left_out=7, standing="left out", severity=...),
             changed(entry, standing=..., severity=...),
-            changed(end, **pair),
-            changed(end, **listed),
+            changed(end, left_out=3, list={"sha256": "00" * 32}),
             changed(end, new={**read, "skipped": [1, 64]}),
             changed(end, skipped={"new": ["fstype"]}),
         ]
@@ -215,7 +212,8 @@ class OccasionTest(CommandTest):
             changed(summary, old=read),
             changed(summary, old_hex="2f"),
             changed(summary, old=..., old_hex="2"),
-            changed(summary, trusted_old="/a"),
+            changed(summary, trusted_old=...),
+            changed(summary, trusted_old=..., trusted_new=...),
             changed(summary, trusted_new_hex="2f"),
             changed(summary, trusted_old="/a", trusted_new="/b", trusted_new_hex="2f"),
             changed(summary, trusted_old="/a", trusted_old_hex="2f", trusted_new="/b"),
@@ -256,12 +254,13 @@ class OccasionTest(CommandTest):
             changed(end, new={**read, "skipped": [0]}),
             changed(end, new={**read, "skipped": [65]}),
             changed(end, new={**read, "skipped": [2, 2]}),
-            changed(end, **{**pair, "trusted_new": ...}),
-            changed(end, **{**pair, "same_as_trusted": ...}),
-            changed(end, same_as_trusted=0),
-            changed(end, left_out=0),
-            changed(end, list={"sha256": "00" * 32}),
-            changed(end, left_out=0, list={"sha256": "00"}),
+            changed(end, trusted_new=...),
+            changed(end, trusted_old=..., trusted_new=..., same_as_trusted=...),
+            changed(end, left_out=..., list=...),
+            changed(end, same_as_trusted=...),
+            changed(end, left_out=...),
+            changed(end, list=...),
+            changed(end, list={"sha256": "00"}),
             changed(end, skipped=["fstype"]),
             changed(entry, kind="other"),
             changed(entry, path="a"),

@@ -228,10 +228,12 @@ class WithoutTest(CommandTest):
         self.assertEqual(answer.status, 0)
 
     def test_no_pair(self) -> None:
-        """The empty pair beside which a list is asked is named nowhere."""
+        """A list needs no trusted pair: the names of one that is not there are empty, and it accounts
+        for nothing."""
         answer = self.call(JSON, "--exclude", "/nothing", "o.db", "n.db")
-        first, *_, last = answer.output.splitlines()
-        self.assertNotIn(b"trusted_", first + last)
+        first, *_, last = map(json.loads, answer.output.splitlines())
+        self.assertEqual((first["trusted_old"], first["trusted_new"]), ("", ""))
+        self.assertEqual((last["same_as_trusted"], last["left_out"]), (0, 0))
 
     def test_damage(self) -> None:
         """Damage in lines that would be left out is found all the same."""

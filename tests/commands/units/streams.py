@@ -6,6 +6,7 @@ from typing import Any
 
 from aide_compare.base.files import in_memory
 from aide_compare.base.paths import key_of_path
+from aide_compare.base.words import SIDES, TRUSTED_SIDES
 from aide_compare.lines.change import Fields
 from aide_compare.lines.reader import ENCODE, Outline
 
@@ -42,8 +43,9 @@ def stream_of(*changes: Fields) -> int:
     status = sum(bit for bit, count in zip((1, 2, 4), counts.values()) if count)
     side = {"sha256": "00" * 32, "skipped": []}
     end: Fields = {"end": True, "status": status, "total": len(changes), **counts}
-    end = {**end, "same_as_old": same, "others": len(changes) - same, "old": side, "new": side}
-    first = {"format": 4, "old": "o", "new": "n"}
+    end = {**end, "same_as_old": same, "same_as_trusted": 0, "left_out": 0}
+    end = {**end, "others": len(changes) - same, **dict.fromkeys((*SIDES, *TRUSTED_SIDES), side)}
+    first = {"format": 4, "old": "o", "new": "n", **dict.fromkeys(TRUSTED_SIDES, "")}
     return in_memory(b"".join(map(line_of, [first, *ordered, end])))
 
 

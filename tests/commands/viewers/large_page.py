@@ -12,6 +12,7 @@ from tests.commands.viewers.lines import Fields, stand
 from tests.commands.viewers.samples import page_of
 from tests.lib.tally import Tally
 
+DATABASES = ("old", "new", "trusted_old", "trusted_new")
 MOST_BYTES, MOST_SECONDS, MOST_ANSWER = 20000000, 3, 0.2
 FIRST = 1700000000
 DIGESTS = "MD5 SHA1 SHA256 SHA512 RMD160 TIGER CRC32 HAVAL GOST WHIRLPOOL STRIBOG512".split()
@@ -55,10 +56,13 @@ def write_lines(path: str, count: int) -> None:
     kinds = [fields["kind"] for fields in entries]
     counts = {kind: kinds.count(kind) for kind in ("added", "removed", "changed")}
     read = {"sha256": "00" * 32, "skipped": []}
-    end = {"end": True, "old": read, "new": read, "total": count, **counts}
-    end.update({"same_as_old": 0, "others": count, "status": 7})
+    end: Fields = {"end": True, **dict.fromkeys(DATABASES, read), "total": count, **counts}
+    end.update(
+        {"same_as_old": 0, "same_as_trusted": 0, "left_out": 0, "others": count, "status": 7}
+    )
     with open(path, "w") as file:
-        for fields in [{"format": 4, "old": "/a", "new": "/a"}, *entries, end]:
+        first: Fields = {"format": 4, **dict.fromkeys(DATABASES, "/a")}
+        for fields in [first, *entries, end]:
             file.write(json.dumps(fields) + "\n")
 
 

@@ -25,20 +25,17 @@ def name_member(side: str, path: bytes) -> Fields:
 
 
 def summary_of(summary: Fields, comparison: Comparison) -> Fields:
-    """The first line, with the names of the databases."""
+    """The first line, with the names of the databases; that of one which was not named is empty."""
     members: Fields = {"format": summary["format"]}
-    for side, copy in comparison.copies.items():
-        members.update(name_member(side, os.fsencode(copy.name)))
+    for side in (*SIDES, *TRUSTED_SIDES):
+        copy = comparison.copies.get(side)
+        members.update(name_member(side, os.fsencode(copy.name) if copy else b""))
     return members
 
 
 def end_of(reader: Reader, comparison: Comparison, judged: Optional[Judged]) -> Fields:
-    """The last line, without a trusted pair if none was named, and with the names of the columns that
-    were not compared, if there are any."""
+    """The last line, with the names of the columns that were not compared, if there are any."""
     end = dict(reader.end)
-    if TRUSTED_SIDES[0] not in comparison.copies:
-        for name in (*TRUSTED_SIDES, "same_as_trusted"):
-            end.pop(name, None)
     if comparison.skipped:
         end["skipped"] = comparison.skipped
     if judged is not None:
