@@ -95,8 +95,8 @@ def ask_for_lines(
 
 
 def errors_of_list(text: bytes) -> bytes:
-    """What the program says of a list, which it reads before it looks for a database: nothing if the
-    list has no fault."""
+    """What the program says of a list, which it reads before any database: nothing if the list has
+    no fault."""
     take = Drain(0, bytearray().extend).take
     answer = ask_for_changes(find_installed(LINES), Texts(b"", b""), {}, take, without=text)
     return answer.errors if answer.status == Status.CONFIGURATION else b""

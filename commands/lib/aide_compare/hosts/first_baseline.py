@@ -1,4 +1,4 @@
-"""The first baseline of a host: what was fetched from it, once somebody has compared its SHA-256."""
+"""The first baseline of a host: what was fetched, once somebody has compared its SHA-256."""
 from __future__ import annotations
 
 from aide_compare.compare.soundness import refuse_unsound

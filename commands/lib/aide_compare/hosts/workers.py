@@ -1,5 +1,5 @@
-"""Many hosts are compared, some at a time: each in a process of its own, with a limit of memory and of
-time. A host that ends its process ends no other one."""
+"""Many hosts are compared, some at a time: each in a process of its own, with a limit of memory and
+of time. A host that ends its process ends no other one."""
 from __future__ import annotations
 
 import json
