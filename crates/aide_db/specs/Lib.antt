@@ -16,6 +16,7 @@ pub mod Answer
 pub mod Beginning
 pub mod Hashed
 pub mod NextChunk
+pub mod NextCall
 pub mod Takes
 pub mod ReaderView
 pub mod Told

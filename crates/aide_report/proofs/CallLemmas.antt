@@ -1,23 +1,27 @@
 -- What calls of a cursor and of a merge keep, one after the other.
-use Rattle.std.specs.Prelude.{◌≡◌}
+use Rattle.std.specs.Prelude.{ℕ, ◌≡◌, List, Result}
 use Rattle.std.proofs.Common.{refl, sym, subst, arith, ◌∙◌}
+use Rattle.aide_db.specs.Answer.{Stands}
 use Rattle.aide_db.specs.CursorView.{CursorView}
 use Rattle.aide_db.specs.DeskView.{DeskView}
 use Rattle.aide_db.specs.Kept.{IsKept}
+use Rattle.aide_db.specs.NextCall.{IsNextOf, IsOutcomeOfNext, KeepsDesk}
+use Rattle.aide_db.specs.NextCall as called
 use Rattle.aide_db.specs.declared.fault.DbFault.{DbFault}
 use Rattle.aide_db.specs.declared.limits.Limits.{Limits}
 use Rattle.aide_db.specs.declared.reel.Reel.{Ghosts as Reels}
 use Rattle.aide_db.specs.declared.side.Side.{Side}
 use Rattle.aide_db.specs.declared.side.Side.TheVariants.{Old, New}
+use Rattle.aide_db.specs.declared.step.Step.{Step}
 use Rattle.aide_report.specs.code.MergeCalls.{IsAdvanced, KeepsCursor, IsCursorFault, KeepsMerge, IsMergeFault}
 use Rattle.aide_report.specs.code.Merging.{StandsAt, limits_at}
 use Rattle.aide_report.specs.Standing.{IsFaultOf}
 use Rattle.aide_report.specs.declared.merge.NextEntry.{NextEntry}
 use Rattle.aide_report.specs.declared.merge.Merge.{Merge}
-use Rattle.aide_report.proofs.BoundLemmas.{fits_both, fits_further, fits_on}
+use Rattle.aide_report.proofs.BoundLemmas.{fits_both, fits_further, fits_next, fits_on}
 use Rattle.aide_report.proofs.RoomLemmas.{still_fits}
 use Rattle.aide_report.proofs.SideLemmas.{of_sides}
-use Rattle.aide_report.proofs.StandingLemmas.{stands_across}
+use Rattle.aide_report.proofs.StandingLemmas.{stands_across, stands_at}
 
 -- ---- one cursor
 
@@ -29,6 +33,19 @@ cursor_none r c d = record {
   stands = λ text stands. stands;
   room = refl;
   fits = λ old_line new_line before within fits. fits;
+}
+
+-- the next entry, the end or a fault
+pub cursor_next : {R : Type 0} {r : Reels R} {c n : CursorView R} {d e : DeskView} {result : Result Step DbFault}
+    → ((text : List ℕ) → Stands r.to_come c d text → IsNextOf r c n d e result text) → IsOutcomeOfNext r c n d e result
+    → called.KeepsCursor r c n → KeepsDesk c.side c.limits.line d e → KeepsCursor r c n d e
+cursor_next {r = r} {c = c} {n = n} {d = d} {e = e} {result = result} is outcome cursor desk = record {
+  side = cursor.side;
+  limits = cursor.limits;
+  stands = λ text stands. stands_at r.to_come n c.side e text cursor.side (is text stands).keeps;
+  room = desk.other.room;
+  fits = fits_next r.to_come c d e n.columns result desk.other.other_list outcome.own desk.peak desk.below
+      (λ text stands. (is text stands).long) (λ text stands. (is text stands).short);
 }
 
 -- one call more

@@ -9,7 +9,6 @@ use Rattle.aide_db.specs.Holds.{IsDone}
 use Rattle.aide_db.specs.Kept.{OwnAfter, UsesMore, UsesTaken, IsNoRecord, peak_limit}
 use Rattle.aide_db.specs.Memory.{GoesOn, HasMemory, wants_memory}
 use Rattle.aide_db.specs.NextChunk.{Gives}
-use Rattle.aide_db.specs.Side.{other_side}
 use Rattle.aide_db.specs.Takes.{SpentAnswer, SpentAt, SpentTaken}
 use Rattle.aide_db.specs.Told.{told, tells}
 use Rattle.aide_db.specs.declared.fault.DbFault.{DbFault}
@@ -54,36 +53,7 @@ pub record HoldsLine (limits : Limits) (d e : DeskView) : Type 0 where
   pub peak : d.peak ≤ e.peak
   pub below : (side : Side) → e.peak ≤ peak_limit side d limits.line
 
--- What a call for one side leaves of the other side.
-pub record KeepsOtherSide (side : Side) (d e : DeskView) : Type 0 where
-  -- the other side's entry line and its columns are as before
-  pub other_list : list_of (other_side side) e ≡ list_of (other_side side) d
-  pub other_columns : columns_of_side (other_side side) e ≡ columns_of_side (other_side side) d
-  -- the reserved room stays
-  pub room : e.room ≡ d.room
-
--- What one more line of a side, of at most this many bytes, leaves of a desk.
-pub record KeepsDesk (side : Side) (limit : ℕ) (d e : DeskView) : Type 0 where
-  -- the other side and the room
-  pub other : KeepsOtherSide side d e
-  -- the peak does not fall, and a line of this length bounds it
-  pub peak : d.peak ≤ e.peak
-  pub below : e.peak ≤ peak_limit side d limit
-
 -- ---- the cursor
-
--- What taking bytes leaves of a cursor.
-pub record KeepsCursor {R : Type 0} (r : Reels R) (c e : CursorView R) : Type 0 where
-  -- its side and its limits
-  pub side : e.side ≡ c.side
-  pub limits : e.limits ≡ c.limits
-  -- a reel that shows its bytes still does, and some or none of the first ones came and were hashed
-  pub goes_on : tells (r.to_come c.reel) ≡ true → tells (r.to_come e.reel) ≡ true
-  pub gives : tells (r.to_come c.reel) ≡ true
-      → Gives (told (r.to_come c.reel)) (told (r.to_come e.reel)) c.hash e.hash
-  -- the byte limit is kept, and at most one byte after it was taken from the reel
-  pub within : e.used ≤ e.limits.bytes
-  pub given : e.used + length e.ahead ≤ e.limits.bytes + 1
 
 -- A call that takes no byte from the reel and uses none.
 pub record KeepsBytes {R : Type 0} (c e : CursorView R) : Type 0 where

@@ -10,7 +10,8 @@ ghost use Rattle.aide_db.specs.Hashed.{HasHashed, IsHashedAt};
 ghost use Rattle.aide_db.specs.Takes.{Takes};
 ghost use Rattle.aide_entry.specs.Cause.{IsOfText};
 ghost use Rattle.aide_db.specs.Failures.{after_answer};
-ghost use Rattle.aide_db.specs.code.Keeping.{IsOutcomeOfEnd, KeepsBytes, KeepsCursor};
+ghost use Rattle.aide_db.specs.NextCall.{KeepsCursor};
+ghost use Rattle.aide_db.specs.code.Keeping.{IsOutcomeOfEnd, KeepsBytes};
 
 use super::Cursor;
 use crate::drain::{Drained, drain};
