@@ -8,7 +8,8 @@ use Rattle.std.specs.Ordering.{nat_cmp, ordering_then}
 use Rattle.std.specs.Str.{bytes_eq}
 use Rattle.std.specs.Cmp.{nat_cmp_is}
 use Rattle.std.specs.Cmp.Lexicographic.{slice_cmp, same_text}
-use Rattle.std.proofs.lemmas.List.{map-append, get_or-take, take-take, take-append-drop, drop-take, drop-drop, length-drop}
+use Rattle.std.proofs.lemmas.List.{map-append, get_or-take, drop-drop, length-drop}
+use Rattle.std.proofs.Math.Seq.{take-add}
 use Rattle.percent_encoding.specs.Percent.{percent_decode, is_escape}
 use Rattle.std.specs.Char.{digit_value}
 use Rattle.aide_entry.specs.Path.{path_cmp, rank_of, IsBetweenEscapes}
@@ -68,12 +69,6 @@ path_behind x y n found left right same cut is =
     ∙ (ap (slice_cmp nat_cmp (front ++ map rank_of (percent_decode (drop n x)))) two
     ∙ behind_front front (map rank_of (percent_decode (drop n x))) (map rank_of (percent_decode (drop n y))))))
 
-take_two : (n m : ℕ) (x : List ℕ) → take (n + m) x ≡ take n x ++ take m (drop n x)
-take_two n m x =
-    sym (take-append-drop n (take (n + m) x)) ∙
-    (ap (λ (t : List ℕ). t ++ drop n (take (n + m) x)) (take-take n (n + m) x (omega arith))
-    ∙ ap (λ (t : List ℕ). take n x ++ t) (drop-take n m x))
-
 -- so many bytes more that are the same
 pub record HasFront (x y left right : List ℕ) (count : ℕ) : Type 0 where
   pub left_at : left ≡ drop count x
@@ -86,7 +81,7 @@ pub front_more : (x y left right more_left more_right : List ℕ) (count n : ℕ
     → more_left ≡ drop n left → more_right ≡ drop n right → n ≤ length left → n ≤ length right
     → take n left ≡ take n right
     → HasFront x y more_left more_right (count + n)
-front_more x y left right more_left more_right count n h a b le lf e = search (rules, drop-drop, length-drop, take_two)
+front_more x y left right more_left more_right count n h a b le lf e = search (rules, drop-drop, length-drop, take-add)
 
 pub byte_more : (x y left right more_left more_right : List ℕ) (count a b : ℕ) → HasFront x y left right count
     → left ≡ a ∷ more_left → right ≡ b ∷ more_right → a ≡ b → HasFront x y more_left more_right (count + 1)
