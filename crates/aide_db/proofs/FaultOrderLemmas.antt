@@ -218,9 +218,7 @@ none_late cs l (e ∷ es) each = search (rules, none_late cs l es (All-tail (IsE
 late_among : (before : List (List ℕ)) (cs : List Column) (l b s : List ℕ) (es : List (List ℕ)) → counted before ≡ b ∷ s ∷ es
     → kind_of b ≡ Begin → kind_of s ≡ Spec → All (IsEntryLine cs) es
     → list_any (λ e. is_a Other e && not (is_before cs e l)) before ≡ not (list_all (λ e. is_before cs e l) es)
-late_among before cs l b s es e begins specifies each =
-    any_counted (λ e. is_a Other e && not (is_before cs e l)) (λ x f. rw (skipped_is_no Other (kind_of x) refl f) refl) before
-    ∙ (ap (list_any (λ e. is_a Other e && not (is_before cs e l))) e ∙ rw (begins, specifies) (none_late cs l es each))
+late_among before cs l b s es e begins specifies each = search (rules, any_counted, skipped_is_no, none_late)
 
 zip_short : (cs : List Column) (fs : List (List ℕ)) → length (zip cs fs) ≤ length cs
 zip_short [] fs = omega arith

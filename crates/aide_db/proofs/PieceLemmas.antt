@@ -61,9 +61,7 @@ piece_none ahead near most e f =
     }
 
 plain_take : (xs : List ℕ) (n : ℕ) → n ≤ length xs → HasNoNewline xs → HasNoNewline (take n xs)
-plain_take xs n le none = λ k d lt.
-    let small : k < n = omega (arith, length-take-le n xs le) in
-    subst (λ (x : ℕ). is_newline x ≡ false) (sym (get_or-take n xs k d small)) (none k d (omega arith))
+plain_take xs n le none = search (rules, length-take-le, get_or-take)
 
 -- what a reel gave, one call after another
 pub gives_none : (bytes : List ℕ) (hash : Sha256) → Gives bytes bytes hash hash
