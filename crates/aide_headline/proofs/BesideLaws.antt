@@ -5,11 +5,12 @@ use Rattle.aide_db.specs.Database.{IsSound}
 use Rattle.aide_db.specs.declared.fault.DbFault.{DbFault}
 use Rattle.aide_db.specs.declared.limits.Limits.{Limits}
 use Rattle.aide_headline.specs.Beside.{IsFirstOfPair, IsRightBeside}
-use Rattle.aide_report.specs.Asked.{Asked}
+use Rattle.aide_merge.specs.Asked.{Asked}
 use Rattle.aide_report.specs.Missing.{RunsOver}
-use Rattle.aide_report.specs.Runs.{Report, report_over}
-use Rattle.aide_report.specs.declared.run_fault.RunFault.{RunFault}
-use Rattle.aide_report.specs.declared.run_fault.RunFault.TheVariants.{Database}
+use Rattle.aide_merge.specs.RightAnswer.{Report}
+use Rattle.aide_report.specs.Runs.{report_over}
+use Rattle.aide_merge.specs.declared.run_fault.RunFault.{RunFault}
+use Rattle.aide_merge.specs.declared.run_fault.RunFault.TheVariants.{Database}
 use Rattle.aide_report.proofs.MissingLemmas.{RunsOver-exists}
 use Rattle.aide_line_run.specs.BesideRuns.{RunsBeside}
 use Rattle.aide_line_run.specs.Listed.{ListRead}

@@ -6,14 +6,16 @@ use Rattle.aide_entry.specs.declared.fault_kind.DbFaultKind.{DbFaultKind}
 use Rattle.aide_entry.specs.declared.fault_kind.DbFaultKind.TheVariants.{Read, Memory}
 use Rattle.aide_db.specs.declared.fault.DbFault.{DbFault}
 use Rattle.aide_db.specs.declared.limits.Limits.{Limits}
-use Rattle.aide_report.specs.Asked.{Asked}
-use Rattle.aide_report.specs.Missing.{EndsOver, IsHindered, RunsOver}
-use Rattle.aide_report.specs.Room.{IsNotOfMemory}
-use Rattle.aide_report.specs.Runs.{Report, Runs, Causes}
+use Rattle.aide_merge.specs.Asked.{Asked}
+use Rattle.aide_report.specs.Missing.{EndsOver, RunsOver}
+use Rattle.aide_merge.specs.RightAnswer.{IsHindered}
+use Rattle.aide_merge.specs.Room.{IsNotOfMemory}
+use Rattle.aide_merge.specs.RightAnswer.{Report, Causes}
+use Rattle.aide_report.specs.Runs.{Runs}
 use Rattle.aide_report.specs.Failures.{Rose}
-use Rattle.aide_report.specs.declared.outcome.Outcome.{Outcome}
-use Rattle.aide_report.specs.declared.run_fault.RunFault.{RunFault}
-use Rattle.aide_report.specs.declared.run_fault.RunFault.TheVariants.{Open, Database, Changed, Write}
+use Rattle.aide_merge.specs.declared.outcome.Outcome.{Outcome}
+use Rattle.aide_merge.specs.declared.run_fault.RunFault.{RunFault}
+use Rattle.aide_merge.specs.declared.run_fault.RunFault.TheVariants.{Open, Database, Changed, Write}
 use Rattle.aide_session.specs.Put.{HasNoFailure}
 use Rattle.aide_headline.specs.Headline.{EndsAs}
 

@@ -4,9 +4,9 @@ use Rattle.aide_db.specs.Database.{IsSound}
 use Rattle.aide_db.specs.declared.fault.DbFault.{DbFault}
 use Rattle.aide_db.specs.declared.limits.Limits.{Limits}
 use Rattle.aide_db.specs.declared.side.Side.TheVariants.{Old, New}
-use Rattle.aide_report.specs.Asked.{Asked}
-use Rattle.aide_report.specs.Runs.{IsFirstFaultOf, Report}
-use Rattle.aide_report.specs.declared.run_fault.RunFault.TheVariants.{Database}
+use Rattle.aide_merge.specs.Asked.{Asked}
+use Rattle.aide_merge.specs.RightAnswer.{IsFirstFaultOf, Report}
+use Rattle.aide_merge.specs.declared.run_fault.RunFault.TheVariants.{Database}
 use Rattle.aide_line_run.specs.BesideLines.{lines_beside}
 use Rattle.aide_line_run.specs.Listed.{ListRead}
 use Rattle.aide_line_run.specs.declared.pair_fault.PairFault.{PairFault}

@@ -2,10 +2,10 @@
 use Rattle.std.specs.Prelude.{ℕ, ◌≡◌, Option, List, [], Result, Ok, Err}
 use Rattle.std.specs.Io.KnownBytes.{Appends}
 use Rattle.aide_db.specs.declared.fault.DbFault.{DbFault}
-use Rattle.aide_report.specs.Runs.{Report}
-use Rattle.aide_report.specs.declared.outcome.Outcome.{Outcome}
-use Rattle.aide_report.specs.declared.run_fault.RunFault.{RunFault}
-use Rattle.aide_report.specs.declared.run_fault.RunFault.TheVariants.{Database}
+use Rattle.aide_merge.specs.RightAnswer.{Report}
+use Rattle.aide_merge.specs.declared.outcome.Outcome.{Outcome}
+use Rattle.aide_merge.specs.declared.run_fault.RunFault.{RunFault}
+use Rattle.aide_merge.specs.declared.run_fault.RunFault.TheVariants.{Database}
 
 -- The run ends with this answer. If it is a report, exactly the report has been written, and its
 -- outcome is returned. If it is a fault of a database, this fault is returned, and nothing has

@@ -4,8 +4,9 @@ ghost use Rattle.aide_db.specs.Database.{IsSound};
 ghost use Rattle.aide_db.specs.Longest.{longest_line};
 ghost use Rattle.aide_db.specs.declared.fault.DbFault.{DbFault};
 ghost use Rattle.aide_headline.specs.Headline.{EndsAs};
-ghost use Rattle.aide_report.specs.Asked.{asked};
-ghost use Rattle.aide_report.specs.Runs.{IsFirstFaultOf, report_over};
+ghost use Rattle.aide_merge.specs.Asked.{asked};
+ghost use Rattle.aide_merge.specs.RightAnswer.{IsFirstFaultOf};
+ghost use Rattle.aide_report.specs.Runs.{report_over};
 ghost use Rattle.aide_session.specs.Put.{HasNoFailure};
 
 use aide_conf::Task;

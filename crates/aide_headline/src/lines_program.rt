@@ -3,7 +3,7 @@ ghost use Rattle.std.specs.Prelude.{◌≡◌, ◌≤◌, ◌+◌, ◌⊎◌, �
 ghost use Rattle.aide_conf.specs.Settings.{Configured};
 ghost use Rattle.aide_db.specs.Longest.{longest_line};
 ghost use Rattle.aide_headline.specs.Beside.{IsRightBeside};
-ghost use Rattle.aide_report.specs.Runs.{Report};
+ghost use Rattle.aide_merge.specs.RightAnswer.{Report};
 ghost use Rattle.aide_session.specs.Answer.{Named, asked_by, limits};
 ghost use Rattle.aide_session.specs.AsksBeside.{AsksBeside};
 ghost use Rattle.aide_session.specs.BesideAnswer.{answer_beside, out_beside, trusted_of};

@@ -3,7 +3,8 @@ ghost use Rattle.std.specs.Prelude.{◌≡◌, ◌≤◌, ◌+◌, ◌⊎◌, �
 ghost use Rattle.aide_conf.specs.Settings.{Configured};
 ghost use Rattle.aide_db.specs.Longest.{longest_line};
 ghost use Rattle.aide_db.specs.declared.fault.DbFault.{DbFault};
-ghost use Rattle.aide_report.specs.Runs.{Report, Runs};
+ghost use Rattle.aide_merge.specs.RightAnswer.{Report};
+ghost use Rattle.aide_report.specs.Runs.{Runs};
 ghost use Rattle.aide_session.specs.Answer.{Named, answer_of_run, asked_by, limits};
 ghost use Rattle.aide_session.specs.Asks.{Asks};
 ghost use Rattle.aide_session.specs.Ends.{Starved, Whole, sinks_between};

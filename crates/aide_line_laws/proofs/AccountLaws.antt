@@ -16,8 +16,8 @@ use Rattle.aide_conf.specs.declared.options.Options.{Options}
 use Rattle.aide_db.specs.Map.{Database}
 use Rattle.aide_entry.specs.Attributes.{sides_between}
 use Rattle.aide_line_text.specs.declared.account.Account.TheVariants.{Trusted}
-use Rattle.aide_report.specs.Changed.{differ_by}
-use Rattle.aide_report.specs.Sections.{all_listed, is_in}
+use Rattle.aide_merge.specs.Changed.{differ_by}
+use Rattle.aide_merge.specs.Said.{all_listed, is_in}
 use Rattle.aide_line_run.specs.BesideLines.{by_trusted}
 use Rattle.aide_line_run.specs.Listed.{Leaves, account_by}
 use Rattle.aide_line_laws.specs.OverMaps.{no_entries}

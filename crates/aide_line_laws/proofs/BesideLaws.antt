@@ -12,16 +12,16 @@ use Rattle.aide_db.specs.declared.limits.Limits.{Limits}
 use Rattle.aide_db.specs.declared.side.Side.TheVariants.{Old, New}
 use Rattle.aide_line_text.specs.Frame.{ReadFacts}
 use Rattle.aide_line_text.specs.declared.counts.LineCounts.{LineCounts}
-use Rattle.aide_report.specs.Asked.{Asked}
-use Rattle.aide_report.specs.ChangeLines.{change_line, change_lines, listed_changes, listed_line}
-use Rattle.aide_report.specs.Compare.{changes}
-use Rattle.aide_report.specs.LineCounts.{line_counts, status_by}
-use Rattle.aide_report.specs.LinesRead.{read_of}
+use Rattle.aide_merge.specs.Asked.{Asked}
+use Rattle.aide_line_run.specs.ChangeLines.{change_line, change_lines, listed_changes, listed_line}
+use Rattle.aide_merge.specs.Compare.{changes}
+use Rattle.aide_line_run.specs.LineCounts.{line_counts, status_by}
+use Rattle.aide_line_run.specs.LinesRead.{read_of}
 use Rattle.aide_report.specs.Runs.{report_over}
-use Rattle.aide_report.specs.Sections.{all_listed, is_in}
-use Rattle.aide_report.specs.Seen.{SinkSeen}
-use Rattle.aide_report.specs.declared.outcome.Outcome.{Outcome}
-use Rattle.aide_report.specs.declared.run_fault.RunFault.TheVariants.{Open, Database, Changed, Write}
+use Rattle.aide_merge.specs.Said.{all_listed, is_in}
+use Rattle.aide_merge.specs.Seen.{SinkSeen}
+use Rattle.aide_merge.specs.declared.outcome.Outcome.{Outcome}
+use Rattle.aide_merge.specs.declared.run_fault.RunFault.TheVariants.{Open, Database, Changed, Write}
 use Rattle.aide_line_run.specs.BesideLines.{BeginsBeside, all_lines_beside, by_texts, closing_beside, facts_of_texts, lines_beside}
 use Rattle.aide_line_run.specs.BesideLines.{opening_beside}
 use Rattle.aide_line_run.specs.BesideRuns.{AreAllSound, CutsBeside, changes_between}

@@ -4,8 +4,8 @@ use Rattle.std.proofs.lemmas.List.{append_cancel_left}
 use Rattle.std.specs.Prelude.{codes}
 use Rattle.std.specs.List.{AllByRecursion}
 use Rattle.aide_conf.specs.declared.options.Options.{Options}
-use Rattle.aide_report.specs.ChangeLines.{Accounts}
-use Rattle.aide_report.specs.Entries.{PathChange}
+use Rattle.aide_line_run.specs.ChangeLines.{Accounts}
+use Rattle.aide_merge.specs.Said.{PathChange}
 use Rattle.aide_text.specs.Sent.{SendsPart}
 use Rattle.aide_line_laws.specs.Complete.{AreComplete, IsLast}
 use Rattle.aide_line_laws.specs.Field.{Field}

@@ -34,7 +34,7 @@ use Rattle.aide_entry.specs.Values.{link_of}
 use Rattle.aide_entry.specs.declared.column.Column.TheVariants.{Bits, Name, Of, Skipped}
 use Rattle.aide_entry.specs.declared.line.LineKind.TheVariants.{Blank, End}
 use Rattle.aide_line_text.specs.declared.account.Account.TheVariants.{LeftOut, Old, Trusted}
-use Rattle.aide_report.specs.Changed.{differ_by}
+use Rattle.aide_merge.specs.Changed.{differ_by}
 use Rattle.aide_line_run.specs.Listed.{account_by}
 use Rattle.aide_line_laws.specs.OverMaps.{HappenedThere, IsAbout, IsAccount, StayedAsOld, differ_beyond}
 use Rattle.aide_line_laws.specs.Reading.{SaysAccount}

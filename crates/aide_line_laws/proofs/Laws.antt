@@ -1,7 +1,7 @@
 -- The line of a change is one object of JSON and one line: its members are what the change is.
 use Rattle.aide_conf.specs.declared.options.Options.{Options}
-use Rattle.aide_report.specs.ChangeLines.{Accounts, change_line, widest}
-use Rattle.aide_report.specs.Entries.{PathChange, letters_of, shows_at}
+use Rattle.aide_line_run.specs.ChangeLines.{Accounts, change_line, widest}
+use Rattle.aide_merge.specs.Said.{PathChange, letters_of, shows_at}
 use Rattle.aide_line_laws.specs.ByteValues.{AreBytes, AreOfFormsIfAny}
 use Rattle.aide_line_laws.specs.TextFields.{change_fields}
 use Rattle.aide_line_laws.specs.JsonLine.{IsJsonLine}

@@ -14,11 +14,11 @@ use Rattle.aide_left_out.proofs.Laws.{longer_leaves_out, nothing_left_out, right
 use Rattle.aide_line_text.specs.declared.account.Account.{Account}
 use Rattle.aide_line_text.specs.declared.account.Account.TheVariants.{LeftOut, Old, Trusted}
 use Rattle.aide_patterns.specs.Line.{RuleText}
-use Rattle.aide_report.specs.ChangeLines.{Accounts}
-use Rattle.aide_report.specs.Entries.{PathChange}
+use Rattle.aide_line_run.specs.ChangeLines.{Accounts}
+use Rattle.aide_merge.specs.Said.{PathChange}
 use Rattle.aide_line_run.specs.BesideLines.{by_texts, by_trusted, lines_beside}
 use Rattle.aide_line_run.specs.Listed.{ListRead, account_by, leaves_between, left_by, measures_between}
-use Rattle.aide_report.specs.Asked.{Asked}
+use Rattle.aide_merge.specs.Asked.{Asked}
 use Rattle.aide_line_laws.specs.Field.{Field, count_json}
 use Rattle.aide_line_laws.specs.Reading.{SaysAccount, line_number, same_word}
 

@@ -25,12 +25,12 @@ use Rattle.aide_left_out.specs.Meaning.{IsLeftOut}
 use Rattle.aide_left_out.proofs.Laws.{left_out_from, left_out_means}
 use Rattle.aide_line_text.specs.declared.account.Account.{Account}
 use Rattle.aide_line_text.specs.declared.account.Account.TheVariants.{LeftOut, Old, Trusted}
-use Rattle.aide_report.specs.Asked.{Asked}
-use Rattle.aide_report.specs.ChangeLines.{Accounts, listed_changes}
-use Rattle.aide_report.specs.Compare.{changes, compared}
-use Rattle.aide_report.specs.Entries.{PathChange}
-use Rattle.aide_report.specs.Sections.{all_listed, is_in}
-use Rattle.aide_report.proofs.MergeLemmas.{and_first, and_second, get-compared, lt_less, paired}
+use Rattle.aide_merge.specs.Asked.{Asked}
+use Rattle.aide_line_run.specs.ChangeLines.{Accounts, listed_changes}
+use Rattle.aide_merge.specs.Compare.{changes, compared}
+use Rattle.aide_merge.specs.Said.{PathChange}
+use Rattle.aide_merge.specs.Said.{all_listed, is_in}
+use Rattle.aide_merge.proofs.MergeLemmas.{and_first, and_second, get-compared, lt_less, paired}
 use Rattle.aide_line_run.specs.BesideLines.{by_texts}
 use Rattle.aide_line_run.specs.Listed.{ListRead, account_by, left_by, measures_between}
 use Rattle.aide_line_laws.specs.ByteValues.{AreBytes}

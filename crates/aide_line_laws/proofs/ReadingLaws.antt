@@ -15,8 +15,8 @@ use Rattle.aide_entry.specs.Attributes.{Attributes}
 use Rattle.aide_line_text.specs.Entry.{kind_word, type_at}
 use Rattle.aide_line_text.specs.declared.account.Account.{Account}
 use Rattle.aide_line_text.specs.declared.account.Account.TheVariants.{LeftOut, Old, Trusted}
-use Rattle.aide_report.specs.ChangeLines.{Accounts, widest}
-use Rattle.aide_report.specs.Entries.{PathChange, letters_of, shows_at}
+use Rattle.aide_line_run.specs.ChangeLines.{Accounts, widest}
+use Rattle.aide_merge.specs.Said.{PathChange, letters_of, shows_at}
 use Rattle.aide_text.specs.ValueText.{type_text}
 use Rattle.aide_line_laws.specs.ByteValues.{AreBytes}
 use Rattle.aide_line_laws.specs.Field.{Field, members_of, text_field}

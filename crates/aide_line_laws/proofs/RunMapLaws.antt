@@ -5,8 +5,8 @@ use Rattle.aide_db.specs.Map.{database_of}
 use Rattle.aide_db.specs.declared.limits.Limits.{Limits}
 use Rattle.aide_db.specs.declared.side.Side.TheVariants.{Old, New}
 use Rattle.aide_report.specs.Runs.{report_over}
-use Rattle.aide_report.specs.Seen.{SinkSeen}
-use Rattle.aide_report.specs.declared.outcome.Outcome.{Outcome}
+use Rattle.aide_merge.specs.Seen.{SinkSeen}
+use Rattle.aide_merge.specs.declared.outcome.Outcome.{Outcome}
 use Rattle.aide_line_run.specs.BesideLines.{lines_beside}
 use Rattle.aide_line_run.specs.Listed.{ListRead}
 use Rattle.aide_line_run.specs.PairSeen.{Gives, PairSeen}

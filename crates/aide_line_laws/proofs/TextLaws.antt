@@ -20,12 +20,12 @@ use Rattle.aide_entry.specs.Path.{path_cmp}
 use Rattle.aide_entry.specs.Text.{lines, is_newline, is_filled, without_empty_last}
 use Rattle.aide_entry.specs.declared.column.Column.{Column}
 use Rattle.aide_entry.proofs.PathLaws.{path_cmp_total, path_cmp-IsAntisymmetric}
-use Rattle.aide_report.specs.ChangeLines.{Accounts, change_line, change_lines}
-use Rattle.aide_report.specs.Compare.{changes}
-use Rattle.aide_report.specs.Entries.{PathChange}
-use Rattle.aide_report.specs.Sections.{all_listed, is_in}
-use Rattle.aide_report.specs.Merged.{merged, weave}
-use Rattle.aide_report.proofs.MergeLemmas.{changes-merged}
+use Rattle.aide_line_run.specs.ChangeLines.{Accounts, change_line, change_lines}
+use Rattle.aide_merge.specs.Compare.{changes}
+use Rattle.aide_merge.specs.Said.{PathChange}
+use Rattle.aide_merge.specs.Said.{all_listed, is_in}
+use Rattle.aide_merge.specs.Merged.{merged, weave}
+use Rattle.aide_merge.proofs.MergeLemmas.{changes-merged}
 use Rattle.aide_line_laws.specs.ByteValues.{AreBytes, AreOfForms, AreOfFormsIfAny}
 use Rattle.aide_line_laws.specs.Field.{Field}
 use Rattle.aide_line_laws.specs.JsonLine.{IsJsonLine, AreJsonLines}

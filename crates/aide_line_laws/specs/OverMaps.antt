@@ -11,7 +11,7 @@ use Rattle.aide_entry.specs.Attributes.{Attributes}
 use Rattle.aide_left_out.specs.Meaning.{IsLeftOut}
 use Rattle.aide_line_text.specs.declared.account.Account.{Account}
 use Rattle.aide_line_text.specs.declared.account.Account.TheVariants.{LeftOut, Old, Trusted}
-use Rattle.aide_report.specs.Changed.{differ_by}
+use Rattle.aide_merge.specs.Changed.{differ_by}
 use Rattle.aide_line_run.specs.Listed.{ListRead, measures_between}
 use Rattle.aide_line_laws.specs.Complete.{AreComplete}
 use Rattle.aide_line_laws.specs.Field.{Field}

@@ -2,12 +2,12 @@
 use Rattle.std.specs.Prelude.{ℕ, List, [], ◌∷◌, ◌++◌, map}
 use Rattle.aide_conf.specs.declared.options.Options.{Options}
 use Rattle.aide_db.specs.Map.{database_of}
-use Rattle.aide_report.specs.Asked.{Asked}
-use Rattle.aide_report.specs.ChangeLines.{Accounts, listed_changes, widest}
-use Rattle.aide_report.specs.Compare.{changes}
-use Rattle.aide_report.specs.Entries.{PathChange, letters_of, shows_at}
-use Rattle.aide_report.specs.LineCounts.{line_counts, status_by}
-use Rattle.aide_report.specs.LinesRead.{read_of}
+use Rattle.aide_merge.specs.Asked.{Asked}
+use Rattle.aide_line_run.specs.ChangeLines.{Accounts, listed_changes, widest}
+use Rattle.aide_merge.specs.Compare.{changes}
+use Rattle.aide_merge.specs.Said.{PathChange, letters_of, shows_at}
+use Rattle.aide_line_run.specs.LineCounts.{line_counts, status_by}
+use Rattle.aide_line_run.specs.LinesRead.{read_of}
 use Rattle.aide_line_run.specs.BesideLines.{by_texts}
 use Rattle.aide_line_run.specs.Listed.{ListRead}
 use Rattle.aide_line_laws.specs.Field.{Field}

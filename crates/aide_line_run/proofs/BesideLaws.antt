@@ -4,11 +4,11 @@ use Rattle.std.specs.Prelude.{◌≡◌, ℕ, true, List, [], ◌∷◌, ◌++�
 use Rattle.std.proofs.Common.{refl, sym, ap, ◌∙◌, append_assoc}
 use Rattle.aide_db.specs.Map.{database_of}
 use Rattle.aide_db.specs.declared.limits.Limits.{Limits}
-use Rattle.aide_report.specs.Asked.{Asked}
-use Rattle.aide_report.specs.ChangeLines.{change_lines}
-use Rattle.aide_report.specs.Entries.{PathChange}
-use Rattle.aide_report.specs.LineCounts.{line_counts}
-use Rattle.aide_report.proofs.RunLemmas.{pass_is_changes}
+use Rattle.aide_merge.specs.Asked.{Asked}
+use Rattle.aide_line_run.specs.ChangeLines.{change_lines}
+use Rattle.aide_merge.specs.Said.{PathChange}
+use Rattle.aide_line_run.specs.LineCounts.{line_counts}
+use Rattle.aide_merge.proofs.TextLemmas.{pass_is_changes}
 use Rattle.aide_text.specs.Sent.{SendsPart}
 use Rattle.aide_line_run.specs.BesideLines.{BeginsBeside, all_lines_beside, by_texts, closing_beside, facts_of_texts, lines_beside}
 use Rattle.aide_line_run.specs.BesideLines.{opening_beside}

@@ -13,25 +13,26 @@ use Rattle.aide_db.specs.declared.side.Side.TheVariants.{Old, New}
 use Rattle.aide_entry.specs.Path.{path_cmp}
 use Rattle.aide_text.specs.Sent.{SendsPart}
 use Rattle.aide_text.proofs.Sending.{Appends-nothing}
-use Rattle.aide_report.specs.Asked.{Asked}
-use Rattle.aide_report.specs.ChangeLines.{change_lines}
-use Rattle.aide_report.specs.Entries.{PathChange}
-use Rattle.aide_report.specs.LineCounts.{line_counts}
-use Rattle.aide_report.specs.LineRuns.{line_outcome}
-use Rattle.aide_report.specs.Missing.{TellsSide}
-use Rattle.aide_report.specs.Runs.{Report, report_over}
-use Rattle.aide_report.specs.Seen.{Seen}
-use Rattle.aide_report.specs.code.Finding.{pass_of}
-use Rattle.aide_report.specs.code.LineTally.{tally}
-use Rattle.aide_report.specs.code.Merging.{remaining}
-use Rattle.aide_report.specs.code.Readings.{AreRead}
-use Rattle.aide_report.specs.declared.outcome.Outcome.{Outcome}
-use Rattle.aide_report.specs.declared.run_fault.RunFault.{RunFault}
-use Rattle.aide_report.specs.declared.run_fault.RunFault.TheVariants.{Open, Database, Changed, Write}
-use Rattle.aide_report.proofs.LineLaws.{tally_is}
-use Rattle.aide_report.proofs.LineRunLemmas.{texts_read}
-use Rattle.aide_report.proofs.OneReadingLemmas.{are_read}
-use Rattle.aide_report.proofs.RunLemmas.{pass_is_changes}
+use Rattle.aide_merge.specs.Asked.{Asked}
+use Rattle.aide_line_run.specs.ChangeLines.{change_lines}
+use Rattle.aide_merge.specs.Said.{PathChange}
+use Rattle.aide_line_run.specs.LineCounts.{line_counts}
+use Rattle.aide_line_run.specs.LineRuns.{line_outcome}
+use Rattle.aide_merge.specs.RightAnswer.{TellsSide}
+use Rattle.aide_merge.specs.RightAnswer.{Report}
+use Rattle.aide_report.specs.Runs.{report_over}
+use Rattle.aide_merge.specs.Seen.{Seen}
+use Rattle.aide_merge.specs.code.Merging.{pass_of}
+use Rattle.aide_line_run.specs.code.LineTally.{tally}
+use Rattle.aide_merge.specs.code.Merging.{remaining}
+use Rattle.aide_merge.specs.code.BothRead.{AreRead}
+use Rattle.aide_merge.specs.declared.outcome.Outcome.{Outcome}
+use Rattle.aide_merge.specs.declared.run_fault.RunFault.{RunFault}
+use Rattle.aide_merge.specs.declared.run_fault.RunFault.TheVariants.{Open, Database, Changed, Write}
+use Rattle.aide_line_run.proofs.LineLaws.{tally_is}
+use Rattle.aide_line_run.proofs.LineRunLemmas.{texts_read}
+use Rattle.aide_line_run.proofs.OneReadingLemmas.{are_read}
+use Rattle.aide_merge.proofs.TextLemmas.{pass_is_changes}
 use Rattle.aide_line_run.specs.BesideLines.{BeginsBeside, all_lines_beside, by_texts, closing_beside, facts_of_texts}
 use Rattle.aide_line_run.specs.BesideLines.{lines_beside, opening_beside}
 use Rattle.aide_line_run.specs.BesideRuns.{AreAllSound, CutsBeside, RunsBeside, SendsWholeOf, answer_by}

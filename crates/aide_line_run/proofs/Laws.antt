@@ -13,12 +13,13 @@ use Rattle.aide_db.specs.declared.limits.Limits.{Limits}
 use Rattle.aide_entry.specs.Attributes.{Attributes}
 use Rattle.aide_entry.specs.Path.{path_cmp}
 use Rattle.aide_entry.proofs.PathLaws.{path_cmp_total, path_cmp-IsAntisymmetric}
-use Rattle.aide_report.specs.Compare.{compared}
-use Rattle.aide_report.specs.Entries.{PathChange}
-use Rattle.aide_report.specs.code.Finding.{pass_of}
-use Rattle.aide_report.specs.Merged.{merged}
-use Rattle.aide_report.proofs.MergeLemmas.{and_second, below_sorted, changes-merged, find-merged, find_below, paired, sorted-merged}
-use Rattle.aide_report.proofs.RunLemmas.{pass_is_changes}
+use Rattle.aide_merge.specs.Compare.{compared}
+use Rattle.aide_merge.specs.Said.{PathChange}
+use Rattle.aide_merge.specs.code.Merging.{pass_of}
+use Rattle.aide_merge.specs.Merged.{merged}
+use Rattle.aide_merge.proofs.MergeLemmas.{and_second, below_sorted, changes-merged, find-merged}
+use Rattle.aide_merge.proofs.MergeLemmas.{find_below, paired, sorted-merged}
+use Rattle.aide_merge.proofs.TextLemmas.{pass_is_changes}
 use Rattle.aide_line_run.specs.BesideLines.{by_trusted}
 use Rattle.aide_line_run.specs.Listed.{Leaves, account_by}
 use Rattle.aide_line_run.specs.Sought.{found_at, seek, sought_by}

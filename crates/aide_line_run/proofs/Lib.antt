@@ -8,3 +8,10 @@ pub mod ReadLemmas
 pub mod EndLemmas
 pub mod BesideLaws
 pub mod RunLemmas
+pub mod LineLaws
+pub mod LineLemmas
+pub mod LineRunLemmas
+pub mod LineTallyLemmas
+pub mod OneReadingLemmas
+pub mod PassLines
+pub mod StopLemmas

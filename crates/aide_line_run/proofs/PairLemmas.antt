@@ -7,11 +7,13 @@ use Rattle.aide_db.specs.declared.limits.Limits.{Limits}
 use Rattle.aide_db.specs.declared.side.Side.{Side}
 use Rattle.aide_db.specs.declared.side.Side.TheVariants.{Old, New}
 use Rattle.aide_db.proofs.MapLaws.{first_fault_unsound}
-use Rattle.aide_report.specs.Asked.{Asked}
-use Rattle.aide_report.specs.Missing.{RunsOver, StopsFor, TellsSide, run_answer}
-use Rattle.aide_report.specs.Runs.{Report, Runs, report_over}
-use Rattle.aide_report.specs.declared.run_fault.RunFault.{RunFault}
-use Rattle.aide_report.proofs.MissingLemmas.{over_texts}
+use Rattle.aide_merge.specs.Asked.{Asked}
+use Rattle.aide_report.specs.Missing.{RunsOver}
+use Rattle.aide_merge.specs.RightAnswer.{StopsFor, TellsSide, run_answer}
+use Rattle.aide_merge.specs.RightAnswer.{Report}
+use Rattle.aide_report.specs.Runs.{Runs, report_over}
+use Rattle.aide_merge.specs.declared.run_fault.RunFault.{RunFault}
+use Rattle.aide_merge.proofs.AnswerLemmas.{over_texts}
 use Rattle.aide_line_run.specs.BesideRuns.{StopsForPair, answer_by}
 use Rattle.aide_line_run.specs.Pairs.{OfEach}
 use Rattle.aide_line_run.specs.declared.pair_fault.PairFault.{PairFault}

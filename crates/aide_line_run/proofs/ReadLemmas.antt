@@ -8,26 +8,27 @@ use Rattle.aide_db.specs.declared.limits.Limits.{Limits}
 use Rattle.aide_db.specs.declared.reel.Reel.{Ghosts as Reels}
 use Rattle.aide_db.specs.declared.side.Side.{Side}
 use Rattle.aide_text.specs.Failures.{Rose}
-use Rattle.aide_report.specs.Asked.{Asked}
-use Rattle.aide_report.specs.Bound.{FitsAfterBoth}
-use Rattle.aide_report.specs.Missing.{IsHindered}
-use Rattle.aide_report.specs.Openings.{OpensAtMost, OpensExactly}
-use Rattle.aide_report.specs.Runs.{Report, report_over}
-use Rattle.aide_report.specs.Seen.{KeepsSources, Seen}
-use Rattle.aide_report.specs.code.MergeCalls.{IsOpened}
-use Rattle.aide_report.specs.code.Merging.{reels_failed}
-use Rattle.aide_report.specs.code.OneReading.{IsFirstOfBoth, IsReadFault, Reads}
-use Rattle.aide_report.specs.code.Passes.{KeepsDesk}
-use Rattle.aide_report.specs.code.Readings.{ClearsDesk}
-use Rattle.aide_report.specs.declared.merge.Merge.{Merge}
-use Rattle.aide_report.specs.declared.run_fault.RunFault.{RunFault}
-use Rattle.aide_report.specs.declared.run_fault.RunFault.TheVariants.{Open, Database, Changed, Write}
-use Rattle.aide_report.proofs.BoundLemmas.{fits_limit, fits_within}
+use Rattle.aide_merge.specs.Asked.{Asked}
+use Rattle.aide_merge.specs.Bound.{FitsAfterBoth}
+use Rattle.aide_merge.specs.RightAnswer.{IsHindered}
+use Rattle.aide_merge.specs.Openings.{OpensAtMost, OpensExactly}
+use Rattle.aide_merge.specs.RightAnswer.{Report}
+use Rattle.aide_report.specs.Runs.{report_over}
+use Rattle.aide_merge.specs.Seen.{KeepsSources, Seen}
+use Rattle.aide_merge.specs.code.MergeCalls.{IsOpened}
+use Rattle.aide_merge.specs.code.Merging.{reels_failed}
+use Rattle.aide_line_run.specs.code.OneReading.{IsFirstOfBoth, IsReadFault, Reads}
+use Rattle.aide_merge.specs.code.Desks.{KeepsDesk}
+use Rattle.aide_merge.specs.code.Desks.{ClearsDesk}
+use Rattle.aide_merge.specs.declared.merge.Merge.{Merge}
+use Rattle.aide_merge.specs.declared.run_fault.RunFault.{RunFault}
+use Rattle.aide_merge.specs.declared.run_fault.RunFault.TheVariants.{Open, Database, Changed, Write}
+use Rattle.aide_merge.proofs.BoundLemmas.{fits_limit, fits_within}
 use Rattle.aide_report.proofs.FaultLemmas.{cause_by}
-use Rattle.aide_report.proofs.FaultLemmas.{comes_of}
-use Rattle.aide_report.proofs.OneReadingLemmas.{desk_read, fault_as, fault_of_write, stops_at}
-use Rattle.aide_report.proofs.PassLemmas.{desk_then, sources_then}
-use Rattle.aide_report.proofs.ReadingLemmas.{clears_then}
+use Rattle.aide_line_run.proofs.StopLemmas.{comes_of}
+use Rattle.aide_line_run.proofs.OneReadingLemmas.{desk_read, fault_as, fault_of_write, stops_at}
+use Rattle.aide_merge.proofs.KeepLemmas.{desk_then, sources_then}
+use Rattle.aide_merge.proofs.KeepLemmas.{clears_then}
 use Rattle.aide_line_run.specs.BesideRuns.{IsFaultOfPair, LeavesPair, RunsBeside, StopsForPair, over_sides}
 use Rattle.aide_line_run.specs.Listed.{ListRead}
 use Rattle.aide_line_run.specs.BesideLines.{lines_beside}

@@ -5,16 +5,16 @@ use Rattle.std.proofs.Common.{ap, refl, sym, ◌∙◌}
 use Rattle.aide_db.specs.DeskView.{DeskView}
 use Rattle.aide_db.specs.declared.limits.Limits.{Limits}
 use Rattle.aide_db.specs.declared.reel.Reel.{Ghosts as Reels}
-use Rattle.aide_report.specs.Asked.{Asked}
-use Rattle.aide_report.specs.LineCounts.{account_count, entry_count}
-use Rattle.aide_report.specs.LineRuns.{line_outcome}
-use Rattle.aide_report.specs.Stops.{KeepsUnopened}
-use Rattle.aide_report.specs.RunFaults.{CountsWriteFault, HasWrittenIfAny, IsCaused}
-use Rattle.aide_report.specs.Seen.{Seen, sink_seen}
-use Rattle.aide_report.specs.code.Readings.{ClearsDesk}
-use Rattle.aide_report.specs.declared.outcome.Outcome.{Outcome}
-use Rattle.aide_report.specs.declared.run_fault.RunFault.{RunFault}
-use Rattle.aide_report.specs.declared.run_fault.RunFault.TheVariants.{Open, Database, Changed, Write}
+use Rattle.aide_merge.specs.Asked.{Asked}
+use Rattle.aide_line_run.specs.LineCounts.{account_count, entry_count}
+use Rattle.aide_line_run.specs.LineRuns.{line_outcome}
+use Rattle.aide_line_run.specs.Stops.{KeepsUnopened}
+use Rattle.aide_merge.specs.RunFaults.{CountsWriteFault, HasWrittenIfAny, IsCaused}
+use Rattle.aide_merge.specs.Seen.{Seen, sink_seen}
+use Rattle.aide_merge.specs.code.Desks.{ClearsDesk}
+use Rattle.aide_merge.specs.declared.outcome.Outcome.{Outcome}
+use Rattle.aide_merge.specs.declared.run_fault.RunFault.{RunFault}
+use Rattle.aide_merge.specs.declared.run_fault.RunFault.TheVariants.{Open, Database, Changed, Write}
 use Rattle.aide_text.specs.Failures.{Rose}
 use Rattle.aide_text.specs.declared.sink.Sink.{Ghosts as Sinks}
 use Rattle.aide_text.proofs.Sending.{Appends-nothing}

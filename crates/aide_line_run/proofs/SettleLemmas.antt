@@ -10,18 +10,18 @@ use Rattle.aide_db.specs.declared.limits.Limits.{Limits}
 use Rattle.aide_db.specs.declared.reel.Reel.{Ghosts as Reels}
 use Rattle.aide_db.specs.declared.side.Side.TheVariants.{Old}
 use Rattle.aide_line_text.specs.declared.counts.LineCounts.{LineCounts}
-use Rattle.aide_report.specs.ChangeLines.{change_lines}
-use Rattle.aide_report.specs.RunFaults.{HasPenWritten, HasWrittenIfAny}
-use Rattle.aide_report.specs.Standing.{IsFaultOf}
-use Rattle.aide_report.specs.code.MergeCalls.{KeepsMerge}
-use Rattle.aide_report.specs.code.Merging.{limits_at, remaining}
-use Rattle.aide_report.specs.code.OneReading.{IsFirstOfBoth}
-use Rattle.aide_report.specs.declared.merge.Merge.{Merge}
-use Rattle.aide_report.proofs.BoundLemmas.{fits_further}
-use Rattle.aide_report.proofs.CallLemmas.{merge_none}
-use Rattle.aide_report.proofs.OneReadingLemmas.{settled_first}
-use Rattle.aide_report.proofs.ReportLemmas.{counts_of_pen, unfailed, written_of_pen}
-use Rattle.aide_report.proofs.RoomLemmas.{still_fits}
+use Rattle.aide_line_run.specs.ChangeLines.{change_lines}
+use Rattle.aide_merge.specs.RunFaults.{HasPenWritten, HasWrittenIfAny}
+use Rattle.aide_merge.specs.Standing.{IsFaultOf}
+use Rattle.aide_merge.specs.code.MergeCalls.{KeepsMerge}
+use Rattle.aide_merge.specs.code.Merging.{limits_at, remaining}
+use Rattle.aide_line_run.specs.code.OneReading.{IsFirstOfBoth}
+use Rattle.aide_merge.specs.declared.merge.Merge.{Merge}
+use Rattle.aide_merge.proofs.BoundLemmas.{fits_further}
+use Rattle.aide_merge.proofs.CallLemmas.{merge_none}
+use Rattle.aide_line_run.proofs.OneReadingLemmas.{settled_first}
+use Rattle.aide_merge.proofs.PenLemmas.{counts_of_pen, unfailed, written_of_pen}
+use Rattle.aide_merge.proofs.RoomLemmas.{still_fits}
 use Rattle.aide_text.specs.Sent.{IsCounted}
 use Rattle.aide_text.specs.Sheet.{Sheet, WritesSome, Wrote}
 use Rattle.aide_text.specs.declared.pen.Pen.{Pen}

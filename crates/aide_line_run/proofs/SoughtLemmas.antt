@@ -11,9 +11,9 @@ use Rattle.aide_line_text.specs.declared.account.Account.{Account}
 use Rattle.aide_entry.specs.Attributes.{Entry}
 use Rattle.aide_entry.specs.Path.{path_cmp}
 use Rattle.aide_entry.proofs.PathLaws.{path_cmp_total}
-use Rattle.aide_report.specs.Entries.{PathChange}
-use Rattle.aide_report.specs.code.ChangeView.{alike_of}
-use Rattle.aide_report.proofs.MergeLemmas.{and_first, and_second}
+use Rattle.aide_merge.specs.Said.{PathChange}
+use Rattle.aide_merge.specs.code.ChangeView.{alike_of}
+use Rattle.aide_merge.proofs.MergeLemmas.{and_first, and_second}
 use Rattle.aide_line_run.specs.Listed.{Leaves, account_by}
 use Rattle.aide_line_run.specs.Sought.{Accounted, all_sought, found_at, seek, sought_by}
 

@@ -9,18 +9,20 @@ use Rattle.aide_line_text.specs.declared.account.Account.{Account}
 use Rattle.aide_conf.specs.declared.options.Options.{Options}
 use Rattle.aide_entry.specs.Attributes.{Entry}
 use Rattle.aide_line_text.specs.declared.counts.LineCounts.{LineCounts}
-use Rattle.aide_report.specs.ChangeLines.{Accounts, change_line, change_lines, listed_changes, listed_line}
-use Rattle.aide_report.specs.Changed.{differ_by}
-use Rattle.aide_report.specs.Changes.{is_added, is_removed, is_changed, is_of_new}
-use Rattle.aide_report.specs.Entries.{PathChange}
-use Rattle.aide_report.specs.LineCounts.{account_count, entry_count, is_left_out, is_old, is_other, is_trusted}
-use Rattle.aide_report.specs.Sections.{all_listed, is_in}
-use Rattle.aide_report.specs.code.ChangeView.{alike_of}
-use Rattle.aide_report.specs.code.LineTally.{AreLinesBelow, sum_of_counts, tally}
-use Rattle.aide_report.proofs.SameEntries.{in_none, never_differs}
-use Rattle.aide_report.proofs.SectionLaws.{first_counted}
-use Rattle.aide_report.proofs.LineLemmas.{lines_one}
-use Rattle.aide_report.proofs.TallyLemmas.{tally_accounted, tally_alone}
+use Rattle.aide_line_run.specs.ChangeLines.{Accounts, change_line, change_lines, listed_changes}
+use Rattle.aide_line_run.specs.ChangeLines.{listed_line}
+use Rattle.aide_merge.specs.Changed.{differ_by}
+use Rattle.aide_merge.specs.Changes.{is_added, is_removed, is_changed, is_of_new}
+use Rattle.aide_merge.specs.Said.{PathChange}
+use Rattle.aide_line_run.specs.LineCounts.{account_count, entry_count, is_left_out, is_old}
+use Rattle.aide_line_run.specs.LineCounts.{is_other, is_trusted}
+use Rattle.aide_merge.specs.Said.{all_listed, is_in}
+use Rattle.aide_merge.specs.code.ChangeView.{alike_of}
+use Rattle.aide_line_run.specs.code.LineTally.{AreLinesBelow, sum_of_counts, tally}
+use Rattle.aide_merge.proofs.SameEntries.{in_none, never_differs}
+use Rattle.aide_merge.proofs.Laws.{first_counted}
+use Rattle.aide_line_run.proofs.LineLemmas.{lines_one}
+use Rattle.aide_line_run.proofs.LineTallyLemmas.{tally_accounted, tally_alone}
 use Rattle.aide_line_run.specs.Listed.{Leaves}
 use Rattle.aide_line_run.specs.Sought.{Accounted, accounted_line, accounted_lines, all_sought, sought_by}
 use Rattle.aide_line_run.specs.code.Tallied.{of_account, of_change, tally_of}

@@ -11,14 +11,14 @@ use Rattle.aide_db.specs.declared.reel.Reel.{Ghosts as Reels}
 use Rattle.aide_db.specs.declared.side.Side.TheVariants.{Old, New}
 use Rattle.aide_entry.specs.Attributes.{Entry}
 use Rattle.aide_line_text.specs.declared.counts.LineCounts.{LineCounts}
-use Rattle.aide_report.specs.Entries.{PathChange}
-use Rattle.aide_report.specs.code.ChangeView.{alike_of}
-use Rattle.aide_report.specs.code.LineTally.{sum_of_counts}
-use Rattle.aide_report.specs.code.Merging.{IsNotDue, IsReady, StandsAt, remaining}
-use Rattle.aide_report.specs.declared.merge.Merge.{Merge}
+use Rattle.aide_merge.specs.Said.{PathChange}
+use Rattle.aide_merge.specs.code.ChangeView.{alike_of}
+use Rattle.aide_line_run.specs.code.LineTally.{sum_of_counts}
+use Rattle.aide_merge.specs.code.Merging.{IsNotDue, IsReady, StandsAt, remaining}
+use Rattle.aide_merge.specs.declared.merge.Merge.{Merge}
 use Rattle.aide_text.specs.Sheet.{Sheet, Wrote}
 use Rattle.aide_text.proofs.Sheets.{wrote_as, wrote_more, wrote_nothing}
-use Rattle.aide_report.proofs.ColumnLemmas.{new_columns, old_columns}
+use Rattle.aide_merge.proofs.ColumnLemmas.{new_columns, old_columns}
 use Rattle.aide_line_run.specs.ListView.{measures_at}
 use Rattle.aide_line_run.specs.Listed.{ListRead, account_by, leaves_between, measures_between, measures_by}
 use Rattle.aide_line_run.specs.Sought.{Accounted, accounted_line, accounted_lines, all_sought, changes_of, found_at, seek, sought_by}

@@ -8,15 +8,16 @@ use Rattle.aide_db.specs.Map.{Database, database_of}
 use Rattle.aide_entry.specs.Path.{path_cmp}
 use Rattle.aide_line_text.specs.Frame.{ReadFacts, closing_line, opening_line}
 use Rattle.aide_line_text.specs.declared.counts.LineCounts.{LineCounts}
-use Rattle.aide_report.specs.Asked.{Asked}
-use Rattle.aide_report.specs.ChangeLines.{Accounts, change_lines}
-use Rattle.aide_report.specs.Compare.{changes}
-use Rattle.aide_report.specs.Entries.{PathChange}
-use Rattle.aide_report.specs.LineCounts.{account_count, entry_count, line_counts, status_by}
-use Rattle.aide_report.specs.LineRuns.{line_outcome}
-use Rattle.aide_report.specs.LinesRead.{read_of}
-use Rattle.aide_report.specs.Runs.{Report, report_over}
-use Rattle.aide_report.specs.declared.outcome.Outcome.{Outcome}
+use Rattle.aide_merge.specs.Asked.{Asked}
+use Rattle.aide_line_run.specs.ChangeLines.{Accounts, change_lines}
+use Rattle.aide_merge.specs.Compare.{changes}
+use Rattle.aide_merge.specs.Said.{PathChange}
+use Rattle.aide_line_run.specs.LineCounts.{account_count, entry_count, line_counts, status_by}
+use Rattle.aide_line_run.specs.LineRuns.{line_outcome}
+use Rattle.aide_line_run.specs.LinesRead.{read_of}
+use Rattle.aide_merge.specs.RightAnswer.{Report}
+use Rattle.aide_report.specs.Runs.{report_over}
+use Rattle.aide_merge.specs.declared.outcome.Outcome.{Outcome}
 use Rattle.aide_text.specs.Sent.{SendsPart}
 use Rattle.aide_line_run.specs.Listed.{Leaves, ListRead, account_by, leaves_between}
 use Rattle.aide_line_run.specs.Sought.{Accounted, accounted_lines, changes_of, sought_by}

@@ -9,19 +9,21 @@ use Rattle.aide_db.specs.declared.fault.DbFault.{DbFault}
 use Rattle.aide_db.specs.declared.limits.Limits.{Limits}
 use Rattle.aide_db.specs.declared.side.Side.TheVariants.{Old, New}
 use Rattle.aide_entry.specs.Path.{path_cmp}
-use Rattle.aide_report.specs.Asked.{Asked}
-use Rattle.aide_report.specs.Bound.{three_lines}
-use Rattle.aide_report.specs.Entries.{PathChange}
-use Rattle.aide_report.specs.Stops.{ComesOf}
-use Rattle.aide_report.specs.Missing.{IsOfReliable, RunsOver}
-use Rattle.aide_report.specs.Openings.{IsNotGiven, IsRefusedThere, OpensAtMost}
-use Rattle.aide_report.specs.Room.{IsNotOfMemory}
-use Rattle.aide_report.specs.RunFaults.{IsRight}
-use Rattle.aide_report.specs.Runs.{Report, RunsBy, report_over}
-use Rattle.aide_report.specs.Merged.{merged}
-use Rattle.aide_report.specs.declared.outcome.Outcome.{Outcome}
-use Rattle.aide_report.specs.declared.run_fault.RunFault.{RunFault}
-use Rattle.aide_report.specs.declared.run_fault.RunFault.TheVariants.{Write}
+use Rattle.aide_merge.specs.Asked.{Asked}
+use Rattle.aide_merge.specs.Bound.{three_lines}
+use Rattle.aide_merge.specs.Said.{PathChange}
+use Rattle.aide_line_run.specs.Stops.{ComesOf}
+use Rattle.aide_merge.specs.RightAnswer.{IsOfReliable}
+use Rattle.aide_report.specs.Missing.{RunsOver}
+use Rattle.aide_merge.specs.Openings.{IsNotGiven, IsRefusedThere, OpensAtMost}
+use Rattle.aide_merge.specs.Room.{IsNotOfMemory}
+use Rattle.aide_merge.specs.RunFaults.{IsRight}
+use Rattle.aide_merge.specs.RightAnswer.{Report, RunsBy}
+use Rattle.aide_report.specs.Runs.{report_over}
+use Rattle.aide_merge.specs.Merged.{merged}
+use Rattle.aide_merge.specs.declared.outcome.Outcome.{Outcome}
+use Rattle.aide_merge.specs.declared.run_fault.RunFault.{RunFault}
+use Rattle.aide_merge.specs.declared.run_fault.RunFault.TheVariants.{Write}
 use Rattle.aide_text.specs.Failures.{Rose}
 use Rattle.aide_text.specs.Sent.{SendsPart}
 use Rattle.aide_line_run.specs.BesideLines.{BeginsBeside, lines_beside}

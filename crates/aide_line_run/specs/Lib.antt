@@ -7,4 +7,9 @@ pub mod SamePair
 pub mod Listed
 pub mod ListView
 pub mod Sought
+pub mod ChangeLines
+pub mod LineCounts
+pub mod LineRuns
+pub mod LinesRead
+pub mod Stops
 pub mod code

@@ -4,13 +4,13 @@ use Rattle.std.specs.Prelude.{◌≡◌, ℕ, true, [], List, Option, Some, Resu
 use Rattle.aide_db.specs.Database.{IsSound}
 use Rattle.aide_db.specs.declared.limits.Limits.{Limits}
 use Rattle.aide_db.specs.declared.side.Side.{Side}
-use Rattle.aide_report.specs.Stops.{KeepsUnopened}
-use Rattle.aide_report.specs.Missing.{IsHindered}
-use Rattle.aide_report.specs.Openings.{OpensExactly}
-use Rattle.aide_report.specs.RunFaults.{HasWrittenIfAny}
-use Rattle.aide_report.specs.Runs.{Report}
-use Rattle.aide_report.specs.Seen.{SinkSeen}
-use Rattle.aide_report.specs.declared.outcome.Outcome.{Outcome}
+use Rattle.aide_line_run.specs.Stops.{KeepsUnopened}
+use Rattle.aide_merge.specs.RightAnswer.{IsHindered}
+use Rattle.aide_merge.specs.Openings.{OpensExactly}
+use Rattle.aide_merge.specs.RunFaults.{HasWrittenIfAny}
+use Rattle.aide_merge.specs.RightAnswer.{Report}
+use Rattle.aide_merge.specs.Seen.{SinkSeen}
+use Rattle.aide_merge.specs.declared.outcome.Outcome.{Outcome}
 use Rattle.aide_text.specs.Failures.{CountsFlush, Rose}
 use Rattle.aide_line_run.specs.BesideLines.{AreLinesBeside}
 use Rattle.aide_line_run.specs.BesideRuns.{CutsBeside, EndsBeside, IsFaultOfPair, LeavesPair}

@@ -1,6 +1,6 @@
 -- How the code represents a list, and which databases measure capabilities.
 use Rattle.aide_left_out.specs.declared.change.Measures.{Measures}
-use Rattle.aide_report.specs.declared.merge.Merge.{Merge}
+use Rattle.aide_merge.specs.declared.merge.Merge.{Merge}
 use Rattle.aide_line_run.specs.Listed.{ListRead, measures_by}
 use Rattle.aide_line_run.specs.declared.list.LeftOutList.{LeftOutList}
 

@@ -11,7 +11,7 @@ use Rattle.aide_line_text.specs.Account.{account_as}
 use Rattle.aide_line_text.specs.declared.account.Account.{Account}
 use Rattle.aide_line_text.specs.declared.account.Account.TheVariants.{LeftOut}
 use Rattle.aide_patterns.specs.Line.{RuleText}
-use Rattle.aide_report.specs.Entries.{PathChange}
+use Rattle.aide_merge.specs.Said.{PathChange}
 
 -- a list that says what is left out: its rules, and the SHA-256 of its text
 pub record ListRead : Type 0 where

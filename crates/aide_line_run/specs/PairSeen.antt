@@ -2,9 +2,9 @@
 use Rattle.std.specs.Prelude.{◌≡◌, ℕ, List, Option, Some}
 use Rattle.aide_db.specs.DeskView.{DeskView}
 use Rattle.aide_db.specs.declared.side.Side.TheVariants.{Old, New}
-use Rattle.aide_report.specs.Asked.{Asked}
-use Rattle.aide_report.specs.Missing.{TellsSide}
-use Rattle.aide_report.specs.Seen.{Seen}
+use Rattle.aide_merge.specs.Asked.{Asked}
+use Rattle.aide_merge.specs.RightAnswer.{TellsSide}
+use Rattle.aide_merge.specs.Seen.{Seen}
 
 -- What was asked of a pair, and what was seen of its sources and of its desk at both moments.
 pub record PairSeen : Type 0 where

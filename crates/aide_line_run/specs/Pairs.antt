@@ -1,7 +1,7 @@
 -- Facts about the faults of a run with a trusted pair.
 use Rattle.std.specs.Prelude.{◌≡◌, ℕ, Result, Ok, Err, ⊤}
-use Rattle.aide_report.specs.RunFaults.{CountsWriteFault}
-use Rattle.aide_report.specs.declared.run_fault.RunFault.{RunFault}
+use Rattle.aide_merge.specs.RunFaults.{CountsWriteFault}
+use Rattle.aide_merge.specs.declared.run_fault.RunFault.{RunFault}
 use Rattle.aide_line_run.specs.declared.pair_fault.PairFault.{PairFault}
 use Rattle.aide_line_run.specs.declared.pair_fault.PairFault.TheVariants.{Compared, Trusted}
 

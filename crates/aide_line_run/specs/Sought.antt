@@ -6,8 +6,8 @@ use Rattle.aide_agreement.specs.Account.{Pair, same_as}
 use Rattle.aide_line_text.specs.declared.account.Account.{Account}
 use Rattle.aide_entry.specs.Path.{path_cmp}
 use Rattle.aide_conf.specs.declared.options.Options.{Options}
-use Rattle.aide_report.specs.ChangeLines.{Accounts, listed_line}
-use Rattle.aide_report.specs.Entries.{PathChange}
+use Rattle.aide_line_run.specs.ChangeLines.{Accounts, listed_line}
+use Rattle.aide_merge.specs.Said.{PathChange}
 use Rattle.aide_line_run.specs.Listed.{Leaves, account_by}
 
 -- the changes from the first path on that is not before this one

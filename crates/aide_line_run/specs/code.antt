@@ -6,3 +6,5 @@ pub mod Settled
 pub mod Tallied
 pub mod Walked
 pub mod Written
+pub mod LineTally
+pub mod OneReading

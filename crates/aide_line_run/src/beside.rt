@@ -1,9 +1,9 @@
 //! A trusted pair of databases, read together with the pair that is compared.
 ghost use Rattle.std.specs.Prelude.{◌≡◌, ℕ, List, IfErr, OnOk};
-ghost use Rattle.aide_report.specs.code.ChangeView.{change_of};
-ghost use Rattle.aide_report.specs.code.MergeCalls.{IsMergeFault, KeepsMerge};
-ghost use Rattle.aide_report.specs.code.Merging.{IsNotDue, IsReady, remaining};
-ghost use Rattle.aide_report.specs.code.OneReading.{IsStopped};
+ghost use Rattle.aide_merge.specs.code.ChangeView.{change_of};
+ghost use Rattle.aide_merge.specs.code.MergeCalls.{IsMergeFault, KeepsMerge};
+ghost use Rattle.aide_merge.specs.code.Merging.{IsNotDue, IsReady, remaining};
+ghost use Rattle.aide_merge.specs.code.Settling.{IsStopped};
 ghost use Rattle.aide_agreement.specs.Account.{same_as};
 ghost use Rattle.aide_agreement.specs.Found.{found};
 ghost use Rattle.aide_line_run.specs.code.Calls.{IsSought};
@@ -16,7 +16,7 @@ use crate::list::{LeftOutList, line_of};
 use aide_agreement::{SameAs, same_as};
 use aide_db::{DbFault, Desk, Reel, View};
 use aide_line_text::{Account, account_as};
-use aide_report::{Change, Merge};
+use aide_merge::{Change, Merge};
 use std::alloc::Allocator;
 
 /// Brings the merge of the trusted pair to the first path that is not before that of a change.

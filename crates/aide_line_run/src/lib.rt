@@ -3,6 +3,9 @@
 
 mod beside;
 mod change;
+mod change_lines;
+mod in_order;
+mod line_counts;
 mod list;
 mod opening;
 mod pair_fault;

@@ -1,6 +1,6 @@
 //! A list that says what is left out, in addition to the pairs of databases.
 ghost use Rattle.std.specs.Prelude.{◌≡◌};
-ghost use Rattle.aide_report.specs.code.ChangeView.{change_of};
+ghost use Rattle.aide_merge.specs.code.ChangeView.{change_of};
 ghost use Rattle.aide_line_run.specs.Listed.{left_by};
 ghost use Rattle.aide_line_run.specs.ListView.{list_read, measures_at};
 
@@ -8,8 +8,8 @@ use crate::change::entries_of;
 use aide_attr::Attr;
 use aide_db::Reel;
 use aide_left_out::{Measures, left_out};
+use aide_merge::{Change, Merge};
 use aide_patterns::Exclusions;
-use aide_report::{Change, Merge};
 
 /// A list that says what is left out.
 #[derive(Clone, Copy)]

@@ -1,15 +1,16 @@
 //! The opening of all four databases, and their end.
 ghost use Rattle.std.specs.Prelude.{◌≡◌, ◌<◌, IfErr, IfOk};
-ghost use Rattle.aide_report.specs.Seen.{AreLimits, KeepsSources, seen};
-ghost use Rattle.aide_report.specs.code.Merging.{reels_failed};
+ghost use Rattle.aide_merge.specs.Seen.{AreLimits, KeepsSources, seen};
+ghost use Rattle.aide_merge.specs.code.Merging.{reels_failed};
 ghost use Rattle.aide_text.specs.Failures.{Rose};
 ghost use Rattle.aide_line_run.specs.code.Readings.{AreOpened, IsFaultOfFour, KeepsPair};
 
+use crate::in_order::open_in_order;
 use crate::pair_fault::PairFault;
 use crate::settle::read_out;
 use crate::walk::Merges;
 use aide_db::{Desk, Limits, Sources};
-use aide_report::{Merge, RunFault, close_both, open_in_order};
+use aide_merge::{Merge, RunFault, close_both};
 use std::alloc::Allocator;
 
 /// Opens all four databases: the compared pair, and then the trusted one. If the trusted pair cannot be opened, the

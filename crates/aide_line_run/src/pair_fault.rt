@@ -1,5 +1,5 @@
 //! Why a run with a trusted pair was given up.
-use aide_report::RunFault;
+use aide_merge::RunFault;
 
 /// A fault of a run, and of which pair it is. A failed write is one of the compared pair.
 #[derive(Clone, Copy, Debug, PartialEq, Eq)]

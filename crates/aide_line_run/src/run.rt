@@ -1,18 +1,20 @@
 //! A whole run that writes the changes of two databases with a trusted pair.
 ghost use Rattle.std.specs.Prelude.{◌≤◌, ◌^◌};
-ghost use Rattle.aide_report.specs.Asked.{asked};
-ghost use Rattle.aide_report.specs.Seen.{seen, sink_seen};
+ghost use Rattle.aide_merge.specs.Asked.{asked};
+ghost use Rattle.aide_merge.specs.Seen.{seen, sink_seen};
 ghost use Rattle.aide_line_run.specs.ListView.{list_read};
 ghost use Rattle.aide_line_run.specs.LinesRun.{IsLinesRun};
 ghost use Rattle.aide_line_run.specs.PairSeen.{pair_seen};
 ghost use Rattle.aide_line_run.specs.SamePair.{AreSamePair};
 
+use crate::line_counts::outcome_of;
 use crate::opening::open_four;
 use crate::pair_fault::PairFault;
 use crate::walk::Merges;
 use crate::write::{Tasks, write_beside};
 use aide_db::{Desk, Limits, Sources};
-use aide_report::{Outcome, Sink, clear, close_both, outcome_of};
+use aide_merge::{Outcome, clear, close_both};
+use aide_text::Sink;
 use std::alloc::Allocator;
 
 /// A trusted pair of databases: where it is read from, and onto which desk.

@@ -1,18 +1,18 @@
 //! Which of the faults of both pairs comes first.
 ghost use Rattle.std.specs.Prelude.{◌≡◌, [], IfErr, OnOk};
-ghost use Rattle.aide_report.specs.Bound.{FitsAfterBoth};
-ghost use Rattle.aide_report.specs.code.OneReading.{IsFirstOfBoth};
+ghost use Rattle.aide_merge.specs.Bound.{FitsAfterBoth};
+ghost use Rattle.aide_line_run.specs.code.OneReading.{IsFirstOfBoth};
 ghost use Rattle.aide_text.specs.PenSheet.{on_sheet};
 ghost use Rattle.aide_line_run.specs.ListView.{list_read};
 ghost use Rattle.aide_line_run.specs.code.Settled.{AreReadSound, FitsMerges, IsFirstStop};
 ghost use Rattle.aide_line_run.specs.code.Settled.{IsPairStopped, IsSettledStop};
 ghost use Rattle.aide_line_run.specs.code.Walked.{CanWalk, HasEnded, HasWalked, KeepsMerges};
-ghost use Rattle.aide_report.specs.code.Merging.{IsReady};
+ghost use Rattle.aide_merge.specs.code.Merging.{IsReady};
 
 use crate::walk::{Merges, PairStop, Terms, read_rest, walk};
 use aide_db::{DbFault, Desk, Reel};
 use aide_line_text::LineCounts;
-use aide_report::{Merge, settled};
+use aide_merge::{Merge, settled};
 use aide_text::{Pen, Sink};
 use std::alloc::Allocator;
 

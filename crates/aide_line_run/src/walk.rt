@@ -1,8 +1,8 @@
 //! The walk over both pairs that writes and counts the lines of all changes.
 ghost use Rattle.std.specs.Prelude.{[], IfErr, OnOk};
-ghost use Rattle.aide_report.specs.code.MergeCalls.{IsMergeFault, KeepsMerge};
-ghost use Rattle.aide_report.specs.code.Merging.{IsEnded, IsReady};
-ghost use Rattle.aide_report.specs.code.OneReading.{IsStopped};
+ghost use Rattle.aide_merge.specs.code.MergeCalls.{IsMergeFault, KeepsMerge};
+ghost use Rattle.aide_merge.specs.code.Merging.{IsEnded, IsReady};
+ghost use Rattle.aide_merge.specs.code.Settling.{IsStopped};
 ghost use Rattle.aide_text.specs.PenSheet.{on_sheet};
 ghost use Rattle.aide_line_run.specs.ListView.{list_read};
 ghost use Rattle.aide_line_run.specs.code.Calls.{IsPairStop};
@@ -11,11 +11,13 @@ ghost use Rattle.aide_line_run.specs.code.Walked.{CanWalk, HasEnded, HasWalked, 
 ghost use Rattle.aide_line_run.specs.code.Walked.{KeepsMerges};
 
 use crate::beside::{account_of, seek};
+use crate::change_lines::put_counted;
+use crate::line_counts::no_counts;
 use crate::list::LeftOutList;
 use aide_conf::Options;
 use aide_db::{DbFault, Desk, Reel};
 use aide_line_text::LineCounts;
-use aide_report::{AtPath, Merge, no_counts, put_counted};
+use aide_merge::{AtPath, Merge};
 use aide_text::{Pen, Sink};
 use std::alloc::Allocator;
 

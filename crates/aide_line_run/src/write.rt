@@ -2,8 +2,8 @@
 ghost use Rattle.std.specs.Prelude.{◌≡◌, ◌⊎◌, IfErr, IfOk, OnOk, false};
 ghost use Rattle.std.specs.Io.KnownBytes.{Appends};
 ghost use Rattle.aide_line_text.specs.ReadView.{facts_read};
-ghost use Rattle.aide_report.specs.Asked.{asked};
-ghost use Rattle.aide_report.specs.code.OneReading.{new_read, old_read};
+ghost use Rattle.aide_merge.specs.Asked.{asked};
+ghost use Rattle.aide_line_run.specs.code.OneReading.{new_read, old_read};
 ghost use Rattle.aide_text.specs.Failures.{Rose};
 ghost use Rattle.aide_text.specs.PenSheet.{on_sheet};
 ghost use Rattle.aide_text.specs.Sheet.{Wrote};
@@ -16,6 +16,7 @@ ghost use Rattle.aide_line_run.specs.code.Written.{FlushesPair};
 ghost use Rattle.aide_line_run.specs.code.Written.{HasToldAll, IsFirstFault, facts_found};
 ghost use Rattle.aide_line_run.specs.code.Written.{pair_fault_of};
 
+use crate::line_counts::outcome_of;
 use crate::list::LeftOutList;
 use crate::pair_fault::PairFault;
 use crate::settle::put_all_accounted;
@@ -23,7 +24,7 @@ use crate::walk::{Merges, PairStop, Terms};
 use aide_conf::Task;
 use aide_db::{Desk, DeviceFault, Reel};
 use aide_line_text::{LineCounts, Read, ReadFour, ReadPair, put_closing_line, put_opening_line};
-use aide_report::{Readings, RunFault, outcome_of, readings_of};
+use aide_merge::{Readings, RunFault, readings_of};
 use aide_text::{Pen, Sink};
 use std::alloc::Allocator;
 

@@ -1,6 +1,5 @@
 -- What a report says first.
-use Rattle.std.proofs.Common.{◌≡◌, ◌≤◌, ◌<◌, ◌∙◌, ℕ, Bool, true, false, if◌then◌else◌, List, [], ◌++◌}
-use Rattle.std.proofs.Common.{Option, refl, sym, ap, subst, arith}
+use Rattle.std.proofs.Common.{◌≡◌, ◌≤◌, ◌<◌, ◌∙◌, ℕ, Bool, true, false, if◌then◌else◌, List, [], ◌++◌, Option, refl, sym, ap, subst, arith}
 use Rattle.std.proofs.lemmas.Bool.{leb-false, lt-leb}
 use Rattle.std.specs.Prelude.{◌&&◌, not}
 use Rattle.std.specs.Io.KnownBytes.{Keeps}
@@ -17,7 +16,7 @@ use Rattle.aide_text.specs.Sheet.{Sheet, Wrote, WritesFirst, WritesSome}
 use Rattle.aide_text.specs.declared.counts.Counts.{Counts}
 use Rattle.aide_text.specs.declared.section.Section.{Section}
 use Rattle.aide_text.specs.declared.section.Section.TheVariants.{AddedEntries}
-use Rattle.aide_report.proofs.ReportLemmas.{flushed_whole}
+use Rattle.aide_merge.proofs.PenLemmas.{flushed_whole}
 use Rattle.aide_text.proofs.Sheets.{wrote_more, wrote_nothing}
 
 -- below a level, and so below each level behind it
@@ -92,7 +91,3 @@ pub begins : {text : List ℕ} {wants_more : Bool} {a b : Sheet} (c : Option (Li
     → BeginsWith text wants_more a.bytes c
 begins {text} {wants_more} {a} {b} c fresh on p kept =
     record { rest = p.rest; bytes = flushed_whole c fresh on p.wrote kept; alone = p.alone }
-
--- no flush
-pub unflushed : {a b : Sheet} → WritesSome a b → b.flushes ≡ a.flushes
-unflushed {a} {b} p = p.wrote.flushes

@@ -4,13 +4,13 @@ use Rattle.std.specs.Prelude.{count_by, cond}
 use Rattle.std.proofs.lemmas.List.Sums.{count_by-le-length, sum_by-append}
 use Rattle.aide_conf.specs.declared.options.Options.{Options}
 use Rattle.aide_entry.specs.Attributes.{Attributes, Entry}
-use Rattle.aide_report.specs.code.ChangeView.{alike_of}
-use Rattle.aide_report.specs.Changed.{differ_by}
-use Rattle.aide_report.specs.Changes.{is_added, is_removed, is_changed, is_of_new}
-use Rattle.aide_report.specs.Compare.{Change as Sided}
+use Rattle.aide_merge.specs.code.ChangeView.{alike_of}
+use Rattle.aide_merge.specs.Changed.{differ_by}
+use Rattle.aide_merge.specs.Changes.{is_added, is_removed, is_changed, is_of_new}
+use Rattle.aide_merge.specs.Compare.{Change as Sided}
 use Rattle.aide_report.specs.code.Counts.{Completes, AreBelow}
-use Rattle.aide_report.specs.Entries.{is_shown_entry}
-use Rattle.aide_report.proofs.SameEntries.{never_differs, shows_nothing}
+use Rattle.aide_merge.specs.Said.{is_shown_entry}
+use Rattle.aide_merge.proofs.SameEntries.{never_differs, shows_nothing}
 use Rattle.aide_text.specs.declared.counts.Counts.{Counts}
 
 abbrev Change : Type 0

@@ -1,7 +1,7 @@
 -- The faults of a run, by cases.
-use Rattle.std.specs.Prelude.{◌≡◌, ◌<◌, ◌≤◌, ℕ, Option, Some, Result, Err, List, true, false}
-use Rattle.std.proofs.Common.{refl, sym, subst, ap, arith, inl, inr, ◌∙◌}
-use Rattle.aide_report.specs.Asked.{Asked}
+use Rattle.std.specs.Prelude.{◌≡◌, ℕ, Option, Some, Result, Err, List, true, false}
+use Rattle.std.proofs.Common.{refl, sym, subst, ap, inl, inr, ◌∙◌}
+use Rattle.aide_merge.specs.Asked.{Asked}
 use Rattle.aide_db.specs.Database.{IsSound}
 use Rattle.aide_entry.specs.Cause.{Cause, cause_of, from_outside, is_outside, in_text, in_length, in_memory, in_device}
 use Rattle.aide_db.specs.declared.fault.DbFault.{DbFault}
@@ -12,17 +12,15 @@ use Rattle.aide_db.specs.declared.side.Side.{Side}
 use Rattle.aide_db.specs.declared.side.Side.TheVariants.{Old, New}
 use Rattle.aide_db.proofs.MapLaws.{first_fault_unsound}
 use Rattle.aide_report.specs.code.LaterFault.{later_by, later_of}
-use Rattle.aide_report.specs.Stops.{ComesOf}
-use Rattle.aide_report.specs.Missing.{IsOfReliable}
-use Rattle.aide_report.specs.Openings.{OpensFirst, opened_first}
-use Rattle.aide_report.specs.Standing.{IsFaultOf}
-use Rattle.aide_report.specs.RunFaults.{IsCaused, IsFirst, IsLater, IsRight, HasPenWritten}
-use Rattle.aide_text.specs.Failures.{Rose}
+use Rattle.aide_merge.specs.RightAnswer.{IsOfReliable, Report, RunsBy, Causes, HasCause}
+use Rattle.aide_merge.specs.Openings.{OpensFirst, opened_first}
+use Rattle.aide_merge.specs.Standing.{IsFaultOf}
+use Rattle.aide_merge.specs.RunFaults.{IsCaused, IsFirst, IsLater, IsRight, HasPenWritten}
 use Rattle.aide_text.specs.declared.pen.Pen.{Pen}
-use Rattle.aide_report.specs.Runs.{Report, RunsBy, IsRunFault, Causes, HasCause}
-use Rattle.aide_report.specs.declared.run_fault.RunFault.{RunFault}
-use Rattle.aide_report.specs.declared.run_fault.RunFault.TheVariants.{Open, Database, Changed, Write}
-use Rattle.aide_report.proofs.FirstFaults.{RunsBy-unique}
+use Rattle.aide_report.specs.Runs.{IsRunFault}
+use Rattle.aide_merge.specs.declared.run_fault.RunFault.{RunFault}
+use Rattle.aide_merge.specs.declared.run_fault.RunFault.TheVariants.{Open, Database, Changed, Write}
+use Rattle.aide_merge.proofs.FirstFaults.{RunsBy-unique}
 
 abbrev pub HasFault : Limits → (Side → Option (List ℕ)) → DbFault → Type 0
 HasFault limits bytes_of fault = (text : List ℕ) → bytes_of fault.side ≡ Some text → IsFaultOf limits text fault
@@ -88,13 +86,6 @@ caused_at sources sink fault read in_length = tt
 caused_at sources sink fault read in_memory = read
 caused_at sources sink fault read in_device = read
 
--- what has risen since a later count has risen since an earlier one
-pub rose_since : (before middle after : ℕ) → before ≤ middle → Rose middle after → Rose before after
-rose_since before middle after le rose below = let risen = rose below in omega (arith, le, risen)
-
-pub none_failed : (n : ℕ) → n ≡ 0 → 0 < n → ⊥
-none_failed n none some = omega (arith, none, some)
-
 pub reliable_at : (bytes_of : Side → Option (List ℕ)) (fault : DbFault) → (fault.kind ≡ Read → ⊥) → (cause : Cause)
     → IsOfReliable bytes_of (later_by cause fault)
 reliable_at bytes_of fault unread in_text = tt
@@ -110,13 +101,6 @@ written_at pen fault in_memory unfailed = unfailed
 written_at pen fault in_device unfailed = unfailed
 
 -- ---- a fault of the first reading of a side
-
-pub right_first : (limits : Limits) (bytes_of : Side → Option (List ℕ)) (side : Side) (fault : RunFault)
-    → IsFirst limits bytes_of side fault → IsRight limits bytes_of fault
-right_first limits bytes_of side (Open opened) first = tt
-right_first limits bytes_of side (Database fault) first = λ text told. first.1 text (ap bytes_of (sym first.0) ∙ told)
-right_first limits bytes_of side (Changed changed) first = absurd first
-right_first limits bytes_of side (Write written) first = absurd first
 
 pub answer_old : (limits : Limits) (task : Asked) (bytes_of : Side → Option (List ℕ)) (fault : RunFault)
     → IsFirst limits bytes_of Old fault → IsRunFault limits task bytes_of fault
@@ -165,12 +149,3 @@ rose_later first second sink (Open side) f p = f p
 rose_later first second sink (Database fault) f p = λ e. f (p e)
 rose_later first second sink (Changed side) f p = tt
 rose_later first second sink (Write written) f p = p
-
--- ---- a run that reads each database once
-
-pub comes_of : (sources sink : Type 0) (fault : RunFault) (first : DbFault → Type 0) (untold : Side → Type 0)
-    → ((side : Side) → fault ≡ Changed side → ⊥) → HasCause fault sources sink first untold → ComesOf fault sources sink first
-comes_of sources sink (Open side) first untold unchanged cause = cause
-comes_of sources sink (Database fault) first untold unchanged cause = cause
-comes_of sources sink (Changed side) first untold unchanged cause = unchanged side refl
-comes_of sources sink (Write written) first untold unchanged cause = cause

@@ -14,12 +14,15 @@ use Rattle.aide_report.specs.Agreement.{BeginsWith}
 use Rattle.aide_report.specs.code.Flushes.{EndsFlushed}
 use Rattle.aide_report.specs.code.PassFaults.{Writes}
 use Rattle.aide_report.specs.code.Passes.{FlushesOnce, KeepsPen, Passes}
-use Rattle.aide_report.specs.Seen.{Seen}
-use Rattle.aide_report.specs.declared.run_fault.RunFault.{RunFault}
-use Rattle.aide_report.proofs.AgreementLemmas.{begins, unflushed}
+use Rattle.aide_merge.specs.Seen.{Seen}
+use Rattle.aide_merge.specs.declared.run_fault.RunFault.{RunFault}
+use Rattle.aide_report.proofs.AgreementLemmas.{begins}
+use Rattle.aide_merge.proofs.PenLemmas.{unflushed}
 use Rattle.aide_report.proofs.PassLemmas.{passes_broken, passes_err, passes_same}
-use Rattle.aide_report.proofs.ReportLemmas.{count_of_pen, counts_of_pen, flushed_count, flushed_part, flushed_whole, never_falls}
-use Rattle.aide_report.proofs.ReportLemmas.{rises_by_one, rose_by_one, rose_of_pen, unfailed, written_of_pen}
+use Rattle.aide_merge.proofs.PenLemmas.{count_of_pen, counts_of_pen, flushed_count, flushed_part}
+use Rattle.aide_merge.proofs.PenLemmas.{flushed_whole, never_falls}
+use Rattle.aide_merge.proofs.PenLemmas.{rises_by_one, rose_by_one, rose_of_pen, unfailed}
+use Rattle.aide_merge.proofs.PenLemmas.{written_of_pen}
 
 -- from `start`, where the pen is fresh, to `a`, where the writing ends, and to `b`, after the flush
 module _ {W : Type 0} (s : Sinks W) (start a b : W) (first pen : Pen) (is_new : first ≡ record { sent = 0; failed = false }) where

@@ -1,27 +1,42 @@
 -- A run over what stands at both sides, where a side may not be there.
-use Rattle.std.specs.Prelude.{◌≡◌, ℕ, ◌≤◌, ◌⊎◌, Bool, true, false, Option, Some, None, IsSome, Result, Ok, Err, List, []}
+use Rattle.std.specs.Prelude.{◌≡◌, ℕ, ◌≤◌, ◌⊎◌, true, false, Some, Result, Ok, Err, List, [], Bool, Option, None, IsSome}
 use Rattle.std.proofs.Common.{refl, sym, ap, subst, ◌∙◌, inl, inr}
-use Rattle.aide_db.specs.Database.{IsSound}
-use Rattle.aide_entry.specs.Cause.{is_outside}
-use Rattle.aide_db.specs.Side.{by_side}
+use Rattle.aide_merge.specs.Asked.{Asked}
 use Rattle.aide_db.specs.declared.fault.DbFault.{DbFault}
 use Rattle.aide_entry.specs.declared.fault_kind.DbFaultKind.{DbFaultKind}
-use Rattle.aide_entry.specs.declared.fault_kind.DbFaultKind.TheVariants.{Memory, Read}
 use Rattle.aide_db.specs.declared.limits.Limits.{Limits}
 use Rattle.aide_db.specs.declared.side.Side.{Side}
 use Rattle.aide_db.specs.declared.side.Side.TheVariants.{Old, New}
 use Rattle.aide_db.proofs.FaultExists.{sound_or_fault}
 use Rattle.aide_db.proofs.MapLaws.{first_fault_unsound}
-use Rattle.aide_report.specs.Asked.{Asked}
-use Rattle.aide_report.specs.Missing.{TellsSide, RunsOver, RunsOverBy, HasAnswerOver, IsHindered, SendsFront, SendsWhole, StopsFor}
-use Rattle.aide_report.specs.Missing.{run_answer}
-use Rattle.aide_report.specs.RunFaults.{IsCaused, IsFirst, IsLater}
-use Rattle.aide_report.specs.Runs.{Report, RunsBy, EndsEarly, EndsWell, IsFirstFaultOf, Causes}
-use Rattle.aide_report.specs.declared.outcome.Outcome.{Outcome}
-use Rattle.aide_report.specs.declared.run_fault.RunFault.{RunFault}
-use Rattle.aide_report.specs.declared.run_fault.RunFault.TheVariants.{Open, Database, Changed, Write}
-use Rattle.aide_report.proofs.FirstFaults.{Runs-exists, Runs-unique, same_fault}
+use Rattle.aide_merge.specs.RightAnswer.{Report, RunsBy, IsFirstFaultOf, TellsSide, RunsOverBy, IsHindered, StopsFor, run_answer, Causes}
+use Rattle.aide_report.specs.Runs.{Runs, HasAnswer, report_over, EndsEarly, EndsWell}
+use Rattle.aide_db.specs.Database.{IsSound}
+use Rattle.aide_entry.specs.Cause.{is_outside}
+use Rattle.aide_db.specs.Side.{by_side}
+use Rattle.aide_entry.specs.declared.fault_kind.DbFaultKind.TheVariants.{Memory, Read}
+use Rattle.aide_report.specs.Missing.{RunsOver, HasAnswerOver, SendsFront, SendsWhole}
+use Rattle.aide_merge.specs.RunFaults.{IsCaused, IsFirst, IsLater}
+use Rattle.aide_merge.specs.declared.outcome.Outcome.{Outcome}
+use Rattle.aide_merge.specs.declared.run_fault.RunFault.{RunFault}
+use Rattle.aide_merge.specs.declared.run_fault.RunFault.TheVariants.{Open, Database, Changed, Write}
+use Rattle.aide_merge.proofs.FirstFaults.{same_fault, RunsBy-unique}
 use Rattle.aide_text.proofs.Sending.{Appends-nothing}
+use Rattle.aide_merge.proofs.AnswerLemmas.{over_texts, stops_hindered, stops_right, true_false}
+
+pub Runs-unique : (limits : Limits) (task : Asked) (old new : List ℕ) (r s : Result Report DbFault)
+    → Runs limits task old new r → Runs limits task old new s → r ≡ s
+Runs-unique limits task = RunsBy-unique limits (report_over task)
+
+-- and it has one
+pub Runs-exists : (limits : Limits) (task : Asked) (old new : List ℕ) → 14 ≤ limits.line → HasAnswer limits task old new
+Runs-exists limits task old new le = elim (sound_or_fault limits old le) [
+  | inr bad ↦ (Err (record { side = Old; line = bad.0; kind = bad.1 }), inl (refl, bad.2))
+  | inl sound_old ↦ elim (sound_or_fault limits new le) [
+    | inr bad ↦ (Err (record { side = New; line = bad.0; kind = bad.1 }), inr (sound_old, (refl, bad.2)))
+    | inl sound_new ↦ (Ok (report_over task old new), (sound_old, sound_new, refl))
+  ]
+]
 
 -- ---- one answer, and only one
 
@@ -77,31 +92,6 @@ RunsOver-unique limits wish (Some old) (Some new) r s a b =
     a.2 ∙ ap run_answer (Runs-unique limits wish old new a.0 b.0 a.1 b.1) ∙ sym b.2
 
 -- ---- why a run was given up
-
-true_false : true ≡ false → ⊥
-true_false e = cc
-
-pub stops_hindered : (r : Result Report RunFault) (hindered : RunFault → Type 0) (fault : RunFault) → hindered fault
-    → StopsFor r hindered fault
-stops_hindered (Ok report) hindered fault h = h
-stops_hindered (Err right) hindered fault h = inr h
-
-stops_right : (r : Result Report RunFault) (hindered : RunFault → Type 0) (fault : RunFault) → r ≡ Err fault
-    → StopsFor r hindered fault
-stops_right r hindered fault is = subst (λ (x : Result Report RunFault). StopsFor x hindered fault) (sym is) (inl refl)
-
--- the same for a cause that follows
-pub stops_by : (r : Result Report RunFault) (one more : RunFault → Type 0) (fault : RunFault) → (one fault → more fault)
-    → StopsFor r one fault → StopsFor r more fault
-stops_by (Ok report) one more fault then h = then h
-stops_by (Err right) one more fault then h = elim h [ inl is ↦ inl is | inr p ↦ inr (then p) ]
-
-pub hindered_by : (old new : Option (List ℕ)) (sources sink : Type 0) (fault : RunFault)
-    → IsHindered old new sources ⊥ fault → IsHindered old new sources sink fault
-hindered_by old new sources sink (Open side) h = h
-hindered_by old new sources sink (Database fault) h = h
-hindered_by old new sources sink (Changed side) h = h
-hindered_by old new sources sink (Write written) h = absurd h
 
 -- a fault of a database is of its text, or hinders the run
 of_text_or_hindered : (kind : DbFaultKind) (sources first : Type 0) → (kind ≡ Read → sources)
@@ -216,21 +206,6 @@ front_given : (run : Result Report DbFault) (before after : Option (List ℕ)) �
     → SendsFront (run_answer run) before after
 front_given (Ok report) before after early = early
 front_given (Err fault) before after early = early
-
--- what is so of the right answer over both texts is so of that over what stands at both sides, where both are there
-pub over_texts : (limits : Limits) (over : List ℕ → List ℕ → Report) (bytes_of : Side → Option (List ℕ)) (is_missing : Side → Bool)
-    (old new : Option (List ℕ)) (P : Result Report RunFault → Type 0)
-    → TellsSide (bytes_of Old) (is_missing Old) old → TellsSide (bytes_of New) (is_missing New) new
-    → ((side : Side) → is_missing side ≡ false)
-    → ((old_text new_text : List ℕ) → bytes_of Old ≡ Some old_text → bytes_of New ≡ Some new_text
-    → (run : Result Report DbFault) → RunsBy limits over old_text new_text run → P (run_answer run))
-    → (r : Result Report RunFault) → RunsOverBy limits over old new r → P r
-over_texts limits over bytes_of is_missing None new P told told_new there all r runs =
-    absurd (true_false (sym told ∙ there Old))
-over_texts limits over bytes_of is_missing (Some old) None P told told_new there all r runs =
-    absurd (true_false (sym told_new ∙ there New))
-over_texts limits over bytes_of is_missing (Some old) (Some new) P told told_new there all r runs =
-    subst P (sym runs.2) (all old new told told_new runs.0 runs.1)
 
 pub whole_by : (limits : Limits) (over : List ℕ → List ℕ → Report) (bytes_of : Side → Option (List ℕ)) (is_missing : Side → Bool)
     (old new : Option (List ℕ)) (outcome : Outcome) (before after : Option (List ℕ))

@@ -1,31 +1,17 @@
 -- Which side is refused, by how often each was opened; and that nothing has gone out before the counting has ended.
-use Rattle.std.proofs.Common.{◌≡◌, ◌<◌, ◌≤◌, ◌-◌, ◌^◌, ℕ, ◌+◌, Bool, List, [], Option, sym, subst, arith}
+use Rattle.std.proofs.Common.{◌≡◌, ◌<◌, ◌≤◌, ◌-◌, ◌^◌, ℕ, ◌+◌, Bool, List, [], Option, arith}
 use Rattle.std.specs.Io.KnownBytes.{Appends}
 use Rattle.aide_db.specs.Count.{one_more, sum_of}
-use Rattle.aide_db.specs.Side.{by_side}
 use Rattle.aide_db.specs.declared.fault.DbFault.{DbFault}
 use Rattle.aide_entry.specs.Cause.{Cause, in_text, in_length, in_memory, in_device}
-use Rattle.aide_db.specs.declared.limits.Limits.{Limits}
 use Rattle.aide_db.specs.declared.side.Side.{Side}
 use Rattle.aide_db.specs.declared.side.Side.TheVariants.{Old, New}
 use Rattle.aide_report.specs.code.LaterFault.{later_by}
-use Rattle.aide_report.specs.Openings.{OpensExactly, WasOpened, ComesOpened, IsRefusedIn, IsRefusedThere, IsNotGiven}
-use Rattle.aide_report.specs.RunFaults.{IsFirst, HasSentNothing}
-use Rattle.aide_report.specs.declared.run_fault.RunFault.{RunFault}
-use Rattle.aide_report.specs.declared.run_fault.RunFault.TheVariants.{Open, Database, Changed, Write}
+use Rattle.aide_merge.specs.Openings.{OpensExactly, WasOpened, ComesOpened, IsRefusedIn, IsRefusedThere, IsNotGiven}
+use Rattle.aide_merge.specs.RunFaults.{HasSentNothing}
+use Rattle.aide_merge.specs.declared.run_fault.RunFault.{RunFault}
+use Rattle.aide_merge.specs.declared.run_fault.RunFault.TheVariants.{Open, Database, Changed, Write}
 use Rattle.aide_text.proofs.Sending.{Appends-nothing}
-
--- the old side is refused where it was opened once more, the new one where both were
-pub refused_first : (limits : Limits) (bytes_of : Side → Option (List ℕ)) (side : Side) (before after : Side → ℕ) (fault : RunFault)
-    → after Old ≡ one_more (before Old) → after New ≡ sum_of (before New) (by_side 0 1 side)
-    → IsFirst limits bytes_of side fault → IsRefusedThere before after fault
-refused_first limits bytes_of Old before after (Open side) of_old of_new is =
-    subst (IsRefusedIn before after) (sym is) (record { passes = 0; of_old = of_old; of_new = of_new })
-refused_first limits bytes_of New before after (Open side) of_old of_new is =
-    subst (IsRefusedIn before after) (sym is) (record { passes = 0; of_old = of_old; of_new = of_new })
-refused_first limits bytes_of side before after (Database fault) of_old of_new is = tt
-refused_first limits bytes_of side before after (Changed changed) of_old of_new is = tt
-refused_first limits bytes_of side before after (Write written) of_old of_new is = tt
 
 refused_in : (side : Side) (before middle after : Side → ℕ) (n : ℕ) → OpensExactly before middle n
     → IsRefusedIn middle after side → IsRefusedIn before after side
@@ -40,7 +26,7 @@ refused_in New before middle after n opens is = record {
   of_new = omega (arith, opens.of_new, is.of_new);
 }
 
--- the same after further passes
+-- a side is refused after further passes
 pub refused_later : (before middle after : Side → ℕ) (n : ℕ) (fault : RunFault) → OpensExactly before middle n
     → IsRefusedThere middle after fault → IsRefusedThere before after fault
 refused_later before middle after n (Open side) opens is = refused_in side before middle after n opens is

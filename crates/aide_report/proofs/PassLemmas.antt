@@ -7,59 +7,39 @@ use Rattle.aide_db.specs.declared.fault.DbFault.{DbFault}
 use Rattle.aide_db.specs.declared.limits.Limits.{Limits}
 use Rattle.aide_db.specs.declared.reel.Reel.{Ghosts as Reels}
 use Rattle.aide_db.specs.declared.side.Side.{Side}
-use Rattle.aide_db.specs.declared.side.Side.TheVariants.{Old, New}
+use Rattle.aide_db.specs.declared.side.Side.TheVariants.{Old}
 use Rattle.aide_text.specs.Failures.{Rose}
 use Rattle.aide_text.specs.Sheet.{Sheet, WritesSome, Wrote}
 use Rattle.aide_text.specs.declared.pen.Pen.{Pen}
 use Rattle.aide_text.proofs.Sheets.{part_after, part_as, some_more, wrote_as, wrote_more}
-use Rattle.aide_report.specs.Bound.{OpensWithin}
 use Rattle.aide_report.specs.code.LaterFault.{later_of}
-use Rattle.aide_report.specs.code.Merging.{limits_at, reels_failed}
-use Rattle.aide_report.specs.Missing.{IsOfReliable}
-use Rattle.aide_report.specs.Openings.{OpensExactly}
-use Rattle.aide_report.specs.code.MergeCalls.{IsOpened, KeepsMerge, IsMergeFault, IsStopOf}
-use Rattle.aide_report.specs.code.PassFaults.{Writes, pass_fault_of}
-use Rattle.aide_report.specs.code.Passes.{KeepsDesk, KeepsPen, IsPassFault, Passes}
-use Rattle.aide_report.specs.Seen.{Seen, KeepsSources}
-use Rattle.aide_report.specs.RunFaults.{HasPenWritten, IsCaused, IsLater}
-use Rattle.aide_report.specs.Standing.{IsFaultOf}
+use Rattle.aide_merge.specs.code.Merging.{limits_at, reels_failed}
+use Rattle.aide_merge.specs.RightAnswer.{IsOfReliable}
+use Rattle.aide_merge.specs.Openings.{OpensExactly}
+use Rattle.aide_merge.specs.code.MergeCalls.{IsOpened, KeepsMerge, IsMergeFault}
+use Rattle.aide_report.specs.code.PassFaults.{IsStopOf, Writes, pass_fault_of}
+use Rattle.aide_merge.specs.code.Desks.{KeepsDesk}
+use Rattle.aide_report.specs.code.Passes.{KeepsPen, IsPassFault, Passes}
+use Rattle.aide_merge.specs.Seen.{Seen, KeepsSources}
+use Rattle.aide_merge.specs.RunFaults.{HasPenWritten, IsCaused, IsLater}
+use Rattle.aide_merge.specs.Standing.{IsFaultOf}
 use Rattle.aide_report.specs.declared.change_writer.PassFault.{PassFault}
 use Rattle.aide_report.specs.declared.change_writer.PassFault.TheVariants as passes
-use Rattle.aide_report.specs.declared.merge.Merge.{Merge}
-use Rattle.aide_report.specs.declared.run_fault.RunFault.{RunFault}
-use Rattle.aide_report.specs.declared.run_fault.RunFault.TheVariants.{Open, Database, Changed, Write}
-use Rattle.aide_report.proofs.FaultLemmas.{caused_at, later_fault, none_failed, reliable_at, rose_later, rose_since, written_at}
-use Rattle.aide_report.proofs.OpeningLemmas.{comes_later, comes_opened, not_given_by, refused_by, refused_later}
-use Rattle.aide_report.proofs.ReportLemmas.{caused_as}
-use Rattle.aide_report.proofs.RoomLemmas.{later_room, still_fits}
+use Rattle.aide_merge.specs.declared.merge.Merge.{Merge}
+use Rattle.aide_merge.specs.declared.run_fault.RunFault.{RunFault}
+use Rattle.aide_merge.specs.declared.run_fault.RunFault.TheVariants.{Open, Database, Changed, Write}
+use Rattle.aide_report.proofs.FaultLemmas.{caused_at, later_fault, reliable_at, rose_later}
+use Rattle.aide_report.proofs.FaultLemmas.{written_at}
+use Rattle.aide_merge.proofs.FaultLemmas.{none_failed, rose_since}
+use Rattle.aide_report.proofs.OpeningLemmas.{comes_later, comes_opened, not_given_by, refused_by}
+use Rattle.aide_report.proofs.OpeningLemmas.{refused_later}
+use Rattle.aide_merge.proofs.PenLemmas.{caused_as}
+use Rattle.aide_report.proofs.RoomLemmas.{later_room}
+use Rattle.aide_merge.proofs.RoomLemmas.{still_fits}
 use Rattle.aide_report.proofs.SectionsLemmas.{opens_more, opens_none, opens_then}
+use Rattle.aide_merge.proofs.KeepLemmas.{desk_none, desk_then, sources_none, sources_then}
 
 -- ---- the parts of the frame, one after the other
-
-pub sources_none : (a : Seen) → KeepsSources a a
-sources_none a = record { same = refl; missing_same = refl; reliable_same = refl; lookups = refl; never_falls = omega arith }
-
-pub sources_then : {a b c : Seen} → KeepsSources a b → KeepsSources b c → KeepsSources a c
-sources_then p q = record {
-  same = q.same ∙ p.same;
-  missing_same = q.missing_same ∙ p.missing_same;
-  reliable_same = q.reliable_same ∙ p.reliable_same;
-  lookups = q.lookups ∙ p.lookups;
-  never_falls = omega (arith, p.never_falls, q.never_falls);
-}
-
-pub desk_none : (limits : Limits) (bytes_of : Side → Option (List ℕ)) (d : DeskView) → KeepsDesk limits bytes_of d d
-desk_none limits bytes_of d = record { room = refl; fits = λ old_line new_line before within_old within_new fits. fits }
-
-pub desk_then : {limits : Limits} {bytes_of after : Side → Option (List ℕ)} {d e f : DeskView} → after ≡ bytes_of
-    → KeepsDesk limits bytes_of d e → KeepsDesk limits after e f → KeepsDesk limits bytes_of d f
-desk_then {limits} same p q = record {
-  room = q.room ∙ p.room;
-  fits = λ old_line new_line before within_old within_new fits. q.fits old_line new_line before
-      (subst (λ bytes. OpensWithin bytes limits Old old_line) (sym same) within_old)
-      (subst (λ bytes. OpensWithin bytes limits New new_line) (sym same) within_new)
-      (p.fits old_line new_line before within_old within_new fits);
-}
 
 -- a fault of a pass behind others
 fault_then : {limits : Limits} {a b c : Seen} {room room_now : ℕ} {sink : Type 0} {fault : RunFault} (n : ℕ)

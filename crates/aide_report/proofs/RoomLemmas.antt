@@ -1,32 +1,8 @@
--- Where a line fits into the room that was reserved, memory is never wanted.
-use Rattle.std.proofs.Common.{◌≡◌, ◌≤◌, ℕ, Bool, true, false, refl, subst, sym}
-use Rattle.aide_entry.specs.Cause.{Cause, cause_of, is_memory, in_text, in_length, in_memory, in_device}
-use Rattle.aide_db.specs.Memory.{wanted_memory}
+-- A later fault is no fault of memory where that of the database is none.
+use Rattle.aide_entry.specs.Cause.{Cause, cause_of, in_text, in_length, in_memory, in_device}
 use Rattle.aide_db.specs.declared.fault.DbFault.{DbFault}
-use Rattle.aide_db.specs.declared.limits.Limits.{Limits}
-use Rattle.aide_db.specs.declared.stage.Stage.{Stage}
-use Rattle.aide_db.specs.declared.stage.Stage.TheVariants.{Start, Begun, Entries, Ended, Failed}
 use Rattle.aide_report.specs.code.LaterFault.{later_by, later_of}
-use Rattle.aide_report.specs.Standing.{IsUnfailed}
-use Rattle.aide_report.specs.Room.{IsNotMemory, IsNotOfMemory}
-
-not_true : (b : Bool) → (b ≡ true → false ≡ true) → b ≡ false
-not_true false h = refl
-not_true true h = sym (h refl)
-
--- a cursor that has not failed wants no memory
-pub not_memory : (stage : Stage) (fault : DbFault) → IsUnfailed stage
-    → (is_memory fault.kind ≡ true → wanted_memory stage ≡ true) → IsNotMemory fault
-not_memory Start fault unfailed h = not_true (is_memory fault.kind) h
-not_memory Begun fault unfailed h = not_true (is_memory fault.kind) h
-not_memory Entries fault unfailed h = not_true (is_memory fault.kind) h
-not_memory Ended fault unfailed h = not_true (is_memory fault.kind) h
-not_memory (Failed failure) fault unfailed h = absurd unfailed
-
--- the limits and the room are what they were
-pub still_fits : (a b : Limits) (m n : ℕ) → b ≡ a → n ≡ m → a.line ≤ m → b.line ≤ n
-still_fits a b m n same kept le =
-    subst (λ (limits : Limits). limits.line ≤ n) (sym same) (subst (λ x. a.line ≤ x) (sym kept) le)
+use Rattle.aide_merge.specs.Room.{IsNotMemory, IsNotOfMemory}
 
 later_at : (fault : DbFault) → IsNotMemory fault → (cause : Cause) → IsNotOfMemory (later_by cause fault)
 later_at fault is in_text = tt
@@ -34,6 +10,6 @@ later_at fault is in_length = tt
 later_at fault is in_memory = is
 later_at fault is in_device = is
 
--- nor does a later fault
+-- whatever its cause
 pub later_room : (fault : DbFault) → IsNotMemory fault → IsNotOfMemory (later_of fault)
 later_room fault is = later_at fault is (cause_of fault.kind)

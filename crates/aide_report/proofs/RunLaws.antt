@@ -6,14 +6,16 @@ use Rattle.aide_db.specs.declared.fault.DbFault.{DbFault}
 use Rattle.aide_entry.specs.declared.fault_kind.DbFaultKind.{DbFaultKind}
 use Rattle.aide_entry.specs.declared.fault_kind.DbFaultKind.TheVariants.{Read, Memory}
 use Rattle.aide_db.specs.declared.limits.Limits.{Limits}
-use Rattle.aide_report.specs.Asked.{Asked}
-use Rattle.aide_report.specs.Missing.{RunsOver, IsHindered, EndsOver}
-use Rattle.aide_report.specs.RunFaults.{CountsWrites}
-use Rattle.aide_report.specs.Runs.{Report, Runs, Causes, HasAnswer, EndsWell, EndsEarly}
-use Rattle.aide_report.specs.declared.outcome.Outcome.{Outcome}
-use Rattle.aide_report.specs.declared.run_fault.RunFault.{RunFault}
-use Rattle.aide_report.specs.declared.run_fault.RunFault.TheVariants.{Open, Database, Changed, Write}
-use Rattle.aide_report.proofs.FirstFaults.{Runs-exists}
+use Rattle.aide_merge.specs.Asked.{Asked}
+use Rattle.aide_report.specs.Missing.{RunsOver, EndsOver}
+use Rattle.aide_merge.specs.RightAnswer.{IsHindered}
+use Rattle.aide_merge.specs.RunFaults.{CountsWrites}
+use Rattle.aide_merge.specs.RightAnswer.{Report, Causes}
+use Rattle.aide_report.specs.Runs.{Runs, HasAnswer, EndsWell, EndsEarly}
+use Rattle.aide_merge.specs.declared.outcome.Outcome.{Outcome}
+use Rattle.aide_merge.specs.declared.run_fault.RunFault.{RunFault}
+use Rattle.aide_merge.specs.declared.run_fault.RunFault.TheVariants.{Open, Database, Changed, Write}
+use Rattle.aide_report.proofs.MissingLemmas.{Runs-exists}
 
 -- the run over two texts ends as the clause `over` says
 abbrev pub EndsOverTexts : Limits → Asked → (old new : List ℕ) → (sources sink : Type 0) → Result Outcome RunFault

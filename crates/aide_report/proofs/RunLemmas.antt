@@ -5,38 +5,32 @@ use Rattle.std.specs.FinMap.{len}
 use Rattle.std.specs.Io.KnownBytes.{Appends}
 use Rattle.aide_conf.specs.declared.options.Options.{Options}
 use Rattle.aide_conf.specs.declared.task.Task.{Task}
-use Rattle.aide_report.specs.Asked.{asked}
+use Rattle.aide_merge.specs.Asked.{asked}
 use Rattle.sha2.specs.Sha256.{sha256}
 use Rattle.aide_db.specs.Database.{IsSound}
-use Rattle.aide_db.specs.Map.{database_of, entries_of}
+use Rattle.aide_db.specs.Map.{database_of}
 use Rattle.aide_entry.specs.Path.{path_cmp}
 use Rattle.aide_db.specs.declared.fault.DbFault.{DbFault}
 use Rattle.aide_db.specs.declared.limits.Limits.{Limits}
 use Rattle.aide_entry.proofs.PathLaws.{path_cmp_total, path_cmp-IsAntisymmetric}
-use Rattle.aide_db.proofs.MapLaws.{entries-database_of}
-use Rattle.aide_report.specs.Changed.{differ_by}
-use Rattle.aide_report.specs.Changes.{is_added, is_removed, is_changed, is_of_new}
-use Rattle.aide_report.specs.Compare.{changes, added, removed, changed}
+use Rattle.aide_merge.specs.Changed.{differ_by}
+use Rattle.aide_merge.specs.Changes.{is_added, is_removed, is_changed, is_of_new}
+use Rattle.aide_merge.specs.Compare.{changes, added, removed, changed}
 use Rattle.aide_report.specs.code.Counts.{Completes}
-use Rattle.aide_report.specs.Merged.{merged}
-use Rattle.aide_report.specs.Entries.{is_shown_entry}
-use Rattle.aide_report.specs.code.Finding.{IsFinding, old_origin, new_origin, pass_of}
-use Rattle.aide_report.specs.declared.outcome.Outcome.{Outcome}
-use Rattle.aide_report.specs.Report.{text_of, counts_of, outcome_by, section_count}
+use Rattle.aide_merge.specs.Said.{is_shown_entry}
+use Rattle.aide_report.specs.code.Finding.{IsFinding, old_origin, new_origin}
+use Rattle.aide_merge.specs.code.Merging.{pass_of}
+use Rattle.aide_merge.specs.declared.outcome.Outcome.{Outcome}
+use Rattle.aide_report.specs.Report.{text_of, section_count}
+use Rattle.aide_merge.specs.Outcomes.{counts_of, outcome_by}
 use Rattle.aide_report.specs.declared.finding.Finding.{Finding}
-use Rattle.aide_report.specs.Runs.{Report, report_over, sections_over, Runs, RunsBy, EndsWell, EndsEarly}
+use Rattle.aide_merge.specs.RightAnswer.{Report, RunsBy}
+use Rattle.aide_report.specs.Runs.{report_over, sections_over, Runs, EndsWell, EndsEarly}
 use Rattle.aide_text.specs.Sent.{SendsPart}
 use Rattle.aide_text.specs.declared.counts.Counts.{Counts}
-use Rattle.aide_report.proofs.FirstFaults.{RunsBy-unique}
-use Rattle.aide_report.proofs.Laws.{added_count, removed_count, changed_count, total_count}
-use Rattle.aide_report.proofs.MergeLemmas.{changes-merged}
-
--- of sound texts, the pass goes over the comparison of the maps
-pub pass_is_changes : (limits : Limits) (old new : List ℕ) → IsSound limits old → IsSound limits new
-    → changes (database_of old) (database_of new) ≡ merged path_cmp (entries_of old) (entries_of new)
-pass_is_changes limits old new sound_old sound_new =
-    changes-merged path_cmp path_cmp_total path_cmp-IsAntisymmetric (database_of old) (database_of new)
-    ∙ (λ i. merged path_cmp (entries-database_of limits old sound_old i) (entries-database_of limits new sound_new i))
+use Rattle.aide_merge.proofs.FirstFaults.{RunsBy-unique}
+use Rattle.aide_merge.proofs.Laws.{added_count, removed_count, changed_count, total_count}
+use Rattle.aide_merge.proofs.TextLemmas.{pass_is_changes}
 
 -- the counts of a whole pass are those of the maps
 pub counts_are : (limits : Limits) (options : Options) (counts : Counts) (old new : List ℕ) → IsSound limits old

@@ -11,26 +11,32 @@ use Rattle.aide_text.specs.Failures.{Rose}
 use Rattle.aide_text.specs.declared.sink.Sink.{Ghosts as AnySink}
 use Rattle.aide_text.proofs.Sending.{Appends-nothing}
 use Rattle.aide_report.specs.Agreement.{IsOfOutcome, OpensByOutcome}
-use Rattle.aide_report.specs.Asked.{Asked}
-use Rattle.aide_report.specs.Missing.{IsHindered, IsOfReliable, RunsOver, StopsFor, TellsSide}
-use Rattle.aide_report.specs.Openings.{OpensAtMost, OpensExactly}
+use Rattle.aide_merge.specs.Asked.{Asked}
+use Rattle.aide_merge.specs.RightAnswer.{IsHindered, IsOfReliable, StopsFor, TellsSide}
+use Rattle.aide_report.specs.Missing.{RunsOver}
+use Rattle.aide_merge.specs.Openings.{OpensAtMost, OpensExactly}
 use Rattle.aide_report.specs.Run.{IsRun}
-use Rattle.aide_report.specs.RunFaults.{HasSentNothing, HasWrittenIfAny, IsCaused, IsLater}
-use Rattle.aide_report.specs.Runs.{EndsEarly, EndsWell, Report, Runs, openings_over, report_over}
-use Rattle.aide_report.specs.Seen.{KeepsSources, Seen, SinkSeen, sink_seen}
+use Rattle.aide_merge.specs.RunFaults.{HasSentNothing, HasWrittenIfAny, IsCaused, IsLater}
+use Rattle.aide_report.specs.Runs.{EndsEarly, EndsWell, Runs, openings_over, report_over}
+use Rattle.aide_merge.specs.RightAnswer.{Report}
+use Rattle.aide_merge.specs.Seen.{KeepsSources, Seen, SinkSeen, sink_seen}
 use Rattle.aide_report.specs.code.Passes.{FlushesOnce, Passes}
-use Rattle.aide_report.specs.code.Readings.{ClearsDesk, IsFindingFault}
-use Rattle.aide_report.specs.declared.outcome.Outcome.{Outcome}
-use Rattle.aide_report.specs.declared.run_fault.RunFault.{RunFault}
-use Rattle.aide_report.specs.declared.run_fault.RunFault.TheVariants.{Open, Database, Changed, Write}
-use Rattle.aide_report.proofs.BoundLemmas.{fits_limit, fits_within}
-use Rattle.aide_report.proofs.FaultLemmas.{answer_later, cause_by, first_later, right_later, rose_later, rose_since}
-use Rattle.aide_report.proofs.MissingLemmas.{front_by, hindered_by, later_over, nothing_front, stops_by, stops_hindered}
+use Rattle.aide_merge.specs.code.Desks.{ClearsDesk}
+use Rattle.aide_report.specs.code.Readings.{IsFindingFault}
+use Rattle.aide_merge.specs.declared.outcome.Outcome.{Outcome}
+use Rattle.aide_merge.specs.declared.run_fault.RunFault.{RunFault}
+use Rattle.aide_merge.specs.declared.run_fault.RunFault.TheVariants.{Open, Database, Changed, Write}
+use Rattle.aide_merge.proofs.BoundLemmas.{fits_limit, fits_within}
+use Rattle.aide_report.proofs.FaultLemmas.{answer_later, cause_by, first_later, right_later}
+use Rattle.aide_report.proofs.FaultLemmas.{rose_later}
+use Rattle.aide_merge.proofs.FaultLemmas.{rose_since}
+use Rattle.aide_report.proofs.MissingLemmas.{front_by, later_over, nothing_front}
+use Rattle.aide_merge.proofs.AnswerLemmas.{hindered_by, stops_by, stops_hindered}
 use Rattle.aide_report.proofs.MissingLemmas.{whole_by}
 use Rattle.aide_report.proofs.OpeningLemmas.{refused_later, unsent_begun, unsent_nothing}
-use Rattle.aide_report.proofs.PassLemmas.{sources_then}
-use Rattle.aide_report.proofs.ReadingLemmas.{clears_then}
-use Rattle.aide_report.proofs.ReportLemmas.{caused_as, counts_nothing}
+use Rattle.aide_merge.proofs.KeepLemmas.{sources_then}
+use Rattle.aide_merge.proofs.KeepLemmas.{clears_then}
+use Rattle.aide_merge.proofs.PenLemmas.{caused_as, counts_nothing}
 use Rattle.aide_report.proofs.SectionsLemmas.{opens_more, opens_then, opens_within}
 
 at_most : (k n : ℕ) → k ≡ n → n ≤ k

@@ -2,22 +2,21 @@
 use Rattle.std.proofs.Common.{◌≡◌, ◌∙◌, ℕ, ◌+◌, Bool, true, false, cond, List, [], ◌∷◌, refl, sym, ap, arith, length}
 use Rattle.std.specs.Prelude.{count_by, ◌==◌, ◌||◌, ◌&&◌, not}
 use Rattle.std.specs.List.{list_any}
-use Rattle.std.proofs.lemmas.List.Sums.{sum_by-append}
 use Rattle.aide_conf.specs.declared.options.Options.{Options}
 use Rattle.aide_entry.proofs.PathLaws.{path_cmp_total, path_cmp-IsAntisymmetric}
 use Rattle.aide_db.specs.Map.{Database}
 use Rattle.aide_entry.specs.Path.{path_cmp}
-use Rattle.aide_report.specs.Changed.{differ_by}
-use Rattle.aide_report.specs.Changes.{is_added, is_removed, is_changed}
-use Rattle.aide_report.specs.Compare.{changes, added, removed, changed}
-use Rattle.aide_report.specs.Entries.{is_shown_entry}
-use Rattle.aide_report.specs.Report.{counts_of}
-use Rattle.aide_report.specs.Sections.{has_entry, is_in, is_there}
+use Rattle.aide_merge.specs.Changed.{differ_by}
+use Rattle.aide_merge.specs.Changes.{is_added, is_removed, is_changed}
+use Rattle.aide_merge.specs.Compare.{changes, added, removed, changed}
+use Rattle.aide_merge.specs.Said.{is_shown_entry, is_in}
+use Rattle.aide_merge.specs.Outcomes.{counts_of}
+use Rattle.aide_report.specs.Sections.{has_entry, is_there}
 use Rattle.aide_text.specs.declared.section.Section.{Section}
 use Rattle.aide_text.specs.declared.section.Contents.{Contents}
 use Rattle.aide_text.specs.declared.section.Contents.TheVariants.{Listed, Detailed}
 use Rattle.aide_text.specs.Section.{contents_of, is_asked}
-use Rattle.aide_report.proofs.Laws.{added_count, removed_count, changed_count}
+use Rattle.aide_merge.proofs.Laws.{added_count, removed_count, changed_count, first_counted}
 
 none_more : (n : ℕ) → 0 + n ≡ n
 none_more n = omega arith
@@ -28,9 +27,6 @@ one_more n = grind arith
 more_counted : (b : Bool) (n : ℕ) (rest : Bool) → not (n == 0) ≡ rest → not ((cond b 1 0 + n) == 0) ≡ (b || rest)
 more_counted true n rest e = one_more n
 more_counted false n rest e = ap (λ k. not (k == 0)) (none_more n) ∙ e
-
-pub first_counted : {X : Type 0} (p : X → Bool) (x : X) (xs : List X) → count_by p (x ∷ xs) ≡ cond (p x) 1 0 + count_by p xs
-first_counted p x xs = omega (arith, sum_by-append (λ y. cond (p y) 1 0) (x ∷ []) xs)
 
 -- a count is not nought exactly where the test holds of some item
 some_counted : {X : Type 0} (p : X → Bool) (xs : List X) → not (count_by p xs == 0) ≡ list_any p xs

@@ -7,7 +7,7 @@ use Rattle.std.proofs.lemmas.List.Elements.{filter-append}
 use Rattle.std.specs.Prelude.{if◌then◌else◌, ◌&&◌, max}
 use Rattle.aide_conf.specs.declared.options.Options.{Options}
 use Rattle.aide_db.specs.declared.side.Side.{Side}
-use Rattle.aide_report.specs.Openings.{OpensExactly, OpensAtMost}
+use Rattle.aide_merge.specs.Openings.{OpensExactly, OpensAtMost}
 use Rattle.aide_text.specs.Overview.{differs}
 use Rattle.aide_report.specs.Report.{is_silent, section_count}
 use Rattle.aide_report.specs.Sections.{has_entry, is_there, sections_of}

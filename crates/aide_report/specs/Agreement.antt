@@ -5,12 +5,12 @@ use Rattle.std.specs.Io.KnownBytes.{Appends}
 use Rattle.aide_attr.specs.declared.level.Level.TheVariants.{DatabaseAttributes}
 use Rattle.aide_conf.specs.declared.options.Options.{Options}
 use Rattle.aide_db.specs.declared.side.Side.{Side}
-use Rattle.aide_report.specs.Openings.{OpensExactly}
+use Rattle.aide_merge.specs.Openings.{OpensExactly}
 use Rattle.aide_report.specs.Report.{is_silent, section_count}
 use Rattle.aide_text.specs.Overview.{overview_of, databases_differ}
 use Rattle.aide_attr.specs.Level.{reaches}
 use Rattle.aide_text.specs.declared.counts.Counts.{Counts}
-use Rattle.aide_report.specs.declared.outcome.Outcome.{Outcome}
+use Rattle.aide_merge.specs.declared.outcome.Outcome.{Outcome}
 
 -- the head and the summary; a silent report has neither
 abbrev pub beginning_of : Options → (total added removed changed : ℕ) → List ℕ

@@ -1,40 +1,20 @@
 -- What a report says about one change: its line in a list, and its details.
-use Rattle.std.specs.Prelude.{ℕ, Bool, true, false, ◌&&◌, if◌then◌else◌, List, [], ◌++◌, Option}
-use Rattle.std.specs.Prelude.{Some, None, is_some, codes}
-use Rattle.std.specs.List.{flat_map, filter, list_any}
+use Rattle.std.specs.Prelude.{ℕ, Bool, if◌then◌else◌, List, [], ◌++◌, Option, Some, None, codes}
+use Rattle.std.specs.List.{flat_map, filter}
 use Rattle.aide_attr.specs.Attr.{all_attrs, detail_name_of}
-use Rattle.aide_attr.specs.Difference.{is_shown}
 use Rattle.aide_agreement.specs.Account.{Pair}
-use Rattle.aide_attr.specs.Summary.{summary_letters, alone_letters}
 use Rattle.aide_attr.specs.declared.attr.Attr.{Attr}
-use Rattle.aide_attr.specs.declared.attr.Attr.TheVariants.{Ftype}
-use Rattle.aide_attr.specs.declared.delta.Ignore.{Ignore}
 use Rattle.aide_attr.specs.declared.file_type.FileType.{FileType}
 use Rattle.aide_attr.specs.declared.file_type.FileType.TheVariants.{File, Directory, Char, Block}
 use Rattle.aide_attr.specs.declared.file_type.FileType.TheVariants.{Link as SymbolicLink, Fifo}
 use Rattle.aide_attr.specs.declared.file_type.FileType.TheVariants.{Socket, Other}
-use Rattle.aide_attr.specs.declared.level.Level.{Level}
-use Rattle.aide_attr.specs.declared.level.Level.TheVariants.{AddedRemovedEntries}
-use Rattle.aide_attr.specs.declared.summary_string.Alone.TheVariants.{Added, Removed}
 use Rattle.aide_conf.specs.declared.options.Options.{Options}
-use Rattle.aide_entry.specs.Attributes.{Attributes, sides_between, type_in}
 use Rattle.aide_line_text.specs.Entry.{kind_word, type_at}
-use Rattle.aide_report.specs.Compare.{Change}
 use Rattle.aide_text.specs.Layout.{empty_line, path_line, side_by_side}
 use Rattle.aide_text.specs.ValueText.{side_text}
-
--- a path, and what both databases have there
-abbrev pub PathChange : Type 0
-PathChange = Change (List ℕ) Attributes
+use Rattle.aide_merge.specs.Said.{PathChange, letters_of, shows_at}
 
 -- ---- lines
-
--- the summary string of a change
-abbrev pub letters_of : Ignore → Pair → List ℕ
-letters_of ignore (None, None) = []
-letters_of ignore (None, Some new) = alone_letters (type_in (new Ftype)) Added
-letters_of ignore (Some old, None) = alone_letters (type_in (old Ftype)) Removed
-letters_of ignore (Some old, Some new) = summary_letters (sides_between old new) ignore
 
 -- what precedes the path in a line: the summary string, or the word for what became of the path
 abbrev pub label_of : Options → Pair → List ℕ
@@ -46,27 +26,6 @@ abbrev pub list_line : Options → PathChange → List ℕ
 list_line options entry = path_line (label_of options entry.1) entry.0
 
 -- ---- details
-
--- whether the details of added and removed entries are shown
-abbrev pub shows_alone : Level → Bool
-shows_alone AddedRemovedEntries = true
-shows_alone _ = false
-
--- whether details show the attribute of what both databases have at one path
-abbrev pub shows_at : Options → Pair → Attr → Bool
-shows_at options (None, None) a = false
-shows_at options (None, Some new) a = shows_alone options.level && is_some (new a)
-shows_at options (Some old, None) a = shows_alone options.level && is_some (old a)
-shows_at options (Some old, Some new) a =
-    is_shown (sides_between old new) options.ignore options.level a
-
--- whether details show some attribute of what both databases have at one path
-unfoldable pub shows_any : Options → Pair → Bool
-shows_any options pair = list_any (shows_at options pair) all_attrs
-
--- whether details show some attribute of a change
-abbrev pub is_shown_entry : Options → PathChange → Bool
-is_shown_entry options entry = shows_any options entry.1
 
 -- the word for a type
 abbrev pub title_word : Option FileType → List ℕ

@@ -1,13 +1,11 @@
 -- The report over two databases, the outcome and the status.
-use Rattle.std.specs.Prelude.{ℕ, ◌+◌, ◌==◌, ◌&&◌, not, Bool, if◌then◌else◌, List, [], ◌∷◌, ◌++◌}
-use Rattle.std.specs.Prelude.{length, count_by, codes}
+use Rattle.std.specs.Prelude.{ℕ, ◌&&◌, not, Bool, if◌then◌else◌, List, [], ◌∷◌, ◌++◌, length}
+use Rattle.std.specs.Prelude.{codes}
 use Rattle.std.specs.List.{flat_map}
-use Rattle.std.specs.FinMap.{len}
 use Rattle.aide_attr.specs.declared.level.Level.TheVariants.{DatabaseAttributes}
 use Rattle.aide_conf.specs.declared.options.Options.{Options}
-use Rattle.aide_report.specs.Changed.{differ_by}
-use Rattle.aide_report.specs.Compare.{added, removed, changed, changes}
-use Rattle.aide_report.specs.Entries.{PathChange, is_shown_entry}
+use Rattle.aide_merge.specs.Compare.{changes}
+use Rattle.aide_merge.specs.Said.{PathChange}
 use Rattle.aide_report.specs.Sections.{sections_of, section_text}
 use Rattle.aide_text.specs.Overview.{differs, overview_by, when}
 use Rattle.aide_attr.specs.Level.{reaches}
@@ -16,7 +14,7 @@ use Rattle.aide_text.specs.Titles.{titled}
 use Rattle.aide_text.specs.ValueText.{digest_text}
 use Rattle.aide_db.specs.Map.{Database}
 use Rattle.aide_text.specs.declared.counts.Counts.{Counts}
-use Rattle.aide_report.specs.declared.outcome.Outcome.{Outcome}
+use Rattle.aide_merge.specs.Outcomes.{counts_of}
 
 -- ---- the databases
 
@@ -46,16 +44,6 @@ databases_of base16 old_origin new_origin =
     ++ origin_text base16 (codes "New database") new_origin)
 
 -- ---- the whole
-
--- how many paths were added, removed and changed, how many the new map has, and how many show an attribute
-abbrev pub counts_of : Options → Database → Database → Counts
-counts_of options old new = record {
-  added = length (added old new);
-  removed = length (removed old new);
-  changed = length (changed (differ_by options.ignore) old new);
-  total = len new;
-  shown = count_by (is_shown_entry options) (changes old new);
-}
 
 -- the texts of all sections of entries that the report has
 unfoldable pub sections_text : Options → Counts → List PathChange → List ℕ
@@ -93,20 +81,3 @@ section_count options counts =
 abbrev pub report_of : Options → Origin → Origin → Database → Database → List ℕ
 report_of options old_origin new_origin old new =
     text_of options old_origin new_origin (counts_of options old new) (changes old new)
-
--- what a run returns, with the skipped columns of each side, a bit for each column
-abbrev pub outcome_by : Counts → ℕ → ℕ → Outcome
-outcome_by counts skipped_old skipped_new = record {
-  added = counts.added;
-  removed = counts.removed;
-  changed = counts.changed;
-  total = counts.total;
-  skipped_old = skipped_old;
-  skipped_new = skipped_new;
-}
-
--- the sum of 1 if an entry was added, 2 if one was removed, and 4 if one is changed
-abbrev pub status_of : ℕ → ℕ → ℕ → ℕ
-status_of added removed changed =
-    (if added == 0 then 0 else 1)
-    + ((if removed == 0 then 0 else 2) + (if changed == 0 then 0 else 4))

@@ -10,17 +10,19 @@ use Rattle.aide_db.specs.declared.limits.Limits.{Limits}
 use Rattle.aide_db.specs.declared.side.Side.{Side}
 use Rattle.aide_db.specs.declared.side.Side.TheVariants.{Old, New}
 use Rattle.aide_report.specs.Agreement.{IsOfOutcome, OpensByOutcome}
-use Rattle.aide_report.specs.Asked.{Asked}
-use Rattle.aide_report.specs.Bound.{three_lines}
-use Rattle.aide_report.specs.Missing.{EndsOver, IsHindered, IsOfReliable, RunsOver, TellsSide}
-use Rattle.aide_report.specs.Openings.{IsNotGiven, IsRefusedThere, OpensAtMost, OpensExactly}
-use Rattle.aide_report.specs.Openings.{OpensFirst}
-use Rattle.aide_report.specs.Room.{IsNotOfMemory}
-use Rattle.aide_report.specs.RunFaults.{CountsWrites, HasSentNothing, HasWrittenIfAny, IsRight}
-use Rattle.aide_report.specs.Runs.{HasCause, Report, Runs, openings_over}
-use Rattle.aide_report.specs.Seen.{Seen, SinkSeen}
-use Rattle.aide_report.specs.declared.outcome.Outcome.{Outcome}
-use Rattle.aide_report.specs.declared.run_fault.RunFault.{RunFault}
+use Rattle.aide_merge.specs.Asked.{Asked}
+use Rattle.aide_merge.specs.Bound.{three_lines}
+use Rattle.aide_report.specs.Missing.{EndsOver, RunsOver}
+use Rattle.aide_merge.specs.RightAnswer.{IsHindered, IsOfReliable, TellsSide}
+use Rattle.aide_merge.specs.Openings.{IsNotGiven, IsRefusedThere, OpensAtMost, OpensExactly}
+use Rattle.aide_merge.specs.Openings.{OpensFirst}
+use Rattle.aide_merge.specs.Room.{IsNotOfMemory}
+use Rattle.aide_merge.specs.RunFaults.{CountsWrites, HasSentNothing, HasWrittenIfAny, IsRight}
+use Rattle.aide_merge.specs.RightAnswer.{HasCause, Report}
+use Rattle.aide_report.specs.Runs.{Runs, openings_over}
+use Rattle.aide_merge.specs.Seen.{Seen, SinkSeen}
+use Rattle.aide_merge.specs.declared.outcome.Outcome.{Outcome}
+use Rattle.aide_merge.specs.declared.run_fault.RunFault.{RunFault}
 use Rattle.aide_text.specs.Failures.{CountsFlush, Rose}
 
 -- A run with this result: `a` is seen of the sources before it and `b` after it, `d` and `e` of the desk, `o` and `p`

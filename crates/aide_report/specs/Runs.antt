@@ -1,30 +1,23 @@
 -- What a run over two databases returns.
-use Rattle.std.specs.Prelude.{◌≡◌, ℕ, ◌+◌, ◌⊎◌, Option, Some, Result, Ok, Err, List, [], ⊤, false}
+use Rattle.std.specs.Prelude.{◌≡◌, ℕ, ◌+◌, Option, Some, Result, Ok, Err, List, [], ⊤, false}
 use Rattle.std.specs.Io.KnownBytes.{Appends}
-use Rattle.aide_report.specs.Asked.{Asked}
+use Rattle.aide_merge.specs.Asked.{Asked}
 use Rattle.sha2.specs.Sha256.{sha256}
-use Rattle.aide_db.specs.Database.{IsSound, IsFirstFault}
 use Rattle.aide_entry.specs.Cause.{is_outside}
 use Rattle.aide_db.specs.Giving.{columns_of_text}
 use Rattle.aide_db.specs.Map.{database_of}
 use Rattle.aide_entry.specs.Skipped.{skipped_in}
 use Rattle.aide_db.specs.declared.fault.DbFault.{DbFault}
-use Rattle.aide_entry.specs.declared.fault_kind.DbFaultKind.{DbFaultKind}
-use Rattle.aide_entry.specs.declared.fault_kind.DbFaultKind.TheVariants.{Memory, Read}
 use Rattle.aide_db.specs.declared.limits.Limits.{Limits}
 use Rattle.aide_db.specs.declared.side.Side.{Side}
 use Rattle.aide_db.specs.declared.side.Side.TheVariants.{Old, New}
-use Rattle.aide_report.specs.Report.{Origin, report_of, counts_of, outcome_by, section_count}
+use Rattle.aide_report.specs.Report.{Origin, report_of, section_count}
+use Rattle.aide_merge.specs.Outcomes.{counts_of, outcome_by}
 use Rattle.aide_text.specs.Sent.{SendsPart}
-use Rattle.aide_report.specs.declared.outcome.Outcome.{Outcome}
-use Rattle.aide_report.specs.declared.run_fault.RunFault.{RunFault}
-use Rattle.aide_report.specs.declared.run_fault.RunFault.TheVariants.{Open, Database, Changed}
-use Rattle.aide_report.specs.declared.run_fault.RunFault.TheVariants.{Write}
-
--- what a run writes, a report or lines, and the outcome that it returns with it
-pub record Report : Type 0 where
-  pub text : List ℕ
-  pub outcome : Outcome
+use Rattle.aide_merge.specs.declared.outcome.Outcome.{Outcome}
+use Rattle.aide_merge.specs.declared.run_fault.RunFault.{RunFault}
+use Rattle.aide_merge.specs.declared.run_fault.RunFault.TheVariants.{Database}
+use Rattle.aide_merge.specs.RightAnswer.{Report, RunsBy}
 
 -- what a report says about a database itself: its path, and the SHA-256 of its text
 abbrev pub origin_of : List ℕ → List ℕ → Origin
@@ -50,20 +43,6 @@ sections_over asked old new =
 abbrev pub openings_over : Asked → List ℕ → List ℕ → ℕ
 openings_over asked old new = 2 + sections_over asked old new
 
--- the fault is of this side, and its line and kind are those of the first fault of the text
-abbrev pub IsFirstFaultOf : Limits → Side → List ℕ → DbFault → Type 0
-IsFirstFaultOf limits side text fault = (fault.side ≡ side)
-    × IsFirstFault limits text fault.line fault.kind
-
--- The right answer over two texts: what is to be written of them if both are sound, and otherwise the first fault.
--- A fault of the old text comes before one of the new text.
-abbrev pub RunsBy : Limits → (List ℕ → List ℕ → Report) → List ℕ → List ℕ
-    → Result Report DbFault → Type 0
-RunsBy limits over old new (Ok report) = IsSound limits old × IsSound limits new
-    × (report ≡ over old new)
-RunsBy limits over old new (Err fault) = IsFirstFaultOf limits Old old fault
-    ⊎ (IsSound limits old × IsFirstFaultOf limits New new fault)
-
 -- the right answer over two texts if the report is to be written
 abbrev pub Runs : Limits → Asked → List ℕ → List ℕ → Result Report DbFault → Type 0
 Runs limits asked old new r = RunsBy limits (report_over asked) old new r
@@ -88,16 +67,3 @@ EndsWell (Err fault) outcome old new = ⊥
 abbrev pub EndsEarly : Result Report DbFault → Option (List ℕ) → Option (List ℕ) → Type 0
 EndsEarly (Ok report) old new = SendsPart report.text old new
 EndsEarly (Err fault) old new = Appends old new []
-
--- why a database fault comes: the sources failed, memory ran out, or the fault is the answer
-abbrev pub Causes : DbFaultKind → Type 0 → Type 0 → Type 0
-Causes Read rose first = rose
-Causes Memory rose first = ⊤
-Causes _ rose first = first
-
--- why a fault of a run comes
-abbrev pub HasCause : RunFault → Type 0 → Type 0 → (DbFault → Type 0) → (Side → Type 0) → Type 0
-HasCause (Open side) sources sink first untold = sources
-HasCause (Database fault) sources sink first untold = Causes fault.kind sources (first fault)
-HasCause (Changed side) sources sink first untold = untold side
-HasCause (Write written) sources sink first untold = sink

@@ -1,11 +1,10 @@
 -- The sections of entries: which there are, what each says about a change, and its text.
-use Rattle.std.specs.Prelude.{ℕ, ◌==◌, ◌||◌, ◌&&◌, not, Bool, true, false, if◌then◌else◌, List, []}
-use Rattle.std.specs.Prelude.{◌++◌, Some, None}
+use Rattle.std.specs.Prelude.{ℕ, ◌==◌, ◌||◌, ◌&&◌, not, Bool, false, if◌then◌else◌, List, [], ◌++◌}
+use Rattle.std.specs.Prelude.{Some, None}
 use Rattle.std.specs.List.{flat_map, filter}
 use Rattle.aide_conf.specs.declared.options.Options.{Options}
-use Rattle.aide_report.specs.Changed.{differ_by}
-use Rattle.aide_report.specs.Changes.{is_added, is_removed, is_changed}
-use Rattle.aide_report.specs.Entries.{PathChange, list_line, entry_details, shows_any}
+use Rattle.aide_merge.specs.Said.{PathChange, is_in}
+use Rattle.aide_report.specs.Entries.{list_line, entry_details}
 use Rattle.aide_text.specs.Section.{all_sections, contents_of, is_asked}
 use Rattle.aide_text.specs.Titles.{section_head}
 use Rattle.aide_text.specs.declared.counts.Counts.{Counts}
@@ -32,17 +31,6 @@ abbrev pub sections_of : Options → Counts → List Section
 sections_of options counts = filter (is_there options counts) all_sections
 
 -- ---- their texts
-
--- a list of the added, the removed and the changed entries
-abbrev pub all_listed : Contents
-all_listed = Listed true true true
-
--- whether a section with these contents has the change
-abbrev pub is_in : Options → Contents → PathChange → Bool
-is_in options (Listed added removed changed) entry =
-    (added && is_added entry)
-    || ((removed && is_removed entry) || (changed && is_changed (differ_by options.ignore) entry))
-is_in options Detailed entry = shows_any options entry.1
 
 -- whether a list is to have changes of this kind, if they are listed at all
 abbrev pub lists : Contents → PathChange → Bool

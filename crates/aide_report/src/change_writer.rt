@@ -2,17 +2,16 @@
 ghost use Rattle.std.specs.Prelude.{◌≡◌, ℕ, List, [], IfErr, OnOk, false};
 ghost use Rattle.std.specs.List.{flat_map};
 ghost use Rattle.aide_entry.specs.Attributes.{Entry};
-ghost use Rattle.aide_report.specs.Entries.{PathChange};
-ghost use Rattle.aide_report.specs.code.ChangeView.{alike_of, change_of};
-ghost use Rattle.aide_report.specs.code.MergeCalls.{IsStopOf, KeepsMerge};
-ghost use Rattle.aide_report.specs.code.Merging.{remaining, IsReady, IsEnded, StandsAt};
-ghost use Rattle.aide_report.specs.code.PassFaults.{Writes};
+ghost use Rattle.aide_merge.specs.Said.{PathChange};
+ghost use Rattle.aide_merge.specs.code.ChangeView.{alike_of, change_of};
+ghost use Rattle.aide_report.specs.code.PassFaults.{IsStopOf, Writes};
+ghost use Rattle.aide_merge.specs.code.MergeCalls.{KeepsMerge};
+ghost use Rattle.aide_merge.specs.code.Merging.{remaining, IsReady, IsEnded, StandsAt};
 ghost use Rattle.aide_text.specs.PenSheet.{on_sheet};
 ghost use Rattle.aide_text.specs.Sheet.{Wrote, WritesSome};
 
-use crate::change::{AtPath, Change};
-use crate::merge::Merge;
 use aide_db::{DbFault, Desk, Reel, Side};
+use aide_merge::{AtPath, Change, Merge};
 use aide_text::{Pen, Sink};
 use std::alloc::Allocator;
 

@@ -1,27 +1,27 @@
 //! A whole run.
 ghost use Rattle.std.specs.Prelude.{◌≤◌, ◌^◌, ℕ, List, Option, Result, IfOk, IfErr, OnOk};
-ghost use Rattle.aide_report.specs.Asked.{Asked, asked};
-ghost use Rattle.aide_report.specs.Missing.{IsHindered, RunsOver, StopsFor, TellsSide};
-ghost use Rattle.aide_report.specs.Openings.{OpensExactly, OpensAtMost};
+ghost use Rattle.aide_merge.specs.Asked.{Asked, asked};
+ghost use Rattle.aide_merge.specs.RightAnswer.{IsHindered, StopsFor, TellsSide, Report};
+ghost use Rattle.aide_report.specs.Missing.{RunsOver};
+ghost use Rattle.aide_merge.specs.Openings.{OpensExactly, OpensAtMost};
 ghost use Rattle.aide_report.specs.Run.{IsRun};
-ghost use Rattle.aide_report.specs.Runs.{Report};
-ghost use Rattle.aide_report.specs.Seen.{AreLimits, KeepsSources, seen, sink_seen};
-ghost use Rattle.aide_report.specs.code.Readings.{AreRead, ClearsDesk, IsFindingFault, IsFound};
+ghost use Rattle.aide_merge.specs.Seen.{AreLimits, KeepsSources, seen, sink_seen};
+ghost use Rattle.aide_merge.specs.code.BothRead.{AreRead};
+ghost use Rattle.aide_merge.specs.code.Desks.{ClearsDesk};
+ghost use Rattle.aide_report.specs.code.Readings.{IsFindingFault, IsFound};
 ghost use Rattle.aide_text.specs.Failures.{Rose};
 
-use crate::digests::Digests;
-use crate::finding::{Finding, Readings};
-use crate::outcome::Outcome;
-use crate::pass::{clear, count_pass, read_whole};
+use crate::finding::Finding;
+use crate::pass::{count_pass, read_whole};
 use crate::report::write_report;
-use crate::run_fault::RunFault;
 use aide_conf::{Options, Task};
 use aide_db::{Desk, Limits, Side, Sources};
+use aide_merge::{Digests, Outcome, Readings, RunFault, clear};
 use aide_text::Sink;
 use std::alloc::Allocator;
 
 /// Reads both databases whole, the old one first.
-pub fn read_both<S: Sources, A: Allocator + Copy>(
+pub(crate) fn read_both<S: Sources, A: Allocator + Copy>(
     limits: Limits,
     desk: &mut Desk<A>,
     sources: &mut S,

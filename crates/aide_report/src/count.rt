@@ -1,19 +1,17 @@
 //! How many entries were added, removed and changed.
 ghost use Rattle.std.specs.Prelude.{◌≡◌, ◌+◌, ◌^◌, ◌<◌, [], ◌∷◌, ℕ, List, IfOk, IfErr, OnOk};
 ghost use Rattle.std.specs.Prelude.{count_by};
-ghost use Rattle.aide_report.specs.code.ChangeView.{change_of};
-ghost use Rattle.aide_report.specs.Changed.{differ_by};
-ghost use Rattle.aide_report.specs.Changes.{is_added, is_removed, is_changed, is_of_new};
+ghost use Rattle.aide_merge.specs.code.ChangeView.{change_of};
+ghost use Rattle.aide_merge.specs.Changed.{differ_by};
+ghost use Rattle.aide_merge.specs.Changes.{is_added, is_removed, is_changed, is_of_new};
 ghost use Rattle.aide_report.specs.code.Counts.{Completes, AreBelow};
-ghost use Rattle.aide_report.specs.Entries.{is_shown_entry};
-ghost use Rattle.aide_report.specs.code.MergeCalls.{IsMergeFault, KeepsMerge};
-ghost use Rattle.aide_report.specs.code.Merging.{remaining, IsReady, IsEnded, StandsAt, total_work};
+ghost use Rattle.aide_merge.specs.Said.{is_shown_entry, shows_any};
+ghost use Rattle.aide_merge.specs.code.MergeCalls.{IsMergeFault, KeepsMerge};
+ghost use Rattle.aide_merge.specs.code.Merging.{remaining, IsReady, IsEnded, StandsAt, total_work};
 
-use crate::change::{AtPath, Change};
-use crate::difference::counts_as;
-use crate::merge::Merge;
 use aide_conf::Options;
 use aide_db::{DbFault, Desk, Reel, Side};
+use aide_merge::{AtPath, Change, Merge, said_of};
 use aide_text::Counts;
 use std::alloc::Allocator;
 
@@ -75,4 +73,14 @@ pub(crate) fn count<R: Reel, A: Allocator + Copy>(
             AtPath::End => return Ok(counts),
         }
     }
+}
+
+/// Whether the details of a change show an attribute, and whether it is a changed entry.
+pub(crate) fn counts_as(change: Change<'_>, options: &Options) -> (bool, bool)
+    ensures shown { result.0 ≡ shows_any options.now (change_of change.entry).1 }
+    ensures changed { result.1 ≡ is_changed (differ_by options.now.ignore)
+        (change_of change.entry) }
+{
+    let (shown, changed) = said_of(change, options);
+    (!shown.is_empty(), changed)
 }

@@ -4,7 +4,7 @@ ghost use Rattle.aide_attr.specs.Set.{has};
 ghost use Rattle.aide_attr.specs.declared.attr.Attr.{Attr as AnyAttr};
 ghost use Rattle.aide_entry.specs.Attributes.{link_in, digest_in, opaque_in};
 ghost use Rattle.aide_entry.specs.View.{entry_in};
-ghost use Rattle.aide_report.specs.code.ChangeView.{change_of};
+ghost use Rattle.aide_merge.specs.code.ChangeView.{change_of};
 ghost use Rattle.aide_report.specs.Entries.{attribute_text, attributes_text, shown_text, title_of};
 ghost use Rattle.aide_report.specs.Entries.{title_word};
 ghost use Rattle.aide_report.specs.Sections.{one_text};
@@ -18,12 +18,11 @@ ghost use Rattle.aide_text.specs.TextRest.{text_rest};
 ghost use Rattle.aide_text.specs.ValueText.{text_at, side_text, option_text, printed_link};
 ghost use Rattle.aide_text.specs.ValueText.{digest_text};
 
-use crate::change::{Change, name_of, sides_of};
-use crate::difference::said_of;
 use aide_attr::{Attr, AttrSet, FileType, Form};
 use aide_conf::Options;
 use aide_db::View;
 use aide_line_text::type_at;
+use aide_merge::{Change, name_of, said_of, sides_of};
 use aide_text::{
     Contents, DecodedFeed, Pen, Printed, Ready, Sink, SliceFeed, ValueText, digest_text, kind_text,
     mode_text, number_text, put_encoded_path_line, put_newline, put_side_by_side,

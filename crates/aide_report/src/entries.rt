@@ -1,17 +1,17 @@
 //! What a section writes of each change.
-ghost use Rattle.std.specs.Prelude.{◌≡◌, ℕ, List, []};
-ghost use Rattle.aide_report.specs.code.ChangeView.{change_of};
-ghost use Rattle.aide_report.specs.Entries.{list_line, label_of, letters_of};
-ghost use Rattle.aide_report.specs.Sections.{all_listed, lists, one_text};
+ghost use Rattle.std.specs.Prelude.{◌≡◌};
+ghost use Rattle.aide_merge.specs.code.ChangeView.{change_of};
+ghost use Rattle.aide_report.specs.Entries.{list_line, label_of};
+ghost use Rattle.aide_merge.specs.Said.{letters_of, all_listed};
+ghost use Rattle.aide_report.specs.Sections.{lists, one_text};
 ghost use Rattle.aide_text.specs.PenSheet.{on_sheet};
 ghost use Rattle.aide_text.specs.Sheet.{Wrote};
 
-use crate::change::{Change, name_of, sides_of};
 use crate::change_writer::ChangeWriter;
 use crate::details::put_details;
-use crate::difference::letters;
 use aide_conf::Options;
 use aide_line_text::kind_word;
+use aide_merge::{Change, letters, name_of, sides_of};
 use aide_text::{Contents, Pen, Sink, put, put_encoded_path_end};
 
 /// Writes what comes before the path: the summary string, or a word.

@@ -1,8 +1,8 @@
 //! The end of what is written: one flush, if the writing came to its end.
 ghost use Rattle.aide_report.specs.code.Flushes.{EndsFlushed};
 
-use crate::run_fault::RunFault;
 use aide_db::DeviceFault;
+use aide_merge::RunFault;
 use aide_text::{Pen, Sink};
 
 /// Flushes what was written, unless the writing has ended with a fault. A failed flush is returned like a failed write.

@@ -1,57 +1,43 @@
 //! Readings of databases: each whole, or both in lock step.
-ghost use Rattle.std.specs.Prelude.{◌≡◌, ◌<◌, [], false, true, ℕ, List, Some, IfOk, IfErr, OnOk};
+ghost use Rattle.std.specs.Prelude.{◌≡◌, ℕ, List, ◌<◌, [], false, true, Some, IfOk, IfErr};
 ghost use Rattle.std.specs.List.{flat_map};
-ghost use Rattle.aide_db.specs.Answer.{Stands};
 ghost use Rattle.aide_db.specs.Count.{one_more};
-ghost use Rattle.aide_db.specs.Database.{IsSound};
-ghost use Rattle.aide_db.specs.Desk.{list_of};
 ghost use Rattle.aide_db.specs.DeskView.{DeskView};
-ghost use Rattle.aide_db.specs.Giving.{columns_of_text};
 ghost use Rattle.aide_db.specs.Map.{entries_of};
 ghost use Rattle.aide_entry.specs.Path.{path_cmp};
 ghost use Rattle.aide_db.specs.Side.{by_side};
-ghost use Rattle.aide_db.specs.declared.stage.Stage.TheVariants.{Ended as AtEnd};
-ghost use Rattle.aide_report.specs.Bound.{Fits, OpensWithin};
+ghost use Rattle.aide_merge.specs.Bound.{Fits, OpensWithin};
 ghost use Rattle.aide_report.specs.code.Counts.{Completes};
-ghost use Rattle.aide_report.specs.code.Digests.{AreDigests};
+ghost use Rattle.aide_merge.specs.code.Digests.{AreDigests};
 ghost use Rattle.aide_report.specs.code.LaterFault.{later_of};
-ghost use Rattle.aide_report.specs.code.MergeCalls.{IsCursorFault, KeepsCursor};
-ghost use Rattle.aide_report.specs.Merged.{merged};
-ghost use Rattle.aide_report.specs.code.Merging.{reels_failed};
+ghost use Rattle.aide_merge.specs.Merged.{merged};
 ghost use Rattle.aide_report.specs.code.PassFaults.{pass_fault_of};
-ghost use Rattle.aide_report.specs.code.Passes.{KeepsPen, Passes, WritesOver, on_sheet};
-ghost use Rattle.aide_report.specs.code.Readings.{GivesBoth, IsReadingFault, IsWholeReading};
-ghost use Rattle.aide_report.specs.Seen.{AreLimits, KeepsSources, OpensOnce, seen};
-ghost use Rattle.aide_report.specs.Standing.{IsUnfailed};
-ghost use Rattle.aide_text.specs.Failures.{Rose};
+ghost use Rattle.aide_report.specs.code.Passes.{KeepsPen, Passes, WritesOver};
+ghost use Rattle.aide_text.specs.PenSheet.{on_sheet};
+ghost use Rattle.aide_merge.specs.code.Starts.{GivesBoth};
+ghost use Rattle.aide_report.specs.code.Readings.{IsReadingFault, IsWholeReading};
+ghost use Rattle.aide_merge.specs.Seen.{AreLimits, KeepsSources, OpensOnce, seen};
 
 use crate::change_writer::{ChangeWriter, PassFault, put_entries};
 use crate::count::count;
-use crate::digests::{Digests, WholeReading, changed_side, digest_of};
-use crate::merge::{Merge, start_cursor};
 use crate::plan::Plan;
-use crate::run_fault::RunFault;
 use aide_conf::Options;
-use aide_db::{Cursor, DbFault, DbFaultKind, Desk, Limits, OpenFault, Reel, Side, Sources, Step};
+use aide_db::{DbFault, DbFaultKind, Desk, Limits, OpenFault, Side, Sources};
+use aide_merge::{
+    Digests, Merge, RunFault, changed_side, close_both, digest_of, read_to_end, start_cursor,
+};
 use aide_text::{Counts, Pen, Sink};
 use std::alloc::Allocator;
 
-/// Lets go of what a desk still holds from an earlier run.
-#[inline(never)]
-pub fn clear<A: Allocator + Copy>(limits: Limits, desk: &mut Desk<A>)
-    requires { AreLimits limits }
-    ensures old { list_of Side.Old desk.new ≡ [] }
-    ensures new { list_of Side.New desk.new ≡ [] }
-    ensures peak { desk.new.peak ≡ desk.old.peak }
-    ensures room { desk.new.room ≡ desk.old.room }
-{
-    let nothing: &[u8] = &[];
-    let _ = Cursor::start(Side::Old, nothing, limits, desk).into_reel();
-    let _ = Cursor::start(Side::New, nothing, limits, desk).into_reel();
+/// What the reading of a whole database found.
+#[derive(Clone, Copy)]
+pub(crate) struct WholeReading {
+    pub(crate) skipped: u64,
+    pub(crate) digest: [u8; 32],
 }
 
 /// Opens both sides, old then new. If the new one is refused, the old one is closed.
-pub fn open_both<S: Sources>(sources: &mut S) -> Result<(S::R, S::R), RunFault>
+pub(crate) fn open_both<S: Sources>(sources: &mut S) -> Result<(S::R, S::R), RunFault>
     ensures passes { (limits : Limits) (desk : DeskView) → Passes limits 1
         (seen S.Sources sources.old) (seen S.Sources sources.new) desk desk ⊥ result }
     ensures gives { IfOk result (λ reels.
@@ -72,21 +58,8 @@ pub fn open_both<S: Sources>(sources: &mut S) -> Result<(S::R, S::R), RunFault>
     }
 }
 
-/// Closes both reels, the old one first.
-pub fn close_both<S: Sources>(sources: &mut S, merge: Merge<S::R>)
-    ensures keeps { KeepsSources (seen S.Sources sources.old) (seen S.Sources sources.new) }
-    ensures openings { S.openings sources.new ≡ S.openings sources.old }
-    ensures rose { 0 < reels_failed S.R.failures merge
-        → Rose (S.failures sources.old) (S.failures sources.new) }
-    ensures unfailed { S.is_reliable sources.old ≡ true → reels_failed S.R.failures merge ≡ 0 }
-{
-    let (old_reel, new_reel) = merge.into_reels();
-    sources.close(old_reel);
-    sources.close(new_reel);
-}
-
 /// What a fault after the first readings means: a fault of the text shows that the side changed.
-pub fn later_fault(fault: DbFault) -> RunFault
+pub(crate) fn later_fault(fault: DbFault) -> RunFault
     ensures { result ≡ later_of fault }
 {
     match fault.kind {
@@ -103,27 +76,6 @@ pub(crate) fn pass_fault(fault: PassFault, sent: u64) -> RunFault
     match fault {
         PassFault::Database(fault) => later_fault(fault),
         PassFault::Write => RunFault::Write { written: sent },
-    }
-}
-
-/// Reads to the end of a database.
-pub(crate) fn read_to_end<R: Reel, A: Allocator + Copy>(
-    cursor: &mut Cursor<R>,
-    desk: &mut Desk<A>,
-) -> Result<(), DbFault>
-    requires { IsUnfailed cursor.old.stage }
-    ensures keeps { KeepsCursor R.Reel cursor.old cursor.new desk.old desk.new }
-    ensures sound { OnOk result ((text : List ℕ) → Stands R.to_come cursor.old desk.old text
-        → IsSound cursor.old.limits text × (cursor.new.columns ≡ columns_of_text text)) }
-    ensures ended { OnOk result (cursor.new.stage ≡ AtEnd) }
-    ensures fault { IfErr result (IsCursorFault R.Reel cursor.old cursor.new desk.old) }
-{
-    'read: loop {
-        match cursor.next(desk) {
-            Ok(Step::Record) => {}
-            Ok(Step::End) => return Ok(()),
-            Err(fault) => return Err(fault),
-        }
     }
 }
 

@@ -2,20 +2,21 @@
 ghost use Rattle.std.specs.Prelude.{◌≡◌, ◌+◌, [], false, true, length, OnOk};
 ghost use Rattle.aide_attr.specs.Level.{reaches};
 ghost use Rattle.aide_attr.specs.declared.level.Level.{Level as AnyLevel};
-ghost use Rattle.aide_report.specs.code.Digests.{AreDigests};
-ghost use Rattle.aide_report.specs.code.Finding.{pass_of};
-ghost use Rattle.aide_report.specs.code.Passes.{KeepsPen, Passes, WritesOver, on_sheet};
+ghost use Rattle.aide_merge.specs.code.Digests.{AreDigests};
+ghost use Rattle.aide_merge.specs.code.Merging.{pass_of};
+ghost use Rattle.aide_report.specs.code.Passes.{KeepsPen, Passes, WritesOver};
+ghost use Rattle.aide_text.specs.PenSheet.{on_sheet};
 ghost use Rattle.aide_report.specs.Report.{sections_text};
 ghost use Rattle.aide_report.specs.Sections.{has_entry, is_there, sections_of, section_text};
-ghost use Rattle.aide_report.specs.Seen.{AreLimits, seen};
+ghost use Rattle.aide_merge.specs.Seen.{AreLimits, seen};
 ghost use Rattle.aide_text.specs.Sheet.{WritesFirst};
 
 use crate::entries::SectionWriter;
 use crate::pass::entries_pass;
 use crate::plan::Plan;
-use crate::run_fault::RunFault;
 use aide_conf::Options;
-use aide_db::{Desk, Side, Sources};
+use aide_db::{Desk, Sources};
+use aide_merge::RunFault;
 use aide_text::{Contents, Counts, Pen, Section, Sink, put_section_head};
 use std::alloc::Allocator;
 

@@ -22,15 +22,17 @@ use Rattle.aide_patterns.proofs.Laws.{one_reading}
 use Rattle.aide_patterns.specs.Line.{RuleText}
 use Rattle.aide_patterns.specs.List.{HasFirstFault, HasRules, IsReading}
 use Rattle.aide_patterns.specs.declared.fault.ListFault.{ListFault}
-use Rattle.aide_report.specs.Asked.{Asked}
+use Rattle.aide_merge.specs.Asked.{Asked}
 use Rattle.aide_report.specs.Failures.{Rose}
-use Rattle.aide_report.specs.FaultStatus.{fault_status, kind_status}
-use Rattle.aide_report.specs.Missing.{IsHindered, RunsOver, run_answer}
-use Rattle.aide_report.specs.Runs.{Causes, Report, Runs}
+use Rattle.aide_merge.specs.FaultStatus.{fault_status, kind_status}
+use Rattle.aide_merge.specs.RightAnswer.{IsHindered, run_answer}
+use Rattle.aide_report.specs.Missing.{RunsOver}
+use Rattle.aide_merge.specs.RightAnswer.{Causes, Report}
+use Rattle.aide_report.specs.Runs.{Runs}
 use Rattle.aide_report.specs.Sent.{SendsPart}
-use Rattle.aide_report.specs.declared.outcome.Outcome.{Outcome}
-use Rattle.aide_report.specs.declared.run_fault.RunFault.{RunFault}
-use Rattle.aide_report.specs.declared.run_fault.RunFault.TheVariants.{Open, Database, Changed, Write}
+use Rattle.aide_merge.specs.declared.outcome.Outcome.{Outcome}
+use Rattle.aide_merge.specs.declared.run_fault.RunFault.{RunFault}
+use Rattle.aide_merge.specs.declared.run_fault.RunFault.TheVariants.{Open, Database, Changed, Write}
 use Rattle.aide_session.specs.Answer.{Named, asked_by, limits}
 use Rattle.aide_session.specs.BesideAnswer.{IsAnswerBeside, IsFileBeside, IsReadBeside, IsSizedBeside, IsTextBeside, ComparesBeside}
 use Rattle.aide_session.specs.BesideAnswer.{IsGivenBeside, IsListedBeside}

@@ -14,10 +14,10 @@ use Rattle.aide_patterns.specs.Line.{RuleText}
 use Rattle.aide_patterns.specs.List.{IsReading}
 use Rattle.aide_patterns.specs.code.Reading.{read_list}
 use Rattle.aide_patterns.specs.declared.fault.ListFault.{ListFault}
-use Rattle.aide_report.specs.Asked.{Asked}
+use Rattle.aide_merge.specs.Asked.{Asked}
 use Rattle.aide_report.specs.Missing.{RunsOver}
-use Rattle.aide_report.specs.Runs.{Report}
-use Rattle.aide_report.specs.declared.run_fault.RunFault.{RunFault}
+use Rattle.aide_merge.specs.RightAnswer.{Report}
+use Rattle.aide_merge.specs.declared.run_fault.RunFault.{RunFault}
 use Rattle.aide_report.proofs.MissingLemmas.{RunsOver-exists}
 use Rattle.aide_session.specs.Answer.{Named, asked_by, limits}
 use Rattle.aide_session.specs.BesideAnswer.{HasAnswerBeside, IsReadBeside, IsSizedBeside, IsTextBeside, TellsBeside}

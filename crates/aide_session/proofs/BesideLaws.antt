@@ -11,9 +11,9 @@ use Rattle.aide_patterns.proofs.Laws.{one_reading}
 use Rattle.aide_patterns.specs.Line.{RuleText}
 use Rattle.aide_patterns.specs.List.{HasFirstFault}
 use Rattle.aide_patterns.specs.declared.fault.ListFault.{ListFault}
-use Rattle.aide_report.specs.Asked.{Asked}
-use Rattle.aide_report.specs.Runs.{Report}
-use Rattle.aide_report.specs.declared.run_fault.RunFault.{RunFault}
+use Rattle.aide_merge.specs.Asked.{Asked}
+use Rattle.aide_merge.specs.RightAnswer.{Report}
+use Rattle.aide_merge.specs.declared.run_fault.RunFault.{RunFault}
 use Rattle.aide_report.proofs.MissingLemmas.{RunsOver-unique}
 use Rattle.aide_session.specs.Answer.{Named, asked_by, limits}
 use Rattle.aide_session.specs.AsksBeside.{AsksBeside}

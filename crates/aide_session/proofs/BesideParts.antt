@@ -16,13 +16,13 @@ use Rattle.aide_db.specs.Side.{by_side}
 use Rattle.aide_db.specs.declared.side.Side.{Side}
 use Rattle.aide_db.specs.declared.side.Side.TheVariants.{Old, New}
 use Rattle.aide_db.specs.declared.sources.Sources.{Ghosts as AnySources}
-use Rattle.aide_report.specs.Asked.{Asked}
+use Rattle.aide_merge.specs.Asked.{Asked}
 use Rattle.aide_report.specs.Failures.{Rose}
-use Rattle.aide_report.specs.Missing.{IsOfReliable}
-use Rattle.aide_report.specs.Seen.{seen, sink_seen}
-use Rattle.aide_report.specs.declared.outcome.Outcome.{Outcome}
-use Rattle.aide_report.specs.declared.run_fault.RunFault.{RunFault}
-use Rattle.aide_report.specs.declared.run_fault.RunFault.TheVariants.{Open, Database, Changed, Write}
+use Rattle.aide_merge.specs.RightAnswer.{IsOfReliable}
+use Rattle.aide_merge.specs.Seen.{seen, sink_seen}
+use Rattle.aide_merge.specs.declared.outcome.Outcome.{Outcome}
+use Rattle.aide_merge.specs.declared.run_fault.RunFault.{RunFault}
+use Rattle.aide_merge.specs.declared.run_fault.RunFault.TheVariants.{Open, Database, Changed, Write}
 use Rattle.aide_session.specs.Answer.{Named, asked_by, limits}
 use Rattle.aide_session.specs.BesideEnds.{BesideView, ClosesCompared, ComparesPairs, EarlyStop, EndsBesideBy, IsOfReliableFiles}
 use Rattle.aide_session.specs.BesideEnds.{MeansOfPair, StopCause}

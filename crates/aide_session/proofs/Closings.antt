@@ -9,12 +9,12 @@ use Rattle.aide_conf.specs.declared.fault.ConfFault.{ConfFault}
 use Rattle.aide_db.specs.declared.side.Side.{Side}
 use Rattle.aide_db.specs.declared.side.Side.TheVariants.{Old, New}
 use Rattle.aide_report.specs.Failures.{Rose}
-use Rattle.aide_report.specs.Openings.{OpensAtMost}
-use Rattle.aide_report.specs.Room.{IsNotOfMemory}
-use Rattle.aide_report.specs.RunFaults.{IsCaused, IsRight}
-use Rattle.aide_report.specs.Missing.{TellsSide}
-use Rattle.aide_report.specs.declared.run_fault.RunFault.{RunFault}
-use Rattle.aide_report.specs.declared.run_fault.RunFault.TheVariants.{Open, Database, Changed, Write}
+use Rattle.aide_merge.specs.Openings.{OpensAtMost}
+use Rattle.aide_merge.specs.Room.{IsNotOfMemory}
+use Rattle.aide_merge.specs.RunFaults.{IsCaused, IsRight}
+use Rattle.aide_merge.specs.RightAnswer.{TellsSide}
+use Rattle.aide_merge.specs.declared.run_fault.RunFault.{RunFault}
+use Rattle.aide_merge.specs.declared.run_fault.RunFault.TheVariants.{Open, Database, Changed, Write}
 use Rattle.aide_session.specs.Answer.{Named, limits, need_of}
 use Rattle.aide_session.specs.Closing.{Asks, AsksAndReads, AsksToCompare, ClosesBy, Closing, Course, course_between}
 use Rattle.aide_session.specs.Closing.{ClosingCause, ClosingOutput, HasText, IsTold, IsUntold, RunCause, untold_config}

@@ -5,11 +5,11 @@ use Rattle.aide_db.specs.declared.fault.DbFault.{DbFault}
 use Rattle.aide_db.specs.declared.side.Side.{Side}
 use Rattle.aide_entry.specs.declared.fault_kind.DbFaultKind.{DbFaultKind}
 use Rattle.aide_entry.specs.declared.fault_kind.DbFaultKind.TheVariants.{Read}
-use Rattle.aide_report.specs.Stops.{ComesOf}
-use Rattle.aide_report.specs.RunFaults.{IsCaused}
-use Rattle.aide_report.specs.Runs.{Causes, HasCause}
-use Rattle.aide_report.specs.declared.run_fault.RunFault.{RunFault}
-use Rattle.aide_report.specs.declared.run_fault.RunFault.TheVariants.{Open, Database, Changed, Write}
+use Rattle.aide_line_run.specs.Stops.{ComesOf}
+use Rattle.aide_merge.specs.RunFaults.{IsCaused}
+use Rattle.aide_merge.specs.RightAnswer.{Causes, HasCause}
+use Rattle.aide_merge.specs.declared.run_fault.RunFault.{RunFault}
+use Rattle.aide_merge.specs.declared.run_fault.RunFault.TheVariants.{Open, Database, Changed, Write}
 
 read_cause : (kind : DbFaultKind) (site first : Type 0) → Causes kind site first → kind ≡ Read → site
 read_cause kind site first stands is = subst (λ (k : DbFaultKind). Causes k site first) is stands

@@ -11,21 +11,22 @@ use Rattle.aide_db.specs.declared.side.Side.{Side}
 use Rattle.aide_db.specs.declared.side.Side.TheVariants.{Old, New}
 use Rattle.aide_conf.specs.Settings.{Configured}
 use Rattle.aide_conf.specs.declared.options.Options.{Options}
-use Rattle.aide_report.specs.Asked.{Asked}
+use Rattle.aide_merge.specs.Asked.{Asked}
 use Rattle.aide_report.specs.Failures.{Rose}
 use Rattle.aide_text.specs.Sent.{SendsPart}
-use Rattle.aide_report.specs.Missing.{IsHindered, IsOfReliable, RunsOver, SendsFront, SendsWhole, StopsFor, TellsSide}
-use Rattle.aide_report.specs.Missing.{run_answer}
-use Rattle.aide_report.specs.RunFaults.{IsCaused}
-use Rattle.aide_report.specs.Runs.{Report}
+use Rattle.aide_merge.specs.RightAnswer.{IsHindered, IsOfReliable, StopsFor, TellsSide}
+use Rattle.aide_report.specs.Missing.{RunsOver, SendsFront, SendsWhole}
+use Rattle.aide_merge.specs.RightAnswer.{run_answer}
+use Rattle.aide_merge.specs.RunFaults.{IsCaused}
+use Rattle.aide_merge.specs.RightAnswer.{Report}
 use Rattle.aide_entry.specs.Cause.{is_memory}
 use Rattle.aide_db.specs.Side.{by_side}
-use Rattle.aide_report.specs.Room.{IsNotOfMemory}
-use Rattle.aide_report.specs.FaultStatus.{fault_status, kind_status}
-use Rattle.aide_report.specs.Report.{status_of}
-use Rattle.aide_report.specs.declared.outcome.Outcome.{Outcome}
-use Rattle.aide_report.specs.declared.run_fault.RunFault.{RunFault}
-use Rattle.aide_report.specs.declared.run_fault.RunFault.TheVariants.{Open, Database, Changed, Write}
+use Rattle.aide_merge.specs.Room.{IsNotOfMemory}
+use Rattle.aide_merge.specs.FaultStatus.{fault_status, kind_status}
+use Rattle.aide_merge.specs.Outcomes.{status_of}
+use Rattle.aide_merge.specs.declared.outcome.Outcome.{Outcome}
+use Rattle.aide_merge.specs.declared.run_fault.RunFault.{RunFault}
+use Rattle.aide_merge.specs.declared.run_fault.RunFault.TheVariants.{Open, Database, Changed, Write}
 use Rattle.aide_session.specs.Answer.{Answer, Named, IsCompared, asked_by, limits, refused, answer_of_run, checked_by}
 use Rattle.aide_session.specs.Closing.{IsTold, IsUntold}
 use Rattle.aide_session.specs.Ends.{Sinks, Failure, failure_line, FailureCause, HasFailed, Ends, Whole, Starved}

@@ -12,8 +12,9 @@ use Rattle.aide_conf.proofs.Laws.{every_configuration_has_an_answer, what_is_com
 use Rattle.aide_db.specs.declared.fault.DbFault.{DbFault}
 use Rattle.aide_db.specs.declared.side.Side.TheVariants.{Old, New}
 use Rattle.aide_db.proofs.FaultExists.{sound_or_fault}
-use Rattle.aide_report.specs.Asked.{Asked}
-use Rattle.aide_report.specs.Runs.{Report, Runs, report_over}
+use Rattle.aide_merge.specs.Asked.{Asked}
+use Rattle.aide_merge.specs.RightAnswer.{Report}
+use Rattle.aide_report.specs.Runs.{Runs, report_over}
 use Rattle.aide_session.specs.Answer.{Answer, Named, Compares, IsCompared, IsFileAnswerBy, IsJobAnswerBy, IsReadAnswerBy}
 use Rattle.aide_session.specs.Answer.{IsSizedAnswerBy, answer_of_run, asked_by, checked_by, limits, need_of}
 use Rattle.aide_session.specs.Answer.{refused}

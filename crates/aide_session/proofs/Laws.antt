@@ -6,7 +6,8 @@ use Rattle.std.proofs.Math.Path.{subst}
 use Rattle.aide_conf.specs.Settings.{Configured}
 use Rattle.aide_conf.specs.ReadResult.{ReadsAs}
 use Rattle.aide_db.specs.declared.fault.DbFault.{DbFault}
-use Rattle.aide_report.specs.Runs.{Report, Runs}
+use Rattle.aide_merge.specs.RightAnswer.{Report}
+use Rattle.aide_report.specs.Runs.{Runs}
 use Rattle.aide_session.specs.Answer.{Answer, Named, need_of, limits, asked_by, answer_of_run, IsAnswerBy}
 use Rattle.aide_session.specs.Answer.{Compares, IsJobAnswerBy, IsReadAnswerBy, IsSizedAnswerBy}
 use Rattle.aide_session.specs.Answer.{IsTextAnswerBy}

@@ -12,9 +12,10 @@ use Rattle.aide_db.specs.declared.fault.DbFault.{DbFault}
 use Rattle.aide_db.specs.Database.{IsSound}
 use Rattle.aide_db.specs.declared.limits.Limits.{Limits}
 use Rattle.aide_db.specs.declared.side.Side.TheVariants.{Old, New}
-use Rattle.aide_report.specs.Asked.{Asked}
-use Rattle.aide_report.specs.Runs.{Report, Runs, IsFirstFaultOf}
-use Rattle.aide_report.specs.Report.{status_of}
+use Rattle.aide_merge.specs.Asked.{Asked}
+use Rattle.aide_merge.specs.RightAnswer.{Report, IsFirstFaultOf}
+use Rattle.aide_report.specs.Runs.{Runs}
+use Rattle.aide_merge.specs.Outcomes.{status_of}
 use Rattle.aide_session.specs.Files.{Files, is_too_large}
 use Rattle.aide_words.specs.Job.{JobText}
 use Rattle.aide_session.specs.Lines.{usage_line, unread_line, too_large_line, conf_line, open_line}

@@ -12,10 +12,10 @@ use Rattle.aide_db.specs.declared.side.Side.{Side}
 use Rattle.aide_patterns.specs.Line.{RuleText}
 use Rattle.aide_patterns.specs.List.{IsReading}
 use Rattle.aide_patterns.specs.declared.fault.ListFault.{ListFault}
-use Rattle.aide_report.specs.Asked.{Asked}
-use Rattle.aide_report.specs.Entries.{PathChange}
-use Rattle.aide_report.specs.Report.{status_of}
-use Rattle.aide_report.specs.Runs.{Report}
+use Rattle.aide_merge.specs.Asked.{Asked}
+use Rattle.aide_merge.specs.Said.{PathChange}
+use Rattle.aide_merge.specs.Outcomes.{status_of}
+use Rattle.aide_merge.specs.RightAnswer.{Report}
 use Rattle.aide_session.specs.Answer.{Named, asked_by, limits}
 use Rattle.aide_session.specs.Files.{Files, is_too_large}
 use Rattle.aide_session.specs.GivenList.{list_line, list_of}

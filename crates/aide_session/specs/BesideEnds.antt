@@ -15,14 +15,14 @@ use Rattle.aide_entry.specs.declared.fault_kind.DbFaultKind.TheVariants.{Read}
 use Rattle.aide_patterns.specs.List.{HasFirstFault}
 use Rattle.aide_patterns.specs.declared.fault.ListFault.{ListFault}
 use Rattle.aide_report.specs.Failures.{Rose}
-use Rattle.aide_report.specs.Stops.{KeepsUnopened}
-use Rattle.aide_report.specs.Missing.{IsHindered}
-use Rattle.aide_report.specs.Openings.{IsNotGiven, IsRefusedThere, OpensAtMost, OpensExactly}
-use Rattle.aide_report.specs.Report.{status_of}
-use Rattle.aide_report.specs.Runs.{Report}
-use Rattle.aide_report.specs.declared.outcome.Outcome.{Outcome}
-use Rattle.aide_report.specs.declared.run_fault.RunFault.{RunFault}
-use Rattle.aide_report.specs.declared.run_fault.RunFault.TheVariants.{Open, Database}
+use Rattle.aide_line_run.specs.Stops.{KeepsUnopened}
+use Rattle.aide_merge.specs.RightAnswer.{IsHindered}
+use Rattle.aide_merge.specs.Openings.{IsNotGiven, IsRefusedThere, OpensAtMost, OpensExactly}
+use Rattle.aide_merge.specs.Outcomes.{status_of}
+use Rattle.aide_merge.specs.RightAnswer.{Report}
+use Rattle.aide_merge.specs.declared.outcome.Outcome.{Outcome}
+use Rattle.aide_merge.specs.declared.run_fault.RunFault.{RunFault}
+use Rattle.aide_merge.specs.declared.run_fault.RunFault.TheVariants.{Open, Database}
 use Rattle.aide_session.specs.Answer.{Named, asked_by, limits}
 use Rattle.aide_session.specs.BesideAnswer.{AnswerBeside, GoesOutBeside, StartsBeside, trusted_of}
 use Rattle.aide_session.specs.Closing.{AreBothSound, Course, HasText, RunCause}

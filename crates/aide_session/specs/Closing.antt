@@ -13,20 +13,20 @@ use Rattle.aide_entry.specs.declared.fault_kind.DbFaultKind.TheVariants.{Read}
 use Rattle.aide_db.specs.declared.side.Side.{Side}
 use Rattle.aide_db.specs.declared.side.Side.TheVariants.{Old, New}
 use Rattle.aide_report.specs.Agreement.{IsOfOutcome, OpensByOutcome}
-use Rattle.aide_report.specs.FaultStatus.{fault_status}
-use Rattle.aide_report.specs.Openings.{IsNotGiven, IsRefusedThere, OpensAtMost, OpensExactly}
-use Rattle.aide_report.specs.Openings.{OpensFirst}
-use Rattle.aide_report.specs.RunFaults.{HasSentNothing}
+use Rattle.aide_merge.specs.FaultStatus.{fault_status}
+use Rattle.aide_merge.specs.Openings.{IsNotGiven, IsRefusedThere, OpensAtMost, OpensExactly}
+use Rattle.aide_merge.specs.Openings.{OpensFirst}
+use Rattle.aide_merge.specs.RunFaults.{HasSentNothing}
 use Rattle.aide_report.specs.Runs.{openings_over}
-use Rattle.aide_report.specs.Standing.{IsFaultOf}
-use Rattle.aide_report.specs.Room.{IsNotMemory}
+use Rattle.aide_merge.specs.Standing.{IsFaultOf}
+use Rattle.aide_merge.specs.Room.{IsNotMemory}
 use Rattle.aide_report.specs.Failures.{one_more}
-use Rattle.aide_report.specs.Report.{status_of}
+use Rattle.aide_merge.specs.Outcomes.{status_of}
 use Rattle.aide_report.specs.Sent.{SendsPart}
-use Rattle.aide_report.specs.declared.outcome.Outcome.{Outcome}
-use Rattle.aide_report.specs.declared.run_fault.RunFault.{RunFault}
-use Rattle.aide_report.specs.declared.run_fault.RunFault.TheVariants.{Open, Database, Changed}
-use Rattle.aide_report.specs.declared.run_fault.RunFault.TheVariants.{Write}
+use Rattle.aide_merge.specs.declared.outcome.Outcome.{Outcome}
+use Rattle.aide_merge.specs.declared.run_fault.RunFault.{RunFault}
+use Rattle.aide_merge.specs.declared.run_fault.RunFault.TheVariants.{Open, Database, Changed}
+use Rattle.aide_merge.specs.declared.run_fault.RunFault.TheVariants.{Write}
 use Rattle.aide_session.specs.Answer.{Named, asked_by, limits, need_of}
 use Rattle.aide_session.specs.Ends.{Sinks, Puts}
 use Rattle.aide_session.specs.Files.{Files, IsLarge, is_too_large}

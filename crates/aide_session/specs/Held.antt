@@ -2,7 +2,7 @@
 use Rattle.std.specs.Prelude.{ℕ, ◌≤◌, ◌*◌, max, List}
 use Rattle.aide_db.specs.Longest.{longest_line}
 use Rattle.aide_db.specs.declared.side.Side.TheVariants.{Old, New}
-use Rattle.aide_report.specs.Bound.{three_lines}
+use Rattle.aide_merge.specs.Bound.{three_lines}
 use Rattle.aide_session.specs.Answer.{Named, limits}
 use Rattle.aide_session.specs.Closing.{HasText}
 use Rattle.aide_session.specs.Files.{Files}

@@ -1,10 +1,10 @@
 -- The lines on standard error about a trusted pair, and the statuses that go with them.
 use Rattle.std.specs.Prelude.{ℕ, List, ◌++◌, codes, decimal}
-use Rattle.aide_report.specs.FaultStatus.{fault_status}
+use Rattle.aide_merge.specs.FaultStatus.{fault_status}
 use Rattle.aide_report.specs.Printed.{printed}
-use Rattle.aide_report.specs.declared.run_fault.RunFault.{RunFault}
-use Rattle.aide_report.specs.declared.run_fault.RunFault.TheVariants.{Open, Database, Changed}
-use Rattle.aide_report.specs.declared.run_fault.RunFault.TheVariants.{Write}
+use Rattle.aide_merge.specs.declared.run_fault.RunFault.{RunFault}
+use Rattle.aide_merge.specs.declared.run_fault.RunFault.TheVariants.{Open, Database, Changed}
+use Rattle.aide_merge.specs.declared.run_fault.RunFault.TheVariants.{Write}
 use Rattle.aide_db.specs.Side.{by_side}
 use Rattle.aide_db.specs.declared.side.Side.{Side}
 use Rattle.aide_entry.specs.Fault.{column_of_kind, words_of_kind}

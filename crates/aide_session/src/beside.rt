@@ -1,6 +1,6 @@
 //! Comparing the two databases that the settings name and the two of a trusted pair.
 ghost use Rattle.std.specs.Prelude.{◌≡◌, ◌≤◌, ◌⊎◌, ℕ, true, List, Some, None, OnOk};
-ghost use Rattle.aide_report.specs.Asked.{asked};
+ghost use Rattle.aide_merge.specs.Asked.{asked};
 ghost use Rattle.aide_report.specs.Failures.{Rose};
 ghost use Rattle.aide_session.specs.BesideEnds.{ClosesCompared, StopsWith};
 ghost use Rattle.aide_session.specs.Lines.{memory_line};

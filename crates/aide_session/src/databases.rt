@@ -2,7 +2,7 @@
 ghost use Rattle.std.specs.Prelude.{◌≡◌, ◌≤◌, ℕ, List, Option, Some, IsSome, Ok, true};
 ghost use Rattle.aide_db.specs.Side.{by_side};
 ghost use Rattle.aide_db.specs.declared.side.Side.{Side};
-ghost use Rattle.aide_report.specs.Asked.{asked};
+ghost use Rattle.aide_merge.specs.Asked.{asked};
 ghost use Rattle.aide_session.specs.Answer.{Compares};
 ghost use Rattle.aide_session.specs.Closing.{AsksAndReads};
 ghost use Rattle.aide_session.specs.code.Parts.{AreSame, ClosesFor, EndsWith, HoldsWith};

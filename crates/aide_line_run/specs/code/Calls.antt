@@ -4,9 +4,9 @@ use Rattle.aide_db.specs.DeskView.{DeskView}
 use Rattle.aide_db.specs.declared.reel.Reel.{Ghosts as Reels}
 use Rattle.aide_db.specs.declared.side.Side.TheVariants.{Old, New}
 use Rattle.aide_text.specs.declared.pen.Pen.{Pen}
-use Rattle.aide_report.specs.code.MergeCalls.{IsMergeFault}
-use Rattle.aide_report.specs.code.Merging.{IsNotDue, IsReady, StandsAt, remaining}
-use Rattle.aide_report.specs.declared.merge.Merge.{Merge}
+use Rattle.aide_merge.specs.code.MergeCalls.{IsMergeFault}
+use Rattle.aide_merge.specs.code.Merging.{IsNotDue, IsReady, StandsAt, remaining}
+use Rattle.aide_merge.specs.declared.merge.Merge.{Merge}
 use Rattle.aide_line_run.specs.Sought.{seek}
 use Rattle.aide_line_run.specs.declared.walk.Merges.{Merges}
 use Rattle.aide_line_run.specs.declared.walk.PairStop.{PairStop}

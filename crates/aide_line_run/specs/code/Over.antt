@@ -6,10 +6,10 @@ use Rattle.aide_db.specs.DeskView.{DeskView}
 use Rattle.aide_db.specs.declared.reel.Reel.{Ghosts as Reels}
 use Rattle.aide_db.specs.declared.side.Side.TheVariants.{Old, New}
 use Rattle.aide_entry.specs.Path.{path_cmp}
-use Rattle.aide_report.specs.ChangeLines.{change_lines}
-use Rattle.aide_report.specs.Entries.{PathChange}
-use Rattle.aide_report.specs.code.Merging.{StandsAt, remaining}
-use Rattle.aide_report.specs.declared.merge.Merge.{Merge}
+use Rattle.aide_line_run.specs.ChangeLines.{change_lines}
+use Rattle.aide_merge.specs.Said.{PathChange}
+use Rattle.aide_merge.specs.code.Merging.{StandsAt, remaining}
+use Rattle.aide_merge.specs.declared.merge.Merge.{Merge}
 use Rattle.aide_line_run.specs.Listed.{Leaves, ListRead, leaves_between}
 use Rattle.aide_line_run.specs.Sought.{Accounted, accounted_lines, changes_of, sought_by}
 use Rattle.aide_line_run.specs.declared.walk.Merges.{Merges}

@@ -5,12 +5,12 @@ use Rattle.aide_db.specs.DeskView.{DeskView}
 use Rattle.aide_db.specs.declared.limits.Limits.{Limits}
 use Rattle.aide_db.specs.declared.reel.Reel.{Ghosts as Reels}
 use Rattle.aide_db.specs.declared.side.Side.{Side}
-use Rattle.aide_report.specs.Openings.{OpensAtMost, OpensExactly}
-use Rattle.aide_report.specs.Seen.{KeepsSources, Seen}
-use Rattle.aide_report.specs.code.MergeCalls.{IsOpened}
-use Rattle.aide_report.specs.code.OneReading.{IsReadFault}
-use Rattle.aide_report.specs.code.Passes.{KeepsDesk}
-use Rattle.aide_report.specs.declared.merge.Merge.{Merge}
+use Rattle.aide_merge.specs.Openings.{OpensAtMost, OpensExactly}
+use Rattle.aide_merge.specs.Seen.{KeepsSources, Seen}
+use Rattle.aide_merge.specs.code.MergeCalls.{IsOpened}
+use Rattle.aide_line_run.specs.code.OneReading.{IsReadFault}
+use Rattle.aide_merge.specs.code.Desks.{KeepsDesk}
+use Rattle.aide_merge.specs.declared.merge.Merge.{Merge}
 use Rattle.aide_line_run.specs.Pairs.{OfEach}
 use Rattle.aide_line_run.specs.declared.pair_fault.PairFault.{PairFault}
 

@@ -4,10 +4,11 @@ use Rattle.aide_db.specs.Database.{IsSound}
 use Rattle.aide_db.specs.DeskView.{DeskView}
 use Rattle.aide_db.specs.declared.reel.Reel.{Ghosts as Reels}
 use Rattle.aide_db.specs.declared.side.Side.{Side}
-use Rattle.aide_report.specs.Bound.{FitsAfterBoth}
-use Rattle.aide_report.specs.code.Merging.{IsReady, StandsAt, limits_at}
-use Rattle.aide_report.specs.code.OneReading.{IsFirstOfBoth, IsSettled, IsStopped}
-use Rattle.aide_report.specs.declared.merge.Merge.{Merge}
+use Rattle.aide_merge.specs.Bound.{FitsAfterBoth}
+use Rattle.aide_merge.specs.code.Merging.{IsReady, StandsAt, limits_at}
+use Rattle.aide_line_run.specs.code.OneReading.{IsFirstOfBoth}
+use Rattle.aide_merge.specs.code.Settling.{IsSettled, IsStopped}
+use Rattle.aide_merge.specs.declared.merge.Merge.{Merge}
 use Rattle.aide_text.specs.declared.pen.Pen.{Pen}
 use Rattle.aide_line_run.specs.declared.walk.Merges.{Merges}
 use Rattle.aide_line_run.specs.declared.walk.PairStop.{PairStop}

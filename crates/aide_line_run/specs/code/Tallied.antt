@@ -3,11 +3,11 @@ use Rattle.std.specs.Prelude.{Bool, ◌&&◌, List, Option, count_by}
 use Rattle.aide_line_text.specs.declared.account.Account.{Account}
 use Rattle.aide_conf.specs.declared.options.Options.{Options}
 use Rattle.aide_line_text.specs.declared.counts.LineCounts.{LineCounts}
-use Rattle.aide_report.specs.Changed.{differ_by}
-use Rattle.aide_report.specs.Changes.{is_added, is_removed, is_changed, is_of_new}
-use Rattle.aide_report.specs.Entries.{PathChange}
-use Rattle.aide_report.specs.LineCounts.{is_left_out, is_old, is_other, is_trusted}
-use Rattle.aide_report.specs.Sections.{all_listed, is_in}
+use Rattle.aide_merge.specs.Changed.{differ_by}
+use Rattle.aide_merge.specs.Changes.{is_added, is_removed, is_changed, is_of_new}
+use Rattle.aide_merge.specs.Said.{PathChange}
+use Rattle.aide_line_run.specs.LineCounts.{is_left_out, is_old, is_other, is_trusted}
+use Rattle.aide_merge.specs.Said.{all_listed, is_in}
 use Rattle.aide_line_run.specs.Sought.{Accounted}
 
 -- whether the change passes

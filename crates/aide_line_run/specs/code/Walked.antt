@@ -7,9 +7,9 @@ use Rattle.aide_db.specs.declared.reel.Reel.{Ghosts as Reels}
 use Rattle.aide_db.specs.declared.side.Side.TheVariants.{Old, New}
 use Rattle.aide_entry.specs.Path.{path_cmp}
 use Rattle.aide_line_text.specs.declared.counts.LineCounts.{LineCounts}
-use Rattle.aide_report.specs.code.LineTally.{sum_of_counts, tally}
-use Rattle.aide_report.specs.code.MergeCalls.{KeepsMerge}
-use Rattle.aide_report.specs.code.Merging.{IsEnded, IsReady, StandsAt, remaining, total_work}
+use Rattle.aide_line_run.specs.code.LineTally.{sum_of_counts, tally}
+use Rattle.aide_merge.specs.code.MergeCalls.{KeepsMerge}
+use Rattle.aide_merge.specs.code.Merging.{IsEnded, IsReady, StandsAt, remaining, total_work}
 use Rattle.aide_text.specs.Sheet.{Sheet, Wrote}
 use Rattle.aide_text.specs.declared.pen.Pen.{Pen}
 use Rattle.aide_line_run.specs.Listed.{ListRead, leaves_between}

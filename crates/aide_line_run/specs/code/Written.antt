@@ -2,12 +2,13 @@
 use Rattle.std.specs.Prelude.{◌≡◌, ℕ, List, ◌++◌, Option, Result, Ok, Err, IfErr, OnOk, true, ⊤}
 use Rattle.aide_db.specs.DeskView.{DeskView}
 use Rattle.aide_db.specs.declared.reel.Reel.{Ghosts as Reels}
-use Rattle.aide_report.specs.Asked.{Asked}
-use Rattle.aide_report.specs.RunFaults.{HasWrittenIfAny}
-use Rattle.aide_report.specs.code.LineTally.{tally}
-use Rattle.aide_report.specs.code.Merging.{IsEnded}
-use Rattle.aide_report.specs.code.OneReading.{AreReadAt, IsFirstOfBoth, new_read, old_read}
-use Rattle.aide_report.specs.declared.run_fault.RunFault.TheVariants.{Database, Write}
+use Rattle.aide_merge.specs.Asked.{Asked}
+use Rattle.aide_merge.specs.RunFaults.{HasWrittenIfAny}
+use Rattle.aide_line_run.specs.code.LineTally.{tally}
+use Rattle.aide_merge.specs.code.Merging.{IsEnded}
+use Rattle.aide_merge.specs.code.BothRead.{AreReadAt}
+use Rattle.aide_line_run.specs.code.OneReading.{IsFirstOfBoth, new_read, old_read}
+use Rattle.aide_merge.specs.declared.run_fault.RunFault.TheVariants.{Database, Write}
 use Rattle.aide_text.specs.Failures.{CountsFlush}
 use Rattle.aide_text.specs.Sent.{SendsPart}
 use Rattle.aide_text.specs.declared.sink.Sink.{Ghosts as Sinks}

@@ -2,10 +2,10 @@
 use Rattle.std.specs.Prelude.{◌≡◌, ℕ, ◌+◌, ◌<◌, List, count_by}
 use Rattle.aide_conf.specs.declared.options.Options.{Options}
 use Rattle.aide_entry.specs.Attributes.{Attributes}
-use Rattle.aide_report.specs.Changed.{differ_by}
-use Rattle.aide_report.specs.Changes.{is_added, is_removed, is_changed, is_of_new}
-use Rattle.aide_report.specs.Compare.{Change}
-use Rattle.aide_report.specs.Entries.{is_shown_entry}
+use Rattle.aide_merge.specs.Changed.{differ_by}
+use Rattle.aide_merge.specs.Changes.{is_added, is_removed, is_changed, is_of_new}
+use Rattle.aide_merge.specs.Compare.{Change}
+use Rattle.aide_merge.specs.Said.{is_shown_entry}
 use Rattle.aide_text.specs.declared.counts.Counts.{Counts}
 
 -- the counts so far plus the counts of the rest are the counts of all changes

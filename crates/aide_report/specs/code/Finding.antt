@@ -3,12 +3,10 @@ use Rattle.std.specs.Prelude.{ℕ, ◌≡◌, List}
 use Rattle.aide_conf.specs.declared.options.Options.{Options}
 use Rattle.aide_conf.specs.declared.task.Task.{Task}
 use Rattle.aide_db.specs.Giving.{columns_of_text}
-use Rattle.aide_db.specs.Map.{database_of, entries_of}
-use Rattle.aide_entry.specs.Path.{path_cmp}
+use Rattle.aide_db.specs.Map.{database_of}
 use Rattle.aide_entry.specs.Skipped.{skipped_in}
-use Rattle.aide_report.specs.Entries.{PathChange}
-use Rattle.aide_report.specs.Merged.{merged}
-use Rattle.aide_report.specs.Report.{Origin, counts_of}
+use Rattle.aide_report.specs.Report.{Origin}
+use Rattle.aide_merge.specs.Outcomes.{counts_of}
 use Rattle.aide_report.specs.declared.finding.Finding.{Finding}
 
 -- for two sound texts: the counts of their maps, and the columns that were skipped
@@ -24,7 +22,3 @@ old_origin task finding = record { path = task.old_path.now; digest = finding.di
 -- what the report says about the new database itself
 abbrev pub new_origin : Task → Finding → Origin
 new_origin task finding = record { path = task.new_path.now; digest = finding.digests.of_new }
-
--- the changes that a pass over two texts meets
-abbrev pub pass_of : List ℕ → List ℕ → List PathChange
-pass_of old new = merged path_cmp (entries_of old) (entries_of new)

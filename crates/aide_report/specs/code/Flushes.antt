@@ -3,8 +3,8 @@ use Rattle.std.specs.Prelude.{◌≡◌, ℕ, true, Result, Ok, Err, IfErr, IfOk
 use Rattle.std.specs.Io.KnownBytes.{Keeps}
 use Rattle.aide_text.specs.Failures.{CountsFault, CountsFlush}
 use Rattle.aide_text.specs.declared.sink.Sink.{Ghosts as Sinks}
-use Rattle.aide_report.specs.declared.run_fault.RunFault.{RunFault}
-use Rattle.aide_report.specs.declared.run_fault.RunFault.TheVariants.{Write}
+use Rattle.aide_merge.specs.declared.run_fault.RunFault.{RunFault}
+use Rattle.aide_merge.specs.declared.run_fault.RunFault.TheVariants.{Write}
 
 -- A flush after all was written, which returns the answer of the writing, or says how many bytes were written.
 pub record Flushes {W T : Type 0} (s : Sinks W) (a b : W) (sent : ℕ) (answer : T)

@@ -9,26 +9,16 @@ pub use Rattle.aide_text.specs.PenSheet.{on_sheet}
 use Rattle.aide_text.specs.Sheet.{Sheet, WritesSome}
 use Rattle.aide_text.specs.declared.pen.Pen.{Pen}
 use Rattle.aide_text.specs.declared.sink.Sink.{Ghosts as Sinks}
-use Rattle.aide_report.specs.Bound.{Fits, OpensWithin}
-use Rattle.aide_report.specs.Missing.{IsOfReliable}
-use Rattle.aide_report.specs.Openings.{ComesOpened, OpensExactly, OpensAtMost, IsRefusedThere}
-use Rattle.aide_report.specs.Openings.{IsNotGiven}
+use Rattle.aide_merge.specs.RightAnswer.{IsOfReliable}
+use Rattle.aide_merge.specs.Openings.{ComesOpened, OpensExactly, OpensAtMost, IsRefusedThere}
+use Rattle.aide_merge.specs.Openings.{IsNotGiven}
 use Rattle.aide_report.specs.code.PassFaults.{Writes}
-use Rattle.aide_report.specs.Room.{IsNotOfMemory}
-use Rattle.aide_report.specs.RunFaults.{CountsWrites, HasPenWritten, HasWrittenIfAny, IsCaused}
-use Rattle.aide_report.specs.RunFaults.{IsLater}
-use Rattle.aide_report.specs.Seen.{Seen, KeepsSources}
-use Rattle.aide_report.specs.declared.run_fault.RunFault.{RunFault}
-
--- What a pass leaves of the desk.
-pub record KeepsDesk (limits : Limits) (bytes_of : Side → Option (List ℕ))
-    (d e : DeskView) : Type 0 where
-  -- the reserved room stays
-  pub room : e.room ≡ d.room
-  -- a desk that fits the longest line of each text still fits them after the pass
-  pub fits : (old_line new_line before : ℕ)
-      → OpensWithin bytes_of limits Old old_line → OpensWithin bytes_of limits New new_line
-      → Fits old_line new_line before d → Fits old_line new_line before e
+use Rattle.aide_merge.specs.Room.{IsNotOfMemory}
+use Rattle.aide_merge.specs.RunFaults.{CountsWrites, HasPenWritten, HasWrittenIfAny, IsCaused}
+use Rattle.aide_merge.specs.RunFaults.{IsLater}
+use Rattle.aide_merge.specs.Seen.{Seen, KeepsSources}
+use Rattle.aide_merge.specs.declared.run_fault.RunFault.{RunFault}
+use Rattle.aide_merge.specs.code.Desks.{KeepsDesk}
 
 -- What a fault of a pass means. A pass comes after both databases were read whole.
 pub record IsPassFault (limits : Limits) (a b : Seen) (room : ℕ) (sink : Type 0)

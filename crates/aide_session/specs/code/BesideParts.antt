@@ -4,8 +4,8 @@ use Rattle.aide_db.specs.DeskView.{DeskView}
 use Rattle.aide_db.specs.declared.side.Side.{Side}
 use Rattle.aide_db.specs.declared.side.Side.TheVariants.{Old, New}
 use Rattle.aide_db.specs.declared.sources.Sources.{Ghosts as AnySources}
-use Rattle.aide_report.specs.Asked.{Asked}
-use Rattle.aide_report.specs.Missing.{TellsSide}
+use Rattle.aide_merge.specs.Asked.{Asked}
+use Rattle.aide_merge.specs.RightAnswer.{TellsSide}
 use Rattle.aide_session.specs.Answer.{IsAnswerBy, Named}
 use Rattle.aide_session.specs.BesideEnds.{BesideView}
 use Rattle.aide_session.specs.BesideSession.{DeskPeaks, beside_view, check_job_of}

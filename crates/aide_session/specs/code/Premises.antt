@@ -5,8 +5,8 @@ use Rattle.aide_conf.specs.Settings.{Configured}
 use Rattle.aide_conf.specs.declared.fault.ConfFault.{ConfFault}
 use Rattle.aide_db.specs.declared.side.Side.{Side}
 use Rattle.aide_db.specs.declared.side.Side.TheVariants.{Old, New}
-use Rattle.aide_report.specs.Asked.{Asked}
-use Rattle.aide_report.specs.Missing.{TellsSide}
+use Rattle.aide_merge.specs.Asked.{Asked}
+use Rattle.aide_merge.specs.RightAnswer.{TellsSide}
 use Rattle.aide_session.specs.Answer.{Answer, IsCompared, Named, need_of}
 use Rattle.aide_session.specs.Closing.{AsksToCompare, HasText}
 use Rattle.aide_session.specs.Files.{Files, is_too_large}

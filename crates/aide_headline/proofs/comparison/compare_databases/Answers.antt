@@ -1,6 +1,6 @@
 use Rattle.std.proofs.Common.{inl, inr, refl}
 use Rattle.std.specs.Prelude.{Some, Ok, Err}
-use Rattle.aide_report.specs.Asked.{asked}
+use Rattle.aide_merge.specs.Asked.{asked}
 use Rattle.aide_report.specs.Runs.{report_over}
 use Rattle.aide_report.specs.Failures.{Rose}
 use Rattle.aide_headline.proofs.Laws.{ends_with_the_right_answer, no_failure_is_no_rise}

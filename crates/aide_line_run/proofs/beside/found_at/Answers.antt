@@ -1,7 +1,7 @@
 use Rattle.std.proofs.Common.{◌∙◌, ap, sym}
-use Rattle.aide_report.specs.code.ChangeView.{change_of}
-use Rattle.aide_report.specs.code.Merging.{remaining}
-use Rattle.aide_report.proofs.UpcomingLemmas.{upcoming_none, upcoming_one}
+use Rattle.aide_merge.specs.code.ChangeView.{change_of}
+use Rattle.aide_merge.specs.code.Merging.{remaining}
+use Rattle.aide_merge.proofs.UpcomingLemmas.{upcoming_none, upcoming_one}
 use Rattle.aide_line_run.specs.Sought.{found_at}
 use Rattle.aide_line_run.proofs.SoughtLemmas.{found_here, found_other}
 use Rattle.aide_line_run.proofs.beside.found_at.Goals as goal

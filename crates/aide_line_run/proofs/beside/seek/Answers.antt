@@ -1,11 +1,11 @@
 use Rattle.std.proofs.Common.{◌∙◌, arith, refl, sym, ap}
 use Rattle.aide_db.specs.declared.side.Side.TheVariants.{Old, New}
-use Rattle.aide_report.specs.code.ChangeView.{change_of}
+use Rattle.aide_merge.specs.code.ChangeView.{change_of}
 use Rattle.aide_line_run.specs.Sought.{seek}
-use Rattle.aide_report.specs.code.Merging.{remaining}
-use Rattle.aide_report.proofs.CallLemmas.{merge_fault, merge_none, merge_then}
+use Rattle.aide_merge.specs.code.Merging.{remaining}
+use Rattle.aide_merge.proofs.CallLemmas.{merge_fault, merge_none, merge_then}
 use Rattle.aide_line_run.proofs.SoughtLemmas.{seek_here, seek_none, seek_past}
-use Rattle.aide_report.proofs.UpcomingLemmas.{upcoming_none, upcoming_one}
+use Rattle.aide_merge.proofs.UpcomingLemmas.{upcoming_none, upcoming_one}
 use Rattle.aide_line_run.proofs.beside.seek.Goals as goal
 
 pub seek-init : goal.seek-init

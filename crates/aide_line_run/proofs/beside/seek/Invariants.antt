@@ -1,10 +1,10 @@
 -- What is passed on comes before the path.
 use Rattle.std.proofs.Common.{◌≡◌, ℕ, List}
 use Rattle.aide_db.specs.declared.side.Side.TheVariants.{Old, New}
-use Rattle.aide_report.specs.code.ChangeView.{change_of}
+use Rattle.aide_merge.specs.code.ChangeView.{change_of}
 use Rattle.aide_line_run.specs.Sought.{seek}
-use Rattle.aide_report.specs.code.MergeCalls.{KeepsMerge}
-use Rattle.aide_report.specs.code.Merging.{remaining, IsReady, StandsAt, total_work}
+use Rattle.aide_merge.specs.code.MergeCalls.{KeepsMerge}
+use Rattle.aide_merge.specs.code.Merging.{remaining, IsReady, StandsAt, total_work}
 use Rattle.aide_line_run.proofs.beside.seek.Given as goal
 
 abbrev pub invariant-seek : goal.invariant-seek

@@ -1,6 +1,6 @@
 use Rattle.std.proofs.Common.{refl}
-use Rattle.aide_report.specs.Asked.{asked}
-use Rattle.aide_report.proofs.ReadingLemmas.{clears}
+use Rattle.aide_merge.specs.Asked.{asked}
+use Rattle.aide_merge.proofs.KeepLemmas.{clears}
 use Rattle.aide_text.specs.Failures.{Rose}
 use Rattle.aide_line_run.specs.ListView.{list_read}
 use Rattle.aide_line_run.proofs.ReadLemmas.{first_means, keeps_read}

@@ -1,5 +1,5 @@
-use Rattle.aide_report.proofs.BoundLemmas.{fits_further}
-use Rattle.aide_report.proofs.OneReadingLemmas.{ends_sound, settled_first}
+use Rattle.aide_merge.proofs.BoundLemmas.{fits_further}
+use Rattle.aide_line_run.proofs.OneReadingLemmas.{ends_sound, settled_first}
 use Rattle.aide_line_run.proofs.settle.read_out.Goals as goal
 
 pub returns-in-Ok-clause-sound : goal.returns-in-Ok-clause-sound

@@ -1,13 +1,13 @@
 use Rattle.std.proofs.Common.{◌∙◌, ◌<◌, ◌^◌, ap, arith, refl}
 use Rattle.std.specs.Prelude.{None}
-use Rattle.aide_report.specs.code.ChangeView.{alike_of, change_of}
-use Rattle.aide_report.specs.code.Merging.{total_work}
-use Rattle.aide_report.specs.code.Passes.{on_sheet}
-use Rattle.aide_report.proofs.CallLemmas.{merge_fault, merge_none, merge_then}
+use Rattle.aide_merge.specs.code.ChangeView.{alike_of, change_of}
+use Rattle.aide_merge.specs.code.Merging.{total_work}
+use Rattle.aide_text.specs.PenSheet.{on_sheet}
+use Rattle.aide_merge.proofs.CallLemmas.{merge_fault, merge_none, merge_then}
 use Rattle.aide_line_run.proofs.TallyLemmas.{below_all, small_more, small_start, tally_alike}
 use Rattle.aide_agreement.specs.Account.{same_as}
 use Rattle.aide_db.specs.declared.side.Side.TheVariants.{Old, New}
-use Rattle.aide_report.specs.code.Merging.{remaining}
+use Rattle.aide_merge.specs.code.Merging.{remaining}
 use Rattle.aide_line_run.specs.ListView.{list_read}
 use Rattle.aide_line_run.specs.Listed.{account_by, left_by}
 use Rattle.aide_line_run.specs.Sought.{found_at}

@@ -1,8 +1,8 @@
 -- What was written and counted, and what is still to come, is the whole.
 use Rattle.std.proofs.Common.{◌≡◌, ◌-◌, ◌^◌, false}
-use Rattle.aide_report.specs.code.LineTally.{AreLinesBelow}
-use Rattle.aide_report.specs.code.Merging.{IsReady, total_work}
-use Rattle.aide_report.specs.code.Passes.{on_sheet}
+use Rattle.aide_line_run.specs.code.LineTally.{AreLinesBelow}
+use Rattle.aide_merge.specs.code.Merging.{IsReady, total_work}
+use Rattle.aide_text.specs.PenSheet.{on_sheet}
 use Rattle.aide_line_run.specs.ListView.{list_read}
 use Rattle.aide_line_run.specs.code.Walked.{IsWalking, KeepsMerges}
 use Rattle.aide_line_run.proofs.walk.put_accounted.Given as goal

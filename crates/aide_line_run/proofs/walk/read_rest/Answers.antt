@@ -1,5 +1,5 @@
 use Rattle.std.proofs.Common.{refl}
-use Rattle.aide_report.proofs.CallLemmas.{merge_fault, merge_none, merge_then}
+use Rattle.aide_merge.proofs.CallLemmas.{merge_fault, merge_none, merge_then}
 use Rattle.aide_line_run.proofs.walk.read_rest.Goals as goal
 
 pub rest-init : goal.rest-init

@@ -1,5 +1,5 @@
-use Rattle.aide_report.specs.code.MergeCalls.{KeepsMerge}
-use Rattle.aide_report.specs.code.Merging.{IsReady, total_work}
+use Rattle.aide_merge.specs.code.MergeCalls.{KeepsMerge}
+use Rattle.aide_merge.specs.code.Merging.{IsReady, total_work}
 use Rattle.aide_line_run.proofs.walk.read_rest.Given as goal
 
 abbrev pub invariant-rest : goal.invariant-rest

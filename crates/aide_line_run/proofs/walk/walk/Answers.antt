@@ -1,4 +1,4 @@
-use Rattle.aide_report.proofs.CallLemmas.{merge_fault, merge_then}
+use Rattle.aide_merge.proofs.CallLemmas.{merge_fault, merge_then}
 use Rattle.aide_line_run.proofs.WalkLemmas.{walked_late}
 use Rattle.aide_line_run.proofs.walk.walk.Goals as goal
 

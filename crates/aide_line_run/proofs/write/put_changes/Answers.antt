@@ -1,6 +1,6 @@
 use Rattle.std.proofs.Common.{refl}
 use Rattle.aide_line_run.specs.BesideLines.{opening_beside}
-use Rattle.aide_report.specs.Asked.{asked}
+use Rattle.aide_merge.specs.Asked.{asked}
 use Rattle.aide_line_run.specs.ListView.{list_read}
 use Rattle.aide_line_run.proofs.SettleLemmas.{fits_none, walked_behind, walked_first, walked_found}
 use Rattle.aide_line_run.proofs.WalkLemmas.{walked_err}

@@ -1,10 +1,11 @@
 use Rattle.std.proofs.Common.{◌∙◌, ap, inl, inr, refl}
 use Rattle.aide_text.specs.Failures.{Rose, one_more}
 use Rattle.aide_text.proofs.Sheets.{part_whole, some_more, some_of, wrote_more, wrote_part}
-use Rattle.aide_report.proofs.AgreementLemmas.{unflushed}
-use Rattle.aide_report.proofs.ReportLemmas.{count_of_pen, counts_of_pen, flushed_count, flushed_part, flushed_whole, never_falls}
-use Rattle.aide_report.proofs.ReportLemmas.{rose_by_one, rose_of_pen, unfailed}
-use Rattle.aide_report.specs.declared.run_fault.RunFault.TheVariants.{Write}
+use Rattle.aide_merge.proofs.PenLemmas.{unflushed}
+use Rattle.aide_merge.proofs.PenLemmas.{count_of_pen, counts_of_pen, flushed_count, flushed_part}
+use Rattle.aide_merge.proofs.PenLemmas.{flushed_whole, never_falls}
+use Rattle.aide_merge.proofs.PenLemmas.{rose_by_one, rose_of_pen, unfailed}
+use Rattle.aide_merge.specs.declared.run_fault.RunFault.TheVariants.{Write}
 use Rattle.aide_line_run.proofs.SettleLemmas.{first_of_stop, pair_counts, pair_written, stop_written}
 use Rattle.aide_line_run.proofs.write.write_beside.Goals as goal
 

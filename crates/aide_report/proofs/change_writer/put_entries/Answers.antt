@@ -1,11 +1,11 @@
 use Rattle.std.proofs.Common.{◌∙◌, arith, refl, subst}
 use Rattle.aide_db.specs.declared.side.Side.TheVariants.{Old, New}
-use Rattle.aide_report.specs.code.ChangeView.{change_of}
-use Rattle.aide_report.specs.code.Merging.{remaining}
-use Rattle.aide_report.specs.code.Passes.{on_sheet}
+use Rattle.aide_merge.specs.code.ChangeView.{change_of}
+use Rattle.aide_merge.specs.code.Merging.{remaining}
+use Rattle.aide_text.specs.PenSheet.{on_sheet}
 use Rattle.std.specs.List.{flat_map}
 use Rattle.aide_report.proofs.WriterLemmas.{alike_written, all_written, more_written}
-use Rattle.aide_report.proofs.CallLemmas.{merge_fault, merge_none, merge_then}
+use Rattle.aide_merge.proofs.CallLemmas.{merge_fault, merge_none, merge_then}
 use Rattle.aide_text.proofs.Sheets.{writing_start, writing_more, writing_done, writing_so_far, some_nothing, some_more}
 use Rattle.aide_text.proofs.Sheets.{some_of}
 use Rattle.aide_text.specs.Sheet.{Writing}

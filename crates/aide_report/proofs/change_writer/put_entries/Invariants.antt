@@ -1,11 +1,11 @@
 -- What the section has said and what it has still to say is the whole.
 use Rattle.std.proofs.Common.{◌≡◌, ℕ, List, false}
 use Rattle.aide_db.specs.declared.side.Side.TheVariants.{Old, New}
-use Rattle.aide_report.specs.code.MergeCalls.{KeepsMerge}
-use Rattle.aide_report.specs.code.Passes.{on_sheet}
+use Rattle.aide_merge.specs.code.MergeCalls.{KeepsMerge}
+use Rattle.aide_text.specs.PenSheet.{on_sheet}
 use Rattle.std.specs.List.{flat_map}
 use Rattle.aide_text.specs.Sheet.{Writing, WritesSome}
-use Rattle.aide_report.specs.code.Merging.{remaining, IsReady, StandsAt, total_work}
+use Rattle.aide_merge.specs.code.Merging.{remaining, IsReady, StandsAt, total_work}
 use Rattle.aide_report.proofs.change_writer.put_entries.Given as goal
 
 abbrev pub invariant-pass : goal.invariant-pass

@@ -1,13 +1,15 @@
 use Rattle.std.proofs.Common.{◌≤◌, ◌∙◌, ap, arith, refl, subst, sym}
 use Rattle.aide_db.specs.declared.side.Side.TheVariants.{Old, New}
-use Rattle.aide_report.specs.Missing.{IsHindered, IsOfReliable}
-use Rattle.aide_report.specs.RunFaults.{IsLater}
+use Rattle.aide_merge.specs.RightAnswer.{IsHindered, IsOfReliable}
+use Rattle.aide_merge.specs.RunFaults.{IsLater}
 use Rattle.aide_text.specs.Failures.{Rose}
-use Rattle.aide_report.proofs.FaultLemmas.{answer_later, first_later, right_later, rose_later, rose_since}
-use Rattle.aide_report.proofs.MissingLemmas.{later_over, stops_hindered}
+use Rattle.aide_report.proofs.FaultLemmas.{answer_later, first_later, right_later, rose_later}
+use Rattle.aide_merge.proofs.FaultLemmas.{rose_since}
+use Rattle.aide_report.proofs.MissingLemmas.{later_over}
+use Rattle.aide_merge.proofs.AnswerLemmas.{stops_hindered}
 use Rattle.aide_report.proofs.OpeningLemmas.{refused_later}
-use Rattle.aide_report.proofs.PassLemmas.{sources_then}
-use Rattle.aide_report.proofs.ReadingLemmas.{clears_then}
+use Rattle.aide_merge.proofs.KeepLemmas.{sources_then}
+use Rattle.aide_merge.proofs.KeepLemmas.{clears_then}
 use Rattle.aide_report.proofs.RunLemmas.{counts_are}
 use Rattle.aide_report.proofs.SectionsLemmas.{opens_more, opens_then, opens_within}
 use Rattle.aide_report.proofs.comparison.compare.Goals as goal

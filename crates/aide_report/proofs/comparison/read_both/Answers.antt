@@ -3,18 +3,20 @@ use Rattle.std.specs.Prelude.{Some}
 use Rattle.aide_db.specs.Count.{one_more}
 use Rattle.aide_db.specs.Database.{IsSound}
 use Rattle.aide_db.specs.declared.side.Side.TheVariants.{Old, New}
-use Rattle.aide_report.specs.Missing.{IsOfReliable}
-use Rattle.aide_report.specs.RunFaults.{IsFirst}
+use Rattle.aide_merge.specs.RightAnswer.{IsOfReliable}
+use Rattle.aide_merge.specs.RunFaults.{IsFirst}
 use Rattle.aide_text.specs.Failures.{Rose}
 use Rattle.aide_report.proofs.FaultLemmas.{answer_new, answer_old, opens_first}
-use Rattle.aide_report.proofs.FaultLemmas.{right_first, rose_later, rose_since}
-use Rattle.aide_report.specs.code.Digests.{digest_on}
+use Rattle.aide_merge.proofs.FaultLemmas.{right_first, rose_since}
+use Rattle.aide_report.proofs.FaultLemmas.{rose_later}
+use Rattle.aide_merge.specs.code.Digests.{digest_on}
 use Rattle.sha2.specs.Sha256.{sha256}
 use Rattle.aide_report.proofs.MissingLemmas.{both_there, first_over, second_over}
-use Rattle.aide_report.proofs.OpeningLemmas.{refused_first}
-use Rattle.aide_report.proofs.PassLemmas.{sources_then}
-use Rattle.aide_report.proofs.ReadingLemmas.{clears, clears_read}
-use Rattle.aide_report.proofs.SideLemmas.{of_sides}
+use Rattle.aide_merge.proofs.FaultLemmas.{refused_first}
+use Rattle.aide_merge.proofs.KeepLemmas.{sources_then}
+use Rattle.aide_merge.proofs.KeepLemmas.{clears}
+use Rattle.aide_report.proofs.ReadingLemmas.{clears_read}
+use Rattle.aide_merge.proofs.SideLemmas.{of_sides}
 use Rattle.aide_report.proofs.comparison.read_both.Goals as goal
 
 pub returns-in-Err-clause-desk : goal.returns-in-Err-clause-desk

@@ -1,8 +1,8 @@
 use Rattle.std.proofs.Common.{◌∙◌, ◌+◌, ◌≤◌, ℕ, ap, refl, sym, arith}
 use Rattle.aide_db.specs.declared.side.Side.TheVariants.{Old, New}
-use Rattle.aide_report.specs.Asked.{asked}
+use Rattle.aide_merge.specs.Asked.{asked}
 use Rattle.aide_report.specs.Report.{section_count}
-use Rattle.aide_report.specs.Seen.{sink_seen}
+use Rattle.aide_merge.specs.Seen.{sink_seen}
 use Rattle.aide_report.proofs.RunRecords.{run_breaks, run_ends, run_stops}
 use Rattle.aide_report.proofs.RunLemmas.{ends_well, ends_early, sections_are}
 use Rattle.aide_report.proofs.SectionsLemmas.{fitting, most_sections, opens_more, sections_few}

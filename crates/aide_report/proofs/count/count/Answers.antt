@@ -1,10 +1,10 @@
 use Rattle.std.proofs.Common.{◌^◌, ◌<◌, ◌∙◌, arith, refl, subst}
 use Rattle.aide_db.specs.declared.side.Side.TheVariants.{Old, New}
-use Rattle.aide_report.specs.code.ChangeView.{change_of}
+use Rattle.aide_merge.specs.code.ChangeView.{change_of}
 use Rattle.aide_report.specs.code.Counts.{Completes}
-use Rattle.aide_report.specs.code.Merging.{remaining, total_work}
+use Rattle.aide_merge.specs.code.Merging.{remaining, total_work}
 use Rattle.aide_report.proofs.CountLemmas.{counts_alike, counts_more, small_alike, small_more}
-use Rattle.aide_report.proofs.CallLemmas.{merge_fault, merge_then}
+use Rattle.aide_merge.proofs.CallLemmas.{merge_fault, merge_then}
 use Rattle.aide_report.proofs.count.count.Goals as goal
 
 pub read_due-requires : goal.read_due-requires

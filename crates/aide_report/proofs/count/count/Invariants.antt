@@ -2,8 +2,8 @@
 use Rattle.std.proofs.Common.{◌^◌, ◌-◌, ℕ, List}
 use Rattle.aide_db.specs.declared.side.Side.TheVariants.{Old, New}
 use Rattle.aide_report.specs.code.Counts.{Completes, AreBelow}
-use Rattle.aide_report.specs.code.Merging.{remaining, IsReady, StandsAt, total_work}
-use Rattle.aide_report.specs.code.MergeCalls.{KeepsMerge}
+use Rattle.aide_merge.specs.code.Merging.{remaining, IsReady, StandsAt, total_work}
+use Rattle.aide_merge.specs.code.MergeCalls.{KeepsMerge}
 use Rattle.aide_report.proofs.count.count.Given as goal
 
 abbrev pub invariant-pass : goal.invariant-pass

@@ -2,13 +2,14 @@ use Rattle.std.proofs.Common.{◌∙◌, sym, ap}
 use Rattle.std.specs.Prelude.{not}
 use Rattle.aide_attr.specs.Attr.{all_attrs}
 use Rattle.aide_attr.specs.Set.{has}
-use Rattle.aide_report.specs.code.ChangeView.{change_of}
-use Rattle.aide_report.specs.Entries.{entry_details, shows_at, shows_any}
+use Rattle.aide_merge.specs.code.ChangeView.{change_of}
+use Rattle.aide_report.specs.Entries.{entry_details}
+use Rattle.aide_merge.specs.Said.{shows_at, shows_any}
 use Rattle.aide_text.specs.PenSheet.{on_sheet}
 use Rattle.aide_text.specs.Layout.{path_line}
 use Rattle.aide_text.specs.declared.section.Contents.TheVariants.{Detailed}
 use Rattle.aide_report.proofs.EntriesLemmas.{shown_as, text_of_one, text_of_none}
-use Rattle.aide_report.proofs.ShownLemmas.{any_in}
+use Rattle.aide_merge.proofs.ShownLemmas.{any_in}
 use Rattle.aide_text.proofs.Sheets.{wrote_more, wrote_as, wrote_nothing}
 use Rattle.aide_report.proofs.details.put_details.Goals as goal
 

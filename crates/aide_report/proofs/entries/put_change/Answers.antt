@@ -1,5 +1,5 @@
 use Rattle.std.proofs.Common.{◌∙◌, sym}
-use Rattle.aide_report.specs.code.ChangeView.{change_of}
+use Rattle.aide_merge.specs.code.ChangeView.{change_of}
 use Rattle.aide_report.proofs.EntriesLemmas.{listed_text, unlisted_text}
 use Rattle.aide_text.specs.PenSheet.{on_sheet}
 use Rattle.aide_text.proofs.Sheets.{wrote_as, wrote_nothing}

@@ -1,7 +1,7 @@
 use Rattle.std.proofs.Common.{sym}
-use Rattle.aide_report.specs.code.ChangeView.{change_of}
+use Rattle.aide_merge.specs.code.ChangeView.{change_of}
 use Rattle.aide_text.specs.PenSheet.{on_sheet}
-use Rattle.aide_report.specs.Sections.{all_listed}
+use Rattle.aide_merge.specs.Said.{all_listed}
 use Rattle.aide_report.proofs.EntriesLemmas.{text_of_one, text_of_none}
 use Rattle.aide_text.proofs.Sheets.{wrote_as, wrote_nothing}
 use Rattle.aide_report.proofs.entries.put_listed.Goals as goal

@@ -3,8 +3,9 @@ use Rattle.std.proofs.lemmas.Result.{err_from_is_err_and}
 use Rattle.aide_db.specs.Desk.{list_of, columns_of_side}
 use Rattle.aide_db.specs.declared.side.Side.TheVariants.{Old, New}
 use Rattle.aide_report.specs.code.Counts.{Completes}
-use Rattle.aide_report.specs.code.Merging.{cursor_at}
-use Rattle.aide_report.proofs.PassLemmas.{pass_changed, pass_done, pass_failed, passes_begun, passes_err}
+use Rattle.aide_merge.specs.code.Merging.{cursor_at}
+use Rattle.aide_report.proofs.PassLemmas.{pass_changed, pass_done, pass_failed, passes_begun}
+use Rattle.aide_report.proofs.PassLemmas.{passes_err}
 use Rattle.aide_report.proofs.pass.count_pass.Goals as goal
 
 pub returns-in_err-old_reel-clause-passes : goal.returns-in_err-old_reel-clause-passes

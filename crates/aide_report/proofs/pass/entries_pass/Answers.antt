@@ -4,14 +4,15 @@ use Rattle.aide_db.specs.Desk.{list_of, columns_of_side}
 use Rattle.aide_db.specs.Map.{entries_of}
 use Rattle.aide_entry.specs.Path.{path_cmp}
 use Rattle.aide_db.specs.declared.side.Side.TheVariants.{Old, New}
-use Rattle.aide_report.specs.Merged.{merged}
-use Rattle.aide_report.specs.code.Merging.{cursor_at}
-use Rattle.aide_report.specs.code.Passes.{on_sheet}
+use Rattle.aide_merge.specs.Merged.{merged}
+use Rattle.aide_merge.specs.code.Merging.{cursor_at}
+use Rattle.aide_text.specs.PenSheet.{on_sheet}
 use Rattle.std.specs.List.{flat_map}
 use Rattle.aide_text.specs.Failures.{Rose}
 use Rattle.aide_text.specs.Sheet.{Wrote, WritesPart}
 use Rattle.aide_text.proofs.Sheets.{part_whole, part_nothing, some_nothing}
-use Rattle.aide_report.proofs.PassLemmas.{pass_changed, pass_done, pass_stopped, passes_begun, passes_err, stop_written, unwritten}
+use Rattle.aide_report.proofs.PassLemmas.{pass_changed, pass_done, pass_stopped, passes_begun}
+use Rattle.aide_report.proofs.PassLemmas.{passes_err, stop_written, unwritten}
 use Rattle.aide_report.proofs.pass.entries_pass.Goals as goal
 
 pub returns-in_err-old_reel-clause-passes : goal.returns-in_err-old_reel-clause-passes

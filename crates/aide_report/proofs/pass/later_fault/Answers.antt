@@ -4,7 +4,7 @@ use Rattle.aide_entry.specs.Cause.{cause_of}
 use Rattle.aide_entry.specs.declared.fault_kind.DbFaultKind.{DbFaultKind}
 use Rattle.aide_entry.specs.declared.fault_kind.DbFaultKind.TheVariants.{Memory, Read}
 use Rattle.aide_report.specs.code.LaterFault.{later_by}
-use Rattle.aide_report.specs.declared.run_fault.RunFault.TheVariants.{Changed}
+use Rattle.aide_merge.specs.declared.run_fault.RunFault.TheVariants.{Changed}
 use Rattle.aide_report.proofs.pass.later_fault.Goals as goal
 
 -- the third line stands for every kind of fault that a text can have

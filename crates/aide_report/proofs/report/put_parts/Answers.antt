@@ -1,9 +1,10 @@
 use Rattle.std.proofs.Common.{◌++◌, ℕ, arith, le_refl, refl}
-use Rattle.aide_report.specs.code.Finding.{pass_of, old_origin, new_origin}
+use Rattle.aide_merge.specs.code.Merging.{pass_of}
+use Rattle.aide_report.specs.code.Finding.{old_origin, new_origin}
 use Rattle.aide_report.specs.Report.{parts_of, sections_text, databases_text}
 use Rattle.aide_attr.specs.declared.level.Level.TheVariants.{DatabaseAttributes}
 use Rattle.aide_attr.specs.Level.{reaches}
-use Rattle.aide_report.specs.Seen.{seen}
+use Rattle.aide_merge.specs.Seen.{seen}
 use Rattle.aide_report.proofs.PassLemmas.{passes_broken, passes_none, passes_same, pen_then}
 use Rattle.aide_report.proofs.AgreementLemmas.{first_then, no_databases}
 use Rattle.aide_text.proofs.Sheets.{wrote_more, part_of_wrote, part_after, part_first, part_whole, some_more, some_of}

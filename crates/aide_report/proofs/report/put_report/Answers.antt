@@ -1,8 +1,9 @@
 use Rattle.std.proofs.Common.{ap, sym, length}
 use Rattle.std.specs.Prelude.{if◌then◌else◌}
-use Rattle.aide_report.specs.code.Finding.{pass_of, old_origin, new_origin}
-use Rattle.aide_report.specs.code.Passes.{on_sheet}
-use Rattle.aide_report.specs.Seen.{seen}
+use Rattle.aide_merge.specs.code.Merging.{pass_of}
+use Rattle.aide_report.specs.code.Finding.{old_origin, new_origin}
+use Rattle.aide_text.specs.PenSheet.{on_sheet}
+use Rattle.aide_merge.specs.Seen.{seen}
 use Rattle.aide_report.specs.Sections.{sections_of}
 use Rattle.aide_report.proofs.PassLemmas.{passes_count, passes_none, writes_same}
 use Rattle.std.proofs.lemmas.Result.{on_ok_weaker}

@@ -1,8 +1,10 @@
 use Rattle.std.proofs.Common.{ap}
 use Rattle.aide_report.specs.Agreement.{beginning_by, goes_on_by}
 use Rattle.aide_report.specs.Report.{text_of}
-use Rattle.aide_report.specs.code.Finding.{new_origin, old_origin, pass_of}
-use Rattle.aide_report.proofs.FlushLemmas.{flushed_begins, flushed_once, flushed_passes, flushed_sends}
+use Rattle.aide_report.specs.code.Finding.{new_origin, old_origin}
+use Rattle.aide_merge.specs.code.Merging.{pass_of}
+use Rattle.aide_report.proofs.FlushLemmas.{flushed_begins, flushed_once, flushed_passes}
+use Rattle.aide_report.proofs.FlushLemmas.{flushed_sends}
 use Rattle.aide_report.proofs.report.write_report.Goals as goal
 
 pub put_report-written-requires-clause-writes_on : goal.put_report-written-requires-clause-writes_on

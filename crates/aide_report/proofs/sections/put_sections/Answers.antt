@@ -1,19 +1,21 @@
 use Rattle.std.proofs.Common.{◌∙◌, ◌+◌, ap, sym, subst, arith, drop, get_or}
 use Rattle.std.specs.List.{flat_map, filter}
 use Rattle.aide_db.specs.declared.side.Side.TheVariants.{Old, New}
-use Rattle.aide_report.specs.code.Digests.{AreDigests}
-use Rattle.aide_report.specs.code.Finding.{pass_of}
-use Rattle.aide_report.specs.code.Passes.{on_sheet}
-use Rattle.aide_report.specs.Seen.{seen}
+use Rattle.aide_merge.specs.code.Digests.{AreDigests}
+use Rattle.aide_merge.specs.code.Merging.{pass_of}
+use Rattle.aide_text.specs.PenSheet.{on_sheet}
+use Rattle.aide_merge.specs.Seen.{seen}
 use Rattle.aide_report.specs.Report.{sections_text}
 use Rattle.aide_report.specs.Sections.{is_there, section_text}
 use Rattle.aide_text.specs.Section.{all_sections}
 use Rattle.aide_attr.specs.Level.{reaches}
 use Rattle.aide_attr.specs.declared.level.Level.TheVariants.{DatabaseAttributes}
 use Rattle.aide_report.proofs.AgreementLemmas.{none_there, first_nothing, first_some}
-use Rattle.aide_report.proofs.PassLemmas.{passes_none, passes_same, passes_stop, passes_then, pen_then}
+use Rattle.aide_report.proofs.PassLemmas.{passes_none, passes_same, passes_stop, passes_then}
+use Rattle.aide_report.proofs.PassLemmas.{pen_then}
 use Rattle.aide_text.specs.declared.section.Section.TheVariants.{AddedEntries}
-use Rattle.aide_report.proofs.SectionsLemmas.{rest_yes, rest_no, rest_end, passed, passed_yes, passed_no, passed_none}
+use Rattle.aide_report.proofs.SectionsLemmas.{rest_yes, rest_no, rest_end, passed, passed_yes}
+use Rattle.aide_report.proofs.SectionsLemmas.{passed_no, passed_none}
 use Rattle.aide_report.proofs.SectionsLemmas.{passed_all, passed_some}
 use Rattle.aide_text.proofs.Sheets.{writing_start, writing_as, writing_more, writing_part, writing_done, some_nothing}
 use Rattle.aide_text.proofs.Sheets.{some_more}

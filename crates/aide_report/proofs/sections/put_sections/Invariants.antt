@@ -4,9 +4,10 @@ use Rattle.std.specs.Prelude.{Some, Ok}
 use Rattle.aide_attr.specs.declared.level.Level.TheVariants.{DatabaseAttributes}
 use Rattle.std.specs.List.{flat_map, filter}
 use Rattle.aide_db.specs.declared.side.Side.TheVariants.{Old, New}
-use Rattle.aide_report.specs.code.Finding.{pass_of}
-use Rattle.aide_report.specs.code.Passes.{Passes, on_sheet}
-use Rattle.aide_report.specs.Seen.{seen}
+use Rattle.aide_merge.specs.code.Merging.{pass_of}
+use Rattle.aide_report.specs.code.Passes.{Passes}
+use Rattle.aide_text.specs.PenSheet.{on_sheet}
+use Rattle.aide_merge.specs.Seen.{seen}
 use Rattle.aide_report.specs.Sections.{is_there, section_text}
 use Rattle.aide_text.specs.Section.{all_sections}
 use Rattle.aide_attr.specs.Level.{reaches}

@@ -1,11 +1,12 @@
 use Rattle.std.proofs.Common.{◌∙◌, ℕ, ap, arith, refl, sym}
-use Rattle.aide_report.specs.code.Finding.{pass_of}
-use Rattle.aide_report.specs.code.Passes.{on_sheet}
-use Rattle.aide_report.specs.Seen.{seen}
+use Rattle.aide_merge.specs.code.Merging.{pass_of}
+use Rattle.aide_text.specs.PenSheet.{on_sheet}
+use Rattle.aide_merge.specs.Seen.{seen}
 use Rattle.aide_report.specs.Sections.{section_text, entries_text}
 use Rattle.aide_text.specs.Section.{contents_of}
 use Rattle.aide_report.proofs.EntriesLemmas.{each_entry}
-use Rattle.aide_report.proofs.PassLemmas.{passes_broken, passes_none, pen_then, writes_behind, writes_same}
+use Rattle.aide_report.proofs.PassLemmas.{passes_broken, passes_none, pen_then, writes_behind}
+use Rattle.aide_report.proofs.PassLemmas.{writes_same}
 use Rattle.aide_text.proofs.Sheets.{part_of_wrote, some_of}
 use Rattle.aide_report.proofs.sections.section_pass.Goals as goal
 

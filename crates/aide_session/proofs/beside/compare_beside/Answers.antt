@@ -1,5 +1,5 @@
 use Rattle.std.proofs.Common.{inr, rules}
-use Rattle.aide_report.specs.Asked.{asked}
+use Rattle.aide_merge.specs.Asked.{asked}
 use Rattle.aide_session.specs.code.BesideParts.{named_by}
 use Rattle.aide_line_run.specs.ListView.{list_read}
 use Rattle.aide_session.proofs.BesideParts.{closes_seen, pointed_later, seen_pointed, trusted_later}

@@ -1,5 +1,5 @@
 use Rattle.std.proofs.Common.{◌∙◌, ap, sym}
-use Rattle.aide_report.specs.Asked.{asked}
+use Rattle.aide_merge.specs.Asked.{asked}
 use Rattle.aide_session.specs.BesideEnds.{compared_line, compared_status}
 use Rattle.aide_session.specs.code.BesideParts.{named_by}
 use Rattle.aide_line_run.specs.ListView.{list_read}

@@ -1,5 +1,5 @@
 use Rattle.aide_db.specs.declared.side.Side.TheVariants.{Old, New}
-use Rattle.aide_report.specs.Asked.{asked}
+use Rattle.aide_merge.specs.Asked.{asked}
 use Rattle.aide_report.specs.Failures.{Rose}
 use Rattle.aide_session.specs.Closing.{bad_run, good_run}
 use Rattle.aide_session.proofs.Closings.{run_cause}

@@ -1,5 +1,5 @@
 use Rattle.std.proofs.Common.{◌≡◌, arith, inl, inr, refl}
-use Rattle.aide_report.specs.Asked.{asked}
+use Rattle.aide_merge.specs.Asked.{asked}
 use Rattle.aide_session.specs.Answer.{Named}
 use Rattle.aide_session.specs.BesideAnswer.{trusted_of}
 use Rattle.aide_session.specs.BesideEnds.{no_memory_left}

@@ -1,0 +1,16 @@
+pub mod Asked
+pub mod Bound
+pub mod Changed
+pub mod Changes
+pub mod Compare
+pub mod FaultStatus
+pub mod Merged
+pub mod Openings
+pub mod Outcomes
+pub mod RightAnswer
+pub mod Room
+pub mod RunFaults
+pub mod Said
+pub mod Seen
+pub mod Standing
+pub mod code

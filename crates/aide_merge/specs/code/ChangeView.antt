@@ -1,0 +1,30 @@
+-- How the code represents a change.
+use Rattle.std.specs.Prelude.{◌≡◌, ℕ, Some, None, List, [], ◌∷◌}
+use Rattle.aide_entry.specs.Attributes.{Attributes, Entry}
+use Rattle.aide_entry.specs.View.{entry_in}
+use Rattle.aide_merge.specs.Compare.{Change as Sided}
+use Rattle.aide_merge.specs.declared.change.AtPath.{AtPath}
+use Rattle.aide_merge.specs.declared.change.AtPath.TheVariants.{Alike, Differs, End}
+use Rattle.aide_merge.specs.declared.change.Change.{Change}
+use Rattle.aide_merge.specs.declared.change.Change.TheVariants.{Added, Removed, Common}
+
+-- the path, and what each side has there
+abbrev pub change_of : Change → Sided (List ℕ) Attributes
+change_of (Added new) = ((entry_in new).0, (None, Some (entry_in new).1))
+change_of (Removed old) = ((entry_in old).0, (Some (entry_in old).1, None))
+change_of (Common old new) = ((entry_in old).0, (Some (entry_in old).1, Some (entry_in new).1))
+
+-- one entry on both sides
+abbrev pub alike_of : Entry → Sided (List ℕ) Attributes
+alike_of entry = (entry.0, (Some entry.1, Some entry.1))
+
+-- Both sides have the same entry at the path, and the list has no other change.
+pub record IsAlike (changes : List (Sided (List ℕ) Attributes)) : Type 0 where
+  pub entry : Entry
+  pub only : changes ≡ alike_of entry ∷ []
+
+-- what the code shows at a path is what both sides have there
+abbrev pub ShowsPath : AtPath → List (Sided (List ℕ) Attributes) → Type 0
+ShowsPath Alike changes = IsAlike changes
+ShowsPath (Differs change) changes = changes ≡ change_of change ∷ []
+ShowsPath End changes = changes ≡ []

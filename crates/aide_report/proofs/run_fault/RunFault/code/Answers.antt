@@ -1,6 +1,0 @@
-use Rattle.std.proofs.Common.{ap, sym}
-use Rattle.aide_report.specs.FaultStatus.{fault_code}
-use Rattle.aide_report.proofs.run_fault.RunFault.code.Goals as goal
-
-pub returns-in-Changed : goal.returns-in-Changed
-returns-in-Changed c = ap fault_code (sym c.in-Changed.is)
