@@ -61,8 +61,8 @@ RUNS = [
     ("aide_line_run", "LinesRun", "IsLinesRun"),
     ("aide_line_run", "PairSeen", "PairSeen"),
     ("aide_line_run", "PairSeen", "Gives"),
-    ("aide_report", "Seen", "SinkSeen"),
-    ("aide_report", "Asked", "Asked"),
+    ("aide_merge", "Seen", "SinkSeen"),
+    ("aide_merge", "Asked", "Asked"),
 ]
 
 

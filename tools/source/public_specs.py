@@ -18,9 +18,9 @@ from tools.source.definitions import WORD, Definitions, crates, imports_of
 
 # What is built of the crates, and whose calls are promised to others.
 PROGRAMS = ("aide", "aide_lines", "aide_headline")
-# A crate that goes on with the inside of another one. What it takes of it is promised to nobody
-# else.
-INSIDE = {"aide_line_run": "aide_report"}
+# A crate that is the inside of others, and those. What they take of it is promised to nobody else,
+# but for what they hand on.
+INSIDE = {"aide_merge": ("aide_report", "aide_line_run")}
 
 
 def public_names(crate: str) -> set[str]:
@@ -42,14 +42,15 @@ def crates_of_programs() -> list[str]:
 
 
 def names_used(crate: str, users: list[str]) -> set[str]:
-    """The names of a crate that other crates import."""
+    """The names of a crate that other crates import, or only hand on if it is their inside."""
     used = set()
     for user in users:
+        use = "pub use" if user in INSIDE.get(crate, ()) else "use"
         source = os.path.join(TOP, "crates", user, "src")
         for path in glob.glob(os.path.join(source, "**", "*.rt"), recursive=True):
             with open(path, encoding="utf-8") as file:
                 text = file.read()
-            for names in re.findall(rf"^use {crate}::([^;]+);", text, re.MULTILINE):
+            for names in re.findall(rf"^{use} {crate}::([^;]+);", text, re.MULTILINE):
                 used |= set(WORD.findall(names))
     return used
 
@@ -58,7 +59,7 @@ def names_for_programs(crate: str) -> set[str]:
     """The names that the root of a crate hands on and that a program's crate imports."""
     if crate in PROGRAMS:
         return public_names(crate)
-    users = [user for user in crates_of_programs() if user != crate and INSIDE.get(user) != crate]
+    users = [user for user in crates_of_programs() if user != crate]
     return public_names(crate) & names_used(crate, users)
 
 
