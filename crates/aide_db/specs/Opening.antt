@@ -6,10 +6,13 @@ use Rattle.aide_db.specs.declared.side.Side.{Side}
 
 -- The sources show the same of their sides and files as before.
 pub record TellsTheSame {S : Type 0} (bytes_of : S → Side → Option (List ℕ))
+    (bytes_at : S → Side → ℕ → Option (List ℕ))
     (file_at : S → List ℕ → Option (Option (List ℕ))) (is_missing : S → Side → Bool)
     (is_reliable : S → Bool) (a b : S) : Type 0 where
   -- each side gives the same bytes
   pub same : bytes_of b ≡ bytes_of a
+  -- each opening of a side gives the same bytes
+  pub at_same : bytes_at b ≡ bytes_at a
   -- the same is known of each path
   pub files : file_at b ≡ file_at a
   -- the same sides are known to be missing

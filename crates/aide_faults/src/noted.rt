@@ -109,6 +109,8 @@ impl<'a, S: Sources> Sources for NotedSources<'a, S> {
 
     ghost bytes_of = { λ sources. S.bytes_of sources.inner };
 
+    ghost bytes_at = { λ sources. S.bytes_at sources.inner };
+
     ghost openings = { λ sources. S.openings sources.inner };
 
     ghost failures = { λ sources. S.failures sources.inner };

@@ -2,7 +2,7 @@
 ghost use Rattle.std.specs.Prelude.{◌≡◌, IfSome, Some, None};
 ghost use Rattle.aide_db.specs.Count.{one_more, sum_of};
 ghost use Rattle.aide_db.specs.Side.{by_side, other_side};
-ghost use Rattle.aide_faults.specs.Plan.{steady};
+ghost use Rattle.aide_faults.specs.Plan.{steady, text_at};
 
 use crate::pace::Pace;
 use crate::reels::PlannedReel;
@@ -59,6 +59,7 @@ impl<'a> SidePlan<'a> {
     /// The reel of the opening with this number.
     fn reel(self, opening: u64, pace: Pace) -> PlannedReel<'a>
         ensures bytes { IfSome (steady self.entry) (λ bytes. result.bytes.now ≡ bytes) }
+        ensures text { result.bytes.now ≡ text_at self.entry opening }
         ensures fresh { result.failures ≡ 0 }
     {
         let bytes = match self.change {
@@ -131,6 +132,7 @@ impl<'a> PlannedSources<'a> {
         ensures bytes { gives self.new ≡ gives self.old }
         ensures plans { (self.new.old_plan ≡ self.old.old_plan)
             × (self.new.new_plan ≡ self.old.new_plan) }
+        ensures number { result ≡ one_more (openings_of self.old side) }
         ensures counts { openings_of self.new side ≡ one_more (openings_of self.old side) }
         ensures others { openings_of self.new (other_side side)
             ≡ openings_of self.old (other_side side) }
@@ -150,11 +152,13 @@ impl<'a> PlannedSources<'a> {
 }
 
 impl<'a> Sources for PlannedSources<'a> {
-    ghost use Rattle.aide_faults.specs.Plan.{gives, openings_of};
+    ghost use Rattle.aide_faults.specs.Plan.{gives, gives_at, openings_of};
 
     type R = PlannedReel<'a>;
 
     ghost bytes_of = { gives };
+
+    ghost bytes_at = { gives_at };
 
     ghost openings = { openings_of };
 

@@ -95,6 +95,8 @@ impl<F: Files> Sources for FileSite<F> {
 
     ghost bytes_of = { machine_text };
 
+    ghost bytes_at = { λ s side _. machine_text s side };
+
     ghost openings = { λ s side. by_side s.old_openings s.new_openings side };
 
     ghost failures = { λ s. s.failures };

@@ -141,6 +141,8 @@ impl<'a> Sources for MemorySite<'a> {
 
     ghost bytes_of = { side_bytes };
 
+    ghost bytes_at = { λ s side _. side_bytes s side };
+
     ghost openings = { side_openings };
 
     ghost failures = { λ s. s.failures };
@@ -163,8 +165,8 @@ impl<'a> Sources for MemorySite<'a> {
         ensures fresh { IfOk result (λ reel. ⟦<&'a [u8] as Reel>⟧.failures reel ≡ 0) }
         ensures gives { IfOk result (λ reel. IfSome (side_bytes self.old side)
             (λ bytes. ⟦<&'a [u8] as Reel>⟧.to_come reel ≡ Some bytes)) }
-        ensures keeps { TellsTheSame side_bytes files_at side_missing (λ _. true)
-            self.old self.new }
+        ensures keeps { TellsTheSame side_bytes (λ s side _. side_bytes s side) files_at
+            side_missing (λ _. true) self.old self.new }
         ensures opens { CountsOpening side_openings (λ s. s.lookups) side self.old self.new }
         ensures opened { OnOk result (HasOpened side_missing (λ s. s.failures) side
             self.old self.new) }
@@ -186,8 +188,8 @@ impl<'a> Sources for MemorySite<'a> {
 
     fn close(&mut self, reel: &'a [u8])
         ensures unchanged { self.new ≡ self.old }
-        ensures keeps { TellsTheSame side_bytes files_at side_missing (λ _. true)
-            self.old self.new }
+        ensures keeps { TellsTheSame side_bytes (λ s side _. side_bytes s side) files_at
+            side_missing (λ _. true) self.old self.new }
         ensures openings { side_openings self.new ≡ side_openings self.old }
         ensures adds { self.new.failures
             ≡ sum_of self.old.failures (⟦<&'a [u8] as Reel>⟧.failures reel.entry) }
