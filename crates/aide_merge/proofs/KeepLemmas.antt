@@ -12,11 +12,19 @@ use Rattle.aide_db.specs.Desk.{list_of}
 use Rattle.aide_merge.proofs.BoundLemmas.{fits_cleared}
 
 pub sources_none : (a : Seen) → KeepsSources a a
-sources_none a = record { same = refl; missing_same = refl; reliable_same = refl; lookups = refl; never_falls = omega arith }
+sources_none a = record {
+  same = refl;
+  at_same = refl;
+  missing_same = refl;
+  reliable_same = refl;
+  lookups = refl;
+  never_falls = omega arith;
+}
 
 pub sources_then : {a b c : Seen} → KeepsSources a b → KeepsSources b c → KeepsSources a c
 sources_then p q = record {
   same = q.same ∙ p.same;
+  at_same = q.at_same ∙ p.at_same;
   missing_same = q.missing_same ∙ p.missing_same;
   reliable_same = q.reliable_same ∙ p.reliable_same;
   lookups = q.lookups ∙ p.lookups;

@@ -11,6 +11,8 @@ use Rattle.aide_text.specs.declared.sink.Sink.{Ghosts as AnySink}
 pub record Seen : Type 0 where
   -- the bytes that each opening of a side gives, if the sources report them
   pub bytes_of : Side → Option (List ℕ)
+  -- the bytes that the opening of a side with a number gives, if the sources report them
+  pub bytes_at : Side → ℕ → Option (List ℕ)
   -- whether a side is reported to be missing
   pub is_missing : Side → Bool
   -- whether only the opening of a side that has no bytes can fail
@@ -28,6 +30,7 @@ pub record Seen : Type 0 where
 abbrev pub seen : {S R : Type 0} → AnySources S R → S → Seen
 seen s sources = record {
   bytes_of = s.bytes_of sources;
+  bytes_at = s.bytes_at sources;
   is_missing = s.is_missing sources;
   is_reliable = s.is_reliable sources;
   openings = s.openings sources;
@@ -65,6 +68,8 @@ pub record AreLimits (limits : Limits) : Type 0 where
 pub record KeepsSources (a b : Seen) : Type 0 where
   -- each side gives the same bytes as before
   pub same : b.bytes_of ≡ a.bytes_of
+  -- each opening of a side gives the same bytes as before
+  pub at_same : b.bytes_at ≡ a.bytes_at
   -- the same sides are missing
   pub missing_same : b.is_missing ≡ a.is_missing
   -- the sources are as reliable as before

@@ -24,6 +24,13 @@ use Rattle.aide_merge.proofs.PenLemmas.{flushed_whole, never_falls}
 use Rattle.aide_merge.proofs.PenLemmas.{rises_by_one, rose_by_one, rose_of_pen, unfailed}
 use Rattle.aide_merge.proofs.PenLemmas.{written_of_pen}
 
+-- what is true once all is written is true once it is flushed
+pub flushed_after : {W T : Type 0} (s : Sinks W) (a b : W) (sent : ℕ) (Claim : Type 0) (written result : Result T RunFault)
+    → EndsFlushed s a b sent written result → OnOk written Claim → OnOk result Claim
+flushed_after s a b sent Claim (Ok answer) (Ok done) ends is = is
+flushed_after s a b sent Claim (Ok answer) (Err fault) ends is = tt
+flushed_after {T = T} s a b sent Claim (Err fault) result ends is = subst (λ (r : Result T RunFault). OnOk r Claim) (sym ends.0) tt
+
 -- from `start`, where the pen is fresh, to `a`, where the writing ends, and to `b`, after the flush
 module _ {W : Type 0} (s : Sinks W) (start a b : W) (first pen : Pen) (is_new : first ≡ record { sent = 0; failed = false }) where
   fresh : first.failed ≡ false

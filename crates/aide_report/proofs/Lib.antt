@@ -12,6 +12,7 @@ pub mod RunRecords
 pub mod FlushLemmas
 pub mod FaultLemmas
 pub mod OpeningLemmas
+pub mod GivenLemmas
 pub mod RoomLemmas
 pub mod AgreementLemmas
 pub mod MissingLemmas

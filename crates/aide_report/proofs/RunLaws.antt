@@ -1,12 +1,15 @@
--- What the contract of `run` says of two texts, drawn from its clause `over`. Each law has that clause as a premise.
-use Rattle.std.specs.Prelude.{◌≡◌, ◌≤◌, ℕ, List, Option, Some, Result, Ok, Err, false}
+-- What the contract of `run` says of two texts, drawn from its clause `over`, and of two openings of a side, drawn from `agreed`.
+-- Each law has the clause as a premise.
+use Rattle.std.specs.Prelude.{◌≡◌, ◌≤◌, ℕ, List, Option, Some, Result, Ok, Err, OnOk, IsErr, false}
 use Rattle.std.proofs.Common.{inl, inr, refl, arith}
 use Rattle.aide_entry.specs.Cause.{is_outside}
 use Rattle.aide_db.specs.declared.fault.DbFault.{DbFault}
 use Rattle.aide_entry.specs.declared.fault_kind.DbFaultKind.{DbFaultKind}
 use Rattle.aide_entry.specs.declared.fault_kind.DbFaultKind.TheVariants.{Read, Memory}
 use Rattle.aide_db.specs.declared.limits.Limits.{Limits}
+use Rattle.aide_db.specs.declared.side.Side.{Side}
 use Rattle.aide_merge.specs.Asked.{Asked}
+use Rattle.aide_report.specs.Given.{GiveOneDigest, IsGiven}
 use Rattle.aide_report.specs.Missing.{RunsOver, EndsOver}
 use Rattle.aide_merge.specs.RightAnswer.{IsHindered}
 use Rattle.aide_merge.specs.RunFaults.{CountsWrites}
@@ -16,6 +19,7 @@ use Rattle.aide_merge.specs.declared.outcome.Outcome.{Outcome}
 use Rattle.aide_merge.specs.declared.run_fault.RunFault.{RunFault}
 use Rattle.aide_merge.specs.declared.run_fault.RunFault.TheVariants.{Open, Database, Changed, Write}
 use Rattle.aide_report.proofs.MissingLemmas.{Runs-exists}
+use Rattle.sha2.specs.Sha256.{sha256}
 
 -- the run over two texts ends as the clause `over` says
 abbrev pub EndsOverTexts : Limits → Asked → (old new : List ℕ) → (sources sink : Type 0) → Result Outcome RunFault
@@ -75,3 +79,13 @@ a_sink_never_falls before after (Err (Write written)) counts = omega (arith, cou
 a_sink_never_falls before after (Err (Open side)) same = omega (arith, same)
 a_sink_never_falls before after (Err (Database fault)) same = omega (arith, same)
 a_sink_never_falls before after (Err (Changed side)) same = omega (arith, same)
+
+-- Over two openings of a side whose texts differ in their SHA-256 no run ends with `Ok`: by its clause `agreed`.
+pub other_openings_end_in_a_fault : {T : Type 0} (bytes_at : Side → ℕ → Option (List ℕ)) (before after : Side → ℕ)
+    (result : Result T RunFault) → OnOk result (GiveOneDigest bytes_at before after)
+    → (side : Side) (number other : ℕ) (text more : List ℕ) → IsGiven (bytes_at side) (before side) (after side) number text
+    → IsGiven (bytes_at side) (before side) (after side) other more → (sha256 text ≡ sha256 more → ⊥)
+    → IsErr result
+other_openings_end_in_a_fault bytes_at before after (Ok answer) agreed side number other text more is also differ =
+    absurd (differ (agreed side number other text more is also))
+other_openings_end_in_a_fault bytes_at before after (Err fault) agreed side number other text more is also differ = refl

@@ -13,6 +13,7 @@ use Rattle.aide_text.proofs.Sending.{Appends-nothing}
 use Rattle.aide_report.specs.Agreement.{IsOfOutcome, OpensByOutcome}
 use Rattle.aide_merge.specs.Asked.{Asked}
 use Rattle.aide_merge.specs.RightAnswer.{IsHindered, IsOfReliable, StopsFor, TellsSide}
+use Rattle.aide_report.specs.Given.{GiveOneDigest}
 use Rattle.aide_report.specs.Missing.{RunsOver}
 use Rattle.aide_merge.specs.Openings.{OpensAtMost, OpensExactly}
 use Rattle.aide_report.specs.Run.{IsRun}
@@ -81,6 +82,7 @@ run_stops limits wish n {a} {b} {d} {e} o {fault} most within kept few is stops 
       flushed = tt;
       flushes = refl;
       unsent = unsent_nothing 2 (a.openings Old) (b.openings Old) o.delivered fault;
+      agreed = tt;
       cause = cause_by limits wish (report_over wish) a.bytes_of sources sink fault
           (caused_as sources ⊥ sink fault (λ none. absurd none) is.caused) (is.first wish) is.right;
       right = is.right;
@@ -122,12 +124,13 @@ module _ (limits : Limits) (wish : Asked) (n m : ℕ) {a b c : Seen} {d e f : De
       → Passes limits m b c e f sink (Ok answer) → FlushesOnce {T = T} s out sent (Ok answer)
       → n + m ≤ 6
       → ((old new : List ℕ) → a.bytes_of Old ≡ Some old → a.bytes_of New ≡ Some new → openings_over wish old new ≡ n + m)
+      → GiveOneDigest a.bytes_at a.openings c.openings
       → IsOfOutcome wish.options outcome (s.delivered out) (s.delivered sent)
       → OpensByOutcome wish.options outcome a.openings c.openings
       → ((old new : List ℕ) → a.bytes_of Old ≡ Some old → a.bytes_of New ≡ Some new
       → (r : Result Report DbFault) → Runs limits wish old new r → EndsWell r outcome (s.delivered out) (s.delivered sent))
       → IsRun limits wish a c d f (sink_seen s out) (sink_seen s sent) (Ok outcome)
-  run_ends outcome passes flush most are is_of told well =
+  run_ends outcome passes flush most are agreed is_of told well =
       let kept = sources_then read.kept passes.sources in
       let cleared = clears_then read.kept.same read.cleared passes.desk in
       let peaks = fits_limit a.bytes_of limits d f cleared.fits in
@@ -142,6 +145,7 @@ module _ (limits : Limits) (wish : Asked) (n m : ℕ) {a b c : Seen} {d e f : De
         flushed = flush.flushed;
         flushes = flush.flushes;
         unsent = tt;
+        agreed = agreed;
         cause = tt;
         right = tt;
         refused = tt;
@@ -201,6 +205,7 @@ module _ (limits : Limits) (wish : Asked) (n m : ℕ) {a b c : Seen} {d e f : De
         unsent = subst (λ n. HasSentNothing n (a.openings Old) (c.openings Old) (s.delivered out) (s.delivered sent) fault) (sym before)
             (unsent_begun n (a.openings Old) (b.openings Old) (c.openings Old) (s.delivered out) (s.delivered sent) fault
             read.opened.of_old is.begun);
+        agreed = tt;
         cause = cause_by limits wish (report_over wish) a.bytes_of sources sink fault caused
             (answer_later limits wish a.bytes_of b.bytes_of fault is.later) right;
         right = right;

@@ -12,6 +12,7 @@ use Rattle.aide_db.specs.declared.side.Side.TheVariants.{Old, New}
 use Rattle.aide_report.specs.Agreement.{IsOfOutcome, OpensByOutcome}
 use Rattle.aide_merge.specs.Asked.{Asked}
 use Rattle.aide_merge.specs.Bound.{three_lines}
+use Rattle.aide_report.specs.Given.{GiveOneDigest}
 use Rattle.aide_report.specs.Missing.{EndsOver, RunsOver}
 use Rattle.aide_merge.specs.RightAnswer.{IsHindered, IsOfReliable, TellsSide}
 use Rattle.aide_merge.specs.Openings.{IsNotGiven, IsRefusedThere, OpensAtMost, OpensExactly}
@@ -55,6 +56,8 @@ pub record IsRun (limits : Limits) (asked : Asked) (a b : Seen) (d e : DeskView)
   -- Before both databases have been read and counted, nothing is written.
   pub unsent : IfErr result (HasSentNothing 2 (a.openings Old) (b.openings Old)
       o.delivered p.delivered)
+  -- After `Ok` all openings of a side gave bytes of one SHA-256: over openings that differ in it no run ends with `Ok`.
+  pub agreed : OnOk result (GiveOneDigest a.bytes_at a.openings b.openings)
   -- why a fault comes
   pub cause : IfErr result (λ fault. HasCause fault (Rose a.failures b.failures)
       (Rose o.failures p.failures)

@@ -8,6 +8,7 @@ ghost use Rattle.aide_report.specs.Run.{IsRun};
 ghost use Rattle.aide_merge.specs.Seen.{AreLimits, KeepsSources, seen, sink_seen};
 ghost use Rattle.aide_merge.specs.code.BothRead.{AreRead};
 ghost use Rattle.aide_merge.specs.code.Desks.{ClearsDesk};
+ghost use Rattle.aide_report.specs.code.GivenDigests.{GaveDigests};
 ghost use Rattle.aide_report.specs.code.Readings.{IsFindingFault, IsFound};
 ghost use Rattle.aide_text.specs.Failures.{Rose};
 
@@ -31,6 +32,8 @@ pub(crate) fn read_both<S: Sources, A: Allocator + Copy>(
     ensures opens { OnOk result (OpensExactly (S.openings sources.old) (S.openings sources.new) 1) }
     ensures opens_some { OpensAtMost (S.openings sources.old) (S.openings sources.new) 1 }
     ensures read { IfOk result (AreRead limits (seen S.Sources sources.old)) }
+    ensures gave { IfOk result (λ readings. GaveDigests (S.bytes_at sources.old)
+        (S.openings sources.old) (S.openings sources.new) readings.digests) }
     ensures fault { IfErr result (IsFindingFault
         limits (seen S.Sources sources.old) (seen S.Sources sources.new) desk.old.room) }
     ensures over { (wish : Asked) (old new : Option (List ℕ))
@@ -71,6 +74,8 @@ pub(crate) fn compare<S: Sources, A: Allocator + Copy>(
     ensures opens { OnOk result (OpensExactly (S.openings sources.old) (S.openings sources.new) 2) }
     ensures opens_some { OpensAtMost (S.openings sources.old) (S.openings sources.new) 2 }
     ensures found { IfOk result (IsFound options.now limits (seen S.Sources sources.old)) }
+    ensures gave { IfOk result (λ finding. GaveDigests (S.bytes_at sources.old)
+        (S.openings sources.old) (S.openings sources.new) finding.digests) }
     ensures fault { IfErr result (IsFindingFault
         limits (seen S.Sources sources.old) (seen S.Sources sources.new) desk.old.room) }
     ensures over { (wish : Asked) (old new : Option (List ℕ))
@@ -114,7 +119,7 @@ pub(crate) fn compare<S: Sources, A: Allocator + Copy>(
 /// - A fault has a cause: a device that failed, an allocation that failed, the first fault of a text (the old one's
 ///   before the new one's), or a side that no longer gives what it first gave. After the first reading of a side, a
 ///   fault of its text or another digest is [`RunFault::Changed`]. A side whose openings all agree is never called
-///   changed.
+///   changed. After `Ok` all openings of a side gave bytes of one SHA-256.
 /// - In a run that ends with `Ok` each side is opened twice, and once more for each section of entries. No run opens a
 ///   side more than six times.
 /// - The desk is emptied before anything is read. At no moment does it hold more than the entry line of each side

@@ -1,5 +1,5 @@
 //! Readings of databases: each whole, or both in lock step.
-ghost use Rattle.std.specs.Prelude.{◌≡◌, ℕ, List, ◌<◌, [], false, true, Some, IfOk, IfErr};
+ghost use Rattle.std.specs.Prelude.{◌≡◌, ℕ, List, ◌<◌, [], false, true, Some, IfOk, IfErr, OnOk};
 ghost use Rattle.std.specs.List.{flat_map};
 ghost use Rattle.aide_db.specs.Count.{one_more};
 ghost use Rattle.aide_db.specs.DeskView.{DeskView};
@@ -9,6 +9,7 @@ ghost use Rattle.aide_db.specs.Side.{by_side};
 ghost use Rattle.aide_merge.specs.Bound.{Fits, OpensWithin};
 ghost use Rattle.aide_report.specs.code.Counts.{Completes};
 ghost use Rattle.aide_merge.specs.code.Digests.{AreDigests};
+ghost use Rattle.aide_report.specs.code.GivenDigests.{GaveDigests, next_given};
 ghost use Rattle.aide_report.specs.code.LaterFault.{later_of};
 ghost use Rattle.aide_merge.specs.Merged.{merged};
 ghost use Rattle.aide_report.specs.code.PassFaults.{pass_fault_of};
@@ -42,6 +43,8 @@ pub(crate) fn open_both<S: Sources>(sources: &mut S) -> Result<(S::R, S::R), Run
         (seen S.Sources sources.old) (seen S.Sources sources.new) desk desk ⊥ result }
     ensures gives { IfOk result (λ reels.
         GivesBoth S.R.to_come (S.bytes_of sources.old) reels.0 reels.1) }
+    ensures gives_at { IfOk result (λ reels. GivesBoth S.R.to_come
+        (next_given (S.bytes_at sources.old) (S.openings sources.old)) reels.0 reels.1) }
     ensures old_opened { S.openings sources.new Side.Old
         ≡ one_more (S.openings sources.old Side.Old) }
 {
@@ -135,6 +138,8 @@ pub(crate) fn count_pass<S: Sources, A: Allocator + Copy>(
     ensures counts { IfOk result (λ counts. (old new : List ℕ)
         → S.bytes_of sources.old Side.Old ≡ Some old → S.bytes_of sources.old Side.New ≡ Some new
         → Completes options.now counts [] (merged path_cmp (entries_of old) (entries_of new))) }
+    ensures gave { OnOk result (GaveDigests (S.bytes_at sources.old)
+        (S.openings sources.old) (S.openings sources.new) digests.now) }
 {
     let (old_reel, new_reel) = open_both(sources)?;
     let mut merge = Merge::start(old_reel, new_reel, limits, desk);
@@ -176,6 +181,8 @@ pub(crate) fn entries_pass<S: Sources, W: Sink, A: Allocator + Copy, T: ChangeWr
         result (on_sheet W.Sink out.old pen.old) (on_sheet W.Sink out.new pen.new) }
     ensures pen { KeepsPen (on_sheet W.Sink out.old pen.old) (on_sheet W.Sink out.new pen.new)
         pen.new result }
+    ensures gave { OnOk result (GaveDigests (S.bytes_at sources.old)
+        (S.openings sources.old) (S.openings sources.new) plan.now.finding.now.digests) }
     ensures old_opened { S.openings sources.new Side.Old
         ≡ one_more (S.openings sources.old Side.Old) }
 {

@@ -6,6 +6,7 @@ ghost use Rattle.aide_report.specs.Agreement.{BeginsWith, beginning_by, goes_on_
 ghost use Rattle.aide_merge.specs.code.Digests.{AreDigests};
 ghost use Rattle.aide_merge.specs.code.Merging.{pass_of};
 ghost use Rattle.aide_report.specs.code.Finding.{old_origin, new_origin};
+ghost use Rattle.aide_report.specs.code.GivenDigests.{GaveDigests};
 ghost use Rattle.aide_report.specs.code.Passes.{FlushesOnce, KeepsPen, Passes, WritesOver};
 ghost use Rattle.aide_text.specs.PenSheet.{on_sheet};
 ghost use Rattle.aide_report.specs.Report.{is_silent, parts_of, text_of, section_count};
@@ -61,6 +62,8 @@ fn put_parts<S: Sources, W: Sink, A: Allocator + Copy>(
         (on_sheet W.Sink out.old pen.old) (on_sheet W.Sink out.new pen.new)) }
     ensures pen { KeepsPen (on_sheet W.Sink out.old pen.old) (on_sheet W.Sink out.new pen.new)
         pen.new result }
+    ensures gave { OnOk result (GaveDigests (S.bytes_at sources.old)
+        (S.openings sources.old) (S.openings sources.new) plan.now.finding.now.digests) }
 {
     put_overview(out, pen, plan.task.options.level, &plan.finding.counts);
     if pen.failed {
@@ -104,6 +107,8 @@ fn put_report<S: Sources, W: Sink, A: Allocator + Copy>(
         (on_sheet W.Sink out.old pen.old) (on_sheet W.Sink out.new pen.new)) }
     ensures pen { KeepsPen (on_sheet W.Sink out.old pen.old) (on_sheet W.Sink out.new pen.new)
         pen.new result }
+    ensures gave { OnOk result (GaveDigests (S.bytes_at sources.old)
+        (S.openings sources.old) (S.openings sources.new) plan.now.finding.now.digests) }
 {
     if is_silent(&plan.task.options, &plan.finding.counts) {
         return Ok(());
@@ -134,6 +139,8 @@ pub(crate) fn write_report<S: Sources, W: Sink, A: Allocator + Copy>(
         (goes_on_by task.now.options finding.now.counts)
         (W.delivered out.old) (W.delivered out.new)) }
     ensures sink { FlushesOnce W.Sink out.old out.new result }
+    ensures gave { OnOk result (GaveDigests (S.bytes_at sources.old)
+        (S.openings sources.old) (S.openings sources.new) finding.now.digests) }
 {
     let plan = Plan {
         task,

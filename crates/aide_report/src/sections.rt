@@ -4,6 +4,7 @@ ghost use Rattle.aide_attr.specs.Level.{reaches};
 ghost use Rattle.aide_attr.specs.declared.level.Level.{Level as AnyLevel};
 ghost use Rattle.aide_merge.specs.code.Digests.{AreDigests};
 ghost use Rattle.aide_merge.specs.code.Merging.{pass_of};
+ghost use Rattle.aide_report.specs.code.GivenDigests.{GaveDigests};
 ghost use Rattle.aide_report.specs.code.Passes.{KeepsPen, Passes, WritesOver};
 ghost use Rattle.aide_text.specs.PenSheet.{on_sheet};
 ghost use Rattle.aide_report.specs.Report.{sections_text};
@@ -65,6 +66,8 @@ fn section_pass<S: Sources, W: Sink, A: Allocator + Copy>(
         result (on_sheet W.Sink out.old pen.old) (on_sheet W.Sink out.new pen.new) }
     ensures pen { KeepsPen (on_sheet W.Sink out.old pen.old) (on_sheet W.Sink out.new pen.new)
         pen.new result }
+    ensures gave { OnOk result (GaveDigests (S.bytes_at sources.old)
+        (S.openings sources.old) (S.openings sources.new) plan.now.finding.now.digests) }
 {
     put_section_head(out, pen, section);
     if pen.failed {
@@ -101,6 +104,8 @@ pub(crate) fn put_sections<S: Sources, W: Sink, A: Allocator + Copy>(
         (on_sheet W.Sink out.old pen.old) (on_sheet W.Sink out.new pen.new)) }
     ensures pen { KeepsPen (on_sheet W.Sink out.old pen.old) (on_sheet W.Sink out.new pen.new)
         pen.new result }
+    ensures gave { OnOk result (GaveDigests (S.bytes_at sources.old)
+        (S.openings sources.old) (S.openings sources.new) plan.now.finding.now.digests) }
 {
     for section in &Section::ALL {
         if !is_there(&plan.task.options, &plan.finding.counts, *section) {

@@ -11,6 +11,7 @@ use Rattle.aide_text.specs.Failures.{Rose}
 use Rattle.sha2.specs.Sha256.{sha256}
 use Rattle.aide_merge.specs.Asked.{Asked}
 use Rattle.aide_merge.specs.code.Digests.{AreDigests}
+use Rattle.aide_report.specs.code.GivenDigests.{next_given}
 use Rattle.aide_report.specs.code.Finding.{IsFinding}
 use Rattle.aide_merge.specs.RightAnswer.{IsOfReliable}
 use Rattle.aide_merge.specs.Openings.{OpensFirst, IsRefusedThere, IsNotGiven}
@@ -34,6 +35,9 @@ pub record IsWholeReading (limits : Limits) (a : Seen) (side : Side)
   pub sound : (text : List ℕ) → a.bytes_of side ≡ Some text
       → IsSound limits text × (reading.skipped ≡ skipped_in (columns_of_text text))
       × (reading.digest ≡ sha256 text)
+  -- the digest is that of the bytes which this opening gave
+  pub gave : (text : List ℕ) → next_given a.bytes_at a.openings side ≡ Some text
+      → reading.digest ≡ sha256 text
 
 -- What a fault of the first reading of a side means.
 pub record IsReadingFault (limits : Limits) (a b : Seen) (side : Side) (room : ℕ)

@@ -26,6 +26,7 @@ returns-in-Ok-read_old-clause-reads g c =
     record {
       sources = record {
         same = kept.same ∙ same;
+        at_same = kept.at_same ∙ c.open-2.ensures.keeps.at_same ∙ c.open.ensures.keeps.at_same;
         missing_same = kept.missing_same ∙ c.open-2.ensures.keeps.missing ∙ c.open.ensures.keeps.missing;
         reliable_same = kept.reliable_same ∙ c.open-2.ensures.keeps.reliable ∙ c.open.ensures.keeps.reliable;
         lookups = kept.lookups ∙ c.open-2.ensures.opens.lookups ∙ c.open.ensures.opens.lookups;
@@ -62,6 +63,7 @@ returns-in-Err-read_old-clause-reads g c =
     record {
       sources = record {
         same = kept.same ∙ same;
+        at_same = kept.at_same ∙ c.open-2.ensures.keeps.at_same ∙ c.open.ensures.keeps.at_same;
         missing_same = kept.missing_same ∙ c.open-2.ensures.keeps.missing ∙ c.open.ensures.keeps.missing;
         reliable_same = kept.reliable_same ∙ c.open-2.ensures.keeps.reliable ∙ c.open.ensures.keeps.reliable;
         lookups = kept.lookups ∙ c.open-2.ensures.opens.lookups ∙ c.open.ensures.opens.lookups;

@@ -5,6 +5,7 @@ use Rattle.aide_merge.specs.RunFaults.{IsLater}
 use Rattle.aide_text.specs.Failures.{Rose}
 use Rattle.aide_report.proofs.FaultLemmas.{answer_later, first_later, right_later, rose_later}
 use Rattle.aide_merge.proofs.FaultLemmas.{rose_since}
+use Rattle.aide_report.proofs.GivenLemmas.{gave_then}
 use Rattle.aide_report.proofs.MissingLemmas.{later_over}
 use Rattle.aide_merge.proofs.AnswerLemmas.{stops_hindered}
 use Rattle.aide_report.proofs.OpeningLemmas.{refused_later}
@@ -78,6 +79,10 @@ returns-in-Ok-count_pass-clause-over g c wish old new told_old told_new r runs =
 pub returns-in-Ok-count_pass-clause-desk : goal.returns-in-Ok-count_pass-clause-desk
 returns-in-Ok-count_pass-clause-desk g c =
     clears_then c.read_both.ensures.sources.same c.read_both.ensures.desk c.count_pass.ensures.passes.desk
+
+pub returns-in-Ok-count_pass-clause-gave : goal.returns-in-Ok-count_pass-clause-gave
+returns-in-Ok-count_pass-clause-gave g c =
+    gave_then c.read_both.ensures.sources.at_same c.in-Ok.ensures.gave c.in-Ok-count_pass.ensures.gave
 
 -- ---- a fault of it
 

@@ -10,7 +10,9 @@ use Rattle.aide_report.proofs.FaultLemmas.{answer_new, answer_old, opens_first}
 use Rattle.aide_merge.proofs.FaultLemmas.{right_first, rose_since}
 use Rattle.aide_report.proofs.FaultLemmas.{rose_later}
 use Rattle.aide_merge.specs.code.Digests.{digest_on}
+use Rattle.aide_report.specs.code.GivenDigests.{next_given}
 use Rattle.sha2.specs.Sha256.{sha256}
+use Rattle.aide_report.proofs.GivenLemmas.{gave_once}
 use Rattle.aide_report.proofs.MissingLemmas.{both_there, first_over, second_over}
 use Rattle.aide_merge.proofs.FaultLemmas.{refused_first}
 use Rattle.aide_merge.proofs.KeepLemmas.{sources_then}
@@ -152,3 +154,17 @@ returns-clause-read g c =
           (λ text told. (c.in-Ok.ensures.read.sound text told).2)
           (λ text told. (c.in-Ok-read_whole.ensures.read.sound text (ap (λ bytes. bytes New) same ∙ told)).2);
     }
+
+pub returns-clause-gave : goal.returns-clause-gave
+returns-clause-gave g c =
+    let opens = c.read_whole.ensures.opens in
+    let then = c.read_whole-2.ensures.opens in
+    let bytes_at = g.S.Sources.bytes_at c.args.sources.now in
+    let openings = g.S.Sources.openings c.args.sources.now in
+    gave_once (record { of_old = then.others ∙ opens.opens; of_new = then.opens ∙ ap one_more opens.others })
+    (of_sides (λ side text. next_given bytes_at openings side ≡ Some text)
+    (λ side text. digest_on (record { of_old = c.in-Ok.reading.digest; of_new = c.in-Ok-read_whole.reading.digest }) side ≡ sha256 text)
+    c.in-Ok.ensures.read.gave
+    (λ text told. c.in-Ok-read_whole.ensures.read.gave text
+    (ap (λ bytes. bytes New (g.S.Sources.openings c.read_whole.new.sources New)) c.read_whole.ensures.sources.at_same
+    ∙ ap (bytes_at New) opens.others ∙ told)))

@@ -3,6 +3,7 @@ use Rattle.aide_db.specs.declared.side.Side.TheVariants.{Old, New}
 use Rattle.aide_merge.specs.Asked.{asked}
 use Rattle.aide_report.specs.Report.{section_count}
 use Rattle.aide_merge.specs.Seen.{sink_seen}
+use Rattle.aide_report.proofs.GivenLemmas.{gave_then, one_digest}
 use Rattle.aide_report.proofs.RunRecords.{run_breaks, run_ends, run_stops}
 use Rattle.aide_report.proofs.RunLemmas.{ends_well, ends_early, sections_are}
 use Rattle.aide_report.proofs.SectionsLemmas.{fitting, most_sections, opens_more, sections_few}
@@ -43,6 +44,7 @@ returns-in-Ok-write_report g c =
     (sections_few c.args.task.now.options c.in-Ok.finding.counts _ (omega arith))
     (λ old new told_old told_new.
     ap (λ n. 2 + n) (sym (sections_are c.args.task.now c.in-Ok.finding old new (found.of_texts old new told_old told_new))))
+    (one_digest (gave_then c.compare.ensures.sources.at_same c.in-Ok.ensures.gave c.in-Ok-write_report.ensures.gave))
     (rw c.outcome.ensures c.in-Ok-write_report.ensures.first)
     (rw c.outcome.ensures (record {
       shown = c.in-Ok.finding.counts.shown;

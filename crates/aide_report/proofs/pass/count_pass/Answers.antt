@@ -4,8 +4,10 @@ use Rattle.aide_db.specs.Desk.{list_of, columns_of_side}
 use Rattle.aide_db.specs.declared.side.Side.TheVariants.{Old, New}
 use Rattle.aide_report.specs.code.Counts.{Completes}
 use Rattle.aide_merge.specs.code.Merging.{cursor_at}
+use Rattle.aide_report.proofs.GivenLemmas.{gave_merged}
 use Rattle.aide_report.proofs.PassLemmas.{pass_changed, pass_done, pass_failed, passes_begun}
 use Rattle.aide_report.proofs.PassLemmas.{passes_err}
+use Rattle.aide_report.specs.code.GivenDigests.{next_given}
 use Rattle.aide_report.proofs.pass.count_pass.Goals as goal
 
 pub returns-in_err-old_reel-clause-passes : goal.returns-in_err-old_reel-clause-passes
@@ -52,3 +54,9 @@ count-requires g c =
     let bytes_of = g.S.Sources.bytes_of c.args.sources.now in
     let opened = c.start-merge.ensures.opened bytes_of c.in_ok-old_reel.ensures.gives in
     record { ready = opened.ready; short = opened.short }
+
+pub returns-in-None-clause-gave : goal.returns-in-None-clause-gave
+returns-in-None-clause-gave g c =
+    let given = next_given (g.S.Sources.bytes_at c.args.sources.now) (g.S.Sources.openings c.args.sources.now) in
+    gave_merged (c.in_ok-old_reel.ensures.passes c.args.limits c.args.desk.now).opens c.close_both.ensures.openings
+    (c.start-merge.ensures.opened given c.in_ok-old_reel.ensures.gives_at) c.count.ensures.keeps c.in-None.ensures.same

@@ -11,8 +11,10 @@ use Rattle.std.specs.List.{flat_map}
 use Rattle.aide_text.specs.Failures.{Rose}
 use Rattle.aide_text.specs.Sheet.{Wrote, WritesPart}
 use Rattle.aide_text.proofs.Sheets.{part_whole, part_nothing, some_nothing}
+use Rattle.aide_report.proofs.GivenLemmas.{gave_merged}
 use Rattle.aide_report.proofs.PassLemmas.{pass_changed, pass_done, pass_stopped, passes_begun}
 use Rattle.aide_report.proofs.PassLemmas.{passes_err, stop_written, unwritten}
+use Rattle.aide_report.specs.code.GivenDigests.{next_given}
 use Rattle.aide_report.proofs.pass.entries_pass.Goals as goal
 
 pub returns-in_err-old_reel-clause-passes : goal.returns-in_err-old_reel-clause-passes
@@ -123,3 +125,9 @@ returns-in-Some-clause-old_opened g c = ap (λ openings. openings Old) c.close_b
 
 pub returns-in-Err-clause-old_opened : goal.returns-in-Err-clause-old_opened
 returns-in-Err-clause-old_opened g c = ap (λ openings. openings Old) c.close_both-in-Err.ensures.openings ∙ c.open_both.ensures.old_opened
+
+pub returns-in-None-clause-gave : goal.returns-in-None-clause-gave
+returns-in-None-clause-gave g c =
+    let given = next_given (g.S.Sources.bytes_at c.args.sources.now) (g.S.Sources.openings c.args.sources.now) in
+    gave_merged (c.in_ok-old_reel.ensures.passes c.args.plan.now.limits c.args.desk.now).opens c.close_both.ensures.openings
+    (c.start-merge.ensures.opened given c.in_ok-old_reel.ensures.gives_at) c.put_entries.ensures.keeps c.in-None.ensures.same

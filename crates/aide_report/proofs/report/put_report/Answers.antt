@@ -5,6 +5,7 @@ use Rattle.aide_report.specs.code.Finding.{old_origin, new_origin}
 use Rattle.aide_text.specs.PenSheet.{on_sheet}
 use Rattle.aide_merge.specs.Seen.{seen}
 use Rattle.aide_report.specs.Sections.{sections_of}
+use Rattle.aide_report.proofs.GivenLemmas.{gave_none}
 use Rattle.aide_report.proofs.PassLemmas.{passes_count, passes_none, writes_same}
 use Rattle.std.proofs.lemmas.Result.{on_ok_weaker}
 use Rattle.aide_report.proofs.AgreementLemmas.{first_silent, first_full}
@@ -60,3 +61,7 @@ returns-then-is_silent-clause-pen g c = record {
 
 pub returns-clause-pen : goal.returns-clause-pen
 returns-clause-pen g c = c.put_parts.ensures.pen
+
+pub returns-then-is_silent-clause-gave : goal.returns-then-is_silent-clause-gave
+returns-then-is_silent-clause-gave g c =
+    gave_none (g.S.Sources.bytes_at c.args.sources.now) (g.S.Sources.openings c.args.sources.now) c.args.plan.now.finding.now.digests

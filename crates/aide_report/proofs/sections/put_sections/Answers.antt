@@ -11,6 +11,7 @@ use Rattle.aide_text.specs.Section.{all_sections}
 use Rattle.aide_attr.specs.Level.{reaches}
 use Rattle.aide_attr.specs.declared.level.Level.TheVariants.{DatabaseAttributes}
 use Rattle.aide_report.proofs.AgreementLemmas.{none_there, first_nothing, first_some}
+use Rattle.aide_report.proofs.GivenLemmas.{gave_none, gave_then}
 use Rattle.aide_report.proofs.PassLemmas.{passes_none, passes_same, passes_stop, passes_then}
 use Rattle.aide_report.proofs.PassLemmas.{pen_then}
 use Rattle.aide_text.specs.declared.section.Section.TheVariants.{AddedEntries}
@@ -33,6 +34,8 @@ loop-section-init g c =
           (flat_map (section_text c.args.plan.now.task.now.options (pass_of old new)) (filter h all_sections)) start;
       some = some_nothing start;
       first = first_nothing (reaches c.args.plan.now.task.now.options.level DatabaseAttributes) start;
+      gave = gave_none (g.S.Sources.bytes_at c.args.sources.now) (g.S.Sources.openings c.args.sources.now)
+          c.args.plan.now.finding.now.digests;
     }
 
 pub returns-in-Err-clause-passes : goal.returns-in-Err-clause-passes
@@ -96,6 +99,7 @@ loop-section-preserved g c =
           (λ below. let there = sym is ∙ none_there c.args.plan.now.task.now.options c.args.plan.now.finding.now.counts
           (get_or all_sections i AddedEntries) below in cc)
           some;
+      gave = gave_then c.loop-section.invariant.passes.sources.at_same c.loop-section.invariant.gave c.in-Ok.ensures.gave;
     }
 
 pub loop-section-preserved-then-not-is_there : goal.loop-section-preserved-then-not-is_there
@@ -112,6 +116,7 @@ loop-section-preserved-then-not-is_there g c =
           (before.writes old new told_old told_new);
       some = before.some;
       first = before.first;
+      gave = before.gave;
     }
 
 pub section_pass-requires-clause-digests : goal.section_pass-requires-clause-digests

@@ -5,6 +5,7 @@ use Rattle.aide_attr.specs.declared.level.Level.TheVariants.{DatabaseAttributes}
 use Rattle.std.specs.List.{flat_map, filter}
 use Rattle.aide_db.specs.declared.side.Side.TheVariants.{Old, New}
 use Rattle.aide_merge.specs.code.Merging.{pass_of}
+use Rattle.aide_report.specs.code.GivenDigests.{GaveDigests}
 use Rattle.aide_report.specs.code.Passes.{Passes}
 use Rattle.aide_text.specs.PenSheet.{on_sheet}
 use Rattle.aide_merge.specs.Seen.{seen}
@@ -31,4 +32,6 @@ invariant-loop-section g l = record {
   some : WritesSome (on_sheet g.W.Sink l.fn.out l.fn.pen) (on_sheet g.W.Sink l.out l.pen);
   first : WritesFirst [] (reaches l.plan.task.now.options.level DatabaseAttributes) (on_sheet g.W.Sink l.fn.out l.fn.pen)
       (on_sheet g.W.Sink l.out l.pen);
+  gave : GaveDigests (g.S.Sources.bytes_at l.fn.sources) (g.S.Sources.openings l.fn.sources) (g.S.Sources.openings l.sources)
+      l.plan.finding.now.digests;
 }

@@ -9,6 +9,7 @@ ghost use Rattle.aide_report.specs.Agreement.{IsOfOutcome, OpensByOutcome};
 ghost use Rattle.aide_merge.specs.Asked.{asked};
 ghost use Rattle.aide_merge.specs.Bound.{three_lines};
 ghost use Rattle.aide_report.specs.Failures.{CountsFlush, Rose};
+ghost use Rattle.aide_report.specs.Given.{GiveOneDigest};
 ghost use Rattle.aide_report.specs.Missing.{EndsOver, RunsOver};
 ghost use Rattle.aide_merge.specs.RightAnswer.{IsHindered, IsOfReliable};
 ghost use Rattle.aide_merge.specs.RightAnswer.{TellsSide};
@@ -50,6 +51,8 @@ pub(super) fn run_for_its_answer<S: Sources, W: Sink, A: Allocator + Copy>(
         → (IsSound limits text → ⊥)
         → Appends (W.delivered out.old) (W.delivered out.new) [] }
     ensures written { IfErr result (HasWrittenIfAny (W.delivered out.old) (W.delivered out.new)) }
+    ensures agreed { OnOk result (GiveOneDigest (S.bytes_at sources.old)
+        (S.openings sources.old) (S.openings sources.new)) }
 {
     run(task, limits, desk, sources, out)
 }
