@@ -1,11 +1,12 @@
-//! What a comparison of two databases promises, in four clauses.
-ghost use Rattle.std.specs.Prelude.{◌≡◌, ◌≤◌, ◌+◌, ◌^◌, ℕ, List, Some, Ok, Err, max};
+//! What a comparison of two databases promises, in five clauses.
+ghost use Rattle.std.specs.Prelude.{◌≡◌, ◌≤◌, ◌+◌, ◌^◌, ℕ, List, Some, Ok, Err, OnOk, max};
 ghost use Rattle.aide_db.specs.Database.{IsSound};
 ghost use Rattle.aide_db.specs.Longest.{longest_line};
 ghost use Rattle.aide_db.specs.declared.fault.DbFault.{DbFault};
 ghost use Rattle.aide_headline.specs.Headline.{EndsAs};
 ghost use Rattle.aide_merge.specs.Asked.{asked};
 ghost use Rattle.aide_merge.specs.RightAnswer.{IsFirstFaultOf};
+ghost use Rattle.aide_report.specs.Given.{GiveOneDigest};
 ghost use Rattle.aide_report.specs.Runs.{report_over};
 ghost use Rattle.aide_session.specs.Put.{HasNoFailure};
 
@@ -16,9 +17,9 @@ use std::alloc::Allocator;
 
 /// Compares two databases and writes the report, by [`run`].
 ///
-/// A task is what an accepted configuration asks for. Each clause begins with the two texts that every
-/// opening of the old and of the new database gives. The first three clauses are about a call in which
-/// no device counts a failure:
+/// A task is what an accepted configuration asks for. Each clause but the last begins with the two texts
+/// that every opening of the old and of the new database gives. The first three clauses are about a call
+/// in which no device counts a failure:
 ///
 /// - If both texts are sound, exactly the report is written. The report and the outcome are those that
 ///   the definitions assign to the two maps.
@@ -26,6 +27,8 @@ use std::alloc::Allocator;
 /// - If only the new text is not sound, its first fault is returned and nothing is written.
 /// - At no moment does the desk hold more bytes than the longest line of each text and one more line
 ///   no longer than these, unless it held more before the call.
+/// - After `Ok` all openings of a database gave bytes of one SHA-256, whatever each of them gave: a
+///   comparison of a database that changed while it was read never ends with `Ok`.
 ///
 /// `limits.line` has to be at least 14 and at most the room that was reserved on the desk, and
 /// `limits.bytes` at most 2^60. What is promised beyond this, for example if a device fails, is in the
@@ -63,6 +66,8 @@ pub fn compare_databases<S: Sources, W: Sink, A: Allocator + Copy>(
         → S.bytes_of sources.old Side.New ≡ Some new
         → desk.new.peak ≤ max desk.old.peak (longest_line limits old + longest_line limits new
         + max (longest_line limits old) (longest_line limits new)) }
+    ensures agreed { OnOk result (GiveOneDigest (S.bytes_at sources.old)
+        (S.openings sources.old) (S.openings sources.new)) }
 {
     run(task, limits, desk, sources, out)
 }
