@@ -1,7 +1,8 @@
 -- What the answer to arguments is, step by step, from what a caller knows of them and of the files, and that there is one
 -- and only one.
-use Rattle.std.specs.Prelude.{◌≡◌, ℕ, Option, Some, List, Result, Ok, Bool}
-use Rattle.std.proofs.Common.{refl, sym}
+use Rattle.std.specs.Prelude.{◌≡◌, ℕ, Option, Some, None, List, [], ◌∷◌, Result, Ok, Bool, true}
+use Rattle.std.specs.Io.KnownBytes.{append_known}
+use Rattle.std.proofs.Common.{refl, sym, ap, append-nil, rules}
 use Rattle.std.proofs.Math.Path.{subst}
 use Rattle.aide_conf.specs.Settings.{Configured}
 use Rattle.aide_conf.specs.ReadResult.{ReadsAs}
@@ -14,6 +15,7 @@ use Rattle.aide_session.specs.Answer.{IsTextAnswerBy}
 use Rattle.aide_session.specs.Asks.{Asks}
 use Rattle.aide_session.specs.Existence.{HasSessionAnswerBy, TellsNamed}
 use Rattle.aide_session.specs.Files.{Files}
+use Rattle.aide_session.specs.Page.{Paged, known_of, none_waits}
 use Rattle.aide_session.specs.Says.{Says}
 use Rattle.aide_words.specs.Job.{JobText, job_of}
 use Rattle.aide_session.proofs.Existence.{answered}
@@ -59,3 +61,16 @@ arguments_have_an_answer = answered
 pub no_arguments_have_two_answers : (says : Says) (files : Files) (wanted : Option JobText) (named other : Named)
     (a b : Answer) → IsAnswerBy says files wanted named a → IsAnswerBy says files wanted other b → a ≡ b
 no_arguments_have_two_answers = one_answer
+
+none_left : (waiting : List ℕ) → none_waits waiting ≡ true → waiting ≡ []
+none_left [] is = refl
+none_left (byte ∷ waiting) is = search rules
+
+nothing_added : (sent : Option (List ℕ)) → append_known sent [] ≡ sent
+nothing_added None = refl
+nothing_added (Some bytes) = search (rules, append-nil)
+
+-- Where no byte waits on a page, what was written into it is what was written into its sink.
+pub a_flushed_page_holds_nothing_back : {W : Type 0} (delivered : W → Option (List ℕ)) (page : Paged W)
+    → none_waits page.waiting ≡ true → known_of delivered page ≡ delivered page.sink
+a_flushed_page_holds_nothing_back delivered page flushed = search (rules, none_left, nothing_added)

@@ -1,10 +1,11 @@
 -- A page whose first bytes have been passed on.
-use Rattle.std.proofs.Common.{◌≡◌, ◌∙◌, ℕ, ◌+◌, ◌≤◌, List, ◌++◌, Option, Some, None, sym, ap, append_assoc, take, drop}
+use Rattle.std.proofs.Common.{◌≡◌, ◌∙◌, ℕ, ◌+◌, ◌≤◌, List, [], ◌++◌, Option, Some, None, sym, ap, append_assoc, take, drop}
 use Rattle.std.proofs.Common.{length}
 use Rattle.std.proofs.Math.Path.{subst}
 use Rattle.std.proofs.KnownBytes.{append_known-moved}
 use Rattle.std.proofs.lemmas.List.{drop-append-le, drop-drop, take-append-drop}
 use Rattle.std.specs.Io.KnownBytes.{Appends, Keeps, append_known}
+use Rattle.aide_session.specs.Page.{Paged, empty_page}
 
 -- what was sent and what is left are what waited on the page
 whole_again : (items : List ℕ) (passed count : ℕ)
@@ -28,3 +29,8 @@ page_grows None items more all passed within is = tt
 page_grows (Some bytes) items more all passed within is =
     ap (λ (l : List ℕ). bytes ++ l) (ap (drop passed) is ∙ drop-append-le passed items more within)
     ∙ sym (append_assoc bytes (drop passed items) more)
+
+-- what is seen of a page that was just made
+pub made_empty : {W : Type 0} (page : Paged W) (sink : W) → page.sink ≡ sink → page.waiting ≡ [] → page.used ≡ 0
+    → page ≡ empty_page sink
+made_empty page sink is_sink none is_used = λ i. record { sink = is_sink i; waiting = none i; used = is_used i }

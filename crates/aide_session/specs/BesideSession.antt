@@ -117,10 +117,3 @@ pub record IsLineSession (words : List (List ℕ)) (status : ℕ) (s t : Session
   pub trusted_still : line_job_of words ≡ None → desks.trusted_after ≡ desks.trusted_before
   pub beside : (job : LineJobText) → line_job_of words ≡ Some job
       → IsSessionBeside job status s t desks
-
--- A program that writes lines of JSON has ended with this status: after a session, or because
--- memory ran out before one.
-abbrev pub HasRunLines : ℕ → Type 0
-HasRunLines status = (status ≡ 22)
-    ⊎ ((words : List (List ℕ)) × (s : SessionView) × (t : SessionView) × (desks : DeskPeaks)
-    × IsLineSession words status s t desks)

@@ -1,5 +1,5 @@
 -- What a session promises over any site. Every call that runs one promises this.
-use Rattle.std.specs.Prelude.{◌≡◌, ◌≤◌, ◌⊎◌, ℕ, Bool, true, List, Option, None, max}
+use Rattle.std.specs.Prelude.{◌≡◌, ◌≤◌, ◌⊎◌, ℕ, Bool, true, Option, max}
 use Rattle.aide_db.specs.Count.{one_more}
 use Rattle.aide_db.specs.declared.sources.Sources.{Ghosts as AnySources}
 use Rattle.aide_report.specs.Failures.{Rose}
@@ -12,7 +12,7 @@ use Rattle.aide_session.specs.Held.{HoldsWithin, most_held}
 use Rattle.aide_session.specs.Put.{HasNoFailure}
 use Rattle.aide_session.specs.Says.{Says}
 use Rattle.aide_text.specs.declared.sink.Sink.{Ghosts as AnySink}
-use Rattle.aide_words.specs.Job.{JobText, job_of}
+use Rattle.aide_words.specs.Job.{JobText}
 
 -- What contracts see of a session, or of a part of one: how its devices were before, and how they are after it.
 pub record SessionView : Type 0 where
@@ -95,8 +95,3 @@ pub record HoldsBy (says : Says) (files : Files) (wanted : Option JobText)
   -- If the texts of both databases are known, it rises at most to three of their lines.
   pub bound : (named : Named) (a : Answer) → IsAnswerBy says files wanted named a
       → HoldsWithin files named before after
-
--- A program that writes the report has ended with this status: after a session, or because memory ran out before one.
-abbrev pub HasRun : ℕ → Type 0
-HasRun status = (status ≡ 22)
-    ⊎ ((words : List (List ℕ)) × (s : SessionView) × IsSessionBy None (job_of words) status s)

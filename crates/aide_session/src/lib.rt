@@ -26,7 +26,7 @@ pub use aide_words::{Job, LineJob, Memory, Word, Words, WordsFault, read_line_wo
 pub use file_reel::FileReel;
 pub use file_site::FileSite;
 pub use lines_program::lines_session_on;
-pub use machine::{start, start_lines};
+pub use machine::{Ended, run_lines_paged, run_paged, start, start_lines};
 pub use memory_site::MemorySite;
 pub use paged_sink::PagedSink;
 pub use program::{session, session_on};

@@ -1,7 +1,9 @@
 //! A session on the machine: its arguments, its files and its streams.
-ghost use Rattle.std.specs.Prelude.{IfOk};
-ghost use Rattle.aide_session.specs.BesideSession.{HasRunLines};
-ghost use Rattle.aide_session.specs.Session.{HasRun};
+ghost use Rattle.std.specs.Prelude.{◌≡◌, IfOk, OnErr, None};
+ghost use Rattle.aide_session.specs.BesideSession.{DeskPeaks, IsLineSession};
+ghost use Rattle.aide_session.specs.Page.{empty_page};
+ghost use Rattle.aide_session.specs.Session.{IsSessionBy, view_between};
+ghost use Rattle.aide_words.specs.Job.{job_of};
 
 use crate::file_site::FileSite;
 use crate::lines_program::lines_session_on;
@@ -27,41 +29,53 @@ fn take_words(rt: &HostRuntime, alloc: Global) -> Result<Words, Memory> {
     Ok(words)
 }
 
-/// Runs a session that writes the report. Its output and lines each go through a page, and the desk
-/// is its own. Memory for both pages is reserved before any file is opened.
-fn run_paged<S: Site, W: Sink + Drop, E: Sink + Drop>(
+/// What is left of a session whose output and lines each went through a page.
+#[derive(Drop)]
+pub struct Ended<W, E> {
+    /// The exit status.
+    pub status: u8,
+    /// The page before the output.
+    pub out: PagedSink<W>,
+    /// The page before standard error.
+    pub err: PagedSink<E>,
+}
+
+/// Runs a session that writes the report, by [`session`]. Its output and lines each go through an
+/// empty page. Memory for both pages is reserved before any file is opened. Only for them it may
+/// refuse to run.
+pub fn run_paged<S: Site, W: Sink + Drop, E: Sink + Drop>(
     alloc: Global,
     words: &Words,
     site: &mut S,
     out: W,
     err: E,
-) -> Result<u8, Memory>
-    ensures { IfOk result HasRun }
+) -> Result<Ended<W, E>, Memory>
+    ensures session { IfOk result (λ ended. IsSessionBy None (job_of words.now) ended.status
+        (view_between S.Sources ⟦<PagedSink<W> as Sink>⟧ ⟦<PagedSink<E> as Sink>⟧
+        site.old site.new (empty_page out) ended.out (empty_page err) ended.err)) }
+    ensures untouched { OnErr result (site.new ≡ site.old) }
 {
     let mut out = PagedSink::new(alloc, out)?;
     let mut err = PagedSink::new(alloc, err)?;
     let status = session(alloc, words, site, &mut out, &mut err);
-    Ok(status)
+    Ok(Ended { status, out, err })
 }
 
 /// Runs the session of the command line over the machine's files.
-fn run_session(rt: &HostRuntime, alloc: Global) -> Result<u8, Memory>
-    ensures { IfOk result HasRun }
-{
+fn run_session(rt: &HostRuntime, alloc: Global) -> Result<u8, Memory> {
     let words = take_words(rt, alloc)?;
     let mut site = FileSite::new(rt);
     let out = WriteSink::new(rt.stdout());
     let err = WriteSink::new(rt.stderr());
-    run_paged(alloc, &words, &mut site, out, err)
+    let ended = run_paged(alloc, &words, &mut site, out, err)?;
+    Ok(ended.status)
 }
 
 /// Runs the session of the command line over the machine's files. The report goes to standard
 /// output, and the lines go to standard error. Returns the exit status. The status is 22 if the
 /// arguments cannot be taken, for example because one is not UTF-8, or if a page cannot be
 /// allocated.
-pub fn start(rt: &HostRuntime) -> u8
-    ensures { HasRun result }
-{
+pub fn start(rt: &HostRuntime) -> u8 {
     match run_session(rt, rt.alloc()) {
         Ok(status) => status,
         Err(Memory) => {
@@ -71,17 +85,25 @@ pub fn start(rt: &HostRuntime) -> u8
     }
 }
 
-/// Runs a session that writes lines of JSON. Its output and lines each go through a page, and both
-/// desks are its own. Memory for both pages is reserved before any file is opened.
-fn run_lines_paged<S: Site, W: Sink + Drop, E: Sink + Drop>(
+/// Runs a session that writes lines of JSON, by [`lines_session_on`]. Its output and lines each go
+/// through an empty page, and both desks are its own. Memory for both pages is reserved before any
+/// file is opened. Only for them it may refuse to run.
+pub fn run_lines_paged<S: Site, W: Sink + Drop, E: Sink + Drop>(
     alloc: Global,
     words: &Words,
     site: &mut S,
     trusted: &mut S,
     out: W,
     err: E,
-) -> Result<u8, Memory>
-    ensures { IfOk result HasRunLines }
+) -> Result<Ended<W, E>, Memory>
+    ensures session { IfOk result (λ ended. (desks : DeskPeaks)
+        × IsLineSession words.now ended.status
+        (view_between S.Sources ⟦<PagedSink<W> as Sink>⟧ ⟦<PagedSink<E> as Sink>⟧
+        site.old site.new (empty_page out) ended.out (empty_page err) ended.err)
+        (view_between S.Sources ⟦<PagedSink<W> as Sink>⟧ ⟦<PagedSink<E> as Sink>⟧
+        trusted.old trusted.new (empty_page out) ended.out (empty_page err) ended.err) desks) }
+    ensures untouched { OnErr result (site.new ≡ site.old) }
+    ensures trusted_untouched { OnErr result (trusted.new ≡ trusted.old) }
 {
     let mut out = PagedSink::new(alloc, out)?;
     let mut err = PagedSink::new(alloc, err)?;
@@ -97,26 +119,23 @@ fn run_lines_paged<S: Site, W: Sink + Drop, E: Sink + Drop>(
         &mut out,
         &mut err,
     );
-    Ok(status)
+    Ok(Ended { status, out, err })
 }
 
 /// Runs the session of the command line that writes lines of JSON over the machine's files.
-fn run_lines_session(rt: &HostRuntime, alloc: Global) -> Result<u8, Memory>
-    ensures { IfOk result HasRunLines }
-{
+fn run_lines_session(rt: &HostRuntime, alloc: Global) -> Result<u8, Memory> {
     let words = take_words(rt, alloc)?;
     let mut site = FileSite::new(rt);
     let mut trusted = FileSite::new(rt);
     let out = WriteSink::new(rt.stdout());
     let err = WriteSink::new(rt.stderr());
-    run_lines_paged(alloc, &words, &mut site, &mut trusted, out, err)
+    let ended = run_lines_paged(alloc, &words, &mut site, &mut trusted, out, err)?;
+    Ok(ended.status)
 }
 
 /// Runs the session of the command line like [`start`], but writes the changes as lines of JSON
 /// to standard output in place of the report.
-pub fn start_lines(rt: &HostRuntime) -> u8
-    ensures { HasRunLines result }
-{
+pub fn start_lines(rt: &HostRuntime) -> u8 {
     match run_lines_session(rt, rt.alloc()) {
         Ok(status) => status,
         Err(Memory) => {

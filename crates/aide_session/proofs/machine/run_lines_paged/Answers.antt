@@ -1,5 +1,6 @@
-use Rattle.std.proofs.Common.{inr}
+use Rattle.std.proofs.Common.{rules}
+use Rattle.aide_session.proofs.Pages.{made_empty}
 use Rattle.aide_session.proofs.machine.run_lines_paged.Goals as goal
 
-pub returns : goal.returns
-returns g c = inr (c.args.words.now, _, _, _, c.lines_session_on-status.ensures.session)
+pub returns-clause-session : goal.returns-clause-session
+returns-clause-session g c = search (rules, made_empty)
