@@ -6,7 +6,7 @@ ghost use Rattle.aide_session.specs.BesideEnds.{ClosesCompared, StopsWith};
 ghost use Rattle.aide_session.specs.Lines.{memory_line};
 ghost use Rattle.aide_session.specs.Pointing.{KeepsFiles, KeepsOthers};
 ghost use Rattle.aide_session.specs.Trusted.{trusted_at};
-ghost use Rattle.aide_session.specs.code.BesideParts.{IsPointed, beside_between, named_by};
+ghost use Rattle.aide_session.specs.code.BesideParts.{IsPointed, beside_between, files_of, named_by};
 ghost use Rattle.aide_session.specs.code.Parts.{AreSame};
 ghost use Rattle.aide_line_run.specs.ListView.{list_read};
 ghost use Rattle.aide_line_run.specs.SamePair.{AreSamePair};
@@ -25,68 +25,49 @@ use aide_report::Sink;
 use aide_words::Memory;
 use std::alloc::Global;
 
-/// Points a site at the databases of a task, and reserves what a comparison may hold of them.
-fn prepare<S: Site>(
-    alloc: Global,
-    desk: &mut Desk<Global>,
-    site: &mut S,
-    task: &Task<'_>,
-) -> Result<(), Memory>
-    ensures keeps { KeepsFiles S.Sources site.old site.new }
-    ensures peak { desk.new.peak ≡ desk.old.peak }
-    ensures room { OnOk result (1048576 ≤ desk.new.room) }
-    ensures pointed { OnOk result (IsPointed (S.file_at site.old) (asked task.now)
-        (S.bytes_of site.new) (S.is_missing site.new)) }
-{
-    if let Err(Memory) = site.point(alloc, Side::Old, task.old_path) {
-        return Err(Memory);
-    }
-    if let Err(Memory) = site.point(alloc, Side::New, task.new_path) {
-        return Err(Memory);
-    }
-    let Ok(()) = desk.reserve(LONGEST) else {
-        return Err(Memory);
-    };
-    Ok(())
-}
-
-/// Points a side of the trusted pair's site at its database: at the empty one if its path is the
-/// empty text.
+/// Points a side of a site at its database. For the trusted pair the empty path stands for the
+/// empty database.
 #[tactic(auto, unfolding(crate::specs::Trusted::trusted_at))]
-fn point_trusted<S: Site>(alloc: Global, site: &mut S, side: Side, path: &str) -> Result<(), Memory>
+fn point_side<S: Site>(
+    alloc: Global,
+    site: &mut S,
+    side: Side,
+    path: &str,
+    is_trusted: bool,
+) -> Result<(), Memory>
     ensures pointed { OnOk result ((bytes : List ℕ)
-        → trusted_at (S.file_at site.old) path.now ≡ Some (Some bytes)
+        → files_of is_trusted (S.file_at site.old) path.now ≡ Some (Some bytes)
         → S.bytes_of site.new side ≡ Some bytes) }
-    ensures gone { OnOk result (trusted_at (S.file_at site.old) path.now ≡ Some None
+    ensures gone { OnOk result (files_of is_trusted (S.file_at site.old) path.now ≡ Some None
         → S.is_missing site.new side ≡ true) }
     ensures others { OnOk result (KeepsOthers S.Sources S.path_of side site.old site.new) }
     ensures keeps { KeepsFiles S.Sources site.old site.new }
 {
-    if path.is_empty() {
+    if is_trusted && path.is_empty() {
         site.point_at_empty(side);
         return Ok(());
     }
     site.point(alloc, side, path)
 }
 
-/// Points a site at the databases of the trusted pair, and reserves what a comparison may hold of
-/// them.
-fn prepare_trusted<S: Site>(
+/// Points a site at the databases of its pair, and reserves what a comparison may hold of them.
+fn prepare<S: Site>(
     alloc: Global,
     desk: &mut Desk<Global>,
     site: &mut S,
     task: &Task<'_>,
+    is_trusted: bool,
 ) -> Result<(), Memory>
     ensures keeps { KeepsFiles S.Sources site.old site.new }
     ensures peak { desk.new.peak ≡ desk.old.peak }
     ensures room { OnOk result (1048576 ≤ desk.new.room) }
-    ensures pointed { OnOk result (IsPointed (trusted_at (S.file_at site.old)) (asked task.now)
-        (S.bytes_of site.new) (S.is_missing site.new)) }
+    ensures pointed { OnOk result (IsPointed (files_of is_trusted (S.file_at site.old))
+        (asked task.now) (S.bytes_of site.new) (S.is_missing site.new)) }
 {
-    if let Err(Memory) = point_trusted(alloc, site, Side::Old, task.old_path) {
+    if let Err(Memory) = point_side(alloc, site, Side::Old, task.old_path, is_trusted) {
         return Err(Memory);
     }
-    if let Err(Memory) = point_trusted(alloc, site, Side::New, task.new_path) {
+    if let Err(Memory) = point_side(alloc, site, Side::New, task.new_path, is_trusted) {
         return Err(Memory);
     }
     let Ok(()) = desk.reserve(LONGEST) else {
@@ -187,11 +168,11 @@ pub(crate) fn compare_beside<S: Site, W: Sink, E: Sink>(
     ensures lookups { S.lookups devices.new.site.now ≡ S.lookups devices.old.site.now }
     ensures trusted_lookups { S.lookups trusted.new ≡ S.lookups trusted.old }
 {
-    if let Err(Memory) = prepare(devices.alloc, devices.desk, devices.site, tasks.compared) {
+    if let Err(Memory) = prepare(devices.alloc, devices.desk, devices.site, tasks.compared, false) {
         put_memory_line(devices.err);
         return Status::Memory as u8;
     }
-    if let Err(Memory) = prepare_trusted(devices.alloc, trusted_desk, trusted, tasks.trusted) {
+    if let Err(Memory) = prepare(devices.alloc, trusted_desk, trusted, tasks.trusted, true) {
         put_memory_line(devices.err);
         return Status::Memory as u8;
     }

@@ -1,5 +1,5 @@
 -- What contracts say of a part of a session beside a trusted pair.
-use Rattle.std.specs.Prelude.{◌≡◌, ℕ, Bool, false, List, Option, Some}
+use Rattle.std.specs.Prelude.{◌≡◌, ℕ, Bool, true, false, List, Option, Some}
 use Rattle.aide_db.specs.DeskView.{DeskView}
 use Rattle.aide_db.specs.declared.side.Side.{Side}
 use Rattle.aide_db.specs.declared.side.Side.TheVariants.{Old, New}
@@ -12,6 +12,7 @@ use Rattle.aide_session.specs.BesideSession.{DeskPeaks, beside_view, check_job_o
 use Rattle.aide_session.specs.Files.{Files, is_too_large}
 use Rattle.aide_session.specs.Session.{SessionView, view_between}
 use Rattle.aide_session.specs.Says.{settings_told}
+use Rattle.aide_session.specs.Trusted.{trusted_at}
 use Rattle.aide_session.specs.code.Parts.{ClosesFor, EndsWith, part_between}
 use Rattle.aide_session.specs.declared.devices.Devices.{Devices}
 use Rattle.aide_text.specs.declared.sink.Sink.{Ghosts as AnySink}
@@ -45,6 +46,11 @@ abbrev pub beside_between : {C S R W E : Type 0} → AnySources S R → AnySink 
     → Devices C S W E R → Devices C S W E R → DeskView → DeskView → S → S → BesideView
 beside_between s w e m n u v a b = beside_view (part_between s w e m n)
     (trusted_between s w e m n a b) (peaks_between m n u v)
+
+-- what is known of the files at the paths of a pair: of the trusted one or of the compared one
+abbrev pub files_of : (is_trusted : Bool) → Files → Files
+files_of true files = trusted_at files
+files_of false files = files
 
 -- The sides of a site show what is at these two paths.
 pub record IsPointed (files : Files) (asked : Asked) (bytes_of : Side → Option (List ℕ))

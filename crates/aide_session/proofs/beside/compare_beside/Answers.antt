@@ -9,13 +9,13 @@ use Rattle.aide_session.proofs.beside.compare_beside.Goals as goal
 pub returns-in-Err-clause-closes : goal.returns-in-Err-clause-closes
 returns-in-Err-clause-closes g c = search (rules, appends_none)
 
-pub returns-in-Err-prepare_trusted-clause-closes : goal.returns-in-Err-prepare_trusted-clause-closes
-returns-in-Err-prepare_trusted-clause-closes g c = search (rules, appends_none)
+pub returns-in-Err-prepare-clause-closes : goal.returns-in-Err-prepare-clause-closes
+returns-in-Err-prepare-clause-closes g c = search (rules, appends_none)
 
 pub returns-clause-closes : goal.returns-clause-closes
 returns-clause-closes g c = λ config same.
     let first = c.prepare.ensures in
-    let second = c.prepare_trusted.ensures in
+    let second = c.prepare-2.ensures in
     let devices = c.args.devices.now in
     let ran = c.run_pairs.new in
     let tasks = c.args.tasks.now in
@@ -24,11 +24,11 @@ returns-clause-closes g c = λ config same.
     inr (closes_seen (list_read tasks.list) (named_by config wish) (named_by config beside) tasks.compared.now.options _ _ _ _ _ _
     first.keeps.failures
     (seen_pointed g.S.Sources g.W.Sink g.E.Sink ran.devices.site.now ran.trusted devices.out.now ran.devices.out.now devices.err.now
-    ran.devices.err.now devices.site.now c.prepare.new.site c.args.trusted.now c.prepare_trusted.new.site _ _ _ _ _ _ first.keeps
+    ran.devices.err.now devices.site.now c.prepare.new.site c.args.trusted.now c.prepare-2.new.site _ _ _ _ _ _ first.keeps
     second.keeps first.peak second.peak)
     (c.run_pairs.ensures.closes config
     (pointed_later _ _ wish _ _ first.keeps.files c.in_default.ensures.pointed)
-    (trusted_later _ _ beside _ _ second.keeps.files c.in_default-prepare_trusted.ensures.pointed) same))
+    (trusted_later _ _ beside _ _ second.keeps.files c.in_default-prepare.ensures.pointed) same))
 
 pub run_pairs-requires : goal.run_pairs-requires
 run_pairs-requires g c = search rules

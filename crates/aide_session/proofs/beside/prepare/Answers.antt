@@ -5,16 +5,16 @@ use Rattle.aide_session.proofs.HeldLemmas.{room_enough}
 use Rattle.aide_session.proofs.beside.prepare.Goals as goal
 
 pub returns-in-Err-clause-keeps : goal.returns-in-Err-clause-keeps
-returns-in-Err-clause-keeps g c = c.point.ensures.keeps
+returns-in-Err-clause-keeps g c = c.point_side.ensures.keeps
 
-pub returns-in-Err-point-clause-keeps : goal.returns-in-Err-point-clause-keeps
-returns-in-Err-point-clause-keeps g c = kept_then g.S.Sources _ _ _ c.point.ensures.keeps c.point-2.ensures.keeps
+pub returns-in-Err-point_side-clause-keeps : goal.returns-in-Err-point_side-clause-keeps
+returns-in-Err-point_side-clause-keeps g c = kept_then g.S.Sources _ _ _ c.point_side.ensures.keeps c.point_side-2.ensures.keeps
 
 pub returns-in_default-reserve-clause-keeps : goal.returns-in_default-reserve-clause-keeps
-returns-in_default-reserve-clause-keeps g c = kept_then g.S.Sources _ _ _ c.point.ensures.keeps c.point-2.ensures.keeps
+returns-in_default-reserve-clause-keeps g c = kept_then g.S.Sources _ _ _ c.point_side.ensures.keeps c.point_side-2.ensures.keeps
 
 pub returns-clause-keeps : goal.returns-clause-keeps
-returns-clause-keeps g c = kept_then g.S.Sources _ _ _ c.point.ensures.keeps c.point-2.ensures.keeps
+returns-clause-keeps g c = kept_then g.S.Sources _ _ _ c.point_side.ensures.keeps c.point_side-2.ensures.keeps
 
 pub returns-clause-room : goal.returns-clause-room
 returns-clause-room g c = room_enough _ c.in-Ok.ensures.room
