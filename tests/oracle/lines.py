@@ -23,6 +23,10 @@ from .report import Counts, KINDS, counts_of, status_of
 from .session import Beginning, File, Files, Form, Unread, answer_of, job_of_lines
 
 FORMAT, FORMAT_OF_SETTINGS = 4, 3
+LINES_USAGE = (
+    b"aide: usage: aide_lines (-E [--trusted-old FILE --trusted-new FILE] [--without TEXT] | -D)"
+    b" -c FILE [-B TEXT] [-A TEXT]"
+)
 # The name of a member of an object, and its value as JSON.
 Member = Tuple[str, bytes]
 # An entry that accounts for a change, the line of a list, or nothing.
@@ -282,7 +286,7 @@ def settings_line(settings: Settings) -> bytes:
     return line(members)
 
 
-LINES = Form(lines_of, begun_lines, settings_line, job_of_lines)
+LINES = Form(LINES_USAGE, lines_of, begun_lines, settings_line, job_of_lines)
 
 
 def lines_answer_of(words: list[bytes], files: Files) -> Answer:

@@ -210,15 +210,17 @@ def compare(settings: Settings, files: Files, form: Form) -> Answer:
 class Form:
     """What a program writes: `written` gives the output of a comparison and its status, `begun`
     what may have gone out before a fault of the given texts, and `checked` the output of a check of
-    the configuration. `read` reads the words."""
+    the configuration. `read` reads the words, and `usage` is the line about others."""
 
     def __init__(
         self,
+        usage: bytes,
         written: Written,
         begun: Callable[[list[File], Settings], bytes],
         checked: Callable[[Settings], bytes],
         read: Callable[[list[bytes]], Job | None],
     ) -> None:
+        self.usage = usage
         self.written = written
         self.begun = begun
         self.checked = checked
@@ -229,7 +231,7 @@ def writes_nothing(*_: object) -> bytes:
     return b""
 
 
-REPORT = Form(report_of, writes_nothing, writes_nothing, job_of)
+REPORT = Form(USAGE_LINE, report_of, writes_nothing, writes_nothing, job_of)
 
 
 def answer_of(words: list[bytes], files: Files, form: Form = REPORT) -> Answer:
@@ -245,7 +247,7 @@ def answer_of(words: list[bytes], files: Files, form: Form = REPORT) -> Answer:
         return refused(b"out of memory", NO_MEMORY)
     job = form.read(words)
     if job is None:
-        return Answer(b"", USAGE_LINE + b"\n", USAGE)
+        return Answer(b"", form.usage + b"\n", USAGE)
     left_out = list_of(job.get(WITHOUT, b""))
     if isinstance(left_out, Answer):
         return left_out

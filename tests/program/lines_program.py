@@ -8,6 +8,7 @@ from typing import Any, Dict
 from tests.lib.answer import Answer, difference, run, shown
 from tests.lib.program_test import ProgramTest
 from tests.oracle.files import wanted_lines
+from tests.oracle.session import USAGE
 
 # The members of an object, each name once.
 Members = Dict[str, Any]
@@ -44,10 +45,12 @@ class LinesProgramTest(ProgramTest):
     """The program of lines, beside the definitions and the program of the report."""
 
     def lines_faults(self, words: list[bytes], want: Answer, report: Answer) -> list[str]:
-        """What is not as wanted of an answer, which ends as the report does."""
+        """What is not as wanted of an answer, which ends as the report does. Each program says
+        how to call itself."""
         answer = run(self.lines_program, words)
         faults = difference(answer, want) + faults_of_lines(answer)
-        if (answer.errors, answer.status) != (report.errors, report.status):
+        has_same_errors = answer.errors == report.errors or report.status == USAGE
+        if answer.status != report.status or not has_same_errors:
             faults.append(f"the report: {shown(report.errors)}, {report.status}")
         return faults
 

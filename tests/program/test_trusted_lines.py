@@ -18,6 +18,7 @@ from tests.lib.program_test import SESSIONS, new_seed, slow
 from tests.lib.tally import side_by_side
 from tests.oracle.database import LINE_LIMIT
 from tests.oracle.files import wanted_lines
+from tests.oracle.lines import LINES_USAGE
 from tests.oracle.session import USAGE_LINE
 from tests.program import cases, line_rows
 from tests.program.damages import WAYS
@@ -40,6 +41,7 @@ FOUR = [
     HEAD + b"/c 100644 4 %s\n@@end_db\n" % DIGESTS[1],
 ]
 REFUSED = Answer(b"", USAGE_LINE + b"\n", 15)
+REFUSED_LINES = Answer(b"", LINES_USAGE + b"\n", 15)
 VALIDATOR = Validator(schema_of_lines())
 
 
@@ -149,7 +151,7 @@ class TrustedTest(LinesProgramTest):
             ):
                 self.ends(label, words, status)
                 if status == 15:
-                    self.check(label, run(self.lines_program, words), REFUSED)
+                    self.check(label, run(self.lines_program, words), REFUSED_LINES)
 
     def test_refused(self) -> None:
         """The program of the report refuses both options."""

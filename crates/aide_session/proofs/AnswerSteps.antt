@@ -8,12 +8,12 @@ use Rattle.aide_session.specs.Answer.{Answer, Named, refused, checked_by, IsFile
 use Rattle.aide_session.specs.Answer.{Compares, IsAnswerBy, IsJobAnswerBy, IsReadAnswerBy}
 use Rattle.aide_session.specs.Files.{Files, IsLarge, is_too_large}
 use Rattle.aide_words.specs.Job.{JobText}
-use Rattle.aide_session.specs.Lines.{usage_line, too_large_line, unread_line, conf_line}
-use Rattle.aide_session.specs.Says.{Says}
+use Rattle.aide_session.specs.Lines.{too_large_line, unread_line, conf_line}
+use Rattle.aide_session.specs.Says.{Says, usage_by}
 use Rattle.aide_session.specs.code.Premises.{HasRead, ReadsOnlyAs}
 
 pub usage_is : (says : Says) (files : Files) (wanted : Option JobText) (named : Named) (a : Answer) → wanted ≡ None
-    → IsAnswerBy says files wanted named a → a ≡ refused usage_line 15
+    → IsAnswerBy says files wanted named a → a ≡ refused (usage_by says) 15
 usage_is says files wanted named a none is = subst (λ (o : Option JobText). IsAnswerBy says files o named a) none is
 
 pub job_is : (says : Says) (files : Files) (wanted : Option JobText) (job : JobText) (named : Named) (a : Answer)

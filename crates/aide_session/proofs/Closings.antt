@@ -22,9 +22,9 @@ use Rattle.aide_session.specs.Closing.{no_job, no_memory, no_config, large_confi
 use Rattle.aide_session.specs.Closing.{good_run}
 use Rattle.aide_session.specs.Ends.{Sinks}
 use Rattle.aide_session.specs.Files.{Files, IsLarge}
-use Rattle.aide_session.specs.Says.{Says}
+use Rattle.aide_session.specs.Says.{Says, usage_by}
 use Rattle.aide_words.specs.Job.{JobText}
-use Rattle.aide_session.specs.Lines.{usage_line, memory_line, unread_line, too_large_line, conf_line, write_line}
+use Rattle.aide_session.specs.Lines.{memory_line, unread_line, too_large_line, conf_line, write_line}
 use Rattle.aide_session.specs.code.Premises.{HasRead, ReadsOnlyAs}
 use Rattle.aide_session.specs.Put.{Put}
 use Rattle.aide_session.proofs.Endings.{rose_later, sinks}
@@ -39,7 +39,7 @@ only_config config = record { config = config; old_path = []; new_path = [] }
 
 pub closes_misused : (says : Says) (files : Files) (wanted : Option JobText) (d e f : Option (List ℕ)) (m n : ℕ) (course : Course)
     (site out : Type 0)
-    → wanted ≡ None → Put usage_line e f m n
+    → wanted ≡ None → Put (usage_by says) e f m n
     → course.opened_after ≡ course.opened_before → course.flushes_after ≡ course.flushes_before
     → ClosesBy says files wanted 15 (sinks d d e f m n) course site out
 closes_misused says files wanted d e f m n course site out none put unopened unflushed =

@@ -21,9 +21,9 @@ use Rattle.aide_session.specs.Answer.{refused}
 use Rattle.aide_session.specs.Closing.{AsksToCompare}
 use Rattle.aide_session.specs.Existence.{HasSessionAnswerBy, TellsNamed}
 use Rattle.aide_session.specs.Files.{Files, is_too_large}
-use Rattle.aide_session.specs.Says.{Says}
+use Rattle.aide_session.specs.Says.{Says, usage_by}
 use Rattle.aide_words.specs.Job.{JobText}
-use Rattle.aide_session.specs.Lines.{usage_line, too_large_line, unread_line, conf_line, open_line, database_line}
+use Rattle.aide_session.specs.Lines.{too_large_line, unread_line, conf_line, open_line, database_line}
 use Rattle.aide_session.proofs.Closings.{only_config}
 
 -- two texts have a right answer
@@ -140,6 +140,6 @@ module _ (says : Says) (files : Files) (wanted : Option JobText) (tells : TellsN
 -- what the arguments ask for has an answer where it is told what stands at the paths that are named
 pub answered : (says : Says) (files : Files) (wanted : Option JobText) → TellsNamed files wanted
     → HasSessionAnswerBy says files wanted
-answered says files None tells = (only_config [], refused usage_line 15, refl)
+answered says files None tells = (only_config [], refused (usage_by says) 15, refl)
 answered says files (Some job) tells =
     let config = tells.config job refl in of_file says files (Some job) tells job refl config.0 config.1

@@ -18,9 +18,9 @@ use Rattle.aide_report.specs.Runs.{Runs}
 use Rattle.aide_merge.specs.Outcomes.{status_of}
 use Rattle.aide_session.specs.Files.{Files, is_too_large}
 use Rattle.aide_words.specs.Job.{JobText}
-use Rattle.aide_session.specs.Lines.{usage_line, unread_line, too_large_line, conf_line, open_line}
+use Rattle.aide_session.specs.Lines.{unread_line, too_large_line, conf_line, open_line}
 use Rattle.aide_session.specs.Lines.{database_line, outcome_lines}
-use Rattle.aide_session.specs.Says.{Says}
+use Rattle.aide_session.specs.Says.{Says, usage_by}
 
 -- what a session writes to standard output and to standard error, and its status
 pub record Answer : Type 0 where
@@ -134,5 +134,5 @@ pub record IsJobAnswerBy (says : Says) (files : Files) (job : JobText) (named : 
 -- arguments, of the configuration or of a database, or else what the job asks for. A named file that
 -- is not there counts as a fault. `named` has the paths that are named on the way.
 abbrev pub IsAnswerBy : Says → Files → Option JobText → Named → Answer → Type 0
-IsAnswerBy says files None named a = a ≡ refused usage_line 15
+IsAnswerBy says files None named a = a ≡ refused (usage_by says) 15
 IsAnswerBy says files (Some job) named a = IsJobAnswerBy says files job named a

@@ -31,9 +31,9 @@ use Rattle.aide_session.specs.Answer.{Named, asked_by, limits, need_of}
 use Rattle.aide_session.specs.Ends.{Sinks, Puts}
 use Rattle.aide_session.specs.Files.{Files, IsLarge, is_too_large}
 use Rattle.aide_words.specs.Job.{JobText}
-use Rattle.aide_session.specs.Lines.{usage_line, memory_line, unread_line, too_large_line}
+use Rattle.aide_session.specs.Lines.{memory_line, unread_line, too_large_line}
 use Rattle.aide_session.specs.Lines.{conf_line, run_fault_line, outcome_lines, write_line}
-use Rattle.aide_session.specs.Says.{Says}
+use Rattle.aide_session.specs.Says.{Says, usage_by}
 
 -- the result of a session
 pub data Closing : Type 0 where
@@ -60,16 +60,16 @@ closing_status (bad_run options fault) = fault_status fault
 closing_status (good_run options outcome) = status_of outcome.added outcome.removed outcome.changed
 
 -- what is put on standard error
-abbrev pub closing_line : Named → Closing → List ℕ
-closing_line named no_job = usage_line
-closing_line named no_memory = memory_line
-closing_line named no_config = unread_line named.config
-closing_line named large_config = too_large_line
-closing_line named (bad_config fault) = conf_line fault
-closing_line named (good_config s) = []
-closing_line named (untold_config s) = write_line
-closing_line named (bad_run options fault) = run_fault_line named.old_path named.new_path fault
-closing_line named (good_run options outcome) = outcome_lines outcome
+abbrev pub closing_line : Says → Named → Closing → List ℕ
+closing_line says named no_job = usage_by says
+closing_line says named no_memory = memory_line
+closing_line says named no_config = unread_line named.config
+closing_line says named large_config = too_large_line
+closing_line says named (bad_config fault) = conf_line fault
+closing_line says named (good_config s) = []
+closing_line says named (untold_config s) = write_line
+closing_line says named (bad_run options fault) = run_fault_line named.old_path named.new_path fault
+closing_line says named (good_run options outcome) = outcome_lines outcome
 
 -- How often each side was opened and the output was flushed, before and after. Also whether the
 -- last opening of a side is known to have succeeded, and whether all of the output is flushed.
@@ -234,4 +234,4 @@ pub record ClosesBy (says : Says) (files : Files) (wanted : Option JobText) (sta
   pub output : ClosingOutput says named closing course sinks.out_old sinks.out_new
   pub opens : ClosingOpens files named closing course
   pub opens_some : OpensAtMost course.opened_before course.opened_after 6
-  pub put : Puts (closing_line named closing) sinks
+  pub put : Puts (closing_line says named closing) sinks

@@ -22,6 +22,12 @@ use Rattle.aide_conf.specs.declared.fault.ConfFault.{ConfFault}
 unfoldable pub usage_line : List ℕ
 usage_line = codes "aide: usage: aide (-E | -D) -c FILE [-B TEXT] [-A TEXT]\n"
 
+-- how to call the program that writes lines of JSON
+unfoldable pub lines_usage_line : List ℕ
+lines_usage_line =
+    codes "aide: usage: aide_lines (-E [--trusted-old FILE --trusted-new FILE] [--without TEXT]"
+    ++ codes " | -D) -c FILE [-B TEXT] [-A TEXT]\n"
+
 -- out of memory
 unfoldable pub memory_line : List ℕ
 memory_line = codes "aide: out of memory\n"

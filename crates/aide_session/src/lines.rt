@@ -3,9 +3,9 @@ ghost use Rattle.std.specs.Prelude.{◌≡◌, ◌==◌, ◌<◌};
 ghost use Rattle.std.specs.Int.{bit_at};
 ghost use Rattle.aide_entry.specs.Fault.{column_of_kind};
 ghost use Rattle.aide_session.specs.Lines.{changed_line, conf_line, database_line, line_if_skipped};
-ghost use Rattle.aide_session.specs.Lines.{memory_line, number_if_any, open_line, outcome_lines};
-ghost use Rattle.aide_session.specs.Lines.{side_word, skipped_line, skipped_lines, too_large_line};
-ghost use Rattle.aide_session.specs.Lines.{unread_line, usage_line, write_line};
+ghost use Rattle.aide_session.specs.Lines.{lines_usage_line, memory_line, number_if_any, open_line};
+ghost use Rattle.aide_session.specs.Lines.{outcome_lines, side_word, skipped_line, skipped_lines};
+ghost use Rattle.aide_session.specs.Lines.{too_large_line, unread_line, usage_line, write_line};
 ghost use Rattle.aide_session.specs.Put.{PutOn};
 ghost use Rattle.aide_text.specs.PenSheet.{on_sheet};
 ghost use Rattle.aide_text.specs.Sheet.{Wrote};
@@ -24,6 +24,18 @@ pub(crate) fn put_usage_line<E: Sink>(err: &mut E)
     put_fixed(
         err,
         b"aide: usage: aide (-E | -D) -c FILE [-B TEXT] [-A TEXT]\n",
+    );
+}
+
+/// Puts the line that says how to call the program that writes lines of JSON.
+#[tactic(auto, unfolding(crate::specs::Lines::lines_usage_line))]
+pub(crate) fn put_lines_usage_line<E: Sink>(err: &mut E)
+    ensures { PutOn lines_usage_line E.Sink err.old err.new }
+{
+    put_fixed(
+        err,
+        b"aide: usage: aide_lines (-E [--trusted-old FILE --trusted-new FILE] [--without TEXT] \
+          | -D) -c FILE [-B TEXT] [-A TEXT]\n",
     );
 }
 

@@ -24,7 +24,7 @@ use crate::config_file::{ConfigFault, read_config};
 use crate::devices::Devices;
 use crate::given_list::{digest_of, put_list_line};
 use crate::lines::{
-    put_conf_line, put_memory_line, put_too_large_line, put_unread_line, put_usage_line,
+    put_conf_line, put_lines_usage_line, put_memory_line, put_too_large_line, put_unread_line,
 };
 use crate::program::run_job;
 use crate::put::pass_on;
@@ -235,13 +235,13 @@ fn run_check_words<S: Site, W: Sink, E: Sink>(
     match read_words(devices.alloc, words) {
         Ok(job) => {
             if job.compare {
-                put_usage_line(devices.err);
+                put_lines_usage_line(devices.err);
                 return Status::Usage as u8;
             }
             run_job(&job, devices)
         }
         Err(WordsFault::Usage) => {
-            put_usage_line(devices.err);
+            put_lines_usage_line(devices.err);
             Status::Usage as u8
         }
         Err(WordsFault::Memory) => {

@@ -12,12 +12,12 @@ pub returns-then-job-clause-ends : goal.returns-then-job-clause-ends
 returns-then-job-clause-ends g c = λ named a is.
     let none = compares_no_check c.args.words.now (text_of_job c.in-Ok.job) c.in-Ok.ensures.ok c.if-job.true in
     ends_refused a named _ 15 _ _ _ _ _ _ _ (usage_is (Some settings_told) _ (check_job_of c.args.words.now) named a none is)
-    c.put_usage_line.ensures
+    c.put_lines_usage_line.ensures
 
 pub returns-then-job-clause-closes : goal.returns-then-job-clause-closes
 returns-then-job-clause-closes g c =
     closes_misused (Some settings_told) _ (check_job_of c.args.words.now) _ _ _ _ _ _ _ _
-    (compares_no_check c.args.words.now (text_of_job c.in-Ok.job) c.in-Ok.ensures.ok c.if-job.true) c.put_usage_line.ensures refl refl
+    (compares_no_check c.args.words.now (text_of_job c.in-Ok.job) c.in-Ok.ensures.ok c.if-job.true) c.put_lines_usage_line.ensures refl refl
 
 pub returns-else-job-clause-ends : goal.returns-else-job-clause-ends
 returns-else-job-clause-ends g c = λ named a is. c.run_job.ensures.ends named a
@@ -32,13 +32,13 @@ pub returns-in-Err-Usage-clause-ends : goal.returns-in-Err-Usage-clause-ends
 returns-in-Err-Usage-clause-ends g c = λ named a is.
     let none = no_check c.args.words.now (c.read_words.ensures.usage (c.in-Err-Usage.is ∙ ap Err c.in-Err-Usage.field-0-is)) in
     ends_refused a named _ 15 _ _ _ _ _ _ _ (usage_is (Some settings_told) _ (check_job_of c.args.words.now) named a none is)
-    c.put_usage_line-in-Err-Usage.ensures
+    c.put_lines_usage_line-in-Err-Usage.ensures
 
 pub returns-in-Err-Usage-clause-closes : goal.returns-in-Err-Usage-clause-closes
 returns-in-Err-Usage-clause-closes g c =
     closes_misused (Some settings_told) _ (check_job_of c.args.words.now) _ _ _ _ _ _ _ _
     (no_check c.args.words.now (c.read_words.ensures.usage (c.in-Err-Usage.is ∙ ap Err c.in-Err-Usage.field-0-is)))
-    c.put_usage_line-in-Err-Usage.ensures refl refl
+    c.put_lines_usage_line-in-Err-Usage.ensures refl refl
 
 pub returns-in-Err-Memory-clause-ends : goal.returns-in-Err-Memory-clause-ends
 returns-in-Err-Memory-clause-ends g c = λ named a is. ends_starved a named _ _ _ _ _ _ _ c.put_memory_line.ensures
