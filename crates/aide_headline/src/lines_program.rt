@@ -2,12 +2,12 @@
 ghost use Rattle.std.specs.Prelude.{◌≡◌, ◌≤◌, ◌+◌, ◌⊎◌, ℕ, List, Some, Result, max};
 ghost use Rattle.aide_conf.specs.Settings.{Configured};
 ghost use Rattle.aide_db.specs.Longest.{longest_line};
-ghost use Rattle.aide_headline.specs.Beside.{IsRightBeside};
+ghost use Rattle.aide_headline.specs.LineHeadline.{IsRightLineAnswer};
 ghost use Rattle.aide_merge.specs.RightAnswer.{Report};
 ghost use Rattle.aide_session.specs.Answer.{Named, asked_by, limits};
-ghost use Rattle.aide_session.specs.AsksBeside.{AsksBeside};
-ghost use Rattle.aide_session.specs.BesideAnswer.{answer_beside, out_beside, trusted_of};
-ghost use Rattle.aide_session.specs.BesideEnds.{StarvedBeside, WholeBeside};
+ghost use Rattle.aide_session.specs.AsksForLines.{AsksForLines};
+ghost use Rattle.aide_session.specs.LineAnswer.{line_answer, lines_at_fault, trusted_of};
+ghost use Rattle.aide_session.specs.LineEnds.{StarvedLines, WholeLines};
 ghost use Rattle.aide_session.specs.Ends.{sinks_between};
 ghost use Rattle.aide_session.specs.Put.{HasNoFailure};
 ghost use Rattle.aide_session.specs.Trusted.{trusted_at};
@@ -47,25 +47,25 @@ pub fn run_lines_program<S: Site, W: Sink, E: Sink>(
     ensures answer { (job : LineJobText) (list : ListRead) (named : Named)
         (settings : Configured)
         (old new trusted_old trusted_new : List ℕ)
-        → AsksBeside (S.file_at site.old) (trusted_at (S.file_at trusted.old)) words.now job list
+        → AsksForLines (S.file_at site.old) (trusted_at (S.file_at trusted.old)) words.now job list
         named settings old new trusted_old trusted_new
         → HasNoFailure (S.failures site.old) (S.failures site.new)
         → HasNoFailure (S.failures trusted.old) (S.failures trusted.new)
         → HasNoFailure (W.failures out.old) (W.failures out.new)
         → (right : Result Report PairFault)
-        → IsRightBeside limits list (asked_by settings.options named)
+        → IsRightLineAnswer limits list (asked_by settings.options named)
         (asked_by settings.options (trusted_of job)) old new trusted_old trusted_new right
-        → WholeBeside (answer_beside (out_beside list (asked_by settings.options named)
+        → WholeLines (line_answer (lines_at_fault list (asked_by settings.options named)
         (asked_by settings.options (trusted_of job))
         (Some old) (Some new) (Some trusted_old) (Some trusted_new))
         named (trusted_of job) right) result
         (sinks_between W.delivered E.delivered E.failures out.old out.new err.old err.new)
-        ⊎ StarvedBeside result
+        ⊎ StarvedLines result
         (sinks_between W.delivered E.delivered E.failures out.old out.new err.old err.new) }
     ensures bound { (job : LineJobText) (list : ListRead) (named : Named)
         (settings : Configured)
         (old new trusted_old trusted_new : List ℕ)
-        → AsksBeside (S.file_at site.old) (trusted_at (S.file_at trusted.old)) words.now job list
+        → AsksForLines (S.file_at site.old) (trusted_at (S.file_at trusted.old)) words.now job list
         named settings old new trusted_old trusted_new
         → desk.new.peak ≤ max desk.old.peak
         (longest_line limits old + longest_line limits new
@@ -73,7 +73,7 @@ pub fn run_lines_program<S: Site, W: Sink, E: Sink>(
     ensures trusted_bound { (job : LineJobText) (list : ListRead) (named : Named)
         (settings : Configured)
         (old new trusted_old trusted_new : List ℕ)
-        → AsksBeside (S.file_at site.old) (trusted_at (S.file_at trusted.old)) words.now job list
+        → AsksForLines (S.file_at site.old) (trusted_at (S.file_at trusted.old)) words.now job list
         named settings old new trusted_old trusted_new
         → trusted_desk.new.peak ≤ max trusted_desk.old.peak
         (longest_line limits trusted_old + longest_line limits trusted_new

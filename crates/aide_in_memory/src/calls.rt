@@ -77,7 +77,7 @@ pub(crate) fn job_of(rt: &HostRuntime, words: &Words) -> Result<(), Memory> {
 }
 
 /// Prints the comparison that a command line asks for.
-fn print_beside_job(rt: &HostRuntime, job: &LineJob) {
+fn print_line_job(rt: &HostRuntime, job: &LineJob) {
     let (config, before, after) = (job.config.as_str(), job.before.as_str(), job.after.as_str());
     let (old, new) = (job.trusted_old.as_str(), job.trusted_new.as_str());
     let list = job.without.as_str();
@@ -96,7 +96,7 @@ pub(crate) fn line_job_of(rt: &HostRuntime, words: &Words) -> Result<(), Memory>
         answer => answer,
     };
     match answer {
-        Ok(job) => print_beside_job(rt, &job),
+        Ok(job) => print_line_job(rt, &job),
         Err(WordsFault::Usage) => {
             let _ = println!(rt; "job: no comparison");
         }

@@ -1,5 +1,5 @@
 //! Sessions over files in memory, and over files of the machine.
-mod beside;
+mod trusted;
 mod callers;
 mod desk;
 mod devices;

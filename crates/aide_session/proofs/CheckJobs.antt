@@ -1,7 +1,7 @@
 -- The check of a configuration that the arguments ask for.
 use Rattle.std.proofs.Common.{◌≡◌, ◌∙◌, ℕ, List, Option, Some, None, refl, sym, ap, Bool, true, false, if◌then◌else◌}
 use Rattle.std.specs.Prelude.{option_and_then}
-use Rattle.aide_session.specs.BesideSession.{check_job_of}
+use Rattle.aide_session.specs.LineSession.{check_job_of}
 use Rattle.aide_session.proofs.Closings.{OnlyChecks}
 use Rattle.aide_words.specs.Job.{JobText, job_of}
 

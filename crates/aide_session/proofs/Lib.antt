@@ -12,7 +12,7 @@ mod Uniqueness
 mod Pages
 mod HeldLemmas
 mod JobReadings
-mod BesideParts
-mod BesideEndings
-pub mod BesideExistence
-pub mod BesideLaws
+mod LineParts
+mod LineEndings
+pub mod LineExistence
+pub mod LineLaws

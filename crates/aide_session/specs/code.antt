@@ -2,4 +2,4 @@
 pub mod Config
 pub mod Parts
 pub mod Premises
-pub mod BesideParts
+pub mod LineParts

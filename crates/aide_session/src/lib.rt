@@ -1,7 +1,6 @@
 //! A session over any site: its arguments, its configuration and its two databases.
 #![tactic(auto)]
 
-mod beside;
 mod config_check;
 mod config_file;
 mod databases;
@@ -9,6 +8,7 @@ mod devices;
 mod file_reel;
 mod file_site;
 mod given_list;
+mod line_databases;
 mod lines;
 mod lines_program;
 mod machine;

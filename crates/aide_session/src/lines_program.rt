@@ -7,22 +7,22 @@ ghost use Rattle.aide_conf.specs.declared.task.Need.TheVariants.{Compare};
 ghost use Rattle.aide_db.specs.Count.{one_more};
 ghost use Rattle.aide_patterns.specs.List.{HasFirstFault, HasRules};
 ghost use Rattle.aide_patterns.specs.declared.fault.ListFault.{ListFault};
-ghost use Rattle.aide_session.specs.BesideEnds.{EndsBesideBy, HasReadBeside};
+ghost use Rattle.aide_session.specs.LineEnds.{EndsLinesBy, HasReadForLines};
 ghost use Rattle.aide_session.specs.Answer.{IsAnswerBy};
-ghost use Rattle.aide_session.specs.BesideSession.{IsLineSession, check_job_of};
+ghost use Rattle.aide_session.specs.LineSession.{IsLineSession, check_job_of};
 ghost use Rattle.aide_session.specs.GivenList.{IsListOf};
 ghost use Rattle.aide_session.specs.Says.{settings_told};
 ghost use Rattle.aide_session.specs.Session.{view_between};
-ghost use Rattle.aide_session.specs.code.BesideParts.{HasTextBeside, RunsAlone, beside_between};
-ghost use Rattle.aide_session.specs.code.BesideParts.{peaks_between, trusted_between};
+ghost use Rattle.aide_session.specs.code.LineParts.{HasTextForLines, RunsAlone, line_view_between};
+ghost use Rattle.aide_session.specs.code.LineParts.{peaks_between, trusted_between};
 ghost use Rattle.aide_session.specs.code.Parts.{AreSame, ClosesFor, EndsWith, part_between};
 ghost use Rattle.aide_line_run.specs.ListView.{list_read};
 ghost use Rattle.aide_words.specs.LineJob.{LineJobText, line_job_of, text_of_line_job};
 
-use crate::beside::compare_beside;
 use crate::config_file::{ConfigFault, read_config};
 use crate::devices::Devices;
 use crate::given_list::{digest_of, put_list_line};
+use crate::line_databases::compare_lines;
 use crate::lines::{
     put_conf_line, put_lines_usage_line, put_memory_line, put_too_large_line, put_unread_line,
 };
@@ -40,7 +40,7 @@ use aide_words::{LineJob, Words, WordsFault, read_line_words, read_words};
 use std::alloc::Global;
 
 /// Reads the settings of a comparison from its three texts.
-fn read_settings_beside(alloc: Global, job: &LineJob, text: &[u8]) -> Result<Settings, ConfFault>
+fn read_line_settings(alloc: Global, job: &LineJob, text: &[u8]) -> Result<Settings, ConfFault>
     ensures ok { IfOk result (λ settings. ReadsAs Compare job.now.before text.now job.now.after
         (Ok settings)) }
     ensures err { IfErr result (λ fault. fault.kind ≢ Memory
@@ -65,11 +65,11 @@ fn compare_settings<S: Site, W: Sink, E: Sink>(
     requires { IsSome settings.now.old_path × IsSome settings.now.new_path }
     ensures same { AreSame devices.old devices.new }
     ensures closes { IsListOf job.now.without (list_read list.entry)
-        → HasReadBeside (S.file_at devices.old.site.now) (text_of_line_job job.now)
+        → HasReadForLines (S.file_at devices.old.site.now) (text_of_line_job job.now)
         (Ok settings.now)
-        → EndsBesideBy (text_of_line_job job.now) result
+        → EndsLinesBy (text_of_line_job job.now) result
         (S.failures devices.old.site.now)
-        (beside_between S.Sources W.Sink E.Sink devices.old devices.new
+        (line_view_between S.Sources W.Sink E.Sink devices.old devices.new
         trusted_desk.old trusted_desk.new trusted.old trusted.new) }
     ensures lookups { S.lookups devices.new.site.now ≡ S.lookups devices.old.site.now }
     ensures trusted_lookups { S.lookups trusted.new ≡ S.lookups trusted.old }
@@ -87,11 +87,11 @@ fn compare_settings<S: Site, W: Sink, E: Sink>(
         trusted: &trusted_task,
         list,
     };
-    compare_beside(&tasks, devices, trusted_desk, trusted)
+    compare_lines(&tasks, devices, trusted_desk, trusted)
 }
 
 /// Runs the session of a comparison, whose list and configuration have been read.
-fn run_text_beside<S: Site, W: Sink, E: Sink>(
+fn run_line_text<S: Site, W: Sink, E: Sink>(
     job: &LineJob,
     list: LeftOutList<'_>,
     text: &[u8],
@@ -101,15 +101,15 @@ fn run_text_beside<S: Site, W: Sink, E: Sink>(
 ) -> u8
     ensures same { AreSame devices.old devices.new }
     ensures closes { IsListOf job.now.without (list_read list.entry)
-        → HasTextBeside (S.file_at devices.old.site.now) (text_of_line_job job.now) text.now
-        → EndsBesideBy (text_of_line_job job.now) result
+        → HasTextForLines (S.file_at devices.old.site.now) (text_of_line_job job.now) text.now
+        → EndsLinesBy (text_of_line_job job.now) result
         (S.failures devices.old.site.now)
-        (beside_between S.Sources W.Sink E.Sink devices.old devices.new
+        (line_view_between S.Sources W.Sink E.Sink devices.old devices.new
         trusted_desk.old trusted_desk.new trusted.old trusted.new) }
     ensures lookups { S.lookups devices.new.site.now ≡ S.lookups devices.old.site.now }
     ensures trusted_lookups { S.lookups trusted.new ≡ S.lookups trusted.old }
 {
-    match read_settings_beside(devices.alloc, job, text) {
+    match read_line_settings(devices.alloc, job, text) {
         Ok(settings) => compare_settings(job, list, &settings, devices, trusted_desk, trusted),
         Err(fault) => match fault.kind {
             ConfFaultKind::Memory => {
@@ -134,16 +134,16 @@ fn run_listed<S: Site, W: Sink, E: Sink>(
 ) -> u8
     ensures same { AreSame devices.old devices.new }
     ensures closes { IsListOf job.now.without (list_read list.entry)
-        → EndsBesideBy (text_of_line_job job.now) result
+        → EndsLinesBy (text_of_line_job job.now) result
         (S.failures devices.old.site.now)
-        (beside_between S.Sources W.Sink E.Sink devices.old devices.new
+        (line_view_between S.Sources W.Sink E.Sink devices.old devices.new
         trusted_desk.old trusted_desk.new trusted.old trusted.new) }
     ensures lookups { S.lookups devices.new.site.now ≤ one_more (S.lookups devices.old.site.now) }
     ensures trusted_lookups { S.lookups trusted.new ≡ S.lookups trusted.old }
 {
     let path = job.config.as_str();
     match read_config(devices.alloc, devices.site, path) {
-        Ok(text) => run_text_beside(job, list, text.as_slice(), devices, trusted_desk, trusted),
+        Ok(text) => run_line_text(job, list, text.as_slice(), devices, trusted_desk, trusted),
         Err(ConfigFault::TooLarge) => {
             put_too_large_line(devices.err);
             Status::Configuration as u8
@@ -169,9 +169,9 @@ fn run_ruled<S: Site, W: Sink, E: Sink>(
 ) -> u8
     ensures same { AreSame devices.old devices.new }
     ensures closes { HasRules job.now.without rules.now
-        → EndsBesideBy (text_of_line_job job.now) result
+        → EndsLinesBy (text_of_line_job job.now) result
         (S.failures devices.old.site.now)
-        (beside_between S.Sources W.Sink E.Sink devices.old devices.new
+        (line_view_between S.Sources W.Sink E.Sink devices.old devices.new
         trusted_desk.old trusted_desk.new trusted.old trusted.new) }
     ensures lookups { S.lookups devices.new.site.now ≤ one_more (S.lookups devices.old.site.now) }
     ensures trusted_lookups { S.lookups trusted.new ≡ S.lookups trusted.old }
@@ -185,16 +185,16 @@ fn run_ruled<S: Site, W: Sink, E: Sink>(
 }
 
 /// Runs the session of a comparison.
-fn run_job_beside<S: Site, W: Sink, E: Sink>(
+fn run_line_job<S: Site, W: Sink, E: Sink>(
     job: &LineJob,
     devices: &mut Devices<'_, AsLine, S, W, E>,
     trusted_desk: &mut Desk<Global>,
     trusted: &mut S,
 ) -> u8
     ensures same { AreSame devices.old devices.new }
-    ensures closes { EndsBesideBy (text_of_line_job job.now) result
+    ensures closes { EndsLinesBy (text_of_line_job job.now) result
         (S.failures devices.old.site.now)
-        (beside_between S.Sources W.Sink E.Sink devices.old devices.new
+        (line_view_between S.Sources W.Sink E.Sink devices.old devices.new
         trusted_desk.old trusted_desk.new trusted.old trusted.new) }
     ensures unlooked { (fault : ListFault) → HasFirstFault job.now.without fault
         → S.lookups devices.new.site.now ≡ S.lookups devices.old.site.now }
@@ -263,9 +263,9 @@ fn run_line_words<S: Site, W: Sink, E: Sink>(
         → RunsAlone words.now result (part_between S.Sources W.Sink E.Sink devices.old devices.new)
         (trusted_between S.Sources W.Sink E.Sink devices.old devices.new trusted.old trusted.new)
         (peaks_between devices.old devices.new trusted_desk.old trusted_desk.new) }
-    ensures beside { (job : LineJobText) → line_job_of words.now ≡ Some job
-        → EndsBesideBy job result (S.failures devices.old.site.now)
-        (beside_between S.Sources W.Sink E.Sink devices.old devices.new
+    ensures compares { (job : LineJobText) → line_job_of words.now ≡ Some job
+        → EndsLinesBy job result (S.failures devices.old.site.now)
+        (line_view_between S.Sources W.Sink E.Sink devices.old devices.new
         trusted_desk.old trusted_desk.new trusted.old trusted.new) }
     ensures unlooked { (job : LineJobText) → line_job_of words.now ≡ Some job
         → (fault : ListFault) → HasFirstFault job.without fault
@@ -274,7 +274,7 @@ fn run_line_words<S: Site, W: Sink, E: Sink>(
     ensures trusted_lookups { S.lookups trusted.new ≡ S.lookups trusted.old }
 {
     match read_line_words(devices.alloc, words) {
-        Ok(job) => run_job_beside(&job, devices, trusted_desk, trusted),
+        Ok(job) => run_line_job(&job, devices, trusted_desk, trusted),
         Err(WordsFault::Usage) => run_check_words(words, devices),
         Err(WordsFault::Memory) => {
             put_memory_line(devices.err);

@@ -1,6 +1,6 @@
 //! A session on the machine: its arguments, its files and its streams.
 ghost use Rattle.std.specs.Prelude.{◌≡◌, IfOk, OnErr, None};
-ghost use Rattle.aide_session.specs.BesideSession.{DeskPeaks, IsLineSession};
+ghost use Rattle.aide_session.specs.LineSession.{DeskPeaks, IsLineSession};
 ghost use Rattle.aide_session.specs.Page.{empty_page};
 ghost use Rattle.aide_session.specs.Session.{IsSessionBy, view_between};
 ghost use Rattle.aide_words.specs.Job.{job_of};

@@ -1,19 +1,19 @@
 use Rattle.std.proofs.Common.{arith}
 use Rattle.std.specs.Prelude.{Some}
 use Rattle.aide_session.specs.Answer.{asked_by, limits}
-use Rattle.aide_session.specs.BesideAnswer.{answer_beside, out_beside, trusted_of}
+use Rattle.aide_session.specs.LineAnswer.{line_answer, lines_at_fault, trusted_of}
 use Rattle.aide_session.specs.Trusted.{trusted_at}
-use Rattle.aide_session.proofs.BesideExistence.{RunsBeside-exists}
-use Rattle.aide_session.proofs.BesideLaws.{answer_by_what_is_asked_beside}
-use Rattle.aide_headline.proofs.BesideLaws.{right_is_the_answer}
+use Rattle.aide_session.proofs.LineExistence.{RunsBeside-exists}
+use Rattle.aide_session.proofs.LineLaws.{line_answer_by_what_is_asked}
+use Rattle.aide_headline.proofs.LineLaws.{right_is_the_answer}
 use Rattle.aide_headline.proofs.lines_program.run_lines_program.Goals as goal
 
 pub returns-clause-answer : goal.returns-clause-answer
 returns-clause-answer g c job list named settings old new trusted_old trusted_new asks site trusted out right is =
-    (c.lines_session_on.ensures.session.beside job asks.job_is).exact named
-    (answer_beside (out_beside list (asked_by settings.options named) (asked_by settings.options (trusted_of job)) (Some old) (Some new)
+    (c.lines_session_on.ensures.session.compares job asks.job_is).exact named
+    (line_answer (lines_at_fault list (asked_by settings.options named) (asked_by settings.options (trusted_of job)) (Some old) (Some new)
     (Some trusted_old) (Some trusted_new)) named (trusted_of job) right)
-    (answer_by_what_is_asked_beside (g.S.Sources.file_at c.args.site.now) (trusted_at (g.S.Sources.file_at c.args.trusted.now))
+    (line_answer_by_what_is_asked (g.S.Sources.file_at c.args.site.now) (trusted_at (g.S.Sources.file_at c.args.trusted.now))
     c.args.words.now job list named settings old new trusted_old trusted_new right asks
     (right_is_the_answer limits list (asked_by settings.options named) (asked_by settings.options (trusted_of job)) old new trusted_old
     trusted_new right (omega arith) is))
@@ -23,10 +23,10 @@ pub returns-clause-bound : goal.returns-clause-bound
 returns-clause-bound g c job list named settings old new trusted_old trusted_new asks =
     let right = RunsBeside-exists limits list (asked_by settings.options named) (asked_by settings.options (trusted_of job)) (Some old)
     (Some new) (Some trusted_old) (Some trusted_new) (omega arith) in
-    (c.lines_session_on.ensures.session.beside job asks.job_is).bound named
-    (answer_beside (out_beside list (asked_by settings.options named) (asked_by settings.options (trusted_of job)) (Some old) (Some new)
+    (c.lines_session_on.ensures.session.compares job asks.job_is).bound named
+    (line_answer (lines_at_fault list (asked_by settings.options named) (asked_by settings.options (trusted_of job)) (Some old) (Some new)
     (Some trusted_old) (Some trusted_new)) named (trusted_of job) right.0)
-    (answer_by_what_is_asked_beside (g.S.Sources.file_at c.args.site.now) (trusted_at (g.S.Sources.file_at c.args.trusted.now))
+    (line_answer_by_what_is_asked (g.S.Sources.file_at c.args.site.now) (trusted_at (g.S.Sources.file_at c.args.trusted.now))
     c.args.words.now job list named settings old new trusted_old trusted_new right.0 asks right.1)
     old new asks.old_there asks.new_there
 
@@ -34,9 +34,9 @@ pub returns-clause-trusted_bound : goal.returns-clause-trusted_bound
 returns-clause-trusted_bound g c job list named settings old new trusted_old trusted_new asks =
     let right = RunsBeside-exists limits list (asked_by settings.options named) (asked_by settings.options (trusted_of job)) (Some old)
     (Some new) (Some trusted_old) (Some trusted_new) (omega arith) in
-    (c.lines_session_on.ensures.session.beside job asks.job_is).trusted_bound named
-    (answer_beside (out_beside list (asked_by settings.options named) (asked_by settings.options (trusted_of job)) (Some old) (Some new)
+    (c.lines_session_on.ensures.session.compares job asks.job_is).trusted_bound named
+    (line_answer (lines_at_fault list (asked_by settings.options named) (asked_by settings.options (trusted_of job)) (Some old) (Some new)
     (Some trusted_old) (Some trusted_new)) named (trusted_of job) right.0)
-    (answer_by_what_is_asked_beside (g.S.Sources.file_at c.args.site.now) (trusted_at (g.S.Sources.file_at c.args.trusted.now))
+    (line_answer_by_what_is_asked (g.S.Sources.file_at c.args.site.now) (trusted_at (g.S.Sources.file_at c.args.trusted.now))
     c.args.words.now job list named settings old new trusted_old trusted_new right.0 asks right.1)
     trusted_old trusted_new asks.trusted_old_there asks.trusted_new_there

@@ -1,12 +1,12 @@
 use Rattle.std.proofs.Common.{◌≡◌, arith, inl, inr, refl}
 use Rattle.aide_merge.specs.Asked.{asked}
 use Rattle.aide_session.specs.Answer.{Named}
-use Rattle.aide_session.specs.BesideAnswer.{trusted_of}
-use Rattle.aide_session.specs.BesideEnds.{no_memory_left}
-use Rattle.aide_session.specs.code.BesideParts.{named_by}
+use Rattle.aide_session.specs.LineAnswer.{trusted_of}
+use Rattle.aide_session.specs.LineEnds.{no_memory_left}
+use Rattle.aide_session.specs.code.LineParts.{named_by}
 use Rattle.aide_words.specs.LineJob.{text_of_line_job}
 use Rattle.aide_line_run.specs.ListView.{list_read}
-use Rattle.aide_session.proofs.BesideParts.{closes_as}
+use Rattle.aide_session.proofs.LineParts.{closes_as}
 use Rattle.aide_session.proofs.lines_program.compare_settings.Goals as goal
 
 pub returns-clause-closes : goal.returns-clause-closes
@@ -17,7 +17,7 @@ returns-clause-closes g c = λ listed read.
     let trusted : Named = record { config = job.config; old_path = c.as_str.result.now; new_path = c.as_str-2.result.now } in
     let trusted_is : trusted ≡ trusted_of job =
     λ i. record { config = job.config; old_path = c.as_str.ensures i; new_path = c.as_str-2.ensures i } in
-    elim (c.compare_beside.ensures.closes job.config refl) [
+    elim (c.compare_lines.ensures.closes job.config refl) [
       | inl stops ↦ inl (record { stop = no_memory_left; cause = tt; stops = stops })
       | inr closes ↦ inr (record {
         list = list_read c.args.list;

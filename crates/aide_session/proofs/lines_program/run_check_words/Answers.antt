@@ -1,6 +1,6 @@
 use Rattle.std.proofs.Common.{◌∙◌, ap, refl, Some, Err}
 use Rattle.aide_words.specs.Job.{text_of_job}
-use Rattle.aide_session.specs.BesideSession.{check_job_of}
+use Rattle.aide_session.specs.LineSession.{check_job_of}
 use Rattle.aide_session.specs.Says.{settings_told}
 use Rattle.aide_session.proofs.AnswerSteps.{job_is, usage_is}
 use Rattle.aide_session.proofs.CheckJobs.{compares_no_check, is_check, no_check}

@@ -1,11 +1,11 @@
 use Rattle.std.proofs.Common.{◌∙◌, Some, arith, sym}
-use Rattle.aide_session.specs.BesideAnswer.{trusted_of}
-use Rattle.aide_session.specs.BesideSession.{check_job_of}
+use Rattle.aide_session.specs.LineAnswer.{trusted_of}
+use Rattle.aide_session.specs.LineSession.{check_job_of}
 use Rattle.aide_session.specs.Says.{settings_told}
-use Rattle.aide_session.specs.code.BesideParts.{beside_between}
-use Rattle.aide_session.proofs.BesideEndings.{bound_beside, ends_beside, passed_beside, passed_view, peaks_beside, put_rises}
-use Rattle.aide_session.proofs.BesideEndings.{true_is_not_false, trusted_bound_beside, unfailed_beside}
-use Rattle.aide_session.proofs.BesideExistence.{answered_beside}
+use Rattle.aide_session.specs.code.LineParts.{line_view_between}
+use Rattle.aide_session.proofs.LineEndings.{line_bound, lines_end, lines_passed, passed_view, peaks_of_lines, put_rises}
+use Rattle.aide_session.proofs.LineEndings.{true_is_not_false, trusted_line_bound, lines_unfailed}
+use Rattle.aide_session.proofs.LineExistence.{lines_answered}
 use Rattle.aide_session.proofs.Closings.{closes_passed}
 use Rattle.aide_session.proofs.Endings.{ends_exactly, ends_passed, ends_reliably, no_failure_never_rose}
 use Rattle.aide_session.proofs.Existence.{answered}
@@ -17,7 +17,7 @@ returns-clause-session g c =
     let after = c.pass_on.ensures.never_falls in
     let devices = c.args.devices.now in
     let ran = c.run_line_words-status in
-    let view = beside_between g.S.Sources g.W.Sink g.E.Sink devices ran.new.devices c.args.trusted_desk.now ran.new.trusted_desk
+    let view = line_view_between g.S.Sources g.W.Sink g.E.Sink devices ran.new.devices c.args.trusted_desk.now ran.new.trusted_desk
     c.args.trusted.now ran.new.trusted in
     let bytes = g.E.Sink.delivered c.pass_on.new.err in
     let count = g.E.Sink.failures c.pass_on.new.err in
@@ -45,22 +45,22 @@ returns-clause-session g c =
       still = λ none. (ran.ensures.alone none).still;
       trusted_unopened = λ none. (ran.ensures.alone none).trusted_unopened;
       trusted_still = λ none. (ran.ensures.alone none).trusted_still;
-      beside = λ job is.
-          let ends = passed_beside view bytes count kept after job ran.result failed (ran.ensures.beside job is) in
-          let before = put_rises job ran.result failed view (ran.ensures.beside job is) in
-          let peaks = peaks_beside job ran.result failed last ends in
+      compares = λ job is.
+          let ends = lines_passed view bytes count kept after job ran.result failed (ran.ensures.compares job is) in
+          let before = put_rises job ran.result failed view (ran.ensures.compares job is) in
+          let peaks = peaks_of_lines job ran.result failed last ends in
           record {
-            ends = λ named a answer. ends_beside job ran.result failed last named a answer ends;
+            ends = λ named a answer. lines_end job ran.result failed last named a answer ends;
             exact = λ named a answer unfailed_site unfailed_trusted unfailed_out.
-                unfailed_beside a named (trusted_of job) _ _ _ _ _ (λ cause. no_failure_never_rose _ _ unfailed_site cause.1)
+                lines_unfailed a named (trusted_of job) _ _ _ _ _ (λ cause. no_failure_never_rose _ _ unfailed_site cause.1)
                 (λ cause. no_failure_never_rose _ _ unfailed_trusted cause.1) (no_failure_never_rose _ _ unfailed_out)
-                (ends_beside job ran.result failed last named a answer ends);
+                (lines_end job ran.result failed last named a answer ends);
             reliable = λ named a answer reliable trusted_reliable unfailed_out.
-                unfailed_beside a named (trusted_of job) _ _ _ _ _ (λ cause. true_is_not_false (sym reliable ∙ cause.0))
+                lines_unfailed a named (trusted_of job) _ _ _ _ _ (λ cause. true_is_not_false (sym reliable ∙ cause.0))
                 (λ cause. true_is_not_false (sym trusted_reliable ∙ cause.0)) (no_failure_never_rose _ _ unfailed_out)
-                (ends_beside job ran.result failed last named a answer ends);
+                (lines_end job ran.result failed last named a answer ends);
             passed_on = λ unfailed. c.pass_on.ensures.flushed (omega (arith, before, after, unfailed.0), unfailed.1);
-            answered = answered_beside _ _ job;
+            answered = lines_answered _ _ job;
             closes = ends;
             lookups = ran.ensures.lookups;
             trusted_lookups = ran.ensures.trusted_lookups;
@@ -69,7 +69,7 @@ returns-clause-session g c =
             below = peaks.1;
             trusted_peak = peaks.2;
             trusted_below = peaks.3;
-            bound = λ named a answer. bound_beside job ran.result failed last named a answer ends;
-            trusted_bound = λ named a answer. trusted_bound_beside job ran.result failed last ends;
+            bound = λ named a answer. line_bound job ran.result failed last named a answer ends;
+            trusted_bound = λ named a answer. trusted_line_bound job ran.result failed last ends;
           };
     }

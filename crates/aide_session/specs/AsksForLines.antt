@@ -14,7 +14,7 @@ use Rattle.aide_words.specs.LineJob.{LineJobText, line_job_of}
 -- settings. At each of the two paths that it names, and at each of those of the trusted pair, there
 -- is a text. `trusted_files` is `trusted_at` of what the second site tells, so that the empty database
 -- is at an empty path.
-pub record AsksBeside (files trusted_files : Files) (words : List (List ℕ)) (job : LineJobText)
+pub record AsksForLines (files trusted_files : Files) (words : List (List ℕ)) (job : LineJobText)
     (list : ListRead) (named : Named) (settings : Configured)
     (old new trusted_old trusted_new : List ℕ) : Type 0 where
   pub job_is : line_job_of words ≡ Some job

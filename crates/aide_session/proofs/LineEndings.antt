@@ -1,4 +1,4 @@
--- A session beside a trusted pair ends with its answer, or is kept from it.
+-- A session of lines ends with its answer, or is kept from it.
 use Rattle.std.proofs.Common.{◌≡◌, ◌∙◌, ℕ, ◌≤◌, List, [], Option, Some, None, refl, sym, ap, Bool, true, false, Ok, Err, inl, inr, ◌⊎◌}
 use Rattle.std.proofs.Common.{arith, rules}
 use Rattle.std.specs.Prelude.{Result, IsSome, max}
@@ -34,15 +34,16 @@ use Rattle.aide_merge.specs.declared.outcome.Outcome.{Outcome}
 use Rattle.aide_merge.specs.declared.run_fault.RunFault.{RunFault}
 use Rattle.aide_merge.specs.declared.run_fault.RunFault.TheVariants.{Open, Database, Changed, Write}
 use Rattle.aide_session.specs.Answer.{Named, asked_by, limits}
-use Rattle.aide_session.specs.BesideAnswer.{IsAnswerBeside, IsFileBeside, IsReadBeside, IsSizedBeside, IsTextBeside, ComparesBeside}
-use Rattle.aide_session.specs.BesideAnswer.{IsGivenBeside, IsListedBeside}
-use Rattle.aide_session.specs.BesideAnswer.{AnswerBeside, GoesOutBeside, OutputBeside, StartsBeside, all_lines, answer_beside, no_line}
-use Rattle.aide_session.specs.BesideAnswer.{out_beside, refused_beside, start_of_lines, trusted_of}
-use Rattle.aide_session.specs.BesideEnds.{BesideFailure, BesideFailureCause, BesideView, ClosesBeside, ComparesPairs, EndsBesideBy}
-use Rattle.aide_session.specs.BesideEnds.{EndsWithin, HasReadBeside, MeansOfPair, StopCause, StopsWith, beside_failure_line}
-use Rattle.aide_session.specs.BesideEnds.{compared_line, compared_status, of_compared, stop_line, stop_status}
-use Rattle.aide_session.specs.BesideEnds.{StarvedBeside, WholeBeside, trusted_unopened, trusted_unread}
-use Rattle.aide_session.specs.BesideEnds.{config_refused, config_too_large, config_unread, list_refused, no_memory_left, EarlyStop}
+use Rattle.aide_session.specs.LineAnswer.{ComparesForLines, IsLineAnswer, IsFileLineAnswer, IsReadLineAnswer}
+use Rattle.aide_session.specs.LineAnswer.{IsSizedLineAnswer, IsTextLineAnswer}
+use Rattle.aide_session.specs.LineAnswer.{IsGivenLineAnswer, IsListedLineAnswer}
+use Rattle.aide_session.specs.LineAnswer.{LineAnswer, HasWritten, LineOutput, HasBegun, all_lines, line_answer, no_line}
+use Rattle.aide_session.specs.LineAnswer.{lines_at_fault, refused_lines, start_of_lines, trusted_of}
+use Rattle.aide_session.specs.LineEnds.{PairFailure, PairFailureCause, LineView, ClosesLines, ComparesPairs, EndsLinesBy}
+use Rattle.aide_session.specs.LineEnds.{EndsWithin, HasReadForLines, MeansOfPair, StopCause, StopsWith, pair_failure_line}
+use Rattle.aide_session.specs.LineEnds.{compared_line, compared_status, of_compared, stop_line, stop_status}
+use Rattle.aide_session.specs.LineEnds.{StarvedLines, WholeLines, trusted_unopened, trusted_unread}
+use Rattle.aide_session.specs.LineEnds.{config_refused, config_too_large, config_unread, list_refused, no_memory_left, EarlyStop}
 use Rattle.aide_session.specs.Closing.{HasText}
 use Rattle.aide_session.specs.Ends.{HasFailed, Puts, Sinks, config_unread as failed_config, unopened, unread, unwritten}
 use Rattle.aide_session.specs.Files.{Files, IsLarge, is_too_large}
@@ -65,17 +66,17 @@ use Rattle.aide_words.specs.LineJob.{LineJobText}
 -- ---- what has gone out
 
 -- nothing is a beginning of anything
-none_starts : (sent : OutputBeside) (before after : Option (List ℕ)) → Appends before after [] → StartsBeside sent before after
+none_starts : (sent : LineOutput) (before after : Option (List ℕ)) → Appends before after [] → HasBegun sent before after
 none_starts (all_lines text) before after none = record { front = []; rest = text; whole = refl; bytes = none }
-none_starts (start_of_lines leaves asked trusted changes beside) before after none =
-    begins_with_nothing leaves asked trusted changes beside before after none
+none_starts (start_of_lines leaves asked trusted changes trusted_changes) before after none =
+    begins_with_nothing leaves asked trusted changes trusted_changes before after none
 
 -- what has gone out is a beginning of itself
-goes_then_starts : (sent : OutputBeside) (before after : Option (List ℕ)) → GoesOutBeside sent before after
-    → StartsBeside sent before after
+goes_then_starts : (sent : LineOutput) (before after : Option (List ℕ)) → HasWritten sent before after
+    → HasBegun sent before after
 goes_then_starts (all_lines text) before after all =
     record { front = text; rest = []; whole = sym (append-nil text); bytes = all }
-goes_then_starts (start_of_lines leaves asked trusted changes beside) before after part = part
+goes_then_starts (start_of_lines leaves asked trusted changes trusted_changes) before after part = part
 
 -- ---- a run that is kept from its answer
 
@@ -106,16 +107,16 @@ there_side : (files : Files) (pair : Named) (old new : Option (List ℕ)) (side 
 there_side files pair old new Old told_old told_new some none = there (files pair.old_path) old told_old some none
 there_side files pair old new New told_old told_new some none = there (files pair.new_path) new told_new some none
 
-module _ (a : AnswerBeside) (named trusted : Named) (v : BesideView) (before count : ℕ) (more : before ≤ count)
-    (sent : StartsBeside a.output v.sinks.out_old v.sinks.out_new) where
+module _ (a : LineAnswer) (named trusted : Named) (v : LineView) (before count : ℕ) (more : before ≤ count)
+    (sent : HasBegun a.output v.sinks.out_old v.sinks.out_new) where
   abbrev Ended : ℕ → Type 0
   Ended status = EndsWithin a named trusted status v.sinks (HasFailed v.is_reliable before v.site_after)
       (HasFailed v.trusted_reliable v.trusted_before v.trusted_after) (Rose v.out_before v.out_after)
 
-  broken : (status : ℕ) (failure : BesideFailure) → status ≡ 18
-      → BesideFailureCause failure (HasFailed v.is_reliable before v.site_after)
+  broken : (status : ℕ) (failure : PairFailure) → status ≡ 18
+      → PairFailureCause failure (HasFailed v.is_reliable before v.site_after)
       (HasFailed v.trusted_reliable v.trusted_before v.trusted_after) (Rose v.out_before v.out_after)
-      → Puts (beside_failure_line named trusted failure) v.sinks
+      → Puts (pair_failure_line named trusted failure) v.sinks
       → Ended status
   broken status failure is cause put =
       inr (inr (record { status_is = is; output = sent; failure = failure; cause = cause; put = put }))
@@ -185,9 +186,9 @@ module _ (a : AnswerBeside) (named trusted : Named) (v : BesideView) (before cou
 -- ---- what has gone out at a fault
 
 -- a beginning of what is to be written has gone out, or this if the answer is a fault
-abbrev SendsFront : OutputBeside → Result Report PairFault → (before after : Option (List ℕ)) → Type 0
+abbrev SendsFront : LineOutput → Result Report PairFault → (before after : Option (List ℕ)) → Type 0
 SendsFront sent (Ok report) before after = SendsPart report.text before after
-SendsFront sent (Err fault) before after = GoesOutBeside sent before after
+SendsFront sent (Err fault) before after = HasWritten sent before after
 
 none_front : (r : Result Report PairFault) (before after : Option (List ℕ)) → Appends before after [] → SendsFront no_line r before after
 none_front (Ok report) before after none = record { front = []; rest = report.text; whole = refl; bytes = none }
@@ -219,20 +220,20 @@ unsound_pair : (wish : Asked) (old new : List ℕ) (fault : RunFault) → RunsOv
     → IsSound limits old → IsSound limits new → ⊥
 unsound_pair wish old new fault runs = unsound_run wish old new fault runs.0 runs.1 runs.2
 
-module _ (list : ListRead) (wish beside : Asked) (old new trusted_old trusted_new : List ℕ) (before after : Option (List ℕ)) where
+module _ (list : ListRead) (wish trusted_wish : Asked) (old new trusted_old trusted_new : List ℕ) (before after : Option (List ℕ)) where
   abbrev AllSound : Type 0
   AllSound = AreAllSound limits old new trusted_old trusted_new
 
   abbrev Cut : PairFault → Type 0
-  Cut fault = CutsBeside limits list wish beside old new trusted_old trusted_new before after fault
+  Cut fault = CutsBeside limits list wish trusted_wish old new trusted_old trusted_new before after fault
 
   sound_cut : (fault : PairFault) → AllSound → Cut fault
-      → SendsPart (lines_beside list wish beside old new trusted_old trusted_new).text before after
+      → SendsPart (lines_beside list wish trusted_wish old new trusted_old trusted_new).text before after
   sound_cut (Compared (Write written)) sound cut = cut.0 sound
-  sound_cut fault sound cut = begins_what_is_written limits list wish beside old new trusted_old trusted_new sound before after cut
+  sound_cut fault sound cut = begins_what_is_written limits list wish trusted_wish old new trusted_old trusted_new sound before after cut
 
   abbrev Begun : Type 0
-  Begun = BeginsBeside (leaves_between list old new) wish beside (changes_between old new)
+  Begun = BeginsBeside (leaves_between list old new) wish trusted_wish (changes_between old new)
       (changes_between trusted_old trusted_new) before after
 
   unsound_cut : (fault : PairFault) → (AllSound → ⊥) → Cut fault → Begun
@@ -240,39 +241,39 @@ module _ (list : ListRead) (wish beside : Asked) (old new trusted_old trusted_ne
   unsound_cut fault unsound cut = cut
 
   front_by : (compared trusted : Result Report RunFault) (r : Result Report PairFault) (fault : PairFault)
-      → RunsOver limits wish (Some old) (Some new) compared → RunsOver limits beside (Some trusted_old) (Some trusted_new) trusted
-      → answer_by compared trusted (Some (lines_beside list wish beside old new trusted_old trusted_new)) r
+      → RunsOver limits wish (Some old) (Some new) compared → RunsOver limits trusted_wish (Some trusted_old) (Some trusted_new) trusted
+      → answer_by compared trusted (Some (lines_beside list wish trusted_wish old new trusted_old trusted_new)) r
       → Cut fault
-      → SendsFront (out_beside list wish beside (Some old) (Some new) (Some trusted_old) (Some trusted_new)) r before after
+      → SendsFront (lines_at_fault list wish trusted_wish (Some old) (Some new) (Some trusted_old) (Some trusted_new)) r before after
   front_by (Err first) trusted r fault runs trusted_runs is cut =
-      subst (λ (x : Result Report PairFault). SendsFront (out_beside list wish beside (Some old) (Some new) (Some trusted_old)
+      subst (λ (x : Result Report PairFault). SendsFront (lines_at_fault list wish trusted_wish (Some old) (Some new) (Some trusted_old)
       (Some trusted_new)) x before after) (sym is)
       (unsound_cut fault (λ sound. unsound_pair wish old new first runs sound.of_old sound.of_new) cut)
   front_by (Ok report) (Err first) r fault runs trusted_runs is cut =
-      subst (λ (x : Result Report PairFault). SendsFront (out_beside list wish beside (Some old) (Some new) (Some trusted_old)
+      subst (λ (x : Result Report PairFault). SendsFront (lines_at_fault list wish trusted_wish (Some old) (Some new) (Some trusted_old)
       (Some trusted_new)) x before after) (sym is)
-      (unsound_cut fault (λ sound. unsound_pair beside trusted_old trusted_new first trusted_runs sound.of_trusted_old
+      (unsound_cut fault (λ sound. unsound_pair trusted_wish trusted_old trusted_new first trusted_runs sound.of_trusted_old
       sound.of_trusted_new) cut)
   front_by (Ok report) (Ok other) r fault runs trusted_runs is cut = search (rules, sound_pair, sound_cut)
 
 -- ---- a comparison and its answer
 
-module _ (sent : OutputBeside) (named trusted : Named) (s : Sinks) where
+module _ (sent : LineOutput) (named trusted : Named) (s : Sinks) where
   well : (r : Result Report PairFault) (outcome : Outcome) (status : ℕ) → status ≡ compared_status (Ok outcome)
       → Puts (outcome_lines outcome) s → SendsWholeOf r outcome s.out_old s.out_new
-      → WholeBeside (answer_beside sent named trusted r) status s
+      → WholeLines (line_answer sent named trusted r) status s
   well (Ok report) outcome status is put all = search rules
   well (Err fault) outcome status is put all = absurd all
 
   front : (r : Result Report PairFault) → SendsFront sent r s.out_old s.out_new
-      → StartsBeside (answer_beside sent named trusted r).output s.out_old s.out_new
+      → HasBegun (line_answer sent named trusted r).output s.out_old s.out_new
   front (Ok report) part = part
   front (Err fault) part = goes_then_starts sent s.out_old s.out_new part
 
   right : (r : Result Report PairFault) (fault : PairFault) (status : ℕ) → status ≡ pair_fault_status fault
       → Puts (pair_fault_line named.old_path named.new_path trusted.old_path trusted.new_path fault) s
       → SendsFront sent r s.out_old s.out_new → r ≡ Err fault
-      → WholeBeside (answer_beside sent named trusted r) status s
+      → WholeLines (line_answer sent named trusted r) status s
   right r fault status is put part same = search rules
 
   -- a run stops for the fault that is the answer, or for one that hindered it
@@ -282,20 +283,20 @@ module _ (sent : OutputBeside) (named trusted : Named) (s : Sinks) where
   by_stop (Err other) hindered fault P f g stops = elim stops [ inl is ↦ f (ap (λ (x : PairFault). Err x) (sym is)) | inr h ↦ g h ]
 
 -- the peak of neither desk falls, and it rises at most to three lines as long as the limit
-abbrev pub PeaksRise : BesideView → Type 0
+abbrev pub PeaksRise : LineView → Type 0
 PeaksRise v = (v.peak_before ≤ v.peak_after) × (v.peak_after ≤ max v.peak_before most_held)
     × (v.trusted_peak_before ≤ v.trusted_peak_after)
     × (v.trusted_peak_after ≤ max v.trusted_peak_before most_held)
 
 -- how a session ends, by its answer
-abbrev EndsFor : AnswerBeside → (named trusted : Named) → (status before : ℕ) → BesideView → Type 0
+abbrev EndsFor : LineAnswer → (named trusted : Named) → (status before : ℕ) → LineView → Type 0
 EndsFor a named trusted status before v = EndsWithin a named trusted status v.sinks (HasFailed v.is_reliable before v.site_after)
     (HasFailed v.trusted_reliable v.trusted_before v.trusted_after) (Rose v.out_before v.out_after)
 
-module _ (job : LineJobText) (list : ListRead) (status before count : ℕ) (v : BesideView) (s : Configured) (named : Named)
-    (more : before ≤ count) (a : AnswerBeside) (is : ComparesBeside v.files v.trusted_files job list s named a) where
-  abbrev sent : OutputBeside
-  sent = out_beside list (asked_by s.options named) (asked_by s.options (trusted_of job)) is.old_file is.new_file is.trusted_old_file
+module _ (job : LineJobText) (list : ListRead) (status before count : ℕ) (v : LineView) (s : Configured) (named : Named)
+    (more : before ≤ count) (a : LineAnswer) (is : ComparesForLines v.files v.trusted_files job list s named a) where
+  abbrev sent : LineOutput
+  sent = lines_at_fault list (asked_by s.options named) (asked_by s.options (trusted_of job)) is.old_file is.new_file is.trusted_old_file
       is.trusted_new_file
 
   -- at a fault of four files
@@ -304,7 +305,7 @@ module _ (job : LineJobText) (list : ListRead) (status before count : ℕ) (v : 
       → v.files named.old_path ≡ Some old → v.files named.new_path ≡ Some new
       → v.trusted_files job.trusted_old ≡ Some trusted_old → v.trusted_files job.trusted_new ≡ Some trusted_new
       → RunsBeside limits list (asked_by s.options named) (asked_by s.options (trusted_of job)) old new trusted_old trusted_new r
-      → SendsFront (out_beside list (asked_by s.options named) (asked_by s.options (trusted_of job)) old new trusted_old trusted_new) r
+      → SendsFront (lines_at_fault list (asked_by s.options named) (asked_by s.options (trusted_of job)) old new trusted_old trusted_new) r
       v.sinks.out_old v.sinks.out_new
   front_of fault None new trusted_old trusted_new r compares is_old is_new is_trusted_old is_trusted_new runs =
       none_front r v.sinks.out_old v.sinks.out_new (compares.missing Old is_old)
@@ -322,7 +323,7 @@ module _ (job : LineJobText) (list : ListRead) (status before count : ℕ) (v : 
   compared_ends : (result : Result Outcome PairFault)
       → ComparesPairs list named (trusted_of job) s.options result (Rose count v.site_after) v
       → status ≡ compared_status result → Puts (compared_line named (trusted_of job) result) v.sinks
-      → EndsFor (answer_beside sent named (trusted_of job) is.run) named (trusted_of job) status before v
+      → EndsFor (line_answer sent named (trusted_of job) is.run) named (trusted_of job) status before v
   compared_ends (Ok outcome) compares status_is put =
       inl (well sent named (trusted_of job) v.sinks is.run outcome status status_is put
       (compares.over is.old_file is.new_file is.trusted_old_file is.trusted_new_file is.old_told is.new_told is.trusted_old_told
@@ -335,32 +336,32 @@ module _ (job : LineJobText) (list : ListRead) (status before count : ℕ) (v : 
       by_stop sent named (trusted_of job) v.sinks is.run
       (OfEach (IsHindered is.old_file is.new_file (Rose count v.site_after) (Rose v.out_before v.out_after))
       (IsHindered is.trusted_old_file is.trusted_new_file (Rose v.trusted_before v.trusted_after) ⊥)) fault
-      (EndsFor (answer_beside sent named (trusted_of job) is.run) named (trusted_of job) status before v)
+      (EndsFor (line_answer sent named (trusted_of job) is.run) named (trusted_of job) status before v)
       (λ same. inl (right sent named (trusted_of job) v.sinks is.run fault status status_is put part same))
-      (λ hindered. hindered_ends (answer_beside sent named (trusted_of job) is.run) named (trusted_of job) v before count more
+      (λ hindered. hindered_ends (line_answer sent named (trusted_of job) is.run) named (trusted_of job) v before count more
       (front sent named (trusted_of job) v.sinks is.run part) fault is.old_file is.new_file is.trusted_old_file is.trusted_new_file status
       is.old_told is.new_told is.trusted_old_told is.trusted_new_told status_is put compares.fault hindered)
       stops
 
 -- ---- from the answer to a job to that of its configuration
 
-module _ (files trusted_files : Files) (job : LineJobText) (list : ListRead) (named : Named) (a : AnswerBeside) where
+module _ (files trusted_files : Files) (job : LineJobText) (list : ListRead) (named : Named) (a : LineAnswer) where
   of_text : (file : Option (List ℕ)) (text : List ℕ) → file ≡ Some text → is_too_large text ≡ false
-      → IsFileBeside files trusted_files job list file named a → IsTextBeside files trusted_files job list text named a
+      → IsFileLineAnswer files trusted_files job list file named a → IsTextLineAnswer files trusted_files job list text named a
   of_text file text same small is = search rules
 
-  of_large : (file : Option (List ℕ)) → IsLarge file → IsFileBeside files trusted_files job list file named a
-      → a ≡ refused_beside too_large_line 17
+  of_large : (file : Option (List ℕ)) → IsLarge file → IsFileLineAnswer files trusted_files job list file named a
+      → a ≡ refused_lines too_large_line 17
   of_large None large is = absurd large
-  of_large (Some text) large is = subst (λ (b : Bool). IsSizedBeside files trusted_files job list b text named a) large is
+  of_large (Some text) large is = subst (λ (b : Bool). IsSizedLineAnswer files trusted_files job list b text named a) large is
 
-  of_none : (file : Option (List ℕ)) → file ≡ None → IsFileBeside files trusted_files job list file named a
-      → a ≡ refused_beside (unread_line job.config) 18
-  of_none file none is = subst (λ (o : Option (List ℕ)). IsFileBeside files trusted_files job list o named a) none is
+  of_none : (file : Option (List ℕ)) → file ≡ None → IsFileLineAnswer files trusted_files job list file named a
+      → a ≡ refused_lines (unread_line job.config) 18
+  of_none file none is = subst (λ (o : Option (List ℕ)). IsFileLineAnswer files trusted_files job list o named a) none is
 
   -- the answer of the reading that was made
-  of_read : (read : Result Configured ConfFault) → HasReadBeside files job read → IsListedBeside files trusted_files job list named a
-      → IsReadBeside files trusted_files job list read named a
+  of_read : (read : Result Configured ConfFault) → HasReadForLines files job read → IsListedLineAnswer files trusted_files job list named a
+      → IsReadLineAnswer files trusted_files job list read named a
   of_read read has is = search (rules, of_text, no_configuration_has_two_answers)
 
 -- ---- from the answer to a job to that of its list
@@ -377,33 +378,33 @@ pub no_rules_and_fault : (text : List ℕ) (rules : List RuleText) (fault : List
 no_rules_and_fault text rules fault has refused =
     rules_are_no_fault rules fault (one_reading text (Ok rules) has ∙ sym (one_reading text (Err fault) refused))
 
-module _ (files trusted_files : Files) (job : LineJobText) (named : Named) (a : AnswerBeside)
-    (is : IsAnswerBeside files trusted_files job named a) where
+module _ (files trusted_files : Files) (job : LineJobText) (named : Named) (a : LineAnswer)
+    (is : IsLineAnswer files trusted_files job named a) where
   -- the answer of a reading of the list
   of_reading : (reading : Result (List RuleText) ListFault) → IsReading job.without reading
-      → IsGivenBeside files trusted_files job reading named a
+      → IsGivenLineAnswer files trusted_files job reading named a
   of_reading reading reads =
-      subst (λ (r : Result (List RuleText) ListFault). IsGivenBeside files trusted_files job r named a)
+      subst (λ (r : Result (List RuleText) ListFault). IsGivenLineAnswer files trusted_files job r named a)
       (one_reading job.without is.reading is.list_reads ∙ sym (one_reading job.without reading reads)) is.then_is
 
-  of_rules : (has : IsList job.without) → IsListedBeside files trusted_files job (list_of job.without has.0) named a
+  of_rules : (has : IsList job.without) → IsListedLineAnswer files trusted_files job (list_of job.without has.0) named a
   of_rules has = of_reading (Ok has.0) has.1
 
   -- the answer of what was read of the list
-  of_list : (list : ListRead) → IsListOf job.without list → IsListedBeside files trusted_files job list named a
+  of_list : (list : ListRead) → IsListOf job.without list → IsListedLineAnswer files trusted_files job list named a
   of_list list listed =
-      subst (λ (l : ListRead). IsListedBeside files trusted_files job l named a) (list_is job.without list listed)
+      subst (λ (l : ListRead). IsListedLineAnswer files trusted_files job l named a) (list_is job.without list listed)
       (of_reading (Ok list.rules) listed.rules)
 
 -- ---- the end of a session
 
-whole_stop : (a : AnswerBeside) (line : List ℕ) (code status : ℕ) (v : BesideView) → a ≡ refused_beside line code
+whole_stop : (a : LineAnswer) (line : List ℕ) (code status : ℕ) (v : LineView) → a ≡ refused_lines line code
     → StopsWith line code status v
-    → WholeBeside a status v.sinks
+    → WholeLines a status v.sinks
 whole_stop a line code status v is stops = search rules
 
-module _ (job : LineJobText) (status before : ℕ) (v : BesideView) (named : Named) (a : AnswerBeside)
-    (is : IsAnswerBeside v.files v.trusted_files job named a) where
+module _ (job : LineJobText) (status before : ℕ) (v : LineView) (named : Named) (a : LineAnswer)
+    (is : IsLineAnswer v.files v.trusted_files job named a) where
   stop_ends : (stop : EarlyStop) → StopCause v.files v.is_reliable job (Rose before v.site_after) stop
       → StopsWith (stop_line job stop) (stop_status stop) status v
       → EndsFor a named (trusted_of job) status before v
@@ -439,14 +440,14 @@ module _ (job : LineJobText) (status before : ℕ) (v : BesideView) (named : Nam
       stops)
 
   -- the comparison of the answer
-  answer_compares : (closes : ClosesBeside job status before v)
-      → ComparesBeside v.files v.trusted_files job closes.list closes.settings named a
+  answer_compares : (closes : ClosesLines job status before v)
+      → ComparesForLines v.files v.trusted_files job closes.list closes.settings named a
   answer_compares closes =
       of_read v.files v.trusted_files job closes.list named a (Ok closes.settings) closes.read
       (of_list v.files v.trusted_files job named a is closes.list closes.listed)
 
   -- the paths of the comparison are those of the answer
-  same_paths : (closes : ClosesBeside job status before v) → closes.named ≡ named
+  same_paths : (closes : ClosesLines job status before v) → closes.named ≡ named
   same_paths closes =
       let compares = answer_compares closes in
       let old = same_some closes.settings.old_path closes.named.old_path named.old_path closes.old_is compares.old_is in
@@ -455,14 +456,14 @@ module _ (job : LineJobText) (status before : ℕ) (v : BesideView) (named : Nam
       λ i. record { config = config i; old_path = old i; new_path = new i }
 
   -- a session ends with the answer to its job, or is kept from it
-  pub ends_beside : EndsBesideBy job status before v → EndsFor a named (trusted_of job) status before v
-  ends_beside ends = elim ends [
+  pub lines_end : EndsLinesBy job status before v → EndsFor a named (trusted_of job) status before v
+  lines_end ends = elim ends [
     | inl early ↦ stop_ends early.stop early.cause early.stops
     | inr closes ↦
         let compares = answer_compares closes in
         let same = same_paths closes in
         let result = closes.closes.result in
-        subst (λ (x : AnswerBeside). EndsFor x named (trusted_of job) status before v) (sym compares.then_is)
+        subst (λ (x : LineAnswer). EndsFor x named (trusted_of job) status before v) (sym compares.then_is)
         (compared_ends job closes.list status before closes.count v closes.settings named closes.later a compares result
         (subst (λ (n : Named). ComparesPairs closes.list n (trusted_of job) closes.settings.options result (Rose closes.count v.site_after)
         v) same
@@ -472,30 +473,30 @@ module _ (job : LineJobText) (status before : ℕ) (v : BesideView) (named : Nam
   ]
 
   -- the first desk has held no more than three lines of the named databases
-  pub bound_beside : EndsBesideBy job status before v → HoldsWithin v.files named v.peak_before v.peak_after
-  bound_beside ends = elim ends [
+  pub line_bound : EndsLinesBy job status before v → HoldsWithin v.files named v.peak_before v.peak_after
+  line_bound ends = elim ends [
     | inl early ↦ λ old new has_old has_new. let still = early.stops.still in omega (arith, still)
     | inr closes ↦ subst (λ (n : Named). HoldsWithin v.files n v.peak_before v.peak_after) (same_paths closes) closes.closes.compares.bound
   ]
 
 -- what both desks have held
-module _ (job : LineJobText) (status before : ℕ) (v : BesideView) where
-  pub trusted_bound_beside : EndsBesideBy job status before v
+module _ (job : LineJobText) (status before : ℕ) (v : LineView) where
+  pub trusted_line_bound : EndsLinesBy job status before v
       → HoldsWithin v.trusted_files (trusted_of job) v.trusted_peak_before v.trusted_peak_after
-  trusted_bound_beside ends = search rules
+  trusted_line_bound ends = search rules
 
-  pub peaks_beside : EndsBesideBy job status before v → PeaksRise v
-  peaks_beside ends = search rules
+  pub peaks_of_lines : EndsLinesBy job status before v → PeaksRise v
+  peaks_of_lines ends = search rules
 
 -- standard error has counted no fewer failures
-pub put_rises : (job : LineJobText) (status before : ℕ) (v : BesideView) → EndsBesideBy job status before v
+pub put_rises : (job : LineJobText) (status before : ℕ) (v : LineView) → EndsLinesBy job status before v
     → v.sinks.err_before ≤ v.sinks.err_after
 put_rises job status before v ends = search rules
 
 -- ---- without a failure
 
-no_failure_left : (failure : BesideFailure) (site trusted_site out : Type 0) → (site → ⊥) → (trusted_site → ⊥) → (out → ⊥)
-    → BesideFailureCause failure site trusted_site out → ⊥
+no_failure_left : (failure : PairFailure) (site trusted_site out : Type 0) → (site → ⊥) → (trusted_site → ⊥) → (out → ⊥)
+    → PairFailureCause failure site trusted_site out → ⊥
 no_failure_left (of_compared failed_config) site trusted_site out none trusted_none out_none cause = none cause
 no_failure_left (of_compared (unopened side)) site trusted_site out none trusted_none out_none cause = none cause
 no_failure_left (of_compared (unread fault)) site trusted_site out none trusted_none out_none cause = none cause.1
@@ -504,17 +505,17 @@ no_failure_left (trusted_unopened side) site trusted_site out none trusted_none 
 no_failure_left (trusted_unread fault) site trusted_site out none trusted_none out_none cause = trusted_none cause.1
 
 -- an ending without a failure
-pub unfailed_beside : (a : AnswerBeside) (named trusted : Named) (status : ℕ) (s : Sinks) (site trusted_site out : Type 0) → (site → ⊥)
+pub lines_unfailed : (a : LineAnswer) (named trusted : Named) (status : ℕ) (s : Sinks) (site trusted_site out : Type 0) → (site → ⊥)
     → (trusted_site → ⊥) → (out → ⊥) → EndsWithin a named trusted status s site trusted_site out
-    → WholeBeside a status s ⊎ StarvedBeside status s
-unfailed_beside a named trusted status s site trusted_site out none trusted_none out_none ends = search (rules, broken, no_failure_left)
+    → WholeLines a status s ⊎ StarvedLines status s
+lines_unfailed a named trusted status s site trusted_site out none trusted_none out_none ends = search (rules, broken, no_failure_left)
 
 -- ---- once the lines are passed on
 
-abbrev pub passed_view : BesideView → Option (List ℕ) → ℕ → BesideView
+abbrev pub passed_view : LineView → Option (List ℕ) → ℕ → LineView
 passed_view v bytes count = record v { sinks = record v.sinks { err_new = bytes; err_after = count } }
 
-module _ (v : BesideView) (bytes : Option (List ℕ)) (count : ℕ) (kept : Keeps v.sinks.err_new bytes) (more : v.sinks.err_after ≤ count)
+module _ (v : LineView) (bytes : Option (List ℕ)) (count : ℕ) (kept : Keeps v.sinks.err_new bytes) (more : v.sinks.err_after ≤ count)
   where
     passed : (line : List ℕ) → Puts line v.sinks → Puts line (passed_view v bytes count).sinks
     passed line put = put_passed line _ _ _ _ _ _ kept more put
@@ -527,9 +528,9 @@ module _ (v : BesideView) (bytes : Option (List ℕ)) (count : ℕ) (kept : Keep
         → ComparesPairs list named trusted options result site (passed_view v bytes count)
     passed_pairs list named trusted options result site c = search rules
 
-    pub passed_beside : (job : LineJobText) (status before : ℕ) → EndsBesideBy job status before v
-        → EndsBesideBy job status before (passed_view v bytes count)
-    passed_beside job status before ends = elim ends [
+    pub lines_passed : (job : LineJobText) (status before : ℕ) → EndsLinesBy job status before v
+        → EndsLinesBy job status before (passed_view v bytes count)
+    lines_passed job status before ends = elim ends [
       | inl early ↦ inl (record {
         stop = early.stop;
         cause = early.cause;

@@ -1,4 +1,4 @@
--- What contracts say of a part of a session beside a trusted pair.
+-- What contracts say of a part of a session of lines.
 use Rattle.std.specs.Prelude.{◌≡◌, ℕ, Bool, true, false, List, Option, Some}
 use Rattle.aide_db.specs.DeskView.{DeskView}
 use Rattle.aide_db.specs.declared.side.Side.{Side}
@@ -7,8 +7,8 @@ use Rattle.aide_db.specs.declared.sources.Sources.{Ghosts as AnySources}
 use Rattle.aide_merge.specs.Asked.{Asked}
 use Rattle.aide_merge.specs.RightAnswer.{TellsSide}
 use Rattle.aide_session.specs.Answer.{IsAnswerBy, Named}
-use Rattle.aide_session.specs.BesideEnds.{BesideView}
-use Rattle.aide_session.specs.BesideSession.{DeskPeaks, beside_view, check_job_of}
+use Rattle.aide_session.specs.LineEnds.{LineView}
+use Rattle.aide_session.specs.LineSession.{DeskPeaks, line_view, check_job_of}
 use Rattle.aide_session.specs.Files.{Files, is_too_large}
 use Rattle.aide_session.specs.Session.{SessionView, view_between}
 use Rattle.aide_session.specs.Says.{settings_told}
@@ -26,7 +26,7 @@ named_by config asked = record {
   new_path = asked.new_path;
 }
 
--- what the site of the trusted pair shows of a part, by the devices beside it
+-- what the site of the trusted pair shows of a part, by the other devices
 abbrev pub trusted_between : {C S R W E : Type 0} → AnySources S R → AnySink W → AnySink E
     → Devices C S W E R → Devices C S W E R → S → S → SessionView
 trusted_between s w e m n a b = view_between s w e a b m.out.now n.out.now m.err.now n.err.now
@@ -42,9 +42,9 @@ peaks_between m n u v = record {
 }
 
 -- all that is seen of a part
-abbrev pub beside_between : {C S R W E : Type 0} → AnySources S R → AnySink W → AnySink E
-    → Devices C S W E R → Devices C S W E R → DeskView → DeskView → S → S → BesideView
-beside_between s w e m n u v a b = beside_view (part_between s w e m n)
+abbrev pub line_view_between : {C S R W E : Type 0} → AnySources S R → AnySink W → AnySink E
+    → Devices C S W E R → Devices C S W E R → DeskView → DeskView → S → S → LineView
+line_view_between s w e m n u v a b = line_view (part_between s w e m n)
     (trusted_between s w e m n a b) (peaks_between m n u v)
 
 -- what is known of the files at the paths of a pair: of the trusted one or of the compared one
@@ -61,7 +61,7 @@ pub record IsPointed (files : Files) (asked : Asked) (bytes_of : Side → Option
       → TellsSide (bytes_of New) (is_missing New) file
 
 -- The configuration of a job has this text. If the file is known, the text is the file's.
-pub record HasTextBeside (files : Files) (job : LineJobText) (text : List ℕ) : Type 0 where
+pub record HasTextForLines (files : Files) (job : LineJobText) (text : List ℕ) : Type 0 where
   pub text_is : (file : Option (List ℕ)) → files job.config ≡ Some file → file ≡ Some text
   pub small : is_too_large text ≡ false
 

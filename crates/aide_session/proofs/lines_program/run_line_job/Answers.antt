@@ -1,10 +1,10 @@
 use Rattle.std.proofs.Common.{◌∙◌, ℕ, List, inl, refl, sym}
 use Rattle.std.proofs.Math.Path.{subst}
 use Rattle.aide_patterns.specs.List.{HasFirstFault}
-use Rattle.aide_session.specs.BesideEnds.{list_refused}
-use Rattle.aide_session.proofs.BesideEndings.{no_rules_and_fault}
+use Rattle.aide_session.specs.LineEnds.{list_refused}
+use Rattle.aide_session.proofs.LineEndings.{no_rules_and_fault}
 use Rattle.aide_session.proofs.PutLemmas.{appends_none}
-use Rattle.aide_session.proofs.lines_program.run_job_beside.Goals as goal
+use Rattle.aide_session.proofs.lines_program.run_line_job.Goals as goal
 
 pub returns-in-Ok-clause-unlooked : goal.returns-in-Ok-clause-unlooked
 returns-in-Ok-clause-unlooked g c = λ fault has.

@@ -24,7 +24,7 @@ use Rattle.aide_merge.specs.declared.outcome.Outcome.{Outcome}
 use Rattle.aide_merge.specs.declared.run_fault.RunFault.{RunFault}
 use Rattle.aide_merge.specs.declared.run_fault.RunFault.TheVariants.{Open, Database}
 use Rattle.aide_session.specs.Answer.{Named, asked_by, limits}
-use Rattle.aide_session.specs.BesideAnswer.{AnswerBeside, GoesOutBeside, StartsBeside, trusted_of}
+use Rattle.aide_session.specs.LineAnswer.{LineAnswer, HasWritten, HasBegun, trusted_of}
 use Rattle.aide_session.specs.Closing.{AreBothSound, Course, HasText, RunCause}
 use Rattle.aide_session.specs.Ends.{Failure, FailureCause, Puts, Sinks, failure_line}
 use Rattle.aide_session.specs.Files.{Files, IsLarge, is_too_large}
@@ -44,7 +44,7 @@ use Rattle.aide_words.specs.LineJob.{LineJobText}
 
 -- All that contracts say about a session with a trusted pair, but how often its first site had
 -- failed before.
-pub record BesideView : Type 0 where
+pub record LineView : Type 0 where
   -- what is known of the files of either site
   pub files : Files
   pub trusted_files : Files
@@ -73,55 +73,55 @@ pub record BesideView : Type 0 where
 
 -- a failure of a device: one that a session without a trusted pair may have, or one at the trusted
 -- pair
-pub data BesideFailure : Type 0 where
-  of_compared : Failure → BesideFailure
-  trusted_unopened : Side → BesideFailure
-  trusted_unread : DbFault → BesideFailure
+pub data PairFailure : Type 0 where
+  of_compared : Failure → PairFailure
+  trusted_unopened : Side → PairFailure
+  trusted_unread : DbFault → PairFailure
 
 -- the line of a failure
-abbrev pub beside_failure_line : (named trusted : Named) → BesideFailure → List ℕ
-beside_failure_line named trusted (of_compared failure) = failure_line named failure
-beside_failure_line named trusted (trusted_unopened side) =
+abbrev pub pair_failure_line : (named trusted : Named) → PairFailure → List ℕ
+pair_failure_line named trusted (of_compared failure) = failure_line named failure
+pair_failure_line named trusted (trusted_unopened side) =
     trusted_open_line side (by_side trusted.old_path trusted.new_path side)
-beside_failure_line named trusted (trusted_unread fault) = trusted_database_line fault
+pair_failure_line named trusted (trusted_unread fault) = trusted_database_line fault
 
 -- the cause of a failure: the first site, the site of the trusted pair or the output has counted
 -- one
-abbrev pub BesideFailureCause : BesideFailure → (site trusted_site out : Type 0) → Type 0
-BesideFailureCause (of_compared failure) site trusted_site out = FailureCause failure site out
-BesideFailureCause (trusted_unopened side) site trusted_site out = trusted_site
-BesideFailureCause (trusted_unread fault) site trusted_site out = (fault.kind ≡ Read) × trusted_site
+abbrev pub PairFailureCause : PairFailure → (site trusted_site out : Type 0) → Type 0
+PairFailureCause (of_compared failure) site trusted_site out = FailureCause failure site out
+PairFailureCause (trusted_unopened side) site trusted_site out = trusted_site
+PairFailureCause (trusted_unread fault) site trusted_site out = (fault.kind ≡ Read) × trusted_site
 
 -- the session ends with the whole answer
-pub record WholeBeside (a : AnswerBeside) (status : ℕ) (sinks : Sinks) : Type 0 where
+pub record WholeLines (a : LineAnswer) (status : ℕ) (sinks : Sinks) : Type 0 where
   pub status_is : status ≡ a.status
-  pub output : GoesOutBeside a.output sinks.out_old sinks.out_new
+  pub output : HasWritten a.output sinks.out_old sinks.out_new
   pub put : Puts a.errors sinks
 
 -- the session ends out of memory, without any output
-pub record StarvedBeside (status : ℕ) (sinks : Sinks) : Type 0 where
+pub record StarvedLines (status : ℕ) (sinks : Sinks) : Type 0 where
   pub status_is : status ≡ 22
   pub output : Appends sinks.out_old sinks.out_new []
   pub put : Puts memory_line sinks
 
 -- The session ends with a failure of a site or of the output, after the first bytes of the answer's
 -- output (none, some or all).
-pub record BrokenBeside (a : AnswerBeside) (named trusted : Named) (status : ℕ) (sinks : Sinks)
+pub record BrokenLines (a : LineAnswer) (named trusted : Named) (status : ℕ) (sinks : Sinks)
     (site trusted_site out : Type 0) : Type 0 where
   pub status_is : status ≡ 18
-  pub output : StartsBeside a.output sinks.out_old sinks.out_new
-  pub failure : BesideFailure
-  pub cause : BesideFailureCause failure site trusted_site out
-  pub put : Puts (beside_failure_line named trusted failure) sinks
+  pub output : HasBegun a.output sinks.out_old sinks.out_new
+  pub failure : PairFailure
+  pub cause : PairFailureCause failure site trusted_site out
+  pub put : Puts (pair_failure_line named trusted failure) sinks
 
 -- A session ends with the answer, out of memory, or with a failure. `site`, `trusted_site` and
 -- `out` mean that the first site, that of the trusted pair or the output has counted a failure.
-abbrev pub EndsWithin : AnswerBeside → (named trusted : Named) → ℕ → Sinks
+abbrev pub EndsWithin : LineAnswer → (named trusted : Named) → ℕ → Sinks
     → (site trusted_site out : Type 0)
     → Type 0
-EndsWithin a named trusted status sinks site trusted_site out = WholeBeside a status sinks
-    ⊎ (StarvedBeside status sinks
-    ⊎ BrokenBeside a named trusted status sinks site trusted_site out)
+EndsWithin a named trusted status sinks site trusted_site out = WholeLines a status sinks
+    ⊎ (StarvedLines status sinks
+    ⊎ BrokenLines a named trusted status sinks site trusted_site out)
 
 -- ---- how a session ends over any sites
 
@@ -151,7 +151,7 @@ stop_line job (config_refused fault) = conf_line fault
 
 -- The configuration of the job reads as this. If the file is known, the text that was read is the
 -- file's.
-pub record HasReadBeside (files : Files) (job : LineJobText)
+pub record HasReadForLines (files : Files) (job : LineJobText)
     (read : Result Configured ConfFault) : Type 0 where
   pub text : List ℕ
   pub text_is : (file : Option (List ℕ)) → files job.config ≡ Some file → file ≡ Some text
@@ -169,11 +169,11 @@ StopCause files is_reliable job site config_unread =
 StopCause files is_reliable job site config_too_large = IsList job.without
     × ((file : Option (List ℕ)) → files job.config ≡ Some file → IsLarge file)
 StopCause files is_reliable job site (config_refused fault) =
-    IsList job.without × HasReadBeside files job (Err fault)
+    IsList job.without × HasReadForLines files job (Err fault)
 
 -- The session stops with this status and this line. It has opened no database and written nothing,
 -- and neither desk has held more than before.
-pub record StopsWith (line : List ℕ) (code status : ℕ) (v : BesideView) : Type 0 where
+pub record StopsWith (line : List ℕ) (code status : ℕ) (v : LineView) : Type 0 where
   pub status_is : status ≡ code
   pub put : Puts line v.sinks
   pub output : Appends v.sinks.out_old v.sinks.out_new []
@@ -223,7 +223,7 @@ compared_line named trusted (Err fault) =
 -- The session compares the databases at the paths of both pairs with this result, and with what was
 -- read of a list. `site` means that the first site has counted a failure in the comparison.
 pub record ComparesPairs (list : ListRead) (named trusted : Named) (options : Options)
-    (result : Result Outcome PairFault) (site : Type 0) (v : BesideView) : Type 0 where
+    (result : Result Outcome PairFault) (site : Type 0) (v : LineView) : Type 0 where
   -- If it is known what is at each of the four paths, a text or nothing: the comparison ends with
   -- the right answer and sends its lines, unless an allocation, a file that is there, or the output
   -- has failed.
@@ -283,7 +283,7 @@ pub record ComparesPairs (list : ListRead) (named trusted : Named) (options : Op
 
 -- The comparison, its status and its line.
 pub record ClosesCompared (list : ListRead) (named trusted : Named) (options : Options)
-    (status : ℕ) (site : Type 0) (v : BesideView) : Type 0 where
+    (status : ℕ) (site : Type 0) (v : LineView) : Type 0 where
   pub result : Result Outcome PairFault
   pub status_is : status ≡ compared_status result
   pub put : Puts (compared_line named trusted result) v.sinks
@@ -291,7 +291,7 @@ pub record ClosesCompared (list : ListRead) (named trusted : Named) (options : O
 
 -- The session of a job stops before it opens a database. The first site had failed `before` times
 -- before it.
-pub record StopsEarly (job : LineJobText) (status before : ℕ) (v : BesideView) : Type 0 where
+pub record StopsEarly (job : LineJobText) (status before : ℕ) (v : LineView) : Type 0 where
   pub stop : EarlyStop
   pub cause : StopCause v.files v.is_reliable job (Rose before v.site_after) stop
   pub stops : StopsWith (stop_line job stop) (stop_status stop) status v
@@ -299,11 +299,11 @@ pub record StopsEarly (job : LineJobText) (status before : ℕ) (v : BesideView)
 -- The session of a job compares the databases that its configuration and its arguments name, with
 -- what was read of its list. The first site had failed `before` times before it, and `count` times
 -- when the configuration had been read.
-pub record ClosesBeside (job : LineJobText) (status before : ℕ) (v : BesideView) : Type 0 where
+pub record ClosesLines (job : LineJobText) (status before : ℕ) (v : LineView) : Type 0 where
   pub list : ListRead
   pub listed : IsListOf job.without list
   pub settings : Configured
-  pub read : HasReadBeside v.files job (Ok settings)
+  pub read : HasReadForLines v.files job (Ok settings)
   pub named : Named
   pub config_is : named.config ≡ job.config
   pub old_is : settings.old_path ≡ Some named.old_path
@@ -314,5 +314,5 @@ pub record ClosesBeside (job : LineJobText) (status before : ℕ) (v : BesideVie
       (Rose count v.site_after) v
 
 -- over any sites: the session of a job stops early, or compares the databases
-abbrev pub EndsBesideBy : LineJobText → (status before : ℕ) → BesideView → Type 0
-EndsBesideBy job status before v = StopsEarly job status before v ⊎ ClosesBeside job status before v
+abbrev pub EndsLinesBy : LineJobText → (status before : ℕ) → LineView → Type 0
+EndsLinesBy job status before v = StopsEarly job status before v ⊎ ClosesLines job status before v

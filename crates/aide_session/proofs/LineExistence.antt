@@ -1,4 +1,4 @@
--- There is an answer to a job beside a trusted pair, where it is told what stands at the paths that are named.
+-- There is an answer to a job of lines, where it is told what stands at the paths that are named.
 use Rattle.std.proofs.Common.{◌≡◌, ℕ, ◌≤◌, List, Option, Some, None, refl, sym, arith, Bool, true, false, Ok, Err, inl, inr, rules}
 use Rattle.std.specs.Prelude.{Result, IsSome, ⊤}
 use Rattle.std.proofs.Math.Path.{subst}
@@ -20,9 +20,9 @@ use Rattle.aide_merge.specs.RightAnswer.{Report}
 use Rattle.aide_merge.specs.declared.run_fault.RunFault.{RunFault}
 use Rattle.aide_report.proofs.MissingLemmas.{RunsOver-exists}
 use Rattle.aide_session.specs.Answer.{Named, asked_by, limits}
-use Rattle.aide_session.specs.BesideAnswer.{HasAnswerBeside, IsReadBeside, IsSizedBeside, IsTextBeside, TellsBeside}
-use Rattle.aide_session.specs.BesideAnswer.{AnswerBeside, ComparesBeside, answer_beside, out_beside, refused_beside, trusted_of}
-use Rattle.aide_session.specs.BesideAnswer.{IsAnswerBeside, IsListedBeside}
+use Rattle.aide_session.specs.LineAnswer.{HasLineAnswer, IsReadLineAnswer, IsSizedLineAnswer, IsTextLineAnswer, TellsForLines}
+use Rattle.aide_session.specs.LineAnswer.{LineAnswer, ComparesForLines, line_answer, lines_at_fault, refused_lines, trusted_of}
+use Rattle.aide_session.specs.LineAnswer.{IsLineAnswer, IsListedLineAnswer}
 use Rattle.aide_session.specs.Files.{Files, is_too_large}
 use Rattle.aide_session.specs.GivenList.{list_line, list_of}
 use Rattle.aide_session.specs.Lines.{conf_line, too_large_line, unread_line}
@@ -57,11 +57,11 @@ IsWhole (Some report) = ⊤
 
 whole : (over : List ℕ → List ℕ → List ℕ → List ℕ → Report) (old new trusted_old trusted_new : Option (List ℕ))
     → AreThere old new → AreThere trusted_old trusted_new → IsWhole (over_sides over old new trusted_old trusted_new)
-whole over None new trusted_old trusted_new there beside = absurd there
-whole over (Some old) None trusted_old trusted_new there beside = absurd there
-whole over (Some old) (Some new) None trusted_new there beside = absurd beside
-whole over (Some old) (Some new) (Some trusted_old) None there beside = absurd beside
-whole over (Some old) (Some new) (Some trusted_old) (Some trusted_new) there beside = tt
+whole over None new trusted_old trusted_new there trusted_there = absurd there
+whole over (Some old) None trusted_old trusted_new there trusted_there = absurd there
+whole over (Some old) (Some new) None trusted_new there trusted_there = absurd trusted_there
+whole over (Some old) (Some new) (Some trusted_old) None there trusted_there = absurd trusted_there
+whole over (Some old) (Some new) (Some trusted_old) (Some trusted_new) there trusted_there = tt
 
 answer_exists : (compared trusted : Result Report RunFault) (over : Option Report) → (IsOkay compared → IsOkay trusted → IsWhole over)
     → (r : Result Report PairFault) × answer_by compared trusted over r
@@ -71,15 +71,15 @@ answer_exists (Ok report) (Ok other) None whole = absurd (whole tt tt)
 answer_exists (Ok report) (Ok other) (Some over) whole = (Ok over, refl)
 
 -- What is at four sides has a right answer.
-pub RunsBeside-exists : (bounds : Limits) (list : ListRead) (wish beside : Asked) (old new trusted_old trusted_new : Option (List ℕ))
-    → 14 ≤ bounds.line → (r : Result Report PairFault) × RunsBeside bounds list wish beside old new trusted_old trusted_new r
-RunsBeside-exists bounds list wish beside old new trusted_old trusted_new least =
+pub RunsBeside-exists : (bounds : Limits) (list : ListRead) (wish trusted_wish : Asked) (old new trusted_old trusted_new : Option (List ℕ))
+    → 14 ≤ bounds.line → (r : Result Report PairFault) × RunsBeside bounds list wish trusted_wish old new trusted_old trusted_new r
+RunsBeside-exists bounds list wish trusted_wish old new trusted_old trusted_new least =
     let compared = RunsOver-exists bounds wish old new least in
-    let trusted = RunsOver-exists bounds beside trusted_old trusted_new least in
-    let r = answer_exists compared.0 trusted.0 (over_sides (lines_beside list wish beside) old new trusted_old trusted_new)
-    (λ okay other. whole (lines_beside list wish beside) old new trusted_old trusted_new
+    let trusted = RunsOver-exists bounds trusted_wish trusted_old trusted_new least in
+    let r = answer_exists compared.0 trusted.0 (over_sides (lines_beside list wish trusted_wish) old new trusted_old trusted_new)
+    (λ okay other. whole (lines_beside list wish trusted_wish) old new trusted_old trusted_new
     (both_there bounds wish old new compared.0 compared.1 okay)
-    (both_there bounds beside trusted_old trusted_new trusted.0 trusted.1 other)) in (
+    (both_there bounds trusted_wish trusted_old trusted_new trusted.0 trusted.1 other)) in (
       r.0,
       record {
         compared = compared.0;
@@ -96,19 +96,19 @@ value_of : (path : Option (List ℕ)) → IsSome path → (value : List ℕ) × 
 value_of None some = cc
 value_of (Some value) some = (value, refl)
 
-module _ (files trusted_files : Files) (job : LineJobText) (list : ListRead) (tells : TellsBeside files trusted_files job) where
+module _ (files trusted_files : Files) (job : LineJobText) (list : ListRead) (tells : TellsForLines files trusted_files job) where
   -- an answer over what was read of the list
   abbrev HasListedAnswer : Type 0
-  HasListedAnswer = (named : Named) × (a : AnswerBeside) × (named.config ≡ job.config)
-      × IsListedBeside files trusted_files job list named a
+  HasListedAnswer = (named : Named) × (a : LineAnswer) × (named.config ≡ job.config)
+      × IsListedLineAnswer files trusted_files job list named a
 
   module _ (text : List ℕ) (known : files job.config ≡ Some (Some text)) where
     abbrev Read : Result Configured ConfFault → Type 0
-    Read read = (named : Named) × (a : AnswerBeside) × (named.config ≡ job.config)
-        × IsReadBeside files trusted_files job list read named a
+    Read read = (named : Named) × (a : LineAnswer) × (named.config ≡ job.config)
+        × IsReadLineAnswer files trusted_files job list read named a
 
     of_read : (read : Result Configured ConfFault) → ReadsAs Compare job.before text job.after read → Read read
-    of_read (Err fault) reads = (only_config job.config, refused_beside (conf_line fault) 17, refl, refl)
+    of_read (Err fault) reads = (only_config job.config, refused_lines (conf_line fault) 17, refl, refl)
     of_read (Ok s) reads =
         let both = what_is_compared_is_named job.before text job.after s reads in
         let old_path = value_of s.old_path both.0 in
@@ -120,9 +120,9 @@ module _ (files trusted_files : Files) (job : LineJobText) (list : ListRead) (te
         let trusted_new = tells.trusted New in
         let run = RunsBeside-exists limits list (asked_by s.options named) (asked_by s.options (trusted_of job)) old.0 new.0 trusted_old.0
         trusted_new.0 (omega arith) in
-        let a = answer_beside (out_beside list (asked_by s.options named) (asked_by s.options (trusted_of job)) old.0 new.0 trusted_old.0
+        let a = line_answer (lines_at_fault list (asked_by s.options named) (asked_by s.options (trusted_of job)) old.0 new.0 trusted_old.0
         trusted_new.0) named (trusted_of job) run.0 in
-        let compares : ComparesBeside files trusted_files job list s named a = record {
+        let compares : ComparesForLines files trusted_files job list s named a = record {
           old_is = old_path.1;
           new_is = new_path.1;
           old_file = old.0;
@@ -142,20 +142,20 @@ module _ (files trusted_files : Files) (job : LineJobText) (list : ListRead) (te
     of_size : (large : Bool) → is_too_large text ≡ large → HasListedAnswer
     of_size true large =
         let named = only_config job.config in
-        let a = refused_beside too_large_line 17 in (
+        let a = refused_lines too_large_line 17 in (
           named,
           a,
           refl,
           record {
             file = Some text;
             known = known;
-            then_is = subst (λ (b : Bool). IsSizedBeside files trusted_files job list b text named a) (sym large) refl;
+            then_is = subst (λ (b : Bool). IsSizedLineAnswer files trusted_files job list b text named a) (sym large) refl;
           },
         )
     of_size false small =
         let read = every_configuration_has_an_answer Compare job.before text job.after in
         let answer = of_read read.0 read.1 in
-        let of_text : IsTextBeside files trusted_files job list text answer.0 answer.1 =
+        let of_text : IsTextLineAnswer files trusted_files job list text answer.0 answer.1 =
         record { read = read.0; reads = read.1; then_is = answer.3 } in (
           answer.0,
           answer.1,
@@ -163,33 +163,33 @@ module _ (files trusted_files : Files) (job : LineJobText) (list : ListRead) (te
           record {
             file = Some text;
             known = known;
-            then_is = subst (λ (b : Bool). IsSizedBeside files trusted_files job list b text answer.0 answer.1) (sym small) of_text;
+            then_is = subst (λ (b : Bool). IsSizedLineAnswer files trusted_files job list b text answer.0 answer.1) (sym small) of_text;
           },
         )
 
   of_file : (file : Option (List ℕ)) → files job.config ≡ Some file → HasListedAnswer
   of_file None known = (
     only_config job.config,
-    refused_beside (unread_line job.config) 18,
+    refused_lines (unread_line job.config) 18,
     refl,
     record { file = None; known = known; then_is = refl },
   )
   of_file (Some text) known = of_size text known (is_too_large text) refl
 
 -- a job has an answer where it is told what stands at the paths that are named
-pub answered_beside : (files trusted_files : Files) (job : LineJobText) → TellsBeside files trusted_files job
-    → HasAnswerBeside files trusted_files job
-answered_beside files trusted_files job tells = go (read_list job.without) (has_reading job.without)
+pub lines_answered : (files trusted_files : Files) (job : LineJobText) → TellsForLines files trusted_files job
+    → HasLineAnswer files trusted_files job
+lines_answered files trusted_files job tells = go (read_list job.without) (has_reading job.without)
   where
-    go : (reading : Result (List RuleText) ListFault) → IsReading job.without reading → HasAnswerBeside files trusted_files job
+    go : (reading : Result (List RuleText) ListFault) → IsReading job.without reading → HasLineAnswer files trusted_files job
     go (Ok rules) reads =
         let answer = of_file files trusted_files job (list_of job.without rules) tells tells.config.0 tells.config.1 in
-        let is : IsAnswerBeside files trusted_files job answer.0 answer.1 =
+        let is : IsLineAnswer files trusted_files job answer.0 answer.1 =
         record { config_is = answer.2; reading = Ok rules; list_reads = reads; then_is = answer.3 } in
         (answer.0, answer.1, is)
     go (Err fault) reads =
         let named = only_config job.config in
-        let a = refused_beside (list_line fault) 17 in
-        let is : IsAnswerBeside files trusted_files job named a =
+        let a = refused_lines (list_line fault) 17 in
+        let is : IsLineAnswer files trusted_files job named a =
         record { config_is = refl; reading = Err fault; list_reads = reads; then_is = refl } in
         (named, a, is)

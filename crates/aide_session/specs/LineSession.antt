@@ -6,10 +6,10 @@ use Rattle.aide_patterns.specs.List.{HasFirstFault}
 use Rattle.aide_patterns.specs.declared.fault.ListFault.{ListFault}
 use Rattle.aide_report.specs.Failures.{Rose}
 use Rattle.aide_session.specs.Answer.{Named}
-use Rattle.aide_session.specs.BesideAnswer.{AnswerBeside, HasAnswerBeside, IsAnswerBeside}
-use Rattle.aide_session.specs.BesideAnswer.{TellsBeside, trusted_of}
-use Rattle.aide_session.specs.BesideEnds.{BesideView, EndsBesideBy, EndsWithin}
-use Rattle.aide_session.specs.BesideEnds.{StarvedBeside, WholeBeside}
+use Rattle.aide_session.specs.LineAnswer.{LineAnswer, HasLineAnswer, IsLineAnswer}
+use Rattle.aide_session.specs.LineAnswer.{TellsForLines, trusted_of}
+use Rattle.aide_session.specs.LineEnds.{LineView, EndsLinesBy, EndsWithin}
+use Rattle.aide_session.specs.LineEnds.{StarvedLines, WholeLines}
 use Rattle.aide_session.specs.Ends.{HasFailed}
 use Rattle.aide_session.specs.Held.{HoldsWithin, most_held}
 use Rattle.aide_session.specs.Put.{HasNoFailure}
@@ -27,8 +27,8 @@ pub record DeskPeaks : Type 0 where
   pub trusted_after : ℕ
 
 -- what is seen of both sites and desks, as one
-abbrev pub beside_view : (s t : SessionView) → DeskPeaks → BesideView
-beside_view s t desks = record {
+abbrev pub line_view : (s t : SessionView) → DeskPeaks → LineView
+line_view s t desks = record {
   files = s.files;
   trusted_files = trusted_at t.files;
   is_reliable = s.is_reliable;
@@ -49,38 +49,38 @@ beside_view s t desks = record {
 
 -- A session of a comparison, with this status. `s` is what is seen of the first site, `t` of the site of the trusted
 -- pair. If the job names no trusted pair, the empty database is at both of its paths, which are empty.
-pub record IsSessionBeside (job : LineJobText) (status : ℕ) (s t : SessionView)
+pub record IsLineComparison (job : LineJobText) (status : ℕ) (s t : SessionView)
     (desks : DeskPeaks) : Type 0 where
   -- The session ends in one of three ways:
   -- - with the answer to the job;
   -- - out of memory, with no output;
   -- - with a failure that was counted, after the first bytes of the answer's output (none, some or all). Only the
   --   output or a site that is not reliable can fail so.
-  pub ends : (named : Named) (a : AnswerBeside)
-      → IsAnswerBeside s.files (trusted_at t.files) job named a
+  pub ends : (named : Named) (a : LineAnswer)
+      → IsLineAnswer s.files (trusted_at t.files) job named a
       → EndsWithin a named (trusted_of job) status s.sinks
       (HasFailed s.is_reliable s.site_before s.site_after)
       (HasFailed t.is_reliable t.site_before t.site_after) (Rose s.out_before s.out_after)
   -- If no failure was counted, the session ends with the answer to the job or out of memory.
-  pub exact : (named : Named) (a : AnswerBeside)
-      → IsAnswerBeside s.files (trusted_at t.files) job named a
+  pub exact : (named : Named) (a : LineAnswer)
+      → IsLineAnswer s.files (trusted_at t.files) job named a
       → HasNoFailure s.site_before s.site_after → HasNoFailure t.site_before t.site_after
       → HasNoFailure s.out_before s.out_after
-      → WholeBeside a status s.sinks ⊎ StarvedBeside status s.sinks
+      → WholeLines a status s.sinks ⊎ StarvedLines status s.sinks
   -- Over reliable sites, if the output counts no failure, the session ends with the answer to the
   -- job or out of memory.
-  pub reliable : (named : Named) (a : AnswerBeside)
-      → IsAnswerBeside s.files (trusted_at t.files) job named a
+  pub reliable : (named : Named) (a : LineAnswer)
+      → IsLineAnswer s.files (trusted_at t.files) job named a
       → s.is_reliable ≡ true → t.is_reliable ≡ true → HasNoFailure s.out_before s.out_after
-      → WholeBeside a status s.sinks ⊎ StarvedBeside status s.sinks
+      → WholeLines a status s.sinks ⊎ StarvedLines status s.sinks
   -- If standard error counts no failure, the lines have been passed on.
   pub passed_on : HasNoFailure s.sinks.err_before s.sinks.err_after → s.is_passed_on ≡ true
   -- If it is known what is at the paths of the named files, there is an answer.
-  pub answered : TellsBeside s.files (trusted_at t.files) job
-      → HasAnswerBeside s.files (trusted_at t.files) job
+  pub answered : TellsForLines s.files (trusted_at t.files) job
+      → HasLineAnswer s.files (trusted_at t.files) job
   -- Over any sites: the session stops before it opens a database, or compares the databases, and
   -- why.
-  pub closes : EndsBesideBy job status s.site_before (beside_view s t desks)
+  pub closes : EndsLinesBy job status s.site_before (line_view s t desks)
   -- Besides the databases at most one file is opened, at most once.
   pub lookups : s.lookups_after ≤ one_more s.lookups_before
   pub trusted_lookups : t.lookups_after ≡ t.lookups_before
@@ -93,11 +93,11 @@ pub record IsSessionBeside (job : LineJobText) (status : ℕ) (s t : SessionView
   pub trusted_peak : desks.trusted_before ≤ desks.trusted_after
   pub trusted_below : desks.trusted_after ≤ max desks.trusted_before most_held
   -- If the texts of a pair are known, the peak of its desk rises at most to three of their lines.
-  pub bound : (named : Named) (a : AnswerBeside)
-      → IsAnswerBeside s.files (trusted_at t.files) job named a
+  pub bound : (named : Named) (a : LineAnswer)
+      → IsLineAnswer s.files (trusted_at t.files) job named a
       → HoldsWithin s.files named desks.before desks.after
-  pub trusted_bound : (named : Named) (a : AnswerBeside)
-      → IsAnswerBeside s.files (trusted_at t.files) job named a
+  pub trusted_bound : (named : Named) (a : LineAnswer)
+      → IsLineAnswer s.files (trusted_at t.files) job named a
       → HoldsWithin (trusted_at t.files) (trusted_of job) desks.trusted_before desks.trusted_after
 
 -- the check of a configuration alone that the arguments ask for, if they ask for one
@@ -115,5 +115,5 @@ pub record IsLineSession (words : List (List ℕ)) (status : ℕ) (s t : Session
   pub trusted_unopened : line_job_of words ≡ None
       → t.course.opened_after ≡ t.course.opened_before
   pub trusted_still : line_job_of words ≡ None → desks.trusted_after ≡ desks.trusted_before
-  pub beside : (job : LineJobText) → line_job_of words ≡ Some job
-      → IsSessionBeside job status s t desks
+  pub compares : (job : LineJobText) → line_job_of words ≡ Some job
+      → IsLineComparison job status s t desks

@@ -38,57 +38,57 @@ trusted_of job = record {
 
 -- What is written: all of a text. Or no more than a beginning of the first line and of the lines of some changes, each
 -- with what accounts for it by those of a trusted pair or by what a list leaves out.
-pub data OutputBeside : Type 0 where
-  all_lines : List ℕ → OutputBeside
-  start_of_lines : Leaves → (asked trusted : Asked) → (changes beside : List PathChange)
-      → OutputBeside
+pub data LineOutput : Type 0 where
+  all_lines : List ℕ → LineOutput
+  start_of_lines : Leaves → (asked trusted : Asked) → (changes trusted_changes : List PathChange)
+      → LineOutput
 
 -- nothing is written
-abbrev pub no_line : OutputBeside
+abbrev pub no_line : LineOutput
 no_line = all_lines []
 
 -- this has been written between two moments
-abbrev pub GoesOutBeside : OutputBeside → (before after : Option (List ℕ)) → Type 0
-GoesOutBeside (all_lines text) before after = Appends before after text
-GoesOutBeside (start_of_lines leaves asked trusted changes beside) before after =
-    BeginsBeside leaves asked trusted changes beside before after
+abbrev pub HasWritten : LineOutput → (before after : Option (List ℕ)) → Type 0
+HasWritten (all_lines text) before after = Appends before after text
+HasWritten (start_of_lines leaves asked trusted changes trusted_changes) before after =
+    BeginsBeside leaves asked trusted changes trusted_changes before after
 
 -- no more than a beginning of it has been written
-abbrev pub StartsBeside : OutputBeside → (before after : Option (List ℕ)) → Type 0
-StartsBeside (all_lines text) before after = SendsPart text before after
-StartsBeside (start_of_lines leaves asked trusted changes beside) before after =
-    BeginsBeside leaves asked trusted changes beside before after
+abbrev pub HasBegun : LineOutput → (before after : Option (List ℕ)) → Type 0
+HasBegun (all_lines text) before after = SendsPart text before after
+HasBegun (start_of_lines leaves asked trusted changes trusted_changes) before after =
+    BeginsBeside leaves asked trusted changes trusted_changes before after
 
 -- what a session with a trusted pair writes to standard output and to standard error, and its
 -- status
-pub record AnswerBeside : Type 0 where
-  pub output : OutputBeside
+pub record LineAnswer : Type 0 where
+  pub output : LineOutput
   pub errors : List ℕ
   pub status : ℕ
 
 -- no output, only lines on standard error, and a status
-abbrev pub refused_beside : List ℕ → ℕ → AnswerBeside
-refused_beside lines status = record { output = no_line; errors = lines; status = status }
+abbrev pub refused_lines : List ℕ → ℕ → LineAnswer
+refused_lines lines status = record { output = no_line; errors = lines; status = status }
 
 -- What has been written when a fault is the answer, by what is at the four paths: a beginning of what comes before the
 -- last line, and nothing if a file is not there.
-abbrev pub out_beside : ListRead → (asked trusted : Asked)
-    → (old new trusted_old trusted_new : Option (List ℕ)) → OutputBeside
-out_beside list asked trusted (Some old) (Some new) (Some trusted_old) (Some trusted_new) =
+abbrev pub lines_at_fault : ListRead → (asked trusted : Asked)
+    → (old new trusted_old trusted_new : Option (List ℕ)) → LineOutput
+lines_at_fault list asked trusted (Some old) (Some new) (Some trusted_old) (Some trusted_new) =
     start_of_lines (leaves_between list old new) asked trusted
     (changes_between old new) (changes_between trusted_old trusted_new)
-out_beside list asked trusted _ _ _ _ = no_line
+lines_at_fault list asked trusted _ _ _ _ = no_line
 
 -- The answer of a comparison with a trusted pair, by the paths of both: what is written, or the
 -- line and the status of the fault. What has been written at a fault is given.
-abbrev pub answer_beside : (at_fault : OutputBeside) → (named trusted : Named)
-    → Result Report PairFault → AnswerBeside
-answer_beside at_fault named trusted (Ok report) = record {
+abbrev pub line_answer : (at_fault : LineOutput) → (named trusted : Named)
+    → Result Report PairFault → LineAnswer
+line_answer at_fault named trusted (Ok report) = record {
   output = all_lines report.text;
   errors = outcome_lines report.outcome;
   status = status_of report.outcome.added report.outcome.removed report.outcome.changed;
 }
-answer_beside at_fault named trusted (Err fault) = record {
+line_answer at_fault named trusted (Err fault) = record {
   output = at_fault;
   errors = pair_fault_line named.old_path named.new_path trusted.old_path trusted.new_path fault;
   status = pair_fault_status fault;
@@ -97,8 +97,8 @@ answer_beside at_fault named trusted (Err fault) = record {
 -- The comparison of what is at the paths that the settings and the arguments name. At each path
 -- there is a database or no file. The answer is that of `RunsBeside`: the lines over four maps, or
 -- the first fault, in the order old, new, trusted old, trusted new.
-pub record ComparesBeside (files trusted_files : Files) (job : LineJobText) (list : ListRead)
-    (s : Configured) (named : Named) (a : AnswerBeside) : Type 0 where
+pub record ComparesForLines (files trusted_files : Files) (job : LineJobText) (list : ListRead)
+    (s : Configured) (named : Named) (a : LineAnswer) : Type 0 where
   pub old_is : s.old_path ≡ Some named.old_path
   pub new_is : s.new_path ≡ Some named.new_path
   pub old_file : Option (List ℕ)
@@ -112,71 +112,73 @@ pub record ComparesBeside (files trusted_files : Files) (job : LineJobText) (lis
   pub run : Result Report PairFault
   pub runs : RunsBeside limits list (asked_by s.options named)
       (asked_by s.options (trusted_of job)) old_file new_file trusted_old_file trusted_new_file run
-  pub then_is : a ≡ answer_beside (out_beside list (asked_by s.options named)
+  pub then_is : a ≡ line_answer (lines_at_fault list (asked_by s.options named)
       (asked_by s.options (trusted_of job)) old_file new_file trusted_old_file trusted_new_file)
       named (trusted_of job) run
 
 -- the answer, by whether the configuration reads as settings or has a fault
-abbrev pub IsReadBeside : (files trusted_files : Files) → LineJobText → ListRead
-    → Result Configured ConfFault → Named → AnswerBeside
+abbrev pub IsReadLineAnswer : (files trusted_files : Files) → LineJobText → ListRead
+    → Result Configured ConfFault → Named → LineAnswer
     → Type 0
-IsReadBeside files trusted_files job list (Ok s) named a =
-    ComparesBeside files trusted_files job list s named a
-IsReadBeside files trusted_files job list (Err fault) named a =
-    a ≡ refused_beside (conf_line fault) 17
+IsReadLineAnswer files trusted_files job list (Ok s) named a =
+    ComparesForLines files trusted_files job list s named a
+IsReadLineAnswer files trusted_files job list (Err fault) named a =
+    a ≡ refused_lines (conf_line fault) 17
 
 -- the answer if the configuration has this text
-pub record IsTextBeside (files trusted_files : Files) (job : LineJobText) (list : ListRead)
-    (text : List ℕ) (named : Named) (a : AnswerBeside) : Type 0 where
+pub record IsTextLineAnswer (files trusted_files : Files) (job : LineJobText) (list : ListRead)
+    (text : List ℕ) (named : Named) (a : LineAnswer) : Type 0 where
   pub read : Result Configured ConfFault
   pub reads : ReadsAs Compare job.before text job.after read
-  pub then_is : IsReadBeside files trusted_files job list read named a
+  pub then_is : IsReadLineAnswer files trusted_files job list read named a
 
 -- the answer, by whether the configuration is too large
-abbrev pub IsSizedBeside : (files trusted_files : Files) → LineJobText → ListRead → Bool → List ℕ
-    → Named → AnswerBeside
+abbrev pub IsSizedLineAnswer : (files trusted_files : Files) → LineJobText → ListRead → Bool
+    → List ℕ → Named → LineAnswer
     → Type 0
-IsSizedBeside files trusted_files job list true text named a = a ≡ refused_beside too_large_line 17
-IsSizedBeside files trusted_files job list false text named a =
-    IsTextBeside files trusted_files job list text named a
+IsSizedLineAnswer files trusted_files job list true text named a =
+    a ≡ refused_lines too_large_line 17
+IsSizedLineAnswer files trusted_files job list false text named a =
+    IsTextLineAnswer files trusted_files job list text named a
 
 -- the answer, by what is at the configuration's path
-abbrev pub IsFileBeside : (files trusted_files : Files) → LineJobText → ListRead
-    → Option (List ℕ) → Named → AnswerBeside
+abbrev pub IsFileLineAnswer : (files trusted_files : Files) → LineJobText → ListRead
+    → Option (List ℕ) → Named → LineAnswer
     → Type 0
-IsFileBeside files trusted_files job list None named a =
-    a ≡ refused_beside (unread_line job.config) 18
-IsFileBeside files trusted_files job list (Some text) named a =
-    IsSizedBeside files trusted_files job list (is_too_large text) text named a
+IsFileLineAnswer files trusted_files job list None named a =
+    a ≡ refused_lines (unread_line job.config) 18
+IsFileLineAnswer files trusted_files job list (Some text) named a =
+    IsSizedLineAnswer files trusted_files job list (is_too_large text) text named a
 
 -- the answer if this was read of the list: it is known what is at the configuration's path
-pub record IsListedBeside (files trusted_files : Files) (job : LineJobText) (list : ListRead)
-    (named : Named) (a : AnswerBeside) : Type 0 where
+pub record IsListedLineAnswer (files trusted_files : Files) (job : LineJobText) (list : ListRead)
+    (named : Named) (a : LineAnswer) : Type 0 where
   pub file : Option (List ℕ)
   pub known : files job.config ≡ Some file
-  pub then_is : IsFileBeside files trusted_files job list file named a
+  pub then_is : IsFileLineAnswer files trusted_files job list file named a
 
 -- the answer, by whether the list has rules or a fault
-abbrev pub IsGivenBeside : (files trusted_files : Files) → LineJobText
-    → Result (List RuleText) ListFault → Named → AnswerBeside
+abbrev pub IsGivenLineAnswer : (files trusted_files : Files) → LineJobText
+    → Result (List RuleText) ListFault → Named → LineAnswer
     → Type 0
-IsGivenBeside files trusted_files job (Ok rules) named a =
-    IsListedBeside files trusted_files job (list_of job.without rules) named a
-IsGivenBeside files trusted_files job (Err fault) named a = a ≡ refused_beside (list_line fault) 17
+IsGivenLineAnswer files trusted_files job (Ok rules) named a =
+    IsListedLineAnswer files trusted_files job (list_of job.without rules) named a
+IsGivenLineAnswer files trusted_files job (Err fault) named a =
+    a ≡ refused_lines (list_line fault) 17
 
 -- The answer to a job with a trusted pair, over the files of both sites. It is the first fault of
 -- the list, of the configuration or of a database, or else the lines. A named file that is not there
 -- counts as a fault. `named` has the paths that the arguments and the configuration name.
-pub record IsAnswerBeside (files trusted_files : Files) (job : LineJobText) (named : Named)
-    (a : AnswerBeside) : Type 0 where
+pub record IsLineAnswer (files trusted_files : Files) (job : LineJobText) (named : Named)
+    (a : LineAnswer) : Type 0 where
   pub config_is : named.config ≡ job.config
   pub reading : Result (List RuleText) ListFault
   pub list_reads : IsReading job.without reading
-  pub then_is : IsGivenBeside files trusted_files job reading named a
+  pub then_is : IsGivenLineAnswer files trusted_files job reading named a
 
 -- It is known what is at the configuration's path, at the paths of the databases that it names, and
 -- at those of the trusted pair.
-pub record TellsBeside (files trusted_files : Files) (job : LineJobText) : Type 0 where
+pub record TellsForLines (files trusted_files : Files) (job : LineJobText) : Type 0 where
   pub config : (file : Option (List ℕ)) × (files job.config ≡ Some file)
   pub databases : (text : List ℕ) → files job.config ≡ Some (Some text) → (s : Configured)
       → ReadsAs Compare job.before text job.after (Ok s) → (path : List ℕ)
@@ -186,6 +188,6 @@ pub record TellsBeside (files trusted_files : Files) (job : LineJobText) : Type 
       × (trusted_files (by_side job.trusted_old job.trusted_new side) ≡ Some file)
 
 -- the job has an answer over these files
-abbrev pub HasAnswerBeside : (files trusted_files : Files) → LineJobText → Type 0
-HasAnswerBeside files trusted_files job =
-    (named : Named) × (a : AnswerBeside) × IsAnswerBeside files trusted_files job named a
+abbrev pub HasLineAnswer : (files trusted_files : Files) → LineJobText → Type 0
+HasLineAnswer files trusted_files job =
+    (named : Named) × (a : LineAnswer) × IsLineAnswer files trusted_files job named a

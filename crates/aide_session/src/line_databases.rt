@@ -2,11 +2,12 @@
 ghost use Rattle.std.specs.Prelude.{◌≡◌, ◌≤◌, ◌⊎◌, ℕ, true, List, Some, None, OnOk};
 ghost use Rattle.aide_merge.specs.Asked.{asked};
 ghost use Rattle.aide_report.specs.Failures.{Rose};
-ghost use Rattle.aide_session.specs.BesideEnds.{ClosesCompared, StopsWith};
+ghost use Rattle.aide_session.specs.LineEnds.{ClosesCompared, StopsWith};
 ghost use Rattle.aide_session.specs.Lines.{memory_line};
 ghost use Rattle.aide_session.specs.Pointing.{KeepsFiles, KeepsOthers};
 ghost use Rattle.aide_session.specs.Trusted.{trusted_at};
-ghost use Rattle.aide_session.specs.code.BesideParts.{IsPointed, beside_between, files_of, named_by};
+ghost use Rattle.aide_session.specs.code.LineParts.{IsPointed, files_of, line_view_between};
+ghost use Rattle.aide_session.specs.code.LineParts.{named_by};
 ghost use Rattle.aide_session.specs.code.Parts.{AreSame};
 ghost use Rattle.aide_line_run.specs.ListView.{list_read};
 ghost use Rattle.aide_line_run.specs.SamePair.{AreSamePair};
@@ -96,7 +97,7 @@ fn compare_pairs<S: Site, W: Sink, E: Sink>(
         (named_by config (asked tasks.now.compared.now))
         (named_by config (asked tasks.now.trusted.now)) tasks.now.compared.now.options result
         (Rose (S.failures devices.old.site.now) (S.failures devices.new.site.now))
-        (beside_between S.Sources W.Sink E.Sink devices.old devices.new
+        (line_view_between S.Sources W.Sink E.Sink devices.old devices.new
         pair.old.desk.now pair.new.desk.now pair.old.sources.now pair.new.sources.now) }
     ensures lookups { S.lookups devices.new.site.now ≡ S.lookups devices.old.site.now }
     ensures trusted_lookups { S.lookups pair.new.sources.now ≡ S.lookups pair.old.sources.now }
@@ -133,7 +134,7 @@ fn run_pairs<S: Site, W: Sink, E: Sink>(
         (named_by config (asked tasks.now.compared.now))
         (named_by config (asked tasks.now.trusted.now)) tasks.now.compared.now.options result
         (Rose (S.failures devices.old.site.now) (S.failures devices.new.site.now))
-        (beside_between S.Sources W.Sink E.Sink devices.old devices.new
+        (line_view_between S.Sources W.Sink E.Sink devices.old devices.new
         trusted_desk.old trusted_desk.new trusted.old trusted.new) }
     ensures lookups { S.lookups devices.new.site.now ≡ S.lookups devices.old.site.now }
     ensures trusted_lookups { S.lookups trusted.new ≡ S.lookups trusted.old }
@@ -147,7 +148,7 @@ fn run_pairs<S: Site, W: Sink, E: Sink>(
 
 /// Points both sites at their databases, reserves what a comparison may hold, and compares the
 /// databases.
-pub(crate) fn compare_beside<S: Site, W: Sink, E: Sink>(
+pub(crate) fn compare_lines<S: Site, W: Sink, E: Sink>(
     tasks: &Tasks<'_>,
     devices: &mut Devices<'_, AsLine, S, W, E>,
     trusted_desk: &mut Desk<Global>,
@@ -157,18 +158,24 @@ pub(crate) fn compare_beside<S: Site, W: Sink, E: Sink>(
     ensures closes { (config : List ℕ)
         → tasks.now.trusted.now.options ≡ tasks.now.compared.now.options
         → StopsWith memory_line 22 result
-        (beside_between S.Sources W.Sink E.Sink devices.old devices.new
+        (line_view_between S.Sources W.Sink E.Sink devices.old devices.new
         trusted_desk.old trusted_desk.new trusted.old trusted.new)
         ⊎ ClosesCompared (list_read tasks.now.list)
         (named_by config (asked tasks.now.compared.now))
         (named_by config (asked tasks.now.trusted.now)) tasks.now.compared.now.options result
         (Rose (S.failures devices.old.site.now) (S.failures devices.new.site.now))
-        (beside_between S.Sources W.Sink E.Sink devices.old devices.new
+        (line_view_between S.Sources W.Sink E.Sink devices.old devices.new
         trusted_desk.old trusted_desk.new trusted.old trusted.new) }
     ensures lookups { S.lookups devices.new.site.now ≡ S.lookups devices.old.site.now }
     ensures trusted_lookups { S.lookups trusted.new ≡ S.lookups trusted.old }
 {
-    if let Err(Memory) = prepare(devices.alloc, devices.desk, devices.site, tasks.compared, false) {
+    if let Err(Memory) = prepare(
+        devices.alloc,
+        devices.desk,
+        devices.site,
+        tasks.compared,
+        false,
+    ) {
         put_memory_line(devices.err);
         return Status::Memory as u8;
     }

@@ -1,4 +1,4 @@
--- The parts of a session beside a trusted pair, over what is seen of both sites.
+-- The parts of a session of lines, over what is seen of both sites.
 use Rattle.std.proofs.Common.{◌≡◌, ◌∙◌, ℕ, ◌≤◌, List, Option, Some, None, refl, sym, ap, Bool, true, false, Ok, Err, inl, inr, ◌⊎◌}
 use Rattle.std.proofs.Common.{arith, rules}
 use Rattle.std.specs.Prelude.{Result, IfErr, IfOk, ⊤}
@@ -24,16 +24,16 @@ use Rattle.aide_merge.specs.declared.outcome.Outcome.{Outcome}
 use Rattle.aide_merge.specs.declared.run_fault.RunFault.{RunFault}
 use Rattle.aide_merge.specs.declared.run_fault.RunFault.TheVariants.{Open, Database, Changed, Write}
 use Rattle.aide_session.specs.Answer.{Named, asked_by, limits}
-use Rattle.aide_session.specs.BesideEnds.{BesideView, ClosesCompared, ComparesPairs, EarlyStop, EndsBesideBy, IsOfReliableFiles}
-use Rattle.aide_session.specs.BesideEnds.{MeansOfPair, StopCause}
-use Rattle.aide_session.specs.BesideEnds.{config_refused, config_too_large, config_unread, list_refused, no_memory_left}
-use Rattle.aide_session.specs.BesideSession.{beside_view}
+use Rattle.aide_session.specs.LineEnds.{LineView, ClosesCompared, ComparesPairs, EarlyStop, EndsLinesBy, IsOfReliableFiles}
+use Rattle.aide_session.specs.LineEnds.{MeansOfPair, StopCause}
+use Rattle.aide_session.specs.LineEnds.{config_refused, config_too_large, config_unread, list_refused, no_memory_left}
+use Rattle.aide_session.specs.LineSession.{line_view}
 use Rattle.aide_session.specs.Closing.{Course, HasText}
 use Rattle.aide_session.specs.Files.{Files, is_too_large}
 use Rattle.aide_session.specs.Pointing.{KeepsFiles}
 use Rattle.aide_session.specs.Session.{view_between}
 use Rattle.aide_session.specs.Trusted.{trusted_at}
-use Rattle.aide_session.specs.code.BesideParts.{HasTextBeside, IsPointed, named_by}
+use Rattle.aide_session.specs.code.LineParts.{HasTextForLines, IsPointed, named_by}
 use Rattle.aide_session.specs.code.Config.{OpensOneFile}
 use Rattle.aide_session.proofs.AnswerSteps.{IsRead as IsReadFile}
 use Rattle.aide_session.proofs.Closings.{run_cause}
@@ -106,7 +106,7 @@ same_wish config wish options same = λ i. record { options = sym same i; old_pa
 
 -- ---- a run over sites that are pointed at their paths
 
-module _ (files beside_files : Files) (p q : PairSeen) (out : Type 0) (config : List ℕ) (flushes_before flushes_after : ℕ)
+module _ (files trusted_files_told : Files) (p q : PairSeen) (out : Type 0) (config : List ℕ) (flushes_before flushes_after : ℕ)
     (is_flushed : Bool) where
   abbrev course_seen : PairSeen → Course
   course_seen r = record {
@@ -120,17 +120,17 @@ module _ (files beside_files : Files) (p q : PairSeen) (out : Type 0) (config : 
 
   faults_mean : (fault : PairFault)
       → IsPointed files p.asked p.before.bytes_of p.before.is_missing
-      → IsPointed beside_files q.asked q.before.bytes_of q.before.is_missing
+      → IsPointed trusted_files_told q.asked q.before.bytes_of q.before.is_missing
       → limits.line ≤ p.desk_before.room → limits.line ≤ q.desk_before.room
       → OfEach (IsFaultOfPair limits p out) (IsFaultOfPair limits q ⊥) fault
       → OfEach (MeansOfPair files (named_by config p.asked) p.before.is_reliable (course_seen p)
       (Rose p.before.failures p.after.failures) out)
-      (MeansOfPair beside_files (named_by config q.asked) q.before.is_reliable (course_seen q)
+      (MeansOfPair trusted_files_told (named_by config q.asked) q.before.is_reliable (course_seen q)
       (Rose q.before.failures q.after.failures) ⊥) fault
-  faults_mean (Compared fault) pointed beside_pointed enough beside_enough means =
+  faults_mean (Compared fault) pointed trusted_pointed enough trusted_enough means =
       means_of files p out config flushes_before flushes_after is_flushed fault pointed enough means
-  faults_mean (Trusted fault) pointed beside_pointed enough beside_enough means =
-      means_of beside_files q ⊥ config flushes_before flushes_after is_flushed fault beside_pointed beside_enough means
+  faults_mean (Trusted fault) pointed trusted_pointed enough trusted_enough means =
+      means_of trusted_files_told q ⊥ config flushes_before flushes_after is_flushed fault trusted_pointed trusted_enough means
 
 -- a file that is not there is a side that is missing
 missing_file : (files : Files) (wish : Asked) (bytes_of : Side → Option (List ℕ)) (is_missing : Side → Bool) (config : List ℕ) (P : Type 0)
@@ -148,36 +148,38 @@ sound_behind A B (Err (Trusted fault)) f sound = f sound
 
 -- the comparison of both pairs is that of the files at their paths
 pub compares_pairs : {S R W E : Type 0} (src : AnySources S R) (w : AnySink W) (e : AnySink E) (x y p q : S) (out_old out_new : W)
-    (err_old err_new : E) (d f u v : DeskView) (list : ListRead) (wish beside : Asked) (config : List ℕ) (result : Result Outcome PairFault)
+    (err_old err_new : E) (d f u v : DeskView) (list : ListRead) (wish trusted_wish : Asked) (config : List ℕ)
+    (result : Result Outcome PairFault)
     → IsPointed (src.file_at x) wish (src.bytes_of x) (src.is_missing x)
-    → IsPointed (trusted_at (src.file_at p)) beside (src.bytes_of p) (src.is_missing p)
-    → beside.options ≡ wish.options → limits.line ≤ d.room → limits.line ≤ u.room
-    → IsLinesRun limits list (pair_seen wish (seen src x) (seen src y) d f) (pair_seen beside (seen src p) (seen src q) u v)
+    → IsPointed (trusted_at (src.file_at p)) trusted_wish (src.bytes_of p) (src.is_missing p)
+    → trusted_wish.options ≡ wish.options → limits.line ≤ d.room → limits.line ≤ u.room
+    → IsLinesRun limits list (pair_seen wish (seen src x) (seen src y) d f) (pair_seen trusted_wish (seen src p) (seen src q) u v)
     (sink_seen w out_old) (sink_seen w out_new) result
-    → ComparesPairs list (named_by config wish) (named_by config beside) wish.options result (Rose (src.failures x) (src.failures y))
-    (beside_view (view_between src w e x y out_old out_new err_old err_new) (view_between src w e p q out_old out_new err_old err_new)
+    → ComparesPairs list (named_by config wish) (named_by config trusted_wish) wish.options result (Rose (src.failures x) (src.failures y))
+    (line_view (view_between src w e x y out_old out_new err_old err_new) (view_between src w e p q out_old out_new err_old err_new)
     (record { before = d.peak; after = f.peak; trusted_before = u.peak; trusted_after = v.peak }))
-compares_pairs src w e x y p q out_old out_new err_old err_new d f u v list wish beside config result pointed beside_pointed same enough
-    beside_enough ran =
+compares_pairs src w e x y p q out_old out_new err_old err_new d f u v list wish trusted_wish config result pointed trusted_pointed
+    same enough trusted_enough ran =
     let tells = pointed_tells (src.file_at x) wish (src.bytes_of x) (src.is_missing x) pointed config in
-    let beside_tells = pointed_tells (trusted_at (src.file_at p)) beside (src.bytes_of p) (src.is_missing p) beside_pointed config in
-    let asks = same_wish config beside wish.options same in
+    let trusted_tells = pointed_tells (trusted_at (src.file_at p)) trusted_wish (src.bytes_of p) (src.is_missing p) trusted_pointed
+    config in
+    let asks = same_wish config trusted_wish wish.options same in
     record {
       over = λ old new trusted_old trusted_new is_old is_new is_trusted_old is_trusted_new r runs.
           ran.over old new trusted_old trusted_new (pointed.of_old old is_old, pointed.of_new new is_new)
-          (beside_pointed.of_old trusted_old is_trusted_old, beside_pointed.of_new trusted_new is_trusted_new) r
+          (trusted_pointed.of_old trusted_old is_trusted_old, trusted_pointed.of_new trusted_new is_trusted_new) r
           (subst (λ (o : Asked). RunsBeside limits list wish o old new trusted_old trusted_new r) asks runs);
       cut = λ old new trusted_old trusted_new has_old has_new has_trusted_old has_trusted_new.
           subst (λ (o : Asked). IfErr result (CutsBeside limits list wish o old new trusted_old trusted_new (w.delivered out_old)
           (w.delivered out_new))) (sym asks)
           (ran.cut old new trusted_old trusted_new (tells Old old has_old, tells New new has_new)
-          (beside_tells Old trusted_old has_trusted_old, beside_tells New trusted_new has_trusted_new));
+          (trusted_tells Old trusted_old has_trusted_old, trusted_tells New trusted_new has_trusted_new));
       unopened = ran.unopened;
       missing = missing_file (src.file_at x) wish (src.bytes_of x) (src.is_missing x) config _ pointed ran.missing;
-      trusted_missing = missing_file (trusted_at (src.file_at p)) beside (src.bytes_of p) (src.is_missing p) config _ beside_pointed
+      trusted_missing = missing_file (trusted_at (src.file_at p)) trusted_wish (src.bytes_of p) (src.is_missing p) config _ trusted_pointed
           ran.trusted_missing;
       sound = on_ok_weaker result (λ sound side text has. sound side text (tells side text has)) ran.sound;
-      trusted_sound = on_ok_weaker result (λ sound side text has. sound side text (beside_tells side text has)) ran.trusted_sound;
+      trusted_sound = on_ok_weaker result (λ sound side text has. sound side text (trusted_tells side text has)) ran.trusted_sound;
       behind = sound_behind _ _ result (λ sound side text has. sound side text (tells side text has)) ran.behind;
       consistent = subst (λ (o : Asked). IfOk result (λ outcome. AreLinesBeside list wish o outcome (w.delivered out_old)
           (w.delivered out_new)))
@@ -186,9 +188,9 @@ compares_pairs src w e x y p q out_old out_new err_old err_new d f u v list wish
       flushes = ran.flushes;
       fault = IfErr-weaker result _ _ (λ fault means.
           faults_mean (src.file_at x) (trusted_at (src.file_at p)) (pair_seen wish (seen src x) (seen src y) d f)
-          (pair_seen beside (seen src p) (seen src q) u v)
+          (pair_seen trusted_wish (seen src p) (seen src q) u v)
           (Rose (w.failures out_old) (w.failures out_new)) config (w.flushes out_old) (w.flushes out_new) (w.is_flushed out_new) fault
-          pointed beside_pointed enough beside_enough means) ran.fault;
+          pointed trusted_pointed enough trusted_enough means) ran.fault;
       opens = ran.opens;
       trusted_opens = ran.trusted_opens;
       opens_some = ran.leaves.opens_some;
@@ -199,7 +201,7 @@ compares_pairs src w e x y p q out_old out_new err_old err_new d f u v list wish
       trusted_peak = ran.trusted_leaves.peak;
       trusted_below = ran.trusted_leaves.below;
       trusted_bound = λ old new has_old has_new.
-          ran.trusted_leaves.bound old new (beside_tells Old old has_old, beside_tells New new has_new);
+          ran.trusted_leaves.bound old new (trusted_tells Old old has_old, trusted_tells New new has_new);
     }
 
 -- ---- what is seen from an earlier moment
@@ -211,31 +213,31 @@ kept_then s a b c first then = search rules
 module _ {S R W E : Type 0} (s : AnySources S R) (w : AnySink W) (e : AnySink E) (c z : S) (out_old out_new : W) (err_old err_new : E) where
   -- after the sites were pointed
   pub seen_pointed : (a b x y : S) (p q last u v end : ℕ) → KeepsFiles s a b → KeepsFiles s x y → q ≡ p → v ≡ u
-      → beside_view (view_between s w e b c out_old out_new err_old err_new) (view_between s w e y z out_old out_new err_old err_new)
+      → line_view (view_between s w e b c out_old out_new err_old err_new) (view_between s w e y z out_old out_new err_old err_new)
       (record { before = q; after = last; trusted_before = v; trusted_after = end })
-      ≡ beside_view (view_between s w e a c out_old out_new err_old err_new) (view_between s w e x z out_old out_new err_old err_new)
+      ≡ line_view (view_between s w e a c out_old out_new err_old err_new) (view_between s w e x z out_old out_new err_old err_new)
       (record { before = p; after = last; trusted_before = u; trusted_after = end })
   seen_pointed a b x y p q last u v end kept other_kept same other_same = search rules
 
   -- after the configuration was read
   pub seen_read : (a b x : S) (p last u end : ℕ) → OpensOneFile s a b
-      → beside_view (view_between s w e b c out_old out_new err_old err_new) (view_between s w e x z out_old out_new err_old err_new)
+      → line_view (view_between s w e b c out_old out_new err_old err_new) (view_between s w e x z out_old out_new err_old err_new)
       (record { before = p; after = last; trusted_before = u; trusted_after = end })
-      ≡ beside_view (view_between s w e a c out_old out_new err_old err_new) (view_between s w e x z out_old out_new err_old err_new)
+      ≡ line_view (view_between s w e a c out_old out_new err_old err_new) (view_between s w e x z out_old out_new err_old err_new)
       (record { before = p; after = last; trusted_before = u; trusted_after = end })
   seen_read a b x p last u end opened = rw (opened.files, opened.reliable, opened.openings) refl
 
 -- the comparison as it is seen from an earlier moment
-pub closes_seen : (list : ListRead) (named trusted : Named) (options : Options) (status : ℕ) (v now : BesideView)
+pub closes_seen : (list : ListRead) (named trusted : Named) (options : Options) (status : ℕ) (v now : LineView)
     (count later end : ℕ) → later ≡ count → now ≡ v → ClosesCompared list named trusted options status (Rose later end) now
     → ClosesCompared list named trusted options status (Rose count end) v
 closes_seen list named trusted options status v now count later end same seen closes =
     subst (λ (n : ℕ). ClosesCompared list named trusted options status (Rose n end) v) same
-    (subst (λ (x : BesideView). ClosesCompared list named trusted options status (Rose later end) x) seen closes)
+    (subst (λ (x : LineView). ClosesCompared list named trusted options status (Rose later end) x) seen closes)
 
 -- the comparison for paths and options that are equal
 pub closes_as : (list : ListRead) (named trusted other : Named) (options wish : Options) (status : ℕ) (site : Type 0)
-    (v : BesideView) → trusted ≡ other → options ≡ wish → ClosesCompared list named trusted options status site v
+    (v : LineView) → trusted ≡ other → options ≡ wish → ClosesCompared list named trusted options status site v
     → ClosesCompared list named other wish status site v
 closes_as list named trusted other options wish status site v same same_wish closes = search (rules, same_wish)
 
@@ -248,10 +250,10 @@ stop_later files is_reliable job site more config_too_large then cause = cause
 stop_later files is_reliable job site more (config_refused fault) then cause = cause
 
 -- the end of a session as it is seen from an earlier moment
-pub ends_seen : (job : LineJobText) (status before later : ℕ) (v now : BesideView) → before ≤ later → now ≡ v
-    → EndsBesideBy job status later now → EndsBesideBy job status before v
+pub ends_seen : (job : LineJobText) (status before later : ℕ) (v now : LineView) → before ≤ later → now ≡ v
+    → EndsLinesBy job status later now → EndsLinesBy job status before v
 ends_seen job status before later v now more seen ends =
-    elim (subst (λ (x : BesideView). EndsBesideBy job status later x) seen ends) [
+    elim (subst (λ (x : LineView). EndsLinesBy job status later x) seen ends) [
       | inl early ↦ inl (record {
         stop = early.stop;
         cause = stop_later v.files v.is_reliable job (Rose later v.site_after) (Rose before v.site_after) early.stop
@@ -276,7 +278,7 @@ ends_seen job status before later v now more seen ends =
 -- what is known where the configuration of a job was read
 pub has_text : (files later : Files) (job : LineJobText) (path text copy : List ℕ)
     → path ≡ job.config → copy ≡ text → later ≡ files → IsReadFile files path text → is_too_large text ≡ false
-    → HasTextBeside later job copy
+    → HasTextForLines later job copy
 has_text files later job path text copy is_path is_text same found small = search rules
 
 -- ---- what the texts of a job read as
@@ -311,6 +313,6 @@ pub same_job : (o : Option LineJobText) (one other : LineJobText) → o ≡ Some
 same_job o one other p q = sym (ap (job_or one) p) ∙ ap (job_or one) q
 
 -- the end of the session of a job that is equal
-pub ends_for : (one other : LineJobText) (status before : ℕ) (v : BesideView) → one ≡ other → EndsBesideBy one status before v
-    → EndsBesideBy other status before v
-ends_for one other status before v same ends = subst (λ (j : LineJobText). EndsBesideBy j status before v) same ends
+pub ends_for : (one other : LineJobText) (status before : ℕ) (v : LineView) → one ≡ other → EndsLinesBy one status before v
+    → EndsLinesBy other status before v
+ends_for one other status before v same ends = subst (λ (j : LineJobText). EndsLinesBy j status before v) same ends

@@ -19,17 +19,17 @@ IsFirstOfPair limits old new fault = IsFirstFaultOf limits Old old fault
 
 -- The right answer over four texts and a list: the lines over the four maps if all texts are sound,
 -- and otherwise the first fault, in the order old, new, trusted old, trusted new.
-abbrev pub IsRightBeside : Limits → ListRead → (asked trusted_asked : Asked)
+abbrev pub IsRightLineAnswer : Limits → ListRead → (asked trusted_asked : Asked)
     → (old new trusted_old trusted_new : List ℕ) → Result Report PairFault
     → Type 0
-IsRightBeside limits list asked trusted_asked old new trusted_old trusted_new (Ok report) =
+IsRightLineAnswer limits list asked trusted_asked old new trusted_old trusted_new (Ok report) =
     IsSound limits old × IsSound limits new
     × IsSound limits trusted_old × IsSound limits trusted_new
     × (report ≡ lines_beside list asked trusted_asked old new trusted_old trusted_new)
-IsRightBeside limits list asked trusted_asked old new trusted_old trusted_new
+IsRightLineAnswer limits list asked trusted_asked old new trusted_old trusted_new
     (Err (Compared fault)) =
     (first : DbFault) × (fault ≡ Database first) × IsFirstOfPair limits old new first
-IsRightBeside limits list asked trusted_asked old new trusted_old trusted_new
+IsRightLineAnswer limits list asked trusted_asked old new trusted_old trusted_new
     (Err (Trusted fault)) =
     IsSound limits old × IsSound limits new
     × ((first : DbFault) × (fault ≡ Database first)

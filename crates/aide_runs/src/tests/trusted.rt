@@ -83,7 +83,7 @@ fn trusted_site<'a>(alloc: Global, old: &'a [u8], new: &'a [u8]) -> Result<Memor
 }
 
 #[test]
-fn writes_the_lines_beside_a_trusted_pair(rt: HostRuntime) -> Result<(), Fail> {
+fn writes_the_lines_with_a_trusted_pair(rt: HostRuntime) -> Result<(), Fail> {
     let mut site = site_of(rt.alloc(), CONF, OLD, NEW)?;
     let mut trusted = trusted_site(rt.alloc(), TRUSTED_OLD, TRUSTED_NEW)?;
     let words = words_of(rt.alloc(), LINE)?;
@@ -106,7 +106,7 @@ fn writes_the_lines_beside_a_trusted_pair(rt: HostRuntime) -> Result<(), Fail> {
 }
 
 #[test]
-fn runs_the_whole_program_beside_a_trusted_pair(rt: HostRuntime) -> Result<(), Fail> {
+fn runs_the_whole_program_with_a_trusted_pair(rt: HostRuntime) -> Result<(), Fail> {
     let mut site = site_of(rt.alloc(), CONF, OLD, NEW)?;
     let mut trusted = trusted_site(rt.alloc(), TRUSTED_OLD, TRUSTED_NEW)?;
     let words = words_of(rt.alloc(), LINE)?;

@@ -1,7 +1,7 @@
 use Rattle.std.proofs.Common.{inl, refl, rules}
-use Rattle.aide_session.specs.BesideEnds.{config_refused}
+use Rattle.aide_session.specs.LineEnds.{config_refused}
 use Rattle.aide_session.proofs.PutLemmas.{appends_none}
-use Rattle.aide_session.proofs.lines_program.run_text_beside.Goals as goal
+use Rattle.aide_session.proofs.lines_program.run_line_text.Goals as goal
 
 pub returns-in-Ok-clause-closes : goal.returns-in-Ok-clause-closes
 returns-in-Ok-clause-closes g c = search rules

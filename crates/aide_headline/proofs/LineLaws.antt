@@ -1,10 +1,10 @@
--- The right answer over four texts is that of the run beside a trusted pair.
+-- The right answer over four texts is that of the run over both pairs.
 use Rattle.std.specs.Prelude.{ℕ, ◌≡◌, ◌≤◌, List, Result, Ok, Err, Some}
 use Rattle.std.proofs.Common.{ap, refl}
 use Rattle.aide_db.specs.Database.{IsSound}
 use Rattle.aide_db.specs.declared.fault.DbFault.{DbFault}
 use Rattle.aide_db.specs.declared.limits.Limits.{Limits}
-use Rattle.aide_headline.specs.Beside.{IsFirstOfPair, IsRightBeside}
+use Rattle.aide_headline.specs.LineHeadline.{IsFirstOfPair, IsRightLineAnswer}
 use Rattle.aide_merge.specs.Asked.{Asked}
 use Rattle.aide_report.specs.Missing.{RunsOver}
 use Rattle.aide_merge.specs.RightAnswer.{Report}
@@ -28,20 +28,20 @@ module _ (limits : Limits) (wish : Asked) (old new : List ℕ) where
       → RunsOver limits wish (Some old) (Some new) (Err fault)
   fault_runs fault first same is = (Err first, is, ap (λ (f : RunFault). Err f) same)
 
--- The right answer over four texts is what a run beside a trusted pair has for its answer.
-pub right_is_the_answer : (limits : Limits) (list : ListRead) (wish beside : Asked) (old new trusted_old trusted_new : List ℕ)
+-- The right answer over four texts is what a run over both pairs has for its answer.
+pub right_is_the_answer : (limits : Limits) (list : ListRead) (wish trusted_wish : Asked) (old new trusted_old trusted_new : List ℕ)
     (right : Result Report PairFault) → 14 ≤ limits.line
-    → IsRightBeside limits list wish beside old new trusted_old trusted_new right
-    → RunsBeside limits list wish beside (Some old) (Some new) (Some trusted_old) (Some trusted_new) right
-right_is_the_answer limits list wish beside old new trusted_old trusted_new (Ok report) least is = record {
+    → IsRightLineAnswer limits list wish trusted_wish old new trusted_old trusted_new right
+    → RunsBeside limits list wish trusted_wish (Some old) (Some new) (Some trusted_old) (Some trusted_new) right
+right_is_the_answer limits list wish trusted_wish old new trusted_old trusted_new (Ok report) least is = record {
   compared = Ok (report_over wish old new);
-  trusted = Ok (report_over beside trusted_old trusted_new);
+  trusted = Ok (report_over trusted_wish trusted_old trusted_new);
   compared_runs = sound_runs limits wish old new is.0 is.1;
-  trusted_runs = sound_runs limits beside trusted_old trusted_new is.2 is.3;
+  trusted_runs = sound_runs limits trusted_wish trusted_old trusted_new is.2 is.3;
   answer = ap (λ (r : Report). Ok r) is.4;
 }
-right_is_the_answer limits list wish beside old new trusted_old trusted_new (Err (Compared fault)) least is =
-    let other = RunsOver-exists limits beside (Some trusted_old) (Some trusted_new) least in
+right_is_the_answer limits list wish trusted_wish old new trusted_old trusted_new (Err (Compared fault)) least is =
+    let other = RunsOver-exists limits trusted_wish (Some trusted_old) (Some trusted_new) least in
     record {
       compared = Err fault;
       trusted = other.0;
@@ -49,10 +49,10 @@ right_is_the_answer limits list wish beside old new trusted_old trusted_new (Err
       trusted_runs = other.1;
       answer = refl;
     }
-right_is_the_answer limits list wish beside old new trusted_old trusted_new (Err (Trusted fault)) least is = record {
+right_is_the_answer limits list wish trusted_wish old new trusted_old trusted_new (Err (Trusted fault)) least is = record {
   compared = Ok (report_over wish old new);
   trusted = Err fault;
   compared_runs = sound_runs limits wish old new is.0 is.1;
-  trusted_runs = fault_runs limits beside trusted_old trusted_new fault is.2.0 is.2.1 is.2.2;
+  trusted_runs = fault_runs limits trusted_wish trusted_old trusted_new fault is.2.0 is.2.1 is.2.2;
   answer = refl;
 }
