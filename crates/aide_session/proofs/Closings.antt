@@ -17,7 +17,8 @@ use Rattle.aide_merge.specs.declared.run_fault.RunFault.{RunFault}
 use Rattle.aide_merge.specs.declared.run_fault.RunFault.TheVariants.{Open, Database, Changed, Write}
 use Rattle.aide_session.specs.Answer.{Named, limits, need_of}
 use Rattle.aide_session.specs.Closing.{Asks, AsksAndReads, AsksToCompare, ClosesBy, Closing, Course, course_between}
-use Rattle.aide_session.specs.Closing.{ClosingCause, ClosingOutput, HasText, IsTold, IsUntold, RunCause, untold_config}
+use Rattle.aide_session.specs.Closing.{ClosingCause, ClosingOpens, ClosingOutput, HasText, IsTold, IsUntold, RunCause, untold_config}
+use Rattle.aide_session.specs.Closing.{closing_line, closing_status}
 use Rattle.aide_session.specs.Closing.{no_job, no_memory, no_config, large_config, bad_config, good_config, bad_run}
 use Rattle.aide_session.specs.Closing.{good_run}
 use Rattle.aide_session.specs.Ends.{Sinks}
@@ -37,22 +38,32 @@ opens_none before after most is = search rules
 abbrev pub only_config : List ℕ → Named
 only_config config = record { config = config; old_path = []; new_path = [] }
 
+-- a closing that opens no side
+closes_as : (says : Says) (files : Files) (wanted : Option JobText) (closing : Closing) (named : Named) (c d e f : Option (List ℕ))
+    (m n : ℕ) (course : Course) (site out : Type 0)
+    → ClosingCause files wanted named closing site out → ClosingOutput says named closing course c d
+    → ClosingOpens files named closing course → course.opened_after ≡ course.opened_before
+    → Put (closing_line says named closing) e f m n
+    → ClosesBy says files wanted (closing_status closing) (sinks c d e f m n) course site out
+closes_as says files wanted closing named c d e f m n course site out cause output opens unopened put = record {
+  closing = closing;
+  named = named;
+  cause = cause;
+  status_is = refl;
+  output = output;
+  opens = opens;
+  opens_some = opens_none course.opened_before course.opened_after 6 unopened;
+  put = put;
+}
+
 pub closes_misused : (says : Says) (files : Files) (wanted : Option JobText) (d e f : Option (List ℕ)) (m n : ℕ) (course : Course)
     (site out : Type 0)
     → wanted ≡ None → Put (usage_by says) e f m n
     → course.opened_after ≡ course.opened_before → course.flushes_after ≡ course.flushes_before
     → ClosesBy says files wanted 15 (sinks d d e f m n) course site out
 closes_misused says files wanted d e f m n course site out none put unopened unflushed =
-    record {
-      closing = no_job;
-      named = only_config [];
-      cause = none;
-      status_is = refl;
-      output = (appends_none d, unopened, unflushed);
-      opens = tt;
-      opens_some = opens_none course.opened_before course.opened_after 6 unopened;
-      put = put;
-    }
+    closes_as says files wanted no_job (only_config []) d d e f m n course site out
+    none (appends_none d, unopened, unflushed) tt unopened put
 
 pub closes_starved : (says : Says) (files : Files) (wanted : Option JobText) (d e f : Option (List ℕ)) (m n : ℕ) (course : Course)
     (site out : Type 0)
@@ -60,16 +71,8 @@ pub closes_starved : (says : Says) (files : Files) (wanted : Option JobText) (d 
     → course.opened_after ≡ course.opened_before → course.flushes_after ≡ course.flushes_before
     → ClosesBy says files wanted 22 (sinks d d e f m n) course site out
 closes_starved says files wanted d e f m n course site out put unopened unflushed =
-    record {
-      closing = no_memory;
-      named = only_config [];
-      cause = tt;
-      status_is = refl;
-      output = (appends_none d, unopened, unflushed);
-      opens = tt;
-      opens_some = opens_none course.opened_before course.opened_after 6 unopened;
-      put = put;
-    }
+    closes_as says files wanted no_memory (only_config []) d d e f m n course site out
+    tt (appends_none d, unopened, unflushed) tt unopened put
 
 asks : (wanted : Option JobText) (job : JobText) → wanted ≡ Some job → Asks wanted (only_config job.config)
 asks wanted job is = record { job = job; job_is = is; config_is = refl }
@@ -80,16 +83,8 @@ pub closes_unread : (says : Says) (files : Files) (wanted : Option JobText) (job
     → Put (unread_line job.config) e f m n → course.opened_after ≡ course.opened_before
     → course.flushes_after ≡ course.flushes_before → ClosesBy says files wanted 18 (sinks d d e f m n) course site out
 closes_unread says files wanted job d e f m n course site out is failed put unopened unflushed =
-    record {
-      closing = no_config;
-      named = only_config job.config;
-      cause = (asks wanted job is, failed);
-      status_is = refl;
-      output = (appends_none d, unopened, unflushed);
-      opens = tt;
-      opens_some = opens_none course.opened_before course.opened_after 6 unopened;
-      put = put;
-    }
+    closes_as says files wanted no_config (only_config job.config) d d e f m n course site out
+    (asks wanted job is, failed) (appends_none d, unopened, unflushed) tt unopened put
 
 pub closes_large : (says : Says) (files : Files) (wanted : Option JobText) (job : JobText) (d e f : Option (List ℕ)) (m n : ℕ)
     (course : Course) (site out : Type 0)
@@ -98,16 +93,8 @@ pub closes_large : (says : Says) (files : Files) (wanted : Option JobText) (job 
     → course.opened_after ≡ course.opened_before → course.flushes_after ≡ course.flushes_before
     → ClosesBy says files wanted 17 (sinks d d e f m n) course site out
 closes_large says files wanted job d e f m n course site out is large put unopened unflushed =
-    record {
-      closing = large_config;
-      named = only_config job.config;
-      cause = (asks wanted job is, large);
-      status_is = refl;
-      output = (appends_none d, unopened, unflushed);
-      opens = tt;
-      opens_some = opens_none course.opened_before course.opened_after 6 unopened;
-      put = put;
-    }
+    closes_as says files wanted large_config (only_config job.config) d d e f m n course site out
+    (asks wanted job is, large) (appends_none d, unopened, unflushed) tt unopened put
 
 -- the configuration of a job was read, and reads as this
 pub asks_and_reads : (files : Files) (wanted : Option JobText) (job : JobText) (text : List ℕ) (compare : Bool)
@@ -131,16 +118,8 @@ pub closes_bad_config : (says : Says) (files : Files) (wanted : Option JobText) 
     → course.opened_after ≡ course.opened_before → course.flushes_after ≡ course.flushes_before
     → ClosesBy says files wanted 17 (sinks d d e f m n) course site out
 closes_bad_config says files wanted config compare fault d e f m n course site out read put unopened unflushed =
-    record {
-      closing = bad_config fault;
-      named = only_config config;
-      cause = (compare, read);
-      status_is = refl;
-      output = (appends_none d, unopened, unflushed);
-      opens = tt;
-      opens_some = opens_none course.opened_before course.opened_after 6 unopened;
-      put = put;
-    }
+    closes_as says files wanted (bad_config fault) (only_config config) d d e f m n course site out
+    (compare, read) (appends_none d, unopened, unflushed) tt unopened put
 
 pub closes_told : (says : Says) (files : Files) (wanted : Option JobText) (config : List ℕ) (s : Configured) (c d e : Option (List ℕ))
     (m : ℕ) (course : Course) (site out : Type 0)
@@ -148,16 +127,8 @@ pub closes_told : (says : Says) (files : Files) (wanted : Option JobText) (confi
     → IsTold says s c d course.is_flushed course.flushes_before course.flushes_after
     → course.opened_after ≡ course.opened_before → ClosesBy says files wanted 0 (sinks c d e e m m) course site out
 closes_told says files wanted config s c d e m course site out read told unopened =
-    record {
-      closing = good_config s;
-      named = only_config config;
-      cause = read;
-      status_is = refl;
-      output = (told, unopened);
-      opens = tt;
-      opens_some = opens_none course.opened_before course.opened_after 6 unopened;
-      put = put_none e m;
-    }
+    closes_as says files wanted (good_config s) (only_config config) c d e e m m course site out
+    read (told, unopened) tt unopened (put_none e m)
 
 pub closes_untold : (says : Says) (files : Files) (wanted : Option JobText) (config : List ℕ) (s : Configured) (c d e f : Option (List ℕ))
     (m n : ℕ) (course : Course) (site out : Type 0)
@@ -165,16 +136,8 @@ pub closes_untold : (says : Says) (files : Files) (wanted : Option JobText) (con
     → IsUntold says s c d course.flushes_before course.flushes_after → out → Put write_line e f m n
     → course.opened_after ≡ course.opened_before → ClosesBy says files wanted 18 (sinks c d e f m n) course site out
 closes_untold says files wanted config s c d e f m n course site out read untold rose put unopened =
-    record {
-      closing = untold_config s;
-      named = only_config config;
-      cause = (read, rose);
-      status_is = refl;
-      output = (untold, unopened);
-      opens = tt;
-      opens_some = opens_none course.opened_before course.opened_after 6 unopened;
-      put = put;
-    }
+    closes_as says files wanted (untold_config s) (only_config config) c d e f m n course site out
+    (read, rose) (untold, unopened) tt unopened put
 
 -- the cause of a run's fault, over files that the sources tell
 pub run_cause : (files : Files) (named : Named) (bytes_of : Side → Option (List ℕ)) (fault : RunFault) (site out : Type 0)
