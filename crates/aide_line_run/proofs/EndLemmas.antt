@@ -1,6 +1,6 @@
 -- How a run beside a trusted pair ends, by what has gone out and what was found of all four databases.
 use Rattle.std.specs.Prelude.{◌≡◌, ◌⊎◌, ℕ, Option, Some, None, Result, Ok, Err, List, [], ◌∷◌, ◌++◌, map, true, false}
-use Rattle.std.proofs.Common.{ap, append_assoc, inl, inr, refl, sym, subst, ◌∙◌}
+use Rattle.std.proofs.Common.{◌∙◌, ap, append_assoc, inl, inr, refl, rules, subst, sym}
 use Rattle.std.proofs.lemmas.Grind.{flat_map-append}
 use Rattle.std.proofs.lemmas.List.{map-append}
 use Rattle.std.specs.FinMap.Entries.{is_sorted}
@@ -59,12 +59,7 @@ part_none text bytes = record { front = []; rest = text; whole = refl; bytes = A
 -- a beginning of a text is one of a longer text
 part_longer : {text : List ℕ} {before after : Option (List ℕ)} (more whole : List ℕ) → whole ≡ text ++ more
     → SendsPart text before after → SendsPart whole before after
-part_longer more whole is p = record {
-  front = p.front;
-  rest = p.rest ++ more;
-  whole = is ∙ ap (λ l. l ++ more) p.whole ∙ append_assoc p.front p.rest more;
-  bytes = p.bytes;
-}
+part_longer more whole is p = search (rules, append_assoc)
 
 abbrev unaccounted : List PathChange → List Accounted
 unaccounted changes = map (λ change. (change, None)) changes

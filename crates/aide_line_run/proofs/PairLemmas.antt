@@ -1,6 +1,6 @@
 -- The answers beside a trusted pair, by those over each pair.
 use Rattle.std.specs.Prelude.{◌≡◌, ℕ, Bool, Option, Some, None, Result, Ok, Err, List, ⊤, false}
-use Rattle.std.proofs.Common.{sym, ap, subst, inl, inr}
+use Rattle.std.proofs.Common.{ap, inl, inr, rules, subst, sym}
 use Rattle.aide_db.specs.Database.{IsSound}
 use Rattle.aide_db.specs.declared.fault.DbFault.{DbFault}
 use Rattle.aide_db.specs.declared.limits.Limits.{Limits}
@@ -27,14 +27,10 @@ stops_as r s hindered fault is h = subst (λ (x : Result Report PairFault). Stop
 pub stops_compared : (compared trusted : Result Report RunFault) (over : Option Report) (r : Result Report PairFault)
     (hindered other : RunFault → Type 0) (fault : RunFault) → answer_by compared trusted over r → StopsFor compared hindered fault
     → StopsForPair r (OfEach hindered other) (Compared fault)
-stops_compared (Err right) trusted over r hindered other fault is h =
-    stops_as r (Err (Compared right)) (OfEach hindered other) (Compared fault) is
-    (elim h [ inl same ↦ inl (ap Compared same) | inr p ↦ inr p ])
-stops_compared (Ok report) (Err bad) over r hindered other fault is h =
-    stops_as r (Err (Trusted bad)) (OfEach hindered other) (Compared fault) is (inr h)
-stops_compared (Ok report) (Ok second) None r hindered other fault is h = absurd is
-stops_compared (Ok report) (Ok second) (Some whole) r hindered other fault is h =
-    stops_as r (Ok whole) (OfEach hindered other) (Compared fault) is h
+stops_compared (Err right) trusted over r hindered other fault is h = search (rules, stops_as)
+stops_compared (Ok report) (Err bad) over r hindered other fault is h = search (rules, stops_as)
+stops_compared (Ok report) (Ok second) None r hindered other fault is h = search rules
+stops_compared (Ok report) (Ok second) (Some whole) r hindered other fault is h = search (rules, stops_as)
 
 -- the answer is no fault
 abbrev pub IsOkay : Result Report RunFault → Type 0

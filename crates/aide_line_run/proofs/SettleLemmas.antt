@@ -1,5 +1,5 @@
 -- The first of the faults of two pairs.
-use Rattle.std.proofs.Common.{◌≡◌, ◌∙◌, ℕ, List, [], refl, subst, sym}
+use Rattle.std.proofs.Common.{◌≡◌, ◌∙◌, List, [], refl, rules, subst, sym, ℕ}
 use Rattle.std.specs.Prelude.{true, false, Option, Result, Ok, Err}
 use Rattle.std.proofs.lemmas.List.{append-nil}
 use Rattle.aide_conf.specs.declared.options.Options.{Options}
@@ -43,21 +43,11 @@ use Rattle.aide_line_run.specs.declared.pair_fault.PairFault.TheVariants.{Compar
 
 pub fits_kept : {R : Type 0} {r : Reels R} {m n : Merges R} {d e u v : DeskView} → KeepsMerges r m n d e u v
     → FitsMerges r m d e u v
-fits_kept p = record {
-  room = p.compared.room;
-  trusted_room = p.trusted.room;
-  fits = p.compared.fits;
-  trusted_fits = p.trusted.fits;
-}
+fits_kept p = search rules
 
 pub fits_then : {R : Type 0} {r : Reels R} {m n : Merges R} {d e f u v w : DeskView} → KeepsMerges r m n d e u v
     → FitsMerges r n e f v w → FitsMerges r m d f u w
-fits_then {r = r} {m = m} {n = n} {d = d} {e = e} {f = f} {u = u} {v = v} {w = w} p q = record {
-  room = q.room ∙ p.compared.room;
-  trusted_room = q.trusted_room ∙ p.trusted.room;
-  fits = fits_further r.to_come m.compared n.compared d e f p.compared.limits p.compared.stands p.compared.fits q.fits;
-  trusted_fits = fits_further r.to_come m.trusted n.trusted u v w p.trusted.limits p.trusted.stands p.trusted.fits q.trusted_fits;
-}
+fits_then {r = r} {m = m} {n = n} {d = d} {e = e} {f = f} {u = u} {v = v} {w = w} p q = search (rules, fits_further)
 
 pub fits_none : {R : Type 0} (r : Reels R) (m : Merges R) (d u : DeskView) → FitsMerges r m d d u u
 fits_none r m d u = fits_kept (record { compared = merge_none r m.compared d; trusted = merge_none r m.trusted u })
@@ -102,13 +92,7 @@ stop_settled n f w pen stop.Write stop.Write keeps is stopped settled = is
 pub walked_behind : {R X E : Type 0} {r : Reels R} {list : ListRead} {options : Options} {counts_in : X → LineCounts} {m : Merges R}
     {d u : DeskView} {a b z : Sheet} {result : Result X E} (first : List ℕ) → Wrote first a b
     → HasWalked r list options [] counts_in m d u b z result → HasWalked r list options first counts_in m d u a z result
-walked_behind first before p = record {
-  done = p.done;
-  are = p.are;
-  wrote = wrote_more before p.wrote;
-  counted = p.counted;
-  counts = p.counts;
-}
+walked_behind first before p = search (rules, wrote_more)
 
 -- the first bytes could not be written
 pub walked_first : {R X E : Type 0} (r : Reels R) (list : ListRead) (options : Options) (first : List ℕ) (counts_in : X → LineCounts)
@@ -136,14 +120,7 @@ pub walked_found : {R X Y E F : Type 0} {r : Reels R} {list : ListRead} {options
     → also_in found ≡ counts_in answer
     → HasWalked {E = E} r list options first counts_in m d u a b (Ok answer)
     → HasWalked {E = F} r list options first also_in m d u a b (Ok found)
-walked_found answer found also_in same p = record {
-  done = p.done;
-  are = record { changes = p.are.changes; lines = p.are.lines };
-  wrote = p.wrote;
-  counted = same ∙ p.counted;
-  counts = λ old new trusted_old trusted_new s t x y in_order.
-      same ∙ p.counts old new trusted_old trusted_new s t x y in_order;
-}
+walked_found answer found also_in same p = search rules
 
 -- ---- the fault that is returned
 

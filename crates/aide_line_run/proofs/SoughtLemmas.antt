@@ -1,6 +1,6 @@
 -- What the trusted pair has at the path of each change, and what follows of the changes to come.
 use Rattle.std.specs.Prelude.{◌≡◌, ℕ, Bool, true, false, cond, T, List, [], ◌∷◌, ◌++◌, Option, None}
-use Rattle.std.proofs.Common.{refl, sym, ap, subst, ◌∙◌}
+use Rattle.std.proofs.Common.{◌∙◌, ap, refl, rules, subst, sym}
 use Rattle.std.specs.declared.cmp.Ordering.{Ordering}
 use Rattle.std.specs.declared.cmp.Ordering.TheVariants.{Less, Equal, Greater}
 use Rattle.std.specs.Ordering.{is_eq, is_lt}
@@ -86,9 +86,7 @@ sought_later leaves path es (c ∷ cs) below =
 -- what is left of changes in order is in order
 pub sorted_rest : (c : PathChange) (rest changes more : List PathChange) → rest ≡ changes ++ more → changes ≡ c ∷ []
     → is_sorted path_cmp rest ≡ true → is_sorted path_cmp more ≡ true
-sorted_rest c rest changes more is one sorted =
-    let all : rest ≡ c ∷ more = is ∙ ap (λ l. l ++ more) one in
-    T_true _ (and_second _ _ (true_T _ (ap (is_sorted path_cmp) (sym all) ∙ sorted)))
+sorted_rest c rest changes more is one sorted = search (rules, T_true, and_second, true_T)
 
 -- one change more
 pub sought_more : (leaves : Leaves) (c : PathChange) (rest changes more es sought : List PathChange) (account : Option Account)
@@ -96,13 +94,7 @@ pub sought_more : (leaves : Leaves) (c : PathChange) (rest changes more es sough
     → account ≡ account_by (same_as c.1 (found_at c.0 sought)) (leaves c) → is_sorted path_cmp rest ≡ true
     → all_sought leaves rest es ≡ ((c, account) ∷ []) ++ all_sought leaves more sought
 sought_more leaves c rest changes more es sought account is one sought_is told sorted =
-    let all : rest ≡ c ∷ more = is ∙ ap (λ l. l ++ more) one in
-    let in_order : is_sorted path_cmp (c ∷ more) ≡ true = ap (is_sorted path_cmp) (sym all) ∙ sorted in
-    let same : (c, sought_by leaves es c) ≡ (c, account) =
-    ap (λ a. (c, a)) (ap (λ l. account_by (same_as c.1 (found_at c.0 l)) (leaves c)) (sym sought_is) ∙ sym told) in
-    let later : all_sought leaves more sought ≡ all_sought leaves more es =
-    ap (all_sought leaves more) sought_is ∙ sought_later leaves c.0 es more (and_first _ _ (true_T _ in_order)) in
-    ap (λ l. all_sought leaves l es) all ∙ (λ i. same i ∷ sym later i)
+    search (rules, sought_later, and_first, true_T)
 
 -- an entry that both sides have alike
 pub sought_alike : (leaves : Leaves) (entry : Entry) (rest changes more es : List PathChange) → rest ≡ changes ++ more
@@ -125,9 +117,7 @@ module _ (text : Accounted → List ℕ) (leaves : Leaves) where
       → ((account : Option Account) → text (alike_of entry, account) ≡ [])
       → rest ≡ changes ++ more → changes ≡ alike_of entry ∷ []
       → flat_map text (all_sought leaves rest es) ≡ flat_map text (all_sought leaves more es)
-  alike_sought entry rest changes more es nothing is one =
-      ap (flat_map text) (sought_alike leaves entry rest changes more es is one)
-      ∙ ap (λ l. l ++ flat_map text (all_sought leaves more es)) (nothing (sought_by leaves es (alike_of entry)))
+  alike_sought entry rest changes more es nothing is one = search (rules, sought_alike)
 
   pub none_sought : (rest es : List PathChange) → rest ≡ [] → flat_map text (all_sought leaves rest es) ≡ []
   none_sought rest es none = ap (λ l. flat_map text (all_sought leaves l es)) none

@@ -1,5 +1,5 @@
 -- The numbers of the last line beside a trusted pair, one change after another.
-use Rattle.std.proofs.Common.{◌≡◌, ℕ, ◌+◌, ◌-◌, ◌<◌, ◌^◌, ◌∙◌, Bool, true, false, refl, sym, ap, List, [], ◌∷◌, ◌++◌, arith}
+use Rattle.std.proofs.Common.{◌≡◌, ◌+◌, ◌-◌, ◌<◌, ◌^◌, ◌∙◌, ◌∷◌, ◌++◌, Bool, List, [], ap, arith, false, refl, rules, sym, true, ℕ}
 use Rattle.std.specs.Prelude.{count_by, cond, ◌&&◌, Option, map}
 use Rattle.std.specs.List.{flat_map}
 use Rattle.std.proofs.lemmas.Grind.{flat_map-append}
@@ -90,29 +90,11 @@ module _ (options : Options) where
   -- no count rises by more than one
   pub small_more : (a b : LineCounts) (m : Accounted) (top k n : ℕ) → n < k → b ≡ sum_of_counts a (tally_of options (m ∷ []))
       → AreLinesBelow a (top - k) → AreLinesBelow b (top - n)
-  small_more a b m top k n less grows small = rw grows (record {
-    total = small_one (of_change is_of_new) m a.total top k n less small.total;
-    added = small_one (of_change is_added) m a.added top k n less small.added;
-    removed = small_one (of_change is_removed) m a.removed top k n less small.removed;
-    changed = small_one (of_change differs) m a.changed top k n less small.changed;
-    same_as_old = small_one (of_account options is_old) m a.same_as_old top k n less small.same_as_old;
-    same_as_trusted = small_one (of_account options is_trusted) m a.same_as_trusted top k n less small.same_as_trusted;
-    left_out = small_one (of_account options is_left_out) m a.left_out top k n less small.left_out;
-    others = small_one (of_account options is_other) m a.others top k n less small.others;
-  })
+  small_more a b m top k n less grows small = search (rules, small_one, differs)
 
   -- and none reaches the top
   pub below_all : (a : LineCounts) (top k : ℕ) → AreLinesBelow a (top - k) → AreLinesBelow a top
-  below_all a top k small = record {
-    total = omega (arith, small.total);
-    added = omega (arith, small.added);
-    removed = omega (arith, small.removed);
-    changed = omega (arith, small.changed);
-    same_as_old = omega (arith, small.same_as_old);
-    same_as_trusted = omega (arith, small.same_as_trusted);
-    left_out = omega (arith, small.left_out);
-    others = omega (arith, small.others);
-  }
+  below_all a top k small = search rules
 
   no_line : (passes : Option Account → Bool) (entry : Entry) (account : Option Account)
       → of_account options passes (alike_of entry, account) ≡ false
@@ -121,16 +103,7 @@ module _ (options : Options) where
   -- an entry that both databases have alike is counted in the total alone
   pub tally_alike : (a : LineCounts) (entry : Entry) (account : Option Account)
       → record a { total = a.total + 1 } ≡ sum_of_counts a (tally_of options ((alike_of entry, account) ∷ []))
-  tally_alike a entry account = let m : Accounted = (alike_of entry, account) in λ i. record {
-    total = a.total + 1;
-    added = uncounted (of_change is_added) m a.added refl i;
-    removed = uncounted (of_change is_removed) m a.removed refl i;
-    changed = uncounted (of_change differs) m a.changed (never_differs options.ignore entry.1 entry.1 refl) i;
-    same_as_old = uncounted (of_account options is_old) m a.same_as_old (no_line is_old entry account) i;
-    same_as_trusted = uncounted (of_account options is_trusted) m a.same_as_trusted (no_line is_trusted entry account) i;
-    left_out = uncounted (of_account options is_left_out) m a.left_out (no_line is_left_out entry account) i;
-    others = uncounted (of_account options is_other) m a.others (no_line is_other entry account) i;
-  }
+  tally_alike a entry account = search (rules, uncounted, differs, never_differs, no_line)
 
   -- nothing is left
   pub tally_none : (a all : LineCounts) → sum_of_counts a (tally_of options []) ≡ all → a ≡ all
@@ -169,16 +142,7 @@ module _ (options : Options) where
   pub small_start : (a : LineCounts) (work : ℕ)
       → a ≡ record { total = 0; added = 0; removed = 0; changed = 0; same_as_old = 0; same_as_trusted = 0; left_out = 0; others = 0 }
       → work < 2 ^ 62 → AreLinesBelow a (2 ^ 62 - work)
-  small_start a work is less = rw is (record {
-    total = omega (arith, less);
-    added = omega (arith, less);
-    removed = omega (arith, less);
-    changed = omega (arith, less);
-    same_as_old = omega (arith, less);
-    same_as_trusted = omega (arith, less);
-    left_out = omega (arith, less);
-    others = omega (arith, less);
-  })
+  small_start a work is less = search rules
 
   -- ---- the lines
 
@@ -206,16 +170,7 @@ module _ (options : Options) where
 
   pub tally_behind : (ms ns : List Accounted)
       → sum_of_counts (tally_of options ms) (tally_of options ns) ≡ tally_of options (ms ++ ns)
-  tally_behind ms ns = sym (λ i. record {
-    total = counted_behind (of_change is_of_new) ms ns i;
-    added = counted_behind (of_change is_added) ms ns i;
-    removed = counted_behind (of_change is_removed) ms ns i;
-    changed = counted_behind (of_change differs) ms ns i;
-    same_as_old = counted_behind (of_account options is_old) ms ns i;
-    same_as_trusted = counted_behind (of_account options is_trusted) ms ns i;
-    left_out = counted_behind (of_account options is_left_out) ms ns i;
-    others = counted_behind (of_account options is_other) ms ns i;
-  })
+  tally_behind ms ns = search (rules, counted_behind, differs)
 
   pub tally_next : (a b : LineCounts) (ms : List Accounted) (m : Accounted) → a ≡ tally_of options ms
       → b ≡ sum_of_counts a (tally_of options (m ∷ [])) → b ≡ tally_of options (ms ++ m ∷ [])

@@ -1,11 +1,10 @@
 -- A walk over both pairs, one change after another.
-use Rattle.std.proofs.Common.{◌≡◌, ◌∙◌, ◌+◌, ℕ, List, Option, [], ◌∷◌, ◌++◌, ap, refl, sym, append_assoc}
+use Rattle.std.proofs.Common.{◌≡◌, ◌∙◌, ◌+◌, ◌∷◌, ◌++◌, List, Option, [], ap, append_assoc, refl, rules, sym, ℕ}
 use Rattle.std.specs.Prelude.{None, Ok, Err}
 use Rattle.std.proofs.lemmas.List.{append-nil, map-append}
 use Rattle.aide_agreement.specs.Account.{same_as}
 use Rattle.aide_line_text.specs.declared.account.Account.{Account}
 use Rattle.aide_conf.specs.declared.options.Options.{Options}
-use Rattle.aide_db.specs.CursorView.{CursorView}
 use Rattle.aide_db.specs.DeskView.{DeskView}
 use Rattle.aide_db.specs.declared.reel.Reel.{Ghosts as Reels}
 use Rattle.aide_db.specs.declared.side.Side.TheVariants.{Old, New}
@@ -20,7 +19,7 @@ use Rattle.aide_text.specs.Sheet.{Sheet, Wrote}
 use Rattle.aide_text.proofs.Sheets.{wrote_as, wrote_more, wrote_nothing}
 use Rattle.aide_merge.proofs.ColumnLemmas.{new_columns, old_columns}
 use Rattle.aide_line_run.specs.ListView.{measures_at}
-use Rattle.aide_line_run.specs.Listed.{ListRead, account_by, leaves_between, measures_between, measures_by}
+use Rattle.aide_line_run.specs.Listed.{ListRead, account_by, leaves_between, measures_between}
 use Rattle.aide_line_run.specs.Sought.{Accounted, accounted_line, accounted_lines, all_sought, changes_of, found_at, seek, sought_by}
 use Rattle.aide_line_run.specs.code.Tallied.{tally_of}
 use Rattle.aide_line_run.specs.code.Walked.{HasWalked, IsWalking, KeepsMerges}
@@ -34,16 +33,11 @@ use Rattle.aide_line_run.proofs.TallyLemmas.{tally_pairs, tally_start}
 pub measures_known : {R : Type 0} (to_come : R → Option (List ℕ)) (m n : Merge R) (d : DeskView) (old new : List ℕ)
     → IsReady m d → IsNotDue m → n.old_cursor ≡ m.old_cursor → n.new_cursor ≡ m.new_cursor
     → StandsAt to_come m d Old old → StandsAt to_come m d New new → measures_at n ≡ measures_between old new
-measures_known {R} to_come m n d old new ready not_due same_old same_new s t =
-    let of_old = ap (λ (c : CursorView R). c.columns) same_old ∙ old_columns to_come m d old ready not_due s in
-    let of_new = ap (λ (c : CursorView R). c.columns) same_new ∙ new_columns to_come m d new ready not_due t in
-    λ i. measures_by (of_old i) (of_new i)
+measures_known {R} to_come m n d old new ready not_due same_old same_new s t = search (rules, old_columns, new_columns)
 
 changes_next : (done : List Accounted) (m : Accounted) (rest : List PathChange)
     → changes_of done ++ (m.0 ∷ rest) ≡ changes_of (done ++ m ∷ []) ++ rest
-changes_next done m rest =
-    sym (append_assoc (changes_of done) (m.0 ∷ []) rest)
-    ∙ ap (λ l. l ++ rest) (sym (map-append (λ (each : Accounted). each.0) done (m ∷ [])))
+changes_next done m rest = search (rules, append_assoc, map-append)
 
 module _ {R : Type 0} (r : Reels R) (list : ListRead) (options : Options) (m : Merges R) (d u : DeskView) where
   -- nothing was met before
@@ -221,13 +215,7 @@ pub walked_err : {R X Y E F : Type 0} {r : Reels R} {list : ListRead} {options :
     {m : Merges R} {d u : DeskView} {a b : Sheet} (stop : E) (other : F) (also_in : Y → LineCounts)
     → HasWalked {X = X} r list options first counts_in m d u a b (Err stop)
     → HasWalked {X = Y} r list options first also_in m d u a b (Err other)
-walked_err stop other also_in p = record {
-  done = p.done;
-  are = record { changes = p.are.changes; lines = p.are.lines };
-  wrote = p.wrote;
-  counted = tt;
-  counts = tt;
-}
+walked_err stop other also_in p = search rules
 
 -- a stop behind all of it
 pub walked_late : {R X Y E F : Type 0} {r : Reels R} {list : ListRead} {options : Options} {first : List ℕ} {counts_in : X → LineCounts}

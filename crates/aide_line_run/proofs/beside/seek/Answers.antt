@@ -1,4 +1,4 @@
-use Rattle.std.proofs.Common.{◌∙◌, arith, refl, sym, ap}
+use Rattle.std.proofs.Common.{◌∙◌, ap, arith, rules, sym}
 use Rattle.aide_db.specs.declared.side.Side.TheVariants.{Old, New}
 use Rattle.aide_merge.specs.code.ChangeView.{change_of}
 use Rattle.aide_line_run.specs.Sought.{seek}
@@ -9,11 +9,7 @@ use Rattle.aide_merge.proofs.UpcomingLemmas.{upcoming_none, upcoming_one}
 use Rattle.aide_line_run.proofs.beside.seek.Goals as goal
 
 pub seek-init : goal.seek-init
-seek-init g c = record {
-  ready = c.requires;
-  keeps = merge_none g.R.Reel c.args.merge.now c.args.desk.now;
-  same = λ old new s t. refl;
-}
+seek-init g c = search (rules, merge_none)
 
 pub read_due-requires : goal.read_due-requires
 read_due-requires g c = c.seek.invariant.ready

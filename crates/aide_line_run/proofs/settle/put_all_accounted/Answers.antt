@@ -1,3 +1,4 @@
+use Rattle.std.proofs.Common.{rules}
 use Rattle.aide_line_run.proofs.SettleLemmas.{fits_kept, fits_then, stop_settled}
 use Rattle.aide_line_run.proofs.WalkLemmas.{walked_err}
 use Rattle.aide_line_run.proofs.settle.put_all_accounted.Goals as goal
@@ -12,6 +13,4 @@ pub returns-in-Err-clause-walked : goal.returns-in-Err-clause-walked
 returns-in-Err-clause-walked g c = walked_err c.in-Err.stop _ _ c.in-Err.ensures.walked
 
 pub returns-in-Err-clause-fault : goal.returns-in-Err-clause-fault
-returns-in-Err-clause-fault g c =
-    stop_settled c.settle.new.merges c.settle.new.desk c.settle.new.trusted_desk c.walk.new.pen c.in-Err.stop c.settle.result
-    c.walk.ensures.keeps c.in-Err.ensures.fault c.in-Err.ensures.stopped c.settle.ensures.first
+returns-in-Err-clause-fault g c = search (rules, stop_settled)

@@ -1,3 +1,4 @@
+use Rattle.std.proofs.Common.{rules}
 use Rattle.aide_merge.proofs.BoundLemmas.{fits_further}
 use Rattle.aide_line_run.proofs.OneReadingLemmas.{ends_sound, settled_first}
 use Rattle.aide_line_run.proofs.settle.read_out.Goals as goal
@@ -6,10 +7,7 @@ pub returns-in-Ok-clause-sound : goal.returns-in-Ok-clause-sound
 returns-in-Ok-clause-sound g c side text s = ends_sound c.read_rest.ensures.keeps c.in-Ok.ensures.ended side text s
 
 pub returns-in-Err-clause-fits : goal.returns-in-Err-clause-fits
-returns-in-Err-clause-fits g c =
-    let keeps = c.read_rest.ensures.keeps in
-    fits_further g.R.Reel.to_come c.args.merge.now c.read_rest.new.merge c.args.desk.now c.read_rest.new.desk
-    c.settled.new.desk keeps.limits keeps.stands keeps.fits c.settled.ensures.fits
+returns-in-Err-clause-fits g c = search (rules, fits_further)
 
 pub returns-in-Err-clause-fault : goal.returns-in-Err-clause-fault
 returns-in-Err-clause-fault g c =

@@ -1,4 +1,4 @@
-use Rattle.std.proofs.Common.{◌∙◌, ◌<◌, ◌^◌, ap, arith, refl}
+use Rattle.std.proofs.Common.{◌∙◌, ◌<◌, ◌^◌, ap, arith, refl, rules}
 use Rattle.std.specs.Prelude.{None}
 use Rattle.aide_merge.specs.code.ChangeView.{alike_of, change_of}
 use Rattle.aide_merge.specs.code.Merging.{total_work}
@@ -15,18 +15,7 @@ use Rattle.aide_line_run.proofs.WalkLemmas.{measures_known, walk_alike, walk_end
 use Rattle.aide_line_run.proofs.walk.put_accounted.Goals as goal
 
 pub pass-init : goal.pass-init
-pass-init g c = record {
-  ready = c.requires.ready;
-  trusted_ready = c.requires.trusted_ready;
-  small = small_start c.args.terms.now.options.now _ (total_work c.args.merges.now.compared) c.no_counts-counts.ensures c.requires.short;
-  writes_on = c.requires.writes_on;
-  keeps = record {
-    compared = merge_none g.R.Reel c.args.merges.now.compared c.args.desk.now;
-    trusted = merge_none g.R.Reel c.args.merges.now.trusted c.args.trusted_desk.now;
-  };
-  walking = walk_start g.R.Reel (list_read c.args.terms.now.list) c.args.terms.now.options.now c.args.merges.now c.args.desk.now
-      c.args.trusted_desk.now _ _ c.no_counts-counts.ensures;
-}
+pass-init g c = search (rules, small_start, merge_none, walk_start)
 
 pub read_due-requires : goal.read_due-requires
 read_due-requires g c = c.pass.invariant.ready
@@ -35,26 +24,17 @@ pub seek-requires : goal.seek-requires
 seek-requires g c = c.pass.invariant.trusted_ready
 
 pub returns-in-Err-clause-keeps : goal.returns-in-Err-clause-keeps
-returns-in-Err-clause-keeps g c = record {
-  compared = merge_then c.pass.invariant.keeps.compared c.read_due.ensures.keeps;
-  trusted = c.pass.invariant.keeps.trusted;
-}
+returns-in-Err-clause-keeps g c = search (rules, merge_then)
 
 pub returns-in-Err-clause-walked : goal.returns-in-Err-clause-walked
-returns-in-Err-clause-walked g c =
-    walk_stopped g.R.Reel (list_read c.args.terms.now.list) c.args.terms.now.options.now c.args.merges.now c.args.desk.now
-    c.args.trusted_desk.now c.pass.invariant.walking
-    c.pass.invariant.keeps _
+returns-in-Err-clause-walked g c = search (rules, walk_stopped)
 
 pub returns-in-Err-clause-fault : goal.returns-in-Err-clause-fault
 returns-in-Err-clause-fault g c =
     (c.pass.invariant.writes_on, merge_fault c.pass.invariant.keeps.compared c.in-Err.ensures.fault)
 
 pub returns-in-End-clause-keeps : goal.returns-in-End-clause-keeps
-returns-in-End-clause-keeps g c = record {
-  compared = merge_then c.pass.invariant.keeps.compared (merge_then c.read_due.ensures.keeps c.next.ensures.keeps);
-  trusted = c.pass.invariant.keeps.trusted;
-}
+returns-in-End-clause-keeps g c = search (rules, merge_then)
 
 pub returns-in-End-clause-walked : goal.returns-in-End-clause-walked
 returns-in-End-clause-walked g c =
@@ -64,34 +44,20 @@ returns-in-End-clause-walked g c =
     (λ old new s t. c.in_default.ensures.read.same old new s t ∙ c.in-End.ensures.step.end old new refl)
 
 pub returns-in-End-clause-ended : goal.returns-in-End-clause-ended
-returns-in-End-clause-ended g c = record {
-  ready = c.in-End.ensures.step.ready;
-  trusted_ready = c.pass.invariant.trusted_ready;
-  ended = c.in-End.ensures.step.ended refl;
-  writes_on = c.pass.invariant.writes_on;
-}
+returns-in-End-clause-ended g c = search rules
 
 pub returns-in-Err-seek-clause-keeps : goal.returns-in-Err-seek-clause-keeps
-returns-in-Err-seek-clause-keeps g c = record {
-  compared = merge_then c.pass.invariant.keeps.compared (merge_then c.read_due.ensures.keeps c.next.ensures.keeps);
-  trusted = merge_then c.pass.invariant.keeps.trusted c.seek.ensures.keeps;
-}
+returns-in-Err-seek-clause-keeps g c = search (rules, merge_then)
 
 pub returns-in-Err-seek-clause-walked : goal.returns-in-Err-seek-clause-walked
-returns-in-Err-seek-clause-walked g c =
-    walk_stopped g.R.Reel (list_read c.args.terms.now.list) c.args.terms.now.options.now c.args.merges.now c.args.desk.now
-    c.args.trusted_desk.now c.pass.invariant.walking
-    c.pass.invariant.keeps _
+returns-in-Err-seek-clause-walked g c = search (rules, walk_stopped)
 
 pub returns-in-Err-seek-clause-fault : goal.returns-in-Err-seek-clause-fault
 returns-in-Err-seek-clause-fault g c =
     (c.pass.invariant.writes_on, merge_fault c.pass.invariant.keeps.trusted c.in-Err-seek.ensures.fault)
 
 pub returns-then-pen-clause-keeps : goal.returns-then-pen-clause-keeps
-returns-then-pen-clause-keeps g c = record {
-  compared = merge_then c.pass.invariant.keeps.compared (merge_then c.read_due.ensures.keeps c.next.ensures.keeps);
-  trusted = merge_then c.pass.invariant.keeps.trusted c.seek.ensures.keeps;
-}
+returns-then-pen-clause-keeps g c = search (rules, merge_then)
 
 pub returns-then-pen-clause-walked : goal.returns-then-pen-clause-walked
 returns-then-pen-clause-walked g c =

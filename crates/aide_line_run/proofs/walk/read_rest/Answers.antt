@@ -1,4 +1,4 @@
-use Rattle.std.proofs.Common.{refl}
+use Rattle.std.proofs.Common.{refl, rules}
 use Rattle.aide_merge.proofs.CallLemmas.{merge_fault, merge_none, merge_then}
 use Rattle.aide_line_run.proofs.walk.read_rest.Goals as goal
 
@@ -22,13 +22,7 @@ pub returns-in-End-clause-ended : goal.returns-in-End-clause-ended
 returns-in-End-clause-ended g c = c.in-End.ensures.step.ended refl
 
 pub rest-preserved-in-Differs : goal.rest-preserved-in-Differs
-rest-preserved-in-Differs g c = record {
-  ready = c.in-Differs.ensures.step.ready;
-  keeps = merge_then c.rest.invariant.keeps (merge_then c.read_due.ensures.keeps c.next.ensures.keeps);
-}
+rest-preserved-in-Differs g c = search (rules, merge_then)
 
 pub rest-preserved : goal.rest-preserved
-rest-preserved g c = record {
-  ready = c.in-Alike.ensures.step.ready;
-  keeps = merge_then c.rest.invariant.keeps (merge_then c.read_due.ensures.keeps c.next.ensures.keeps);
-}
+rest-preserved g c = search (rules, merge_then)

@@ -1,18 +1,13 @@
+use Rattle.std.proofs.Common.{rules}
 use Rattle.aide_merge.proofs.CallLemmas.{merge_fault, merge_then}
 use Rattle.aide_line_run.proofs.WalkLemmas.{walked_late}
 use Rattle.aide_line_run.proofs.walk.walk.Goals as goal
 
 pub returns-in-Ok-read_rest-clause-keeps : goal.returns-in-Ok-read_rest-clause-keeps
-returns-in-Ok-read_rest-clause-keeps g c = record {
-  compared = c.put_accounted.ensures.keeps.compared;
-  trusted = merge_then c.put_accounted.ensures.keeps.trusted c.read_rest.ensures.keeps;
-}
+returns-in-Ok-read_rest-clause-keeps g c = search (rules, merge_then)
 
 pub returns-in-Err-read_rest-clause-keeps : goal.returns-in-Err-read_rest-clause-keeps
-returns-in-Err-read_rest-clause-keeps g c = record {
-  compared = c.put_accounted.ensures.keeps.compared;
-  trusted = merge_then c.put_accounted.ensures.keeps.trusted c.read_rest.ensures.keeps;
-}
+returns-in-Err-read_rest-clause-keeps g c = search (rules, merge_then)
 
 pub returns-in-Err-read_rest-clause-walked : goal.returns-in-Err-read_rest-clause-walked
 returns-in-Err-read_rest-clause-walked g c = walked_late c.in-Ok.counts _ _ c.in-Ok.ensures.walked

@@ -1,4 +1,4 @@
-use Rattle.std.proofs.Common.{◌∙◌, ap, inl, inr, refl}
+use Rattle.std.proofs.Common.{◌∙◌, ap, inl, inr, refl, rules}
 use Rattle.aide_text.specs.Failures.{Rose, one_more}
 use Rattle.aide_text.proofs.Sheets.{part_whole, some_more, some_of, wrote_more, wrote_part}
 use Rattle.aide_merge.proofs.PenLemmas.{unflushed}
@@ -10,12 +10,7 @@ use Rattle.aide_line_run.proofs.SettleLemmas.{first_of_stop, pair_counts, pair_w
 use Rattle.aide_line_run.proofs.write.write_beside.Goals as goal
 
 pub put_changes-requires : goal.put_changes-requires
-put_changes-requires g c = record {
-  ready = c.requires.ready;
-  trusted_ready = c.requires.trusted_ready;
-  short = c.requires.short;
-  writes_on = ap (λ pen. pen.failed) c.new-pen.ensures;
-}
+put_changes-requires g c = search rules
 
 -- ---- a stop before the last line
 
